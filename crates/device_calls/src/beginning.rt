@@ -1,5 +1,5 @@
 //! A card that was inserted gets its row in the unit.
-ghost use Rattle.std.specs.Prelude.{◌≡◌, ◌≢◌, ◌≤◌, ◌<◌, ◌/◌, ℕ, Some, List, [], option_map, OnOk, IfSome, is_some};
+ghost use Rattle.std.specs.Prelude.{◌≡◌, ◌≢◌, ◌+◌, ◌≤◌, ◌<◌, ◌/◌, ℕ, Some, List, [], option_map, OnOk, IfSome, is_some};
 ghost use Rattle.std.specs.Prelude.{is_err};
 ghost use Rattle.activity_codec.specs.declared.entries.Entry.{Entry};
 ghost use Rattle.tach_media.specs.Medium.{HasCause, LeavesOnly};
@@ -75,6 +75,7 @@ pub fn begin<M: Medium, C: Chip, D: Chip>(
         (IsRowBeginning (card_number_bytes number.now) session
         (option_map (λ s. card_number_bytes s.now) spared.entry)) }
     ensures clock { (M.state unit.old).clock ≤ (M.state unit.new).clock }
+    ensures most { (M.state unit.new).clock ≤ (M.state unit.old).clock + 7 }
     ensures tells { is_some (M.state unit.new).image ≡ is_some (M.state unit.old).image }
     ensures cause { HasCause (M.state unit.old) (M.state unit.new) (is_err result) }
 {

@@ -1,5 +1,5 @@
 //! The unit keeps a minute.
-ghost use Rattle.std.specs.Prelude.{◌≡◌, ◌≤◌, ◌<◌, ℕ, None, List, [], OnOk, OnErr, IfSome, is_some, is_err};
+ghost use Rattle.std.specs.Prelude.{◌≡◌, ◌+◌, ◌≤◌, ◌<◌, ℕ, None, List, [], OnOk, OnErr, IfSome, is_some, is_err};
 ghost use Rattle.trace_model.specs.declared.Card.{Card};
 ghost use Rattle.tach_media.specs.Medium.{HasCause, LeavesOnly};
 ghost use Rattle.unit_model.specs.declared.layout.TheConstants.{HIGHEST_ODOMETER, LAST_MINUTE};
@@ -77,6 +77,7 @@ pub fn commit<M: Medium, C: Chip, D: Chip>(
     ensures rows { (r : ℕ) (n : List ℕ) → IfSome (M.state unit.old).image (IsRowAt r n)
         → OnOk result (IfSome (M.state unit.new).image (IsRowAt r n)) }
     ensures clock { (M.state unit.old).clock ≤ (M.state unit.new).clock }
+    ensures most { (M.state unit.new).clock ≤ (M.state unit.old).clock + 12 }
     ensures tells { is_some (M.state unit.new).image ≡ is_some (M.state unit.old).image }
     ensures cause { HasCause (M.state unit.old) (M.state unit.new) (is_err result) }
 {

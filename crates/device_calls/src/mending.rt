@@ -1,5 +1,5 @@
 //! The unit is mended at a power-on.
-ghost use Rattle.std.specs.Prelude.{◌≡◌, ◌≤◌, ℕ, List, OnOk, OnErr, IfSome, is_some, is_err};
+ghost use Rattle.std.specs.Prelude.{◌≡◌, ◌+◌, ◌≤◌, ℕ, List, OnOk, OnErr, IfSome, is_some, is_err};
 ghost use Rattle.trace_model.specs.declared.Card.{Card};
 ghost use Rattle.tach_media.specs.Medium.{HasCause, LeavesOnly};
 ghost use Rattle.unit_model.specs.Image.{IsUnit};
@@ -47,6 +47,7 @@ pub fn mend<M: Medium, C: Chip, D: Chip>(
         → LeavesViews (of_unit a b (M.state unit.old)) (of_unit a b (M.state unit.new)) IsMending }
     ensures moments { LeavesOnly (M.state unit.old) (M.state unit.new) (IsMendingImage journal.old) }
     ensures clock { (M.state unit.old).clock ≤ (M.state unit.new).clock }
+    ensures most { (M.state unit.new).clock ≤ (M.state unit.old).clock + 34 }
     ensures tells { is_some (M.state unit.new).image ≡ is_some (M.state unit.old).image }
     ensures cause { HasCause (M.state unit.old) (M.state unit.new) (is_err result) }
 {

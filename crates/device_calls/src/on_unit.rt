@@ -1,5 +1,5 @@
 //! The unit keeps a minute, and owes its entries to the cards.
-ghost use Rattle.std.specs.Prelude.{◌≡◌, ◌⊎◌, ◌≤◌, ◌<◌, ℕ, false, List, [], OnOk, OnErr, IfSome, is_some, is_err};
+ghost use Rattle.std.specs.Prelude.{◌≡◌, ◌⊎◌, ◌+◌, ◌≤◌, ◌<◌, ℕ, false, List, [], OnOk, OnErr, IfSome, is_some, is_err};
 ghost use Rattle.std.specs.Prelude.{option_to_list};
 ghost use Rattle.activity_codec.specs.declared.entries.Entry.{Entry};
 ghost use Rattle.tach_media.specs.Medium.{HasCause, last_count};
@@ -62,6 +62,7 @@ fn owe_some<M: Medium, C: Chip, D: Chip>(
     ensures rows { (r : ℕ) (n : List ℕ) → IfSome (M.state unit.old).image (IsRowAt r n)
         → OnOk result (IfSome (M.state unit.new).image (IsRowAt r n)) }
     ensures clock { (M.state unit.old).clock ≤ (M.state unit.new).clock }
+    ensures most { (M.state unit.new).clock ≤ (M.state unit.old).clock + 3 }
     ensures tells { is_some (M.state unit.new).image ≡ is_some (M.state unit.old).image }
     ensures cause { HasCause (M.state unit.old) (M.state unit.new) (is_err result)
         ⊎ ((is_err result ≡ false) × IsIdle (M.state unit.old) (M.state unit.new)) }
@@ -125,6 +126,7 @@ pub fn keep_on_unit<M: Medium, C: Chip, D: Chip>(
         → SaysBoth k one two i minute.now one_entry two_entry y z
         → OnErr result (AreCutOff k one two i y z (M.state unit.new) (C.state first.now) (D.state second.now)) }
     ensures clock { (M.state unit.old).clock ≤ (M.state unit.new).clock }
+    ensures most { (M.state unit.new).clock ≤ (M.state unit.old).clock + 18 }
     ensures tells { is_some (M.state unit.new).image ≡ is_some (M.state unit.old).image }
     ensures cause { HasCause (M.state unit.old) (M.state unit.new) (is_err result) }
 {

@@ -84,3 +84,4 @@ pub mod SpeedsSoFar
 pub mod SpeedsUnlit
 pub mod SecondsCards
 pub mod Time
+pub mod Writes

@@ -12,7 +12,7 @@ use Rattle.card_model.specs.Days.{AreDays}
 use Rattle.card_image.specs.Fields.{card_days}
 use Rattle.card_image.specs.Own.{own_view, own_sizes, own_number, own_bad_file, IsOwnValid}
 use Rattle.card_validity.proofs.Copies.{place_shape}
-use Rattle.gated_ring.specs.Ring.{PointsInside, IsDense}
+use Rattle.gated_ring.specs.Ring.{PointsInside}
 use Rattle.device_calls.proofs.Passed.{valid-passes, pointer-passes}
 use Rattle.device_calls.specs.Times.{IsTimed}
 use Rattle.card_layout.specs.declared.command.CardState.{CardState}
@@ -231,7 +231,7 @@ module _ (x a b : List ℕ) (start : ℕ) (items : List Item) (began now : Devic
             comings = all.befores.comings;
             lines = all.befores.lines;
             merged = merged-by all.befores.comings run.keeper.memory.registration (all.stays A) (all.stays B) (found_of o.found A).image (found_of o.found B).image (card_image r A) (card_image r B) (of_image A) (of_image B) all.befores.merged;
-            tells = λ dense. all.befores.tells (record { points = insertions-inside x may.decodes; dense = dense });
+            tells = all.befores.tells;
           };
         };
     rows = λ y left.
@@ -242,8 +242,8 @@ module _ (x a b : List ℕ) (start : ℕ) (items : List Item) (began now : Devic
     again = begins-anew r out.marks.items began now run-ends.safe may.numbers;
     last = unit-last.1;
     dense = record {
-      insertions = λ dense y left. (h.ringed.ringed.insertions (record { points = insertions-inside x may.decodes; dense = dense }) y left).shows.carries.dense;
-      places = λ dense y left. (h.ringed.ringed.places (record { points = places-inside x may.decodes; dense = dense }) y left).carries.dense;
+      insertions = λ dense y left. (h.ringed.ringed.insertions (insertions-inside x may.decodes) y left).shows.carries.dense dense;
+      places = λ dense y left. (h.ringed.ringed.places (places-inside x may.decodes) y left).carries.dense dense;
     };
     holders = keep-holders o (seconds_of start items) h.evented.recorded.supply (values_of run out) began now h.evented.recorded.recorded (found-by r0 (seconds_of start items) (log_of out) (found_in r0 began) began found);
     vehicles = keep-vehicles o (seconds_of start items) h.evented.recorded.supply (values_of run out) began now h.evented.recorded.recorded (found-by r0 (seconds_of start items) (log_of out) (found_in r0 began) began found);
@@ -320,10 +320,10 @@ module _ (x a b : List ℕ) (start : ℕ) (items : List Item) (began now : Devic
           (rings-shown began now (since_behind o (log_of out) (seconds_of start items)) (log_of out) h.spans (notes_in (log_of out) (seconds_of start items)) (seats_of run) h.ringed.ringed r refl images refl refl refl refl clocks y left)
 
       -- of a card, the pointer of its ring is an index where it was valid
-      shows-places : (c : Card) → IsOwnValid (card_image r c) → IsDense (places_in (card_image r c)) (card_image r c) → (y : List ℕ) → (card_of now c).may_leave y → ShowsPlaces r h.spans c y
-      shows-places c valid dense y left =
+      shows-places : (c : Card) → IsOwnValid (card_image r c) → (y : List ℕ) → (card_of now c).may_leave y → ShowsPlaces r h.spans c y
+      shows-places c valid y left =
           let good : IsApplication (own_sizes (card_image r c)) = subst (λ (i : List ℕ). IsApplication (own_sizes i)) (of_image c) (h.evented.recorded.recorded.found.sizes c (subst IsOwnValid (sym (of_image c)) valid)) in
-          let has : HasPlaces (card_image r c) = record { valid = valid; shape = place_shape (own_sizes (card_image r c)) good; ring = record { points = own-points (card_image r c) valid; dense = dense } } in
+          let has : HasPlaces (card_image r c) = record { valid = valid; shape = place_shape (own_sizes (card_image r c)) good; ring = own-points (card_image r c) valid } in
           record {
             shows = places-shown began now (since_behind o (log_of out) (seconds_of start items)) (log_of out) h.spans (notes_in (log_of out) (seconds_of start items)) (seats_of run) h.ringed.ringed r images refl refl c has y left;
             dense = (h.ringed.ringed.on_cards c (subst HasPlaces (images c) has) y left).carries.dense;
@@ -469,7 +469,7 @@ module _ (x a b : List ℕ) (start : ℕ) (began now : Devices) (opened : Opened
           comings = [];
           lines = ap (λ (fs : List Find). filter (λ (g : Find). is_accepting g.verdict) fs) (sym finds);
           merged = (refl, refl);
-          tells = λ stood y left. subst (TellsMore [] x) (sym (only_unit y left)) (tells-none x stood.points stood.dense);
+          tells = λ stood y left. subst (TellsMore [] x) (sym (only_unit y left)) (tells-none x stood);
         };
         only = λ c. inl refl;
         hold = λ c. (tt, tt);

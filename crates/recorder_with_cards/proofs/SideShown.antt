@@ -28,7 +28,7 @@ side-shown r began now x decodes events spans are stored rings = record {
   spans = spans;
   are_spans = are;
   odometer = stored;
-  insertions = λ dense. rings.insertions (record { points = insertions-inside r.unit decodes; dense = dense });
-  places = λ dense. rings.places (record { points = places-inside r.unit decodes; dense = dense });
+  insertions = rings.insertions (insertions-inside r.unit decodes);
+  places = rings.places (places-inside r.unit decodes);
   events = events;
 }

@@ -14,16 +14,16 @@ use Rattle.safety_model.specs.Side.{notes_in}
 use Rattle.run_note_record.specs.OnCards.{places_in, places_on, IsPlaceOn, is_sure_on}
 
 -- an image of a card shows the places that this card entered, behind those at the start, in their order; and its ring
--- is dense, so that of the next run it is said again
+-- is dense, where it was so at the start
 pub record ShowsPlaces (r : Recording) (spans : List SpanFrom) (c : Card) (x : List ℕ) : Type 0 where
   pub shows : RingShows (places_in (card_image r c)) (is_sure_on r.log) (IsPlaceOn spans)
       (places_on c (places_of (notes_in r))) (card_image r c) x
-  pub dense : IsDense (places_in (card_image r c)) x
+  pub dense : IsDense (places_in (card_image r c)) (card_image r c) → IsDense (places_in (card_image r c)) x
 
--- so does each that a stop may leave of a card that was valid, with a dense ring, at the start
+-- so does each that a stop may leave of a card that was valid at the start
 abbrev pub KeepsPlaces : Recording → List SpanFrom → Card → State → Type 0
-KeepsPlaces r spans c card = IsOwnValid (card_image r c) → IsDense (places_in (card_image r c)) (card_image r c)
-    → (x : List ℕ) → card.may_leave x → ShowsPlaces r spans c x
+KeepsPlaces r spans c card = IsOwnValid (card_image r c) → (x : List ℕ) → card.may_leave x
+    → ShowsPlaces r spans c x
 
 -- EACH CARD SHOWS ITS PLACES, with the odometers of the run's power spans.
 pub record ShowTheirPlaces (r : Recording) (now : Devices) : Type 0 where

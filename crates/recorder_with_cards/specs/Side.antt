@@ -1,7 +1,6 @@
 -- THE AUXILIARY RECORDS of a run with cards (profile): what every image that a stop may leave of the unit shows beside
 -- the minutes.
 use Rattle.std.specs.Prelude.{List, ℕ}
-use Rattle.gated_ring.specs.Ring.{IsDense}
 use Rattle.unit_model.specs.Image.{last_kept, odometer_at}
 use Rattle.message_model.specs.Records.{insertion_ring, unit_place_ring}
 use Rattle.note_model.specs.Noted.{insertions_of, places_of}
@@ -23,11 +22,9 @@ pub record ShowsSide (r : Recording) (began now : Devices) (x : List ℕ) : Type
   pub odometer : MayStore r.rule (odometer_at r.unit) (last_kept r.unit) spans (last_kept x) (odometer_at x)
   -- Insertions with their withdrawals, and places. The vehicle that the first insertion of each card tells as the one
   -- before is that of its image at the start.
-  pub insertions : IsDense insertion_ring r.unit →
-      RingShows insertion_ring (is_sure_insertion r.log spans (holder_of r)) (IsInsertionOf r spans began now)
-      (insertions_of (notes_in r)) r.unit x
-  pub places : IsDense unit_place_ring r.unit →
-      RingShows unit_place_ring (is_sure_place r.log spans (holder_of r)) (IsPlace r.log spans (holder_of r))
+  pub insertions : RingShows insertion_ring (is_sure_insertion r.log spans (holder_of r))
+      (IsInsertionOf r spans began now) (insertions_of (notes_in r)) r.unit x
+  pub places : RingShows unit_place_ring (is_sure_place r.log spans (holder_of r)) (IsPlace r.log spans (holder_of r))
       (places_of (notes_in r)) r.unit x
   -- Events and faults, by the session times that were found open on the cards: the first of each card is that of its
   -- image at the start, and where no call failed each is that of the use which the insertion before has left: its

@@ -10,8 +10,6 @@ use Rattle.tacho_types.specs.declared.texts.Registration.{Registration}
 use Rattle.log_model.specs.declared.lines.Mark.{Mark}
 use Rattle.log_model.specs.Causes.{device_of}
 use Rattle.history_model.specs.Completeness.{IsMarked}
-use Rattle.gated_ring.specs.Ring.{IsDense}
-use Rattle.message_model.specs.Records.{insertion_ring}
 use Rattle.card_image.specs.Own.{own_sizes, IsOwnValid}
 use Rattle.note_model.specs.Done.{done_of}
 use Rattle.note_model.specs.Noted.{notes_of}
@@ -75,7 +73,7 @@ pub record LeaveStays (r : Recording) (marks : List Mark) (now : Devices) : Type
   pub verdicts : (c : Card) → IsOwnValid (card_image r c)
       → AreJudged vehicle (own_sizes (card_image r c)).activity (stays c) (since c) (start_shown (card_image r c))
   pub shows : (c : Card) → IsOwnValid (card_image r c) → ShowsStays vehicle (card_image r c) (stays c) (card_of now c)
-  pub befores : TellsBefores (IsDense insertion_ring r.unit) r.unit (acceptances_told r.log) vehicle (card_image r)
+  pub befores : TellsBefores r.unit (acceptances_told r.log) vehicle (card_image r)
       stays now.unit
   pub closed : (c : Card) → IsOwnValid (card_image r c)
       → spells (stays c) ≡ spells_of c (notes_of r.log (done_of r.log r.trace))

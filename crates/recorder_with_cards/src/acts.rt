@@ -9,6 +9,7 @@ ghost use Rattle.run_acts.specs.declared.run.Power.TheVariants.{Lit};
 ghost use Rattle.run_acts.specs.Power.{is_lit};
 ghost use Rattle.run_acts.specs.Going.{largest_number, RunHasPowerAllSeated, IsInsideSecond};
 ghost use Rattle.run_acts.specs.Room.{HasRoomWithin, Takes};
+ghost use Rattle.recorder_with_cards.specs.Writes.{WritesFor};
 ghost use Rattle.recorder_with_cards.specs.Carded.{CardsActions};
 ghost use Rattle.recorder_with_cards.specs.Acting.{put_count};
 ghost use Rattle.recorder_with_cards.specs.Acting.{moment_of};
@@ -62,6 +63,8 @@ pub(crate) fn act_all<M: Medium, C: Chip, D: Chip>(
     ensures still { is_lit run.old.power ≡ false
         → (is_lit run.new.power ≡ false) × (unit.new ≡ unit.old) × (card_a.new ≡ card_a.old)
         × (card_b.new ≡ card_b.old) }
+    ensures most { WritesFor 0 (to - from) (devices (M.state unit.old) (C.state card_a.old) (D.state card_b.old))
+        (devices (M.state unit.new) (C.state card_a.new) (D.state card_b.new)) }
     ensures goes { ActGoes outcome.old.breaks.items outcome.new.breaks.items
         (devices (M.state unit.old) (C.state card_a.old) (D.state card_b.old))
         (devices (M.state unit.new) (C.state card_a.new) (D.state card_b.new)) }
@@ -114,6 +117,8 @@ fn act_item<M: Medium, C: Chip, D: Chip>(
     ensures still { is_lit run.old.power ≡ false
         → (is_lit run.new.power ≡ false) × (unit.new ≡ unit.old) × (card_a.new ≡ card_a.old)
         × (card_b.new ≡ card_b.old) }
+    ensures most { WritesFor 0 1 (devices (M.state unit.old) (C.state card_a.old) (D.state card_b.old))
+        (devices (M.state unit.new) (C.state card_a.new) (D.state card_b.new)) }
     ensures goes { ActGoes outcome.old.breaks.items outcome.new.breaks.items
         (devices (M.state unit.old) (C.state card_a.old) (D.state card_b.old))
         (devices (M.state unit.new) (C.state card_a.new) (D.state card_b.new)) }
@@ -161,6 +166,8 @@ fn act<M: Medium, C: Chip, D: Chip>(
     ensures still { (has_power ≡ true → is_lit run.old.power ≡ true
         → CallsNone (refusal (logged run.old.keeper.cabin.slots.seats) speed action) action)
         → (unit.new ≡ unit.old) × (card_a.new ≡ card_a.old) × (card_b.new ≡ card_b.old) }
+    ensures most { WritesFor 0 1 (devices (M.state unit.old) (C.state card_a.old) (D.state card_b.old))
+        (devices (M.state unit.new) (C.state card_a.new) (D.state card_b.new)) }
     ensures goes { ActGoes outcome.old.breaks.items outcome.new.breaks.items
         (devices (M.state unit.old) (C.state card_a.old) (D.state card_b.old))
         (devices (M.state unit.new) (C.state card_a.new) (D.state card_b.new)) }
@@ -202,6 +209,8 @@ fn act_lit<M: Medium, C: Chip, D: Chip>(
         (devices (M.state unit.new) (C.state card_a.new) (D.state card_b.new)) }
     ensures still { CallsNone (refusal (logged run.old.keeper.cabin.slots.seats) speed action) action
         → (unit.new ≡ unit.old) × (card_a.new ≡ card_a.old) × (card_b.new ≡ card_b.old) }
+    ensures most { WritesFor 0 1 (devices (M.state unit.old) (C.state card_a.old) (D.state card_b.old))
+        (devices (M.state unit.new) (C.state card_a.new) (D.state card_b.new)) }
     ensures goes { ActGoes outcome.old.breaks.items outcome.new.breaks.items
         (devices (M.state unit.old) (C.state card_a.old) (D.state card_b.old))
         (devices (M.state unit.new) (C.state card_a.new) (D.state card_b.new)) }
@@ -262,6 +271,8 @@ fn carry_out<M: Medium, C: Chip, D: Chip>(
         (devices (M.state unit.new) (C.state card_a.new) (D.state card_b.new)) }
     ensures still { CallsNone None action
         → (unit.new ≡ unit.old) × (card_a.new ≡ card_a.old) × (card_b.new ≡ card_b.old) }
+    ensures most { WritesFor 0 1 (devices (M.state unit.old) (C.state card_a.old) (D.state card_b.old))
+        (devices (M.state unit.new) (C.state card_a.new) (D.state card_b.new)) }
     ensures goes { AllGoOn outcome.old.breaks.items outcome.new.breaks.items
         (devices (M.state unit.old) (C.state card_a.old) (D.state card_b.old))
         (devices (M.state unit.new) (C.state card_a.new) (D.state card_b.new)) }

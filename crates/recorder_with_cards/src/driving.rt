@@ -5,6 +5,7 @@ ghost use Rattle.run_minutes.specs.Later.{AreAfter, AreCalm};
 ghost use Rattle.run_outcome.specs.Broken.{BreaksDown};
 ghost use Rattle.run_acts.specs.Going.{largest_number, end_of_seconds, IsBetweenSeconds};
 ghost use Rattle.run_acts.specs.Room.{HasRoom};
+ghost use Rattle.recorder_with_cards.specs.Writes.{WritesFor};
 ghost use Rattle.recorder_with_cards.specs.Items.{between, insertions_in};
 ghost use Rattle.recorder_with_cards.specs.Recorded.{actions_in, RingsSeconds, RingsMore};
 ghost use Rattle.recorder_with_cards.specs.Carded.{CardsSeconds, CardsMore};
@@ -50,6 +51,8 @@ pub(crate) fn drive<M: Medium, C: Chip, D: Chip>(
         (devices (M.state unit.new) (C.state card_a.new) (D.state card_b.new)) }
     ensures later { AreAfter (devices (M.state unit.old) (C.state card_a.old) (D.state card_b.old))
         (devices (M.state unit.new) (C.state card_a.new) (D.state card_b.new)) }
+    ensures most { WritesFor seconds (to - from) (devices (M.state unit.old) (C.state card_a.old) (D.state card_b.old))
+        (devices (M.state unit.new) (C.state card_a.new) (D.state card_b.new)) }
     ensures calm { AreCalm outcome.old.breaks.items outcome.new.breaks.items
         (devices (M.state unit.old) (C.state card_a.old) (D.state card_b.old))
         (devices (M.state unit.new) (C.state card_a.new) (D.state card_b.new)) }
@@ -91,6 +94,8 @@ fn drive_on<M: Medium, C: Chip, D: Chip>(
         (devices (M.state unit.old) (C.state card_a.old) (D.state card_b.old))
         (devices (M.state unit.new) (C.state card_a.new) (D.state card_b.new)) }
     ensures later { AreAfter (devices (M.state unit.old) (C.state card_a.old) (D.state card_b.old))
+        (devices (M.state unit.new) (C.state card_a.new) (D.state card_b.new)) }
+    ensures most { WritesFor seconds 0 (devices (M.state unit.old) (C.state card_a.old) (D.state card_b.old))
         (devices (M.state unit.new) (C.state card_a.new) (D.state card_b.new)) }
     ensures calm { AreCalm outcome.old.breaks.items outcome.new.breaks.items
         (devices (M.state unit.old) (C.state card_a.old) (D.state card_b.old))
@@ -135,6 +140,8 @@ fn step<M: Medium, C: Chip, D: Chip>(
         (devices (M.state unit.old) (C.state card_a.old) (D.state card_b.old))
         (devices (M.state unit.new) (C.state card_a.new) (D.state card_b.new)) }
     ensures later { AreAfter (devices (M.state unit.old) (C.state card_a.old) (D.state card_b.old))
+        (devices (M.state unit.new) (C.state card_a.new) (D.state card_b.new)) }
+    ensures most { WritesFor n 0 (devices (M.state unit.old) (C.state card_a.old) (D.state card_b.old))
         (devices (M.state unit.new) (C.state card_a.new) (D.state card_b.new)) }
     ensures calm { AreCalm outcome.old.breaks.items outcome.new.breaks.items
         (devices (M.state unit.old) (C.state card_a.old) (D.state card_b.old))

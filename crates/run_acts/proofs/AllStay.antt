@@ -43,8 +43,6 @@ use Rattle.run_acts.specs.Booked.{IsTurnReach}
 use Rattle.run_minutes.specs.Deeds.{KeepsOn, AllKeep}
 use Rattle.card_slots.specs.Calls.{Seats, seat_in, card_in}
 use Rattle.run_acts.specs.Closings.{Spell, spells_of, with_last_shut, last_slot}
-use Rattle.message_model.specs.Records.{insertion_ring}
-use Rattle.run_note_record.specs.OnCards.{HasRing}
 use Rattle.run_acts.specs.Comings.{VehicleTold, told_of, TellsMore, TellMore}
 use Rattle.run_acts.proofs.Comings.{tells-none, tells-then}
 use Rattle.run_acts.specs.Truths.{Truths, Grow}
@@ -305,11 +303,11 @@ module _ (o : Origin) (t : Truths) (u : ℕ) where
   -- ---- what the unit tells of the vehicles before
 
   abbrev Befores : List Find → Registration → (Card → List Stay) → State → Type 0
-  Befores told r ss U = TellsBefores (HasRing insertion_ring o.recording.unit) o.recording.unit told r (λ (c : Card). (found_of o.found c).image) ss U
+  Befores told r ss U = TellsBefores o.recording.unit told r (λ (c : Card). (found_of o.found c).image) ss U
 
   -- a unit that is not called
   unit-still : (U : State) → TellMore [] U U
-  unit-still U = λ y left. (y, left, λ points dense. tells-none y points dense)
+  unit-still U = λ y left. (y, left, λ points. tells-none y points)
 
   -- no card has come
   befores-as : (told later : List Find) (r : Registration) (ss now : Card → List Stay) (U V : State) → later ≡ told → ((c : Card) → comings_on r (f c).image (now c) ≡ comings_on r (f c).image (ss c)) → TellMore [] U V → Befores told r ss U → Befores later r now V
@@ -320,7 +318,7 @@ module _ (o : Origin) (t : Truths) (u : ℕ) where
     tells = λ stood y left.
         let x = go y left in
         let was = h.tells stood x.0 x.1 in
-        subst (λ (vs : List VehicleTold). TellsMore vs o.recording.unit y) (append-nil (befores_of h.comings)) (tells-then (befores_of h.comings) [] o.recording.unit x.0 y was (x.2 was.points was.dense));
+        subst (λ (vs : List VehicleTold). TellsMore vs o.recording.unit y) (append-nil (befores_of h.comings)) (tells-then (befores_of h.comings) [] o.recording.unit x.0 y was (x.2 was.points));
   }
 
   -- one has
@@ -334,7 +332,7 @@ module _ (o : Origin) (t : Truths) (u : ℕ) where
         let z = go y left in
         let was = h.tells stood z.0 z.1 in
         subst (λ (vs : List VehicleTold). TellsMore vs o.recording.unit y) (sym (map-append (λ (k : Coming). told_of k.before) h.comings (x ∷ [])))
-        (tells-then (befores_of h.comings) (told_of x.before ∷ []) o.recording.unit z.0 y was (z.2 was.points was.dense));
+        (tells-then (befores_of h.comings) (told_of x.before ∷ []) o.recording.unit z.0 y was (z.2 was.points));
   }
     where
       by : (c : Card) → comings_on r (f c).image mine ≡ comings_on r (f c).image (ss c) ++ x ∷ [] → AreMerged (h.comings ++ x ∷ []) (comings_on r (f A).image (with_mine c mine ss A)) (comings_on r (f B).image (with_mine c mine ss B))

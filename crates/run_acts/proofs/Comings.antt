@@ -25,6 +25,7 @@ use Rattle.unit_model.specs.Image.{IsUnit}
 use Rattle.run_crew.specs.declared.cards.Accepted.{Accepted}
 use Rattle.run_rings.specs.Carried.{RingKeeps}
 use Rattle.run_rings.proofs.Carried.{carries-none, carries-more, carries-same}
+use Rattle.run_rings.proofs.Few.{as-many, added-long}
 use Rattle.run_note_record.specs.Ringed.{HasSameRings, LeavesRings, WritesImages, Seating, IsAddedAt}
 use Rattle.run_note_record.proofs.OnCards.{whole-head}
 use Rattle.run_note_record.proofs.Rings.{insertion_shape}
@@ -38,39 +39,41 @@ use Rattle.run_acts.proofs.KeptEvents.{as-long}
 -- ---- one image behind another
 
 -- by the entries
-tells-carried : (x y : List ℕ) (more : List (List ℕ)) → RingKeeps insertion_ring x y more → TellsMore (map told_in more) x y
-tells-carried x y more h = record {
+tells-carried : (x y : List ℕ) (more : List (List ℕ)) → RingKeeps insertion_ring x y more → length (ring_list insertion_ring x) ≤ length (ring_list insertion_ring y) → TellsMore (map told_in more) x y
+tells-carried x y more h few = record {
   points = h.points;
   dense = h.dense;
   gone = map told_in h.gone;
   shown = sym (map-append told_in (ring_list insertion_ring x) more) ∙ ap (map told_in) h.shown ∙ map-append told_in h.gone (ring_list insertion_ring y);
-  full = ⊎_elim (λ none. inl (ap (map told_in) none)) (λ lacks. inr lacks) h.full;
+  full = λ d. ⊎_elim (λ none. inl (ap (map told_in) none)) (λ lacks. inr lacks) (h.full d);
+  few = (let was : length (vehicles_in x) ≡ length (ring_list insertion_ring x) = length-map (ring_list insertion_ring x) told_in in let now : length (vehicles_in y) ≡ length (ring_list insertion_ring y) = length-map (ring_list insertion_ring y) told_in in omega (arith, was, now, few));
 }
 
 -- nothing is added
-pub tells-none : (x : List ℕ) → PointsInside insertion_ring x → IsDense insertion_ring x → TellsMore [] x x
-tells-none x points dense = tells-carried x x [] (carries-none insertion_ring x points dense)
+pub tells-none : (x : List ℕ) → PointsInside insertion_ring x → TellsMore [] x x
+tells-none x points = tells-carried x x [] (carries-none insertion_ring x points) (omega arith)
 
 -- the same bytes of the ring
-tells-bytes : (x y : List ℕ) → bytes_at y insertion_ring.base (size_of insertion_ring) ≡ bytes_at x insertion_ring.base (size_of insertion_ring) → PointsInside insertion_ring x → IsDense insertion_ring x → TellsMore [] x y
-tells-bytes x y same points dense = tells-carried x y [] (carries-same insertion_ring x x [] (carries-none insertion_ring x points dense) insertion_shape y same)
+tells-bytes : (x y : List ℕ) → bytes_at y insertion_ring.base (size_of insertion_ring) ≡ bytes_at x insertion_ring.base (size_of insertion_ring) → PointsInside insertion_ring x → TellsMore [] x y
+tells-bytes x y same points = tells-carried x y [] (carries-same insertion_ring x x [] (carries-none insertion_ring x points) insertion_shape y same) (as-many insertion_ring insertion_shape x y same points)
 
 -- an entry is added
-tells-added : (head x y : List ℕ) → IsAdded insertion_ring head x y → length head ≡ insertion_ring.width → PointsInside insertion_ring x → IsDense insertion_ring x → TellsMore (told_in head ∷ []) x y
-tells-added head x y added full points dense =
+tells-added : (head x y : List ℕ) → IsAdded insertion_ring head x y → length head ≡ insertion_ring.width → PointsInside insertion_ring x → TellsMore (told_in head ∷ []) x y
+tells-added head x y added full points =
     tells-carried x y (head ∷ [])
     (subst (λ (l : List ℕ). RingKeeps insertion_ring x y (l ∷ [])) (whole-head insertion_ring x (taken insertion_ring x) head full)
-    (carries-more insertion_ring x x [] (carries-none insertion_ring x points dense) head y added))
+    (carries-more insertion_ring x x [] (carries-none insertion_ring x points) head y added)) (added-long insertion_ring head x y points added)
 
 -- one after another
 pub tells-then : (vs ws : List VehicleTold) (a b c : List ℕ) → TellsMore vs a b → TellsMore ws b c → TellsMore (vs ++ ws) a c
 tells-then vs ws a b c s t = record {
   points = t.points;
-  dense = t.dense;
+  dense = λ d. t.dense (s.dense d);
   gone = s.gone ++ t.gone;
   shown = sym (append_assoc (vehicles_in a) vs ws) ∙ ap (λ (l : List VehicleTold). l ++ ws) s.shown ∙ append_assoc s.gone (vehicles_in b) ws
       ∙ ap (λ (l : List VehicleTold). s.gone ++ l) t.shown ∙ sym (append_assoc s.gone t.gone (vehicles_in c));
-  full = ⊎_elim (λ none. by none s.full) (λ lacks. inr lacks) t.full;
+  full = λ d. ⊎_elim (λ none. by none (s.full d)) (λ lacks. inr lacks) (t.full (s.dense d));
+  few = (let first = s.few in let then_ = t.few in omega (arith, first, then_));
 }
   where
     by : t.gone ≡ [] → (s.gone ≡ []) ⊎ (insertion_ring.count ≤ length (ring_list insertion_ring b) + 1) → (s.gone ++ t.gone ≡ []) ⊎ (insertion_ring.count ≤ length (ring_list insertion_ring c) + 1)
@@ -103,13 +106,14 @@ entry-long x i long below =
     let cut : length (entry_at insertion_ring x i) ≡ min insertion_ring.width (length (drop (place_of insertion_ring i) x)) = length-take insertion_ring.width (drop (place_of insertion_ring i) x) in
     omega (arith, long, below, rest, cut)
 
-tells-withdrawn : (i : ℕ) (time : TimeReal) (odometer : Odometer) (x y : List ℕ) → IsWithdrawn i time odometer x y → insertion_ring.base + size_of insertion_ring ≤ length y → PointsInside insertion_ring x → IsDense insertion_ring x → TellsMore [] x y
-tells-withdrawn i time odometer x y w long points dense = record {
+tells-withdrawn : (i : ℕ) (time : TimeReal) (odometer : Odometer) (x y : List ℕ) → IsWithdrawn i time odometer x y → insertion_ring.base + size_of insertion_ring ≤ length y → PointsInside insertion_ring x → TellsMore [] x y
+tells-withdrawn i time odometer x y w long points = record {
   points = subst (λ (n : ℕ). n < insertion_ring.count) (sym w.pointer_is) points;
-  dense = stays-dense dense;
+  dense = stays-dense;
   gone = [];
   shown = append-nil (vehicles_in x) ∙ sym same;
-  full = inl refl;
+  full = λ d. inl refl;
+  few = (let is : length (vehicles_in y) ≡ length (vehicles_in x) = ap (λ (l : List VehicleTold). length l) same in omega (arith, is));
 }
   where
     was-long : insertion_ring.base + size_of insertion_ring ≤ length x
@@ -163,13 +167,13 @@ ring-long x y same long =
 pub leaves-more : (U V : State) → LeavesRings U V → TellMore [] U V
 leaves-more U V leaves = λ y left.
     let l = leaves y left in
-    (l.0, l.1, λ points dense. tells-bytes l.0 y l.2.insertions points dense)
+    (l.0, l.1, λ points. tells-bytes l.0 y l.2.insertions points)
 
 -- a place is noted on the unit, or the unit failed in that
 pub place-more : (head : List ℕ) (U V : State) → IsCoherent U → LeavesOnly U V (IsAdding unit_place_ring head) → TellMore [] U V
 place-more head U V whole moments = λ y left. ⊎_elim
-    (λ old. (y, old, λ points dense. tells-none y points dense))
-    (λ new. (new.0, whole.is_left new.0 new.1, λ points dense. tells-bytes new.0 y (ring_outside insertion_ring unit_place_ring.base (size_of unit_place_ring) new.0 y (inr (omega arith)) new.2.outside) points dense))
+    (λ old. (y, old, λ points. tells-none y points))
+    (λ new. (new.0, whole.is_left new.0 new.1, λ points. tells-bytes new.0 y (ring_outside insertion_ring unit_place_ring.base (size_of unit_place_ring) new.0 y (inr (omega arith)) new.2.outside) points))
     (moments.now y left)
 
 -- an insertion is noted
@@ -178,10 +182,10 @@ insertion-more index head U V full writes = λ y left.
     let w = writes y left in (
       w.0,
       w.1,
-      λ points dense.
-          let first = tells-bytes w.0 w.2.0 w.2.2.insertions points dense in
-          let second = tells-added head w.2.0 w.2.1 w.2.3.0 full first.points first.dense in
-          let third = tells-bytes w.2.1 y w.2.4.insertions second.points second.dense in
+      λ points.
+          let first = tells-bytes w.0 w.2.0 w.2.2.insertions points in
+          let second = tells-added head w.2.0 w.2.1 w.2.3.0 full first.points in
+          let third = tells-bytes w.2.1 y w.2.4.insertions second.points in
           tells-then (told_in head ∷ []) [] w.0 w.2.1 y (tells-then [] (told_in head ∷ []) w.0 w.2.0 w.2.1 first second) third,
     )
 
@@ -193,13 +197,13 @@ withdrawal-more s second odometer U V whole unit writes = λ y left.
     let has : insertion_ring.base + size_of insertion_ring ≤ length w.2.1 = ring-long w.2.1 y w.2.4 (omega (arith, long)) in (
       w.0,
       w.1,
-      λ points dense.
-          let first = tells-bytes w.0 w.2.0 w.2.2.insertions points dense in
+      λ points.
+          let first = tells-bytes w.0 w.2.0 w.2.2.insertions points in
           let second_ : TellsMore [] w.2.0 w.2.1 = ⊎_elim
-          (λ is. tells-withdrawn s.index (record { 0 = second }) odometer w.2.0 w.2.1 is.0 has first.points first.dense)
-          (λ gone. tells-bytes w.2.0 w.2.1 gone.0.insertions first.points first.dense)
+          (λ is. tells-withdrawn s.index (record { 0 = second }) odometer w.2.0 w.2.1 is.0 has first.points)
+          (λ gone. tells-bytes w.2.0 w.2.1 gone.0.insertions first.points)
           w.2.3 in
-          let third = tells-bytes w.2.1 y w.2.4.insertions second_.points second_.dense in
+          let third = tells-bytes w.2.1 y w.2.4.insertions second_.points in
           tells-then [] [] w.0 w.2.1 y (tells-then [] [] w.0 w.2.0 w.2.1 first second_) third,
     )
 

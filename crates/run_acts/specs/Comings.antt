@@ -24,17 +24,18 @@ told_of (Some v) = record { registration = v.registration.0; time = v.last_use.0
 abbrev pub vehicles_in : List ℕ → List VehicleTold
 vehicles_in x = map told_in (ring_list insertion_ring x)
 
--- AN IMAGE TELLS MORE of them than another did, these, behind them: only where the ring is full, or lacks one entry,
--- are some gone at its old end
+-- AN IMAGE TELLS MORE of them than another did, these, behind them: some may be gone at its old end, but it tells no
+-- fewer. Where the ring of the other was dense it is so, and some are gone only where it is full, or lacks one entry.
 pub record TellsMore (more : List VehicleTold) (start x : List ℕ) : Type 0 where
   pub points : PointsInside insertion_ring x
-  pub dense : IsDense insertion_ring x
+  pub dense : IsDense insertion_ring start → IsDense insertion_ring x
   pub gone : List VehicleTold
   pub shown : vehicles_in start ++ more ≡ gone ++ vehicles_in x
-  pub full : (gone ≡ []) ⊎ (insertion_ring.count ≤ length (ring_list insertion_ring x) + 1)
+  pub full : IsDense insertion_ring start
+      → (gone ≡ []) ⊎ (insertion_ring.count ≤ length (ring_list insertion_ring x) + 1)
+  pub few : length (vehicles_in start) ≤ length (vehicles_in x)
 
--- CALLS MAKE A UNIT TELL MORE of them: each image that a stop may leave behind them does than one before, of a dense
--- ring
+-- CALLS MAKE A UNIT TELL MORE of them: each image that a stop may leave behind them does than one before
 abbrev pub TellMore : List VehicleTold → (old new : State) → Type 0
 TellMore more old new = (y : List ℕ) → new.may_leave y
-    → (x : List ℕ) × old.may_leave x × (PointsInside insertion_ring x → IsDense insertion_ring x → TellsMore more x y)
+    → (x : List ℕ) × old.may_leave x × (PointsInside insertion_ring x → TellsMore more x y)

@@ -40,7 +40,7 @@ use Rattle.run_promise.specs.Found.{CardFound, found_of}
 use Rattle.run_promise.specs.Origin.{Origin}
 use Rattle.run_promise.specs.Whole.{NothingFailed}
 use Rattle.run_minutes.specs.CardDeeds.{made_by, is_open_in, ShowsBook, keeps, last_odometer, opens}
-use Rattle.run_note_record.specs.OnCards.{HasRing}
+use Rattle.gated_ring.specs.Ring.{PointsInside}
 use Rattle.run_acts.specs.Closings.{Spell, spells_of, with_last_shut, last_slot}
 use Rattle.run_acts.specs.Comings.{VehicleTold, told_of, TellsMore}
 use Rattle.run_acts.specs.Truths.{Truths}
@@ -226,15 +226,15 @@ lines_of cs = map (λ (c : Coming). c.found) cs
 abbrev pub befores_of : List Coming → List VehicleTold
 befores_of cs = map (λ (c : Coming). told_of c.before) cs
 
--- A UNIT TELLS THE VEHICLE BEFORE, where its ring was so at the start: by these lines the cards have come, each of them
--- as the next of its card's stays, and each image that a stop may leave of the unit tells those vehicles, one entry for
--- each line, in their order, behind those of the start.
-pub record TellsBefores (Stood : Type 0) (unit : List ℕ) (acceptances : List Find) (vehicle : Registration)
+-- A UNIT TELLS THE VEHICLE BEFORE: by these lines the cards have come, each of them as the next of its card's stays,
+-- and each image that a stop may leave of the unit tells those vehicles, one entry for each line, in their order,
+-- behind those of the start. The pointer of its ring was an index then.
+pub record TellsBefores (unit : List ℕ) (acceptances : List Find) (vehicle : Registration)
     (image : Card → List ℕ) (stays : Card → List Stay) (now : State) : Type 0 where
   pub comings : List Coming
   pub lines : lines_of comings ≡ acceptances
   pub merged : AreMerged comings (comings_on vehicle (image A) (stays A)) (comings_on vehicle (image B) (stays B))
-  pub tells : Stood → (x : List ℕ) → now.may_leave x → TellsMore (befores_of comings) unit x
+  pub tells : PointsInside insertion_ring unit → (x : List ℕ) → now.may_leave x → TellsMore (befores_of comings) unit x
 
 -- ---- one card
 
@@ -296,7 +296,7 @@ pub record AreStays (o : Origin) (t : Truths) (second : ℕ) (notes : List Note)
       (start_shown (found_of o.found c).image)
   pub waits : (c : Card) → IsOwnValid (found_of o.found c).image → is_some (session_of cabin.cards c) ≡ true
       → since c ≡ []
-  pub befores : TellsBefores (HasRing insertion_ring o.recording.unit) o.recording.unit acceptances vehicle
+  pub befores : TellsBefores o.recording.unit acceptances vehicle
       (λ (c : Card). (found_of o.found c).image) stays d.unit
 
 -- so it is where no call has failed

@@ -8,6 +8,7 @@ ghost use Rattle.log_model.specs.Log.{In};
 ghost use Rattle.run_promise.specs.Between.{devices};
 ghost use Rattle.run_crew.specs.Cards.{known_of, session_of};
 ghost use Rattle.run_crew.specs.Cabin.{CabinIsSound};
+ghost use Rattle.run_minutes.specs.Writes.{WroteAtMost};
 ghost use Rattle.run_minutes.specs.Keeping.{UnitMayBeCalled, CardMayBeCalled};
 ghost use Rattle.run_acts.specs.declared.run.Power.TheVariants.{Lit};
 ghost use Rattle.run_acts.specs.Going.{first_second, CanBeCut, RunHasPowerAllSeated, IsActing};
@@ -60,6 +61,9 @@ pub fn note_gap<M: Medium, C: Chip, D: Chip>(
         (C.card card_a.new) (D.card card_b.new) }
     ensures going { OnOk result (RunHasPowerAllSeated (run.new.next / 60) run.new (M.state unit.new) (C.card card_a.new)
         (D.card card_b.new) (C.state card_a.new) (D.state card_b.new)) }
+    ensures most { WroteAtMost 12 8
+        (devices (M.state unit.old) (C.state card_a.old) (D.state card_b.old))
+        (devices (M.state unit.new) (C.state card_a.new) (D.state card_b.new)) }
     ensures goes { AllGoOn breaks.old.items breaks.new.items
         (devices (M.state unit.old) (C.state card_a.old) (D.state card_b.old))
         (devices (M.state unit.new) (C.state card_a.new) (D.state card_b.new)) }
@@ -105,6 +109,9 @@ fn note_in<M: Medium, C: Chip, D: Chip>(
         (C.card card_a.new) (D.card card_b.new) }
     ensures going { OnOk result (RunHasPowerAllSeated (run.new.next / 60) run.new (M.state unit.new) (C.card card_a.new)
         (D.card card_b.new) (C.state card_a.new) (D.state card_b.new)) }
+    ensures most { WroteAtMost 4 4
+        (devices (M.state unit.old) (C.state card_a.old) (D.state card_b.old))
+        (devices (M.state unit.new) (C.state card_a.new) (D.state card_b.new)) }
     ensures goes { AllGoOn breaks.old.items breaks.new.items
         (devices (M.state unit.old) (C.state card_a.old) (D.state card_b.old))
         (devices (M.state unit.new) (C.state card_a.new) (D.state card_b.new)) }
@@ -154,6 +161,8 @@ fn note_on<M: Medium, C: Chip>(
     ensures stands { (from : ℕ) (leaving : Option Card) → CabinIsSound from leaving run.old.keeper.cabin
         → CabinIsSound from leaving run.new.keeper.cabin }
     ensures clock_card { (C.state card.old).clock ≤ (C.state card.new).clock }
+    ensures most { ((M.state unit.new).clock ≤ (M.state unit.old).clock + 4)
+        × ((C.state card.new).clock ≤ (C.state card.old).clock + 4) }
 {
     let Ok(app) = run.keeper.cabin.cards.of(which).sizes else {
         return Ok(());

@@ -2,6 +2,7 @@
 ghost use Rattle.std.specs.Prelude.{◌≡◌, ◌+◌, ◌*◌, ◌/◌, ◌≤◌, Option, OnOk, length, is_err};
 ghost use Rattle.trace_model.specs.declared.Card.{Card};
 ghost use Rattle.run_speeds.specs.Speeds.{LeavesSpeeds};
+ghost use Rattle.run_minutes.specs.Writes.{WroteAtMost};
 ghost use Rattle.run_minutes.specs.Keeping.{most_tears};
 ghost use Rattle.run_minutes.specs.Stand.{KeepingGoes};
 ghost use Rattle.run_promise.specs.Between.{devices};
@@ -60,6 +61,9 @@ pub fn settle<M: Medium, C: Chip, D: Chip>(
         (D.card card_b.old))
         (acting run.new outcome.new (M.state unit.new) (C.state card_a.new) (D.state card_b.new) (C.card card_a.new)
         (D.card card_b.new)) }
+    ensures most { WroteAtMost 78 102
+        (devices (M.state unit.old) (C.state card_a.old) (D.state card_b.old))
+        (devices (M.state unit.new) (C.state card_a.new) (D.state card_b.new)) }
     ensures speeds { LeavesSpeeds (M.state unit.old) (M.state unit.new) }
 {
     let decided = run.minutes.settle();

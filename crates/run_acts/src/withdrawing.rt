@@ -10,6 +10,7 @@ ghost use Rattle.card_slots.specs.Calls.{seat_in, card_in};
 ghost use Rattle.run_crew.specs.Cards.{known_of, session_of};
 ghost use Rattle.run_crew.specs.Cabin.{CabinIsSound};
 ghost use Rattle.run_speeds.specs.Speeds.{LeavesSpeeds};
+ghost use Rattle.run_minutes.specs.Writes.{WroteAtMost};
 ghost use Rattle.run_minutes.specs.Keeping.{UnitMayBeCalled, CardMayBeCalled, tears_of, with_lines};
 ghost use Rattle.run_acts.specs.Going.{RunHasPowerAllSeated, IsActing};
 ghost use Rattle.run_acts.specs.Room.{falls_of, Takes};
@@ -71,6 +72,9 @@ pub fn withdraw<M: Medium, C: Chip, D: Chip>(
     ensures going { OnOk result (RunHasPowerAllSeated (run.new.next / 60) run.new (M.state unit.new) (C.card card_a.new)
         (D.card card_b.new) (C.state card_a.new) (D.state card_b.new)) }
     ensures takes { Takes 0 0 0 run.old run.new outcome.old outcome.new }
+    ensures most { WroteAtMost 82 110
+        (devices (M.state unit.old) (C.state card_a.old) (D.state card_b.old))
+        (devices (M.state unit.new) (C.state card_a.new) (D.state card_b.new)) }
     ensures goes { AllGoOn outcome.old.breaks.items outcome.new.breaks.items
         (devices (M.state unit.old) (C.state card_a.old) (D.state card_b.old))
         (devices (M.state unit.new) (C.state card_a.new) (D.state card_b.new)) }
@@ -119,6 +123,8 @@ fn close<M: Medium, C: Chip>(
         (C.state card.old) (C.state card.new) (C.card card.new) }
     ensures stands { (from : ℕ) → CabinIsSound from (Some which) run.old.keeper.cabin
         → CabinIsSound from None run.new.keeper.cabin }
+    ensures most { ((M.state unit.new).clock ≤ (M.state unit.old).clock + 4)
+        × ((C.state card.new).clock ≤ (C.state card.old).clock + 8) }
     ensures goes { CardGoesOn breaks.old.items breaks.new.items
         (C.state card.old) (C.state card.new) }
 {
@@ -155,6 +161,7 @@ fn note_withdrawal<M: Medium>(
     ensures journal { LeavesOnly (M.state unit.old) (M.state unit.new) LeavesJournal }
     ensures speeds { LeavesSpeeds (M.state unit.old) (M.state unit.new) }
     ensures cause { HasCause (M.state unit.old) (M.state unit.new) (is_err result) }
+    ensures most { (M.state unit.new).clock ≤ (M.state unit.old).clock + 2 }
 {
     if run.noted - noted >= INSERTIONS {
         return Ok(());

@@ -13,6 +13,7 @@ ghost use Rattle.card_layout.specs.declared.files.TheConstants.{LARGEST_IMAGE};
 ghost use Rattle.card_image.specs.Own.{own_sizes};
 ghost use Rattle.card_validity.specs.Judged.{TellsSizes};
 ghost use Rattle.run_insertion.specs.Told.{BooksJudged, BooksEntered, IsEarly, WasInTime};
+ghost use Rattle.card_model.specs.declared.lengths.TheConstants.{DAYS_MOST};
 ghost use Rattle.card_session.specs.declared.words.TheConstants.{LATEST_MINUTE};
 ghost use Rattle.run_insertion.specs.Entering.{Ending, Way, Unfit, Ahead, outcome_by, most_owed};
 ghost use Rattle.run_insertion.specs.Noted.{HasNoted, IsOnUnit, IsComing, notes_by};
@@ -51,6 +52,7 @@ fn refuse<M: Medium>(
     ensures rows { (card : Card) → HasItsRow keeper.now.cabin.cards (M.state unit.old) card
         → OnOk result (HasItsRow keeper.now.cabin.cards (M.state unit.new) card) }
     ensures cause { HasCause (M.state unit.old) (M.state unit.new) (is_err result) }
+    ensures most { (M.state unit.new).clock ≤ (M.state unit.old).clock + 4 }
 {
     find(
         entering,
@@ -80,6 +82,7 @@ fn defer<M: Medium>(
     ensures rows { (card : Card) → HasItsRow keeper.now.cabin.cards (M.state unit.old) card
         → OnOk result (HasItsRow keeper.now.cabin.cards (M.state unit.new) card) }
     ensures cause { HasCause (M.state unit.old) (M.state unit.new) (is_err result) }
+    ensures most { (M.state unit.new).clock ≤ (M.state unit.old).clock + 4 }
 {
     let now = entering.at.second;
     find(
@@ -131,6 +134,8 @@ fn accept_by<M: Medium, C: Chip, D: Chip>(
     ensures row { IfSome (session_of keeper.new.cabin.cards entering.which)
         (λ a. OnOk result (HasItsRow keeper.new.cabin.cards (M.state unit.new) entering.which)) }
     ensures clock { (M.state unit.old).clock ≤ (M.state unit.new).clock }
+    ensures most { ((M.state unit.new).clock ≤ (M.state unit.old).clock + 24)
+        × ((C.state card.new).clock ≤ (C.state card.old).clock + (DAYS_MOST + 88)) }
     ensures in_time { IsEarly entering (C.state card.old) (C.state card.new) }
     ensures goes { EnteringGoes outcome.old.breaks.items outcome.new.breaks.items
         (C.state card.old) (C.state card.new) }
@@ -211,6 +216,8 @@ pub fn accept<M: Medium, C: Chip, D: Chip>(
     ensures row { IfSome (session_of keeper.new.cabin.cards entering.which)
         (λ a. OnOk result (HasItsRow keeper.new.cabin.cards (M.state unit.new) entering.which)) }
     ensures clock { (M.state unit.old).clock ≤ (M.state unit.new).clock }
+    ensures most { ((M.state unit.new).clock ≤ (M.state unit.old).clock + 24)
+        × ((C.state card.new).clock ≤ (C.state card.old).clock + (DAYS_MOST + 88)) }
     ensures in_time { WasInTime entering (C.state card.old) (C.state card.new) }
     ensures goes { EnteringGoes outcome.old.breaks.items outcome.new.breaks.items
         (C.state card.old) (C.state card.new) }

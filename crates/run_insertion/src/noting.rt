@@ -1,5 +1,5 @@
 //! What the unit notes of a card that enters.
-ghost use Rattle.std.specs.Prelude.{◌≢◌, OnOk, IfSome, is_err};
+ghost use Rattle.std.specs.Prelude.{◌≢◌, ◌+◌, ◌≤◌, OnOk, IfSome, is_err};
 ghost use Rattle.trace_model.specs.declared.Card.{Card};
 ghost use Rattle.tach_media.specs.Medium.{LeavesOnly, HasCause};
 ghost use Rattle.event_model.specs.declared.kinds.TheConstants.{CARD_NOT_VALID, TIME_OVERLAP, INSERTION_WHILE_DRIVING};
@@ -37,6 +37,7 @@ pub(crate) fn note_not_valid<M: Medium>(
     ensures rows { (card : Card) → HasItsRow keeper.now.cabin.cards (M.state unit.old) card
         → OnOk result (HasItsRow keeper.now.cabin.cards (M.state unit.new) card) }
     ensures cause { HasCause (M.state unit.old) (M.state unit.new) (is_err result) }
+    ensures most { (M.state unit.new).clock ≤ (M.state unit.old).clock + 4 }
 {
     let crew = keeper.cabin.crew();
     keeper
@@ -65,6 +66,7 @@ pub(crate) fn note_overlap<M: Medium>(
     ensures rows { (card : Card) → HasItsRow keeper.now.cabin.cards (M.state unit.old) card
         → OnOk result (HasItsRow keeper.now.cabin.cards (M.state unit.new) card) }
     ensures cause { HasCause (M.state unit.old) (M.state unit.new) (is_err result) }
+    ensures most { (M.state unit.new).clock ≤ (M.state unit.old).clock + 4 }
 {
     let crew = keeper.cabin.crew();
     keeper
@@ -94,6 +96,7 @@ pub(crate) fn note_driving<M: Medium>(
     ensures rows { (card : Card) → HasItsRow keeper.now.cabin.cards (M.state unit.old) card
         → OnOk result (HasItsRow keeper.now.cabin.cards (M.state unit.new) card) }
     ensures cause { HasCause (M.state unit.old) (M.state unit.new) (is_err result) }
+    ensures most { (M.state unit.new).clock ≤ (M.state unit.old).clock + 4 }
 {
     let crew = keeper.cabin.crew();
     keeper.memory.note_event(unit, &card_driving(second, crew))
@@ -119,6 +122,7 @@ pub(crate) fn note_unclosed<M: Medium>(
     ensures rows { (card : Card) → HasItsRow keeper.now.cabin.cards (M.state unit.old) card
         → OnOk result (HasItsRow keeper.now.cabin.cards (M.state unit.new) card) }
     ensures cause { HasCause (M.state unit.old) (M.state unit.new) (is_err result) }
+    ensures most { (M.state unit.new).clock ≤ (M.state unit.old).clock + 4 }
 {
     keeper
         .memory

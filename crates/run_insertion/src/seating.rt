@@ -70,6 +70,7 @@ fn seat<M: Medium, C: Chip, D: Chip>(
     ensures stands { (from : ℕ) → keeper.old.cabin.slots.minute ≤ from → CabinIsSound from None keeper.old.cabin
         → CabinIsSound from None keeper.new.cabin }
     ensures cause { HasCause (M.state unit.old) (M.state unit.new) (is_err result) }
+    ensures most { (M.state unit.new).clock ≤ (M.state unit.old).clock + 12 }
 {
     let begin_second = entering.at.second;
     let entry = keeper
@@ -126,6 +127,8 @@ fn note_moving<M: Medium, C: Chip, D: Chip>(
         (C.state card.new) }
     ensures behind { StandsEntered entering.which result keeper.old keeper.new (M.state unit.old) (M.state unit.new)
         (C.state card.old) (C.state card.new) (C.card card.new) }
+    ensures most { ((M.state unit.new).clock ≤ (M.state unit.old).clock + 8)
+        × ((C.state card.new).clock ≤ (C.state card.old).clock + 4) }
     ensures goes { EnteringGoes breaks.old.items breaks.new.items
         (C.state card.old) (C.state card.new) }
 {
@@ -170,6 +173,8 @@ fn note_entered<M: Medium, C: Chip, D: Chip>(
         (C.state card.new) }
     ensures behind { StandsEntered entering.which result keeper.old keeper.new (M.state unit.old) (M.state unit.new)
         (C.state card.old) (C.state card.new) (C.card card.new) }
+    ensures most { ((M.state unit.new).clock ≤ (M.state unit.old).clock + 12)
+        × ((C.state card.new).clock ≤ (C.state card.old).clock + 4) }
     ensures goes { EnteringGoes breaks.old.items breaks.new.items
         (C.state card.old) (C.state card.new) }
 {
@@ -234,6 +239,8 @@ pub(crate) fn take_in<M: Medium, C: Chip, D: Chip>(
     ensures row { IfSome (session_of keeper.new.cabin.cards entering.which)
         (λ a. OnOk result (HasItsRow keeper.new.cabin.cards (M.state unit.new) entering.which)) }
     ensures judged { IsWithinBounds entered }
+    ensures most { ((M.state unit.new).clock ≤ (M.state unit.old).clock + 24)
+        × ((C.state card.new).clock ≤ (C.state card.old).clock + 4) }
     ensures goes { EnteringGoes outcome.old.breaks.items outcome.new.breaks.items
         (C.state card.old) (C.state card.new) }
 {

@@ -27,3 +27,4 @@ pub mod Calm
 pub mod Rests
 pub mod Goes
 pub mod SoFar
+pub mod Writes

@@ -10,3 +10,5 @@ pub mod Faults
 pub mod Later
 pub mod Stand
 pub mod Kept
+pub mod Writes
+pub mod Calls

@@ -1,21 +1,22 @@
 //! The entry of a minute is brought onto the card that was present in a slot.
-ghost use Rattle.std.specs.Prelude.{◌≡◌, ◌≢◌, ℕ, ◌+◌, ◌-◌, ◌/◌, ◌<◌, ◌≤◌, ◌^◌, Option, Some, OnOk, length, is_some};
+ghost use Rattle.std.specs.Prelude.{◌≡◌, ◌≢◌, ℕ, ◌+◌, ◌-◌, ◌/◌, ◌<◌, ◌≤◌, ◌^◌, Option, Some, length};
 ghost use Rattle.std.specs.Prelude.{is_err};
 ghost use Rattle.trace_model.specs.declared.Card.{Card};
-ghost use Rattle.tach_media.specs.Medium.{LeavesOnly, HasCause, HasBroken};
+ghost use Rattle.tach_media.specs.Medium.{LeavesOnly};
 ghost use Rattle.card_session.specs.declared.words.TheConstants.{LATEST_MINUTE};
 ghost use Rattle.unit_notes.specs.Journal.{LeavesJournal};
 ghost use Rattle.run_crew.specs.Cards.{known_of, session_of};
 ghost use Rattle.run_crew.specs.Cabin.{CabinIsSound, IsBehind, crew_of};
 ghost use Rattle.run_minutes.specs.Owing.{BooksCard, BooksBrought};
 ghost use Rattle.run_minutes.specs.Kept.{IsAnother};
-ghost use Rattle.run_minutes.specs.Later.{IsLater};
 ghost use Rattle.run_minutes.specs.Stand.{StandsAfter, KeepingGoes, CallsOnly, standing};
+ghost use Rattle.run_minutes.specs.Writes.{WroteAtMost};
 ghost use Rattle.run_promise.specs.Between.{devices};
 ghost use Rattle.run_speeds.specs.Speeds.{LeavesSpeeds};
-ghost use Rattle.run_minutes.specs.Keeping.{UnitMayBeCalled, CardMayBeCalled, HasItsRow, HasLeftMore};
-ghost use Rattle.run_minutes.specs.Keeping.{DevicesMayBeCalled, Fate, IsBrought, IsNotingFault, tears_of, session_at};
+ghost use Rattle.run_minutes.specs.Keeping.{UnitMayBeCalled, CardMayBeCalled};
+ghost use Rattle.run_minutes.specs.Keeping.{DevicesMayBeCalled, Fate, IsBrought, IsNotingFault, tears_of};
 ghost use Rattle.run_minutes.specs.Keeping.{state_at};
+ghost use Rattle.run_minutes.specs.Calls.{CardKeeps, MayBring, StandsBrought};
 
 use crate::keeper::{Keeper, Moment};
 use card_session::Kept;
@@ -54,21 +55,17 @@ impl Keeper {
             × BooksCard which kept.now fate self.old.cabin.cards self.new.cabin.cards (M.state unit.old)
             (C.state card.old) (C.state card.new) }
         ensures journal { LeavesOnly (M.state unit.old) (M.state unit.new) LeavesJournal }
-        ensures cause { HasCause (M.state unit.old) (M.state unit.new) (is_err result) }
-        ensures ready { OnOk result (UnitMayBeCalled self.new (M.state unit.new)) }
-        ensures rows { (card : Card) → HasItsRow self.old.cabin.cards (M.state unit.old) card
-            → OnOk result (HasItsRow self.new.cabin.cards (M.state unit.new) card) }
-        ensures card { CardMayBeCalled (known_of self.new.cabin.cards which) (C.card card.new) (C.state card.new) }
-        ensures size { (C.state card.new).size ≡ (C.state card.old).size }
-        ensures card_keeps { HasLeftMore (C.state card.old) (C.state card.new) }
-        ensures tells { is_some (C.state card.new).image ≡ is_some (C.state card.old).image }
+        ensures behind { StandsBrought which result self.old self.new (M.state unit.old) (M.state unit.new)
+            (C.state card.old) (C.state card.new) (C.card card.new) }
+        ensures goes { CardKeeps (tears_of (session_of self.old.cabin.cards which) - tears_of
+            (session_of self.new.cabin.cards which))
+            (C.state card.old) (C.state card.new) }
         ensures bare { session_of self.old.cabin.cards which ≡ None → card.new ≡ card.old }
-        ensures broken { HasBroken (C.state card.old) (C.state card.new)
-            (tears_of (session_of self.old.cabin.cards which) - tears_of (session_of self.new.cabin.cards which)) }
         ensures stands { (from : ℕ) (leaving : Option Card) → from ≤ kept.now.entry.minute + 1
             → CabinIsSound from leaving self.old.cabin
             → CabinIsSound (kept.now.entry.minute + 1) leaving self.new.cabin }
-        ensures later { IsLater (C.state card.old) (C.state card.new) }
+        ensures most { ((M.state unit.new).clock ≤ (M.state unit.old).clock + 4)
+            × ((C.state card.new).clock ≤ (C.state card.old).clock + 17) }
     {
         let Ok(app) = self.cabin.cards.of(which).sizes else {
             return Ok(());
@@ -107,15 +104,7 @@ impl Keeper {
     ) -> Result<(), Failed>
         requires ready { DevicesMayBeCalled self.old (M.state unit.old) (C.card card_a.old) (D.card card_b.old)
             (C.state card_a.old) (D.state card_b.old) }
-        requires behind { IsBehind self.old.cabin.cards kept.now.entry.minute present }
-        requires first { 1440 ≤ kept.now.entry.minute }
-        requires last { kept.now.entry.minute ≤ LATEST_MINUTE }
-        requires fits { kept.now.odometer.0 < 2 ^ 24 }
-        requires minute { self.old.cabin.slots.minute ≤ at.second / 60 }
-        requires second { at.second ≢ 0 }
-        requires marks { length marks.old.items < marks.old.room }
-        requires breaks { length breaks.old.items + tears_of (session_at self.old.cabin.cards present)
-            ≤ breaks.old.room }
+        requires may { MayBring present kept.now at self.old marks.old breaks.old }
         ensures brought { (fate : Fate)
             × IsBrought present kept.now at (is_err result) self.old self.new marks.old marks.new breaks.old breaks.new
             fate (M.state unit.old) (M.state unit.new) (state_at present (C.state card_a.old) (D.state card_b.old))
@@ -136,6 +125,8 @@ impl Keeper {
             (C.card card_a.new) (D.card card_b.new)) }
         ensures speeds { LeavesSpeeds (M.state unit.old) (M.state unit.new) }
         ensures calls { CallsOnly (IsAnother present) self.old.cabin.cards card_a.old card_a.new card_b.old card_b.new }
+        ensures most { WroteAtMost 4 17 (devices (M.state unit.old) (C.state card_a.old) (D.state card_b.old))
+            (devices (M.state unit.new) (C.state card_a.new) (D.state card_b.new)) }
         ensures journal { LeavesOnly (M.state unit.old) (M.state unit.new) LeavesJournal }
         ensures cabin { (from : ℕ) (leaving : Option Card) → from ≤ kept.now.entry.minute + 1
             → CabinIsSound from leaving self.old.cabin

@@ -1,5 +1,5 @@
 //! A minute is kept by the unit, and then on the cards that were present in it.
-ghost use Rattle.std.specs.Prelude.{◌≡◌, ◌<◌, ◌≤◌, IfSome, ◌∷◌, [], OnOk, OnErr, length, is_err};
+ghost use Rattle.std.specs.Prelude.{◌≡◌, ◌+◌, ◌<◌, ◌≤◌, IfSome, ◌∷◌, [], OnOk, OnErr, length, is_err};
 ghost use Rattle.card_session.specs.declared.words.TheConstants.{LATEST_MINUTE};
 ghost use Rattle.unit_model.specs.declared.layout.TheConstants.{HIGHEST_ODOMETER};
 ghost use Rattle.run_crew.specs.Cabin.{AreTwo};
@@ -9,6 +9,7 @@ ghost use Rattle.run_minutes.specs.Minutes.{unit_mark};
 ghost use Rattle.run_minutes.specs.Owing.{BooksPut, BooksOwed, TravelsOn};
 ghost use Rattle.run_minutes.specs.Kept.{IsAbsent, MayKeep, Keeps};
 ghost use Rattle.run_minutes.specs.Stand.{UnitGoes, UnitStands, StandsAfter, KeepingGoes, CallsOnly, standing};
+ghost use Rattle.run_minutes.specs.Writes.{WroteAtMost};
 ghost use Rattle.run_promise.specs.Between.{devices};
 ghost use Rattle.run_speeds.specs.Speeds.{LeavesSpeeds};
 
@@ -59,6 +60,7 @@ impl Keeper {
         ensures same { self.new ≡ self.old }
         ensures stands { UnitStands (is_err result) self.old self.new (M.state unit.old) (M.state unit.new) }
         ensures goes { UnitGoes (is_err result) (M.state unit.old) (M.state unit.new) }
+        ensures most { (M.state unit.new).clock ≤ (M.state unit.old).clock + 3 }
         ensures travelled { TravelsOn (M.state unit.old) (M.state unit.new) }
         ensures booked { BooksPut present entry.now (is_err result) self.old.cabin.cards
             (devices (M.state unit.old) (C.state card_a.now) (D.state card_b.now))
@@ -95,7 +97,7 @@ impl Keeper {
     }
 
     // The unit keeps a minute, which is marked: before, the cards that were present are owed what it says on them.
-    fn commit<M: Medium, C: Chip, D: Chip>(
+    fn acknowledge<M: Medium, C: Chip, D: Chip>(
         &mut self,
         minute: &KeptMinute,
         present: Present,
@@ -120,6 +122,7 @@ impl Keeper {
         ensures same { OnErr result ((self.new.journal ≡ self.old.journal) × (marks.new ≡ marks.old)) }
         ensures stands { UnitStands (is_err result) self.old self.new (M.state unit.old) (M.state unit.new) }
         ensures goes { UnitGoes (is_err result) (M.state unit.old) (M.state unit.new) }
+        ensures most { (M.state unit.new).clock ≤ (M.state unit.old).clock + 18 }
         ensures booked { TellsPresent minute.now present → BooksOwed present minute.now (is_err result)
             (record { keeper = self.old; marks = marks.old; breaks = record { items = []; room = 0 } })
             (record { keeper = self.new; marks = marks.new; breaks = record { items = []; room = 0 } })
@@ -176,12 +179,14 @@ impl Keeper {
             (C.card card_a.old) (D.card card_b.old))
             (standing self.new marks.new breaks.new (M.state unit.new) (C.state card_a.new) (D.state card_b.new)
             (C.card card_a.new) (D.card card_b.new)) }
+        ensures most { WroteAtMost 26 34 (devices (M.state unit.old) (C.state card_a.old) (D.state card_b.old))
+            (devices (M.state unit.new) (C.state card_a.new) (D.state card_b.new)) }
         ensures speeds { LeavesSpeeds (M.state unit.old) (M.state unit.new) }
         ensures calls { CallsOnly (IsAbsent present) self.old.cabin.cards card_a.old card_a.new card_b.old card_b.new }
     {
         let driver = kept_in(minute, Slot::Driver);
         let codriver = kept_in(minute, Slot::CoDriver);
-        self.commit(minute, present, unit, card_a, card_b, marks)?;
+        self.acknowledge(minute, present, unit, card_a, card_b, marks)?;
         self.bring(
             present.driver,
             &driver,

@@ -1,10 +1,12 @@
 //! Decided minutes are kept, one after another.
-ghost use Rattle.std.specs.Prelude.{◌≡◌, ◌≤◌, is_some, is_err};
+ghost use Rattle.std.specs.Prelude.{◌≡◌, ◌*◌, ◌≤◌, length, is_some, is_err};
 ghost use Rattle.unit_model.specs.declared.layout.TheConstants.{HIGHEST_ODOMETER};
 ghost use Rattle.run_minutes.specs.Keeping.{DevicesMayBeCalled};
 ghost use Rattle.run_minutes.specs.Minutes.{odometer_by, kept_of};
 ghost use Rattle.run_minutes.specs.Kept.{MayKeepAll, KeepsAll};
 ghost use Rattle.run_minutes.specs.Stand.{StandsAfter, KeepingGoes, AreBare, standing};
+ghost use Rattle.run_minutes.specs.Writes.{WroteAtMost};
+ghost use Rattle.run_promise.specs.Between.{devices};
 ghost use Rattle.run_speeds.specs.Speeds.{LeavesSpeeds};
 
 use crate::keeper::{Keeper, Moment};
@@ -88,6 +90,9 @@ impl Keeper {
             (C.card card_a.old) (D.card card_b.old))
             (standing self.new marks.new breaks.new (M.state unit.new) (C.state card_a.new) (D.state card_b.new)
             (C.card card_a.new) (D.card card_b.new)) }
+        ensures most { WroteAtMost (26 * length decided.now) (34 * length decided.now)
+            (devices (M.state unit.old) (C.state card_a.old) (D.state card_b.old))
+            (devices (M.state unit.new) (C.state card_a.new) (D.state card_b.new)) }
         ensures speeds { LeavesSpeeds (M.state unit.old) (M.state unit.new) }
         ensures bare { AreBare self.old.cabin.cards card_a.old card_a.new card_b.old card_b.new }
     {

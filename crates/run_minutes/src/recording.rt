@@ -1,8 +1,10 @@
 //! Minutes are kept by a recorder: its calls lend its lines and devices to those of its keeper.
-ghost use Rattle.std.specs.Prelude.{◌≡◌, is_err};
+ghost use Rattle.std.specs.Prelude.{◌≡◌, ◌*◌, length, is_err};
 ghost use Rattle.run_minutes.specs.Kept.{IsAbsent, MayKeep, Keeps, MayKeepAll, KeepsAll};
 ghost use Rattle.run_speeds.specs.Speeds.{LeavesSpeeds};
 ghost use Rattle.run_minutes.specs.Stand.{IsReadyFor, StandsAfter, KeepingGoes, AreBare, CallsOnly};
+ghost use Rattle.run_minutes.specs.Writes.{WroteAtMost};
+ghost use Rattle.run_promise.specs.Between.{devices};
 
 use crate::keeper::Moment;
 use crate::recorder::{Recorder, Stands};
@@ -31,6 +33,8 @@ impl<U: Medium, C: Chip> Recorder<U, C> {
         ensures goes { KeepingGoes (⟦<Self as Stands>⟧.stand self.old) (⟦<Self as Stands>⟧.stand self.new) }
         ensures kept { Keeps minute.now present at (is_err result)
             (⟦<Self as Stands>⟧.stand self.old) (⟦<Self as Stands>⟧.stand self.new) }
+        ensures most { WroteAtMost 26 34 (devices (U.state self.old.unit) (C.state self.old.card_a) (C.state self.old.card_b))
+            (devices (U.state self.new.unit) (C.state self.new.card_a) (C.state self.new.card_b)) }
         ensures speeds { LeavesSpeeds (U.state self.old.unit) (U.state self.new.unit) }
         ensures calls { CallsOnly (IsAbsent present) self.old.keeper.cabin.cards
             self.old.card_a self.new.card_a self.old.card_b self.new.card_b }
@@ -60,6 +64,9 @@ impl<U: Medium, C: Chip> Recorder<U, C> {
         ensures goes { KeepingGoes (⟦<Self as Stands>⟧.stand self.old) (⟦<Self as Stands>⟧.stand self.new) }
         ensures kept { KeepsAll decided.now at (is_err result)
             (⟦<Self as Stands>⟧.stand self.old) (⟦<Self as Stands>⟧.stand self.new) }
+        ensures most { WroteAtMost (26 * length decided.now) (34 * length decided.now)
+            (devices (U.state self.old.unit) (C.state self.old.card_a) (C.state self.old.card_b))
+            (devices (U.state self.new.unit) (C.state self.new.card_a) (C.state self.new.card_b)) }
         ensures speeds { LeavesSpeeds (U.state self.old.unit) (U.state self.new.unit) }
         ensures bare { AreBare self.old.keeper.cabin.cards
             self.old.card_a self.new.card_a self.old.card_b self.new.card_b }

@@ -1,12 +1,9 @@
 //! A card is torn out, since a call on it failed.
-ghost use Rattle.std.specs.Prelude.{◌≡◌, ◌≢◌, ℕ, ◌/◌, ◌<◌, ◌≤◌, ◌∷◌, [], Option, IfSome, OnOk, length, is_err};
+ghost use Rattle.std.specs.Prelude.{◌≢◌, ℕ, ◌+◌, ◌/◌, ◌<◌, ◌≤◌, Option, length};
 ghost use Rattle.trace_model.specs.declared.Card.{Card};
-ghost use Rattle.tach_media.specs.Medium.{LeavesOnly, HasCause};
-ghost use Rattle.event_model.specs.declared.kinds.TheConstants.{CARD_FAULT};
-ghost use Rattle.unit_notes.specs.Journal.{LeavesJournal};
-ghost use Rattle.unit_notes.specs.Noting.{IsNotingEvent, IsEventNoted};
-ghost use Rattle.run_crew.specs.Cabin.{CabinIsSound, torn_out, crew_of};
-ghost use Rattle.run_minutes.specs.Keeping.{UnitMayBeCalled, HasItsRow, tear_of, fault_of, with_lines};
+ghost use Rattle.run_crew.specs.Cabin.{CabinIsSound};
+ghost use Rattle.run_minutes.specs.Keeping.{UnitMayBeCalled};
+ghost use Rattle.run_minutes.specs.Calls.{IsTorn, NotesTear, UnitStandsTorn};
 
 use crate::keeper::{Keeper, Moment};
 use activity_codec::Slot;
@@ -36,20 +33,12 @@ impl Keeper {
         requires minute { self.old.cabin.slots.minute ≤ at.second / 60 }
         requires second { at.second ≢ 0 }
         requires room { length breaks.old.items < breaks.old.room }
-        ensures keeper { self.new ≡ record self.old { cabin = torn_out card at.second self.old.cabin } }
-        ensures told { breaks.new ≡ with_lines (tear_of slot at ∷ []) breaks.old }
-        ensures ready { OnOk result (UnitMayBeCalled self.new (M.state unit.new)) }
-        ensures rows { (card : Card) → HasItsRow self.old.cabin.cards (M.state unit.old) card
-            → OnOk result (HasItsRow self.new.cabin.cards (M.state unit.new) card) }
+        ensures torn { IsTorn card slot at self.old self.new breaks.old breaks.new }
+        ensures behind { UnitStandsTorn result self.old self.new (M.state unit.old) (M.state unit.new) }
         ensures stands { (from : ℕ) (leaving : Option Card) → CabinIsSound from leaving self.old.cabin
             → CabinIsSound from leaving self.new.cabin }
-        ensures noted { OnOk result (IfSome (M.state unit.old).image
-            (λ x. IfSome (M.state unit.new).image
-            (IsEventNoted CARD_FAULT (fault_of at.second (crew_of self.new.cabin)) x))) }
-        ensures moments { LeavesOnly (M.state unit.old) (M.state unit.new)
-            (IsNotingEvent CARD_FAULT (fault_of at.second (crew_of self.new.cabin))) }
-        ensures journal { LeavesOnly (M.state unit.old) (M.state unit.new) LeavesJournal }
-        ensures cause { HasCause (M.state unit.old) (M.state unit.new) (is_err result) }
+        ensures leaves { NotesTear result at self.new (M.state unit.old) (M.state unit.new) }
+        ensures most { (M.state unit.new).clock ≤ (M.state unit.old).clock + 4 }
     {
         breaks.add(Break::Tear {
             second: at.second,

@@ -1,6 +1,7 @@
-use Rattle.std.proofs.Common.{option_map}
+use Rattle.std.proofs.Common.{◌≡◌, ℕ, List, length, option_map, refl, arith}
 use Rattle.tacho_types.specs.CardNumber.{card_number_bytes}
 use Rattle.tach_media.proofs.Runs.{ok_gives}
+use Rattle.unit_owed.specs.Rows.{row_pieces}
 use Rattle.device_calls.proofs.EntryOwed.{worked}
 use Rattle.device_calls.proofs.RowBegun.{begun-holds, row-spared, begins, taken-other}
 use Rattle.device_calls.proofs.RowAlone.{ends-alone, taken-alone}
@@ -34,3 +35,14 @@ returns-clause-moments g c = c.begin_owed_at.ensures.moments (option_map (λ s. 
 
 pub begin_owed_at-requires-clause-own : goal.begin_owed_at-requires-clause-own
 begin_owed_at-requires-clause-own g c = (option_map (λ s. card_number_bytes s.now) c.args.spared, c.requires.row)
+
+-- ---- seven writes at most
+
+seven : (row : ℕ) (number : List ℕ) (session : ℕ) → length (row_pieces row number session) ≡ 7
+seven row number session = refl
+
+pub returns-clause-most : goal.returns-clause-most
+returns-clause-most g c =
+    let most = c.begin_owed_at.ensures.puts.clock in
+    let long = seven c.args.row (card_number_bytes c.args.number.now) c.args.session in
+    omega (arith, most, long)

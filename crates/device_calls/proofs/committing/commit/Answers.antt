@@ -34,3 +34,6 @@ returns-clause-travelled g c = λ start t leg s due b marks i is h none late gon
 
 pub returns-clause-keeps : goal.returns-clause-keeps
 returns-clause-keeps g c = c.keep.ensures.moments.keeps
+
+pub returns-clause-most : goal.returns-clause-most
+returns-clause-most g c = most-begun _ _ _ _ c.keep.ensures.puts.clock

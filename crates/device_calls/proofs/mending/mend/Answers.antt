@@ -19,3 +19,6 @@ returns-clause-second g c = λ r card b z rests.
 
 pub returns-clause-views : goal.returns-clause-views
 returns-clause-views g c = λ a b. mends-views _ (g.met.M.Medium.coherent c.args.unit.now) c.mend.ensures.moments a b
+
+pub returns-clause-most : goal.returns-clause-most
+returns-clause-most g c = c.mend.ensures.most

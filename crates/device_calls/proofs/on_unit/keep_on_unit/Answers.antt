@@ -159,3 +159,14 @@ returns-in_err-owe_some-2-clause-clock g c = omega (arith, c.in_ok-owe_some.ensu
 
 pub returns-in_err-owe_some-2-clause-tells : goal.returns-in_err-owe_some-2-clause-tells
 returns-in_err-owe_some-2-clause-tells g c = c.in_err-owe_some-2.ensures.tells ∙ c.in_ok-owe_some.ensures.tells
+
+-- ---- eighteen writes at most
+
+pub returns-in_err-owe_some-clause-most : goal.returns-in_err-owe_some-clause-most
+returns-in_err-owe_some-clause-most g c = let one = c.in_err-owe_some.ensures.most in omega (arith, one)
+
+pub returns-in_err-owe_some-2-clause-most : goal.returns-in_err-owe_some-2-clause-most
+returns-in_err-owe_some-2-clause-most g c = let one = c.in_ok-owe_some.ensures.most in let two = c.in_err-owe_some-2.ensures.most in omega (arith, one, two)
+
+pub returns-clause-most : goal.returns-clause-most
+returns-clause-most g c = let one = c.in_ok-owe_some.ensures.most in let two = c.in_ok-owe_some-2.ensures.most in let last = c.commit.ensures.most in omega (arith, one, two, last)

@@ -1,4 +1,4 @@
-use Rattle.std.proofs.Common.{◌<◌, ◌≤◌, inl, inr, false, [], Option, IfSome, is_err, refl, sym, subst}
+use Rattle.std.proofs.Common.{◌<◌, ◌≤◌, inl, inr, false, [], Option, IfSome, is_err, refl, sym, subst, arith}
 use Rattle.std.specs.Prelude.{option_to_list}
 use Rattle.activity_codec.specs.declared.entries.Entry.{Entry}
 use Rattle.tacho_types.specs.CardNumber.{card_number_bytes}
@@ -48,3 +48,11 @@ owe-requires-clause-low g c =
 pub owe-requires-clause-row : goal.owe-requires-clause-row
 owe-requires-clause-row g c =
     (subst (λ (o : Option Entry). IfSome o (λ e. (c.args.row < 8) × IfSome (g.M.Medium.state c.args.unit.now).image (IsRowAt c.args.row (card_number_bytes c.args.number.now)))) c.in-Some.is c.requires.row).1
+
+-- ---- three writes at most
+
+pub returns-in-None-clause-most : goal.returns-in-None-clause-most
+returns-in-None-clause-most g c = omega arith
+
+pub returns-in-Some-clause-most : goal.returns-in-Some-clause-most
+returns-in-Some-clause-most g c = c.owe.ensures.most

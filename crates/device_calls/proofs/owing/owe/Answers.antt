@@ -1,5 +1,7 @@
+use Rattle.std.proofs.Common.{◌≡◌, ℕ, length, refl, arith}
 use Rattle.tach_media.proofs.Runs.{ok_gives}
 use Rattle.tacho_types.specs.CardNumber.{card_number_bytes}
+use Rattle.unit_owed.specs.Rows.{cell_pieces, entry_word}
 use Rattle.device_calls.proofs.EntryOwed.{owed-holds, puts, owed-mine, owed-other, put, worked, row-there, row-still}
 use Rattle.device_calls.proofs.Travel.{put-travelled}
 use Rattle.device_calls.proofs.owing.owe.Goals as goal
@@ -35,3 +37,14 @@ returns-clause-moments g c = c.put_owed_at.ensures.moments (card_number_bytes c.
 
 pub put_owed_at-requires-clause-own : goal.put_owed_at-requires-clause-own
 put_owed_at-requires-clause-own g c = (card_number_bytes c.args.number.now, c.requires.row)
+
+-- ---- three writes at most
+
+three : (row minute word : ℕ) → length (cell_pieces row minute word) ≡ 3
+three row minute word = refl
+
+pub returns-clause-most : goal.returns-clause-most
+returns-clause-most g c =
+    let most = c.put_owed_at.ensures.puts.clock in
+    let long = three c.args.row c.args.entry.now.minute (entry_word c.args.entry.now) in
+    omega (arith, most, long)

@@ -21,6 +21,7 @@ use Rattle.recorder_with_cards.specs.Accepting.{IsAnew}
 use Rattle.tach_media.proofs.Runs.{no_reads}
 use Rattle.recorder_with_cards.proofs.accepting.accept_anew.Given.{Over}
 use Rattle.recorder_with_cards.proofs.accepting.accept_anew.Goals.{After-accept_in}
+use Rattle.run_minutes.proofs.Writes.{wrote-none}
 use Rattle.recorder_with_cards.proofs.accepting.accept_anew.Goals as goal
 
 -- ---- the card that was judged
@@ -157,3 +158,11 @@ returns-clause-goes g c = record {
   later = c.accept_in.ensures.goes.later;
   calm = c.accept_in.ensures.goes.calm;
 }
+
+-- ---- its writes
+
+pub returns-in_default-clause-most : goal.returns-in_default-clause-most
+returns-in_default-clause-most g c = wrote-none 24 1072 (devices (g.M.Medium.state c.args.unit.now) (g.C.Chip.state c.args.card_a.now) (g.D.Chip.state c.args.card_b.now))
+
+pub returns-clause-most : goal.returns-clause-most
+returns-clause-most g c = c.accept_in.ensures.most

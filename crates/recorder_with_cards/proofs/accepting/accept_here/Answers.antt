@@ -64,6 +64,7 @@ use Rattle.log_model.specs.Slots.{other_slot}
 use Rattle.run_speeds.specs.Speeds.{LeavesSpeeds}
 use Rattle.recorder_with_cards.proofs.accepting.accept_here.Given.{Over}
 use Rattle.recorder_with_cards.proofs.accepting.accept_here.Goals.{After-len-most}
+use Rattle.card_model.specs.declared.lengths.TheConstants.{DAYS_MOST}
 use Rattle.recorder_with_cards.proofs.accepting.accept_here.Goals as goal
 
 -- ---- WHAT THE CALL LEAVES
@@ -351,3 +352,11 @@ returns-clause-goes g c = record {
   speeds = speeds-left g c;
   calm = c.accept-answer.ensures.goes.calm;
 }
+
+-- ---- its writes
+
+pub returns-clause-most : goal.returns-clause-most
+returns-clause-most g c =
+    let most = c.accept-answer.ensures.most.1 in
+    let days : DAYS_MOST ≡ 984 = refl in
+    (c.accept-answer.ensures.most.0, omega (arith, most, days))

@@ -1,4 +1,4 @@
-use Rattle.std.proofs.Common.{◌∙◌, sym, subst, refl}
+use Rattle.std.proofs.Common.{◌∙◌, sym, subst, refl, arith}
 use Rattle.std.specs.Prelude.{is_err}
 use Rattle.trace_model.specs.declared.Card.{Card}
 use Rattle.safety_model.specs.Safe.{Devices}
@@ -124,3 +124,11 @@ returns-in-B-clause-goes g c = record {
   later = later-of-b (g.M.Medium.state c.args.unit.now) (g.M.Medium.state c.accept_here-in-B.new.unit) (g.C.Chip.state c.args.card_a.now) (g.D.Chip.state c.args.card_b.now) (g.D.Chip.state c.accept_here-in-B.new.card) (state-by (g.M.Medium.state c.args.unit.now) (g.M.Medium.state c.accept_here-in-B.new.unit) _ c.accept_here-in-B.ensures.goes.clock c.accept_here-in-B.ensures.cause) c.accept_here-in-B.ensures.goes.later c.accept_here-in-B.ensures.goes.speeds;
   calm = calm-of-b (g.M.Medium.state c.args.unit.now) (g.M.Medium.state c.accept_here-in-B.new.unit) (g.C.Chip.state c.args.card_a.now) (g.D.Chip.state c.args.card_b.now) (g.D.Chip.state c.accept_here-in-B.new.card) c.accept_here-in-B.ensures.goes.calm;
 }
+
+-- ---- its writes
+
+pub returns-in-A-clause-most : goal.returns-in-A-clause-most
+returns-in-A-clause-most g c = record { unit = c.accept_here.ensures.most.0; card_a = c.accept_here.ensures.most.1; card_b = omega arith }
+
+pub returns-in-B-clause-most : goal.returns-in-B-clause-most
+returns-in-B-clause-most g c = record { unit = c.accept_here-in-B.ensures.most.0; card_a = omega arith; card_b = c.accept_here-in-B.ensures.most.1 }

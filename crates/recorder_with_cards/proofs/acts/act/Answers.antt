@@ -13,6 +13,7 @@ use Rattle.run_minutes.proofs.Calm.{calm-same}
 use Rattle.std.proofs.lemmas.List.{append-nil}
 use Rattle.run_minutes.specs.Keeping.{with_lines}
 use Rattle.std.specs.Prelude.{List}
+use Rattle.recorder_with_cards.proofs.Writes.{writes-none}
 use Rattle.recorder_with_cards.proofs.acts.act.Goals as goal
 
 -- ---- which devices are called
@@ -141,3 +142,14 @@ returns-clause-goes g c = record {
   more = c.act_lit.ensures.goes.more;
   broke = c.act_lit.ensures.goes.broke;
 }
+
+-- ---- its writes
+
+pub returns-then-not-has_power-clause-most : goal.returns-then-not-has_power-clause-most
+returns-then-not-has_power-clause-most g c = writes-none 0 1 (devices (g.M.Medium.state c.args.unit.now) (g.C.Chip.state c.args.card_a.now) (g.D.Chip.state c.args.card_b.now))
+
+pub returns-then-not-is_lit-clause-most : goal.returns-then-not-is_lit-clause-most
+returns-then-not-is_lit-clause-most g c = writes-none 0 1 (devices (g.M.Medium.state c.args.unit.now) (g.C.Chip.state c.args.card_a.now) (g.D.Chip.state c.args.card_b.now))
+
+pub returns-clause-most : goal.returns-clause-most
+returns-clause-most g c = c.act_lit.ensures.most

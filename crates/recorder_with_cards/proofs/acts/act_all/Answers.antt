@@ -24,6 +24,7 @@ use Rattle.run_minutes.proofs.Calm.{calm-same, calm-then}
 use Rattle.recorder_with_cards.proofs.Time.{later-time}
 use Rattle.recorder_with_cards.proofs.acts.act_all.Given.{Over}
 use Rattle.recorder_with_cards.proofs.acts.act_all.Goals.{After-act_item}
+use Rattle.recorder_with_cards.proofs.Writes.{writes-none, writes-then, writes-more}
 use Rattle.recorder_with_cards.proofs.acts.act_all.Goals as goal
 
 -- one action more is carried, whatever that is
@@ -88,6 +89,7 @@ loop-i-init g c = record {
   later = later-same (devices (g.M.Medium.state c.args.unit.now) (g.C.Chip.state c.args.card_a.now) (g.D.Chip.state c.args.card_b.now));
   calm = calm-same (devices (g.M.Medium.state c.args.unit.now) (g.C.Chip.state c.args.card_a.now) (g.D.Chip.state c.args.card_b.now));
   broke = broke-none c.args.outcome.now.breaks.items {old = (g.M.Medium.state c.args.unit.now)} {new = (g.M.Medium.state c.args.unit.now)} (omega arith);
+  most = writes-none 0 (c.args.from - c.args.from) (devices (g.M.Medium.state c.args.unit.now) (g.C.Chip.state c.args.card_a.now) (g.D.Chip.state c.args.card_b.now));
   dark = c.requires.dark;
   next = refl;
   unfound = refl;
@@ -117,6 +119,10 @@ loop-i-preserved g c =
       later = later-then (devices (g.M.Medium.state c.args.unit.now) (g.C.Chip.state c.args.card_a.now) (g.D.Chip.state c.args.card_b.now)) (devices (g.M.Medium.state c.loop-i.unit) (g.C.Chip.state c.loop-i.card_a) (g.D.Chip.state c.loop-i.card_b)) (devices (g.M.Medium.state c.act_item.new.unit) (g.C.Chip.state c.act_item.new.card_a) (g.D.Chip.state c.act_item.new.card_b)) v.later e.goes.later;
       calm = calm-then (devices (g.M.Medium.state c.args.unit.now) (g.C.Chip.state c.args.card_a.now) (g.D.Chip.state c.args.card_b.now)) (devices (g.M.Medium.state c.loop-i.unit) (g.C.Chip.state c.loop-i.card_a) (g.D.Chip.state c.loop-i.card_b)) (devices (g.M.Medium.state c.act_item.new.unit) (g.C.Chip.state c.act_item.new.card_a) (g.D.Chip.state c.act_item.new.card_b)) v.calm e.goes.calm;
       broke = broke-then c.loop-i.invariant.broke c.act_item.ensures.goes.broke;
+      most =
+          let low = c.loop-i.auto.i in
+          writes-more 0 0 (c.loop-i.i - c.args.from + 1) (c.loop-i.i + 1 - c.args.from) (devices (g.M.Medium.state c.args.unit.now) (g.C.Chip.state c.args.card_a.now) (g.D.Chip.state c.args.card_b.now)) (devices (g.M.Medium.state c.act_item.new.unit) (g.C.Chip.state c.act_item.new.card_a) (g.D.Chip.state c.act_item.new.card_b)) (omega arith) (omega (arith, low))
+          (writes-then 0 0 (c.loop-i.i - c.args.from) 1 (devices (g.M.Medium.state c.args.unit.now) (g.C.Chip.state c.args.card_a.now) (g.D.Chip.state c.args.card_b.now)) (devices (g.M.Medium.state c.loop-i.unit) (g.C.Chip.state c.loop-i.card_a) (g.D.Chip.state c.loop-i.card_b)) (devices (g.M.Medium.state c.act_item.new.unit) (g.C.Chip.state c.act_item.new.card_a) (g.D.Chip.state c.act_item.new.card_b)) v.most e.most);
       dark = e.dark;
       next = e.acted.next ∙ v.next;
       unfound = e.acted.unfound ∙ v.unfound;
@@ -175,3 +181,11 @@ returns-clause-goes g c = record {
   more = c.loop-i.invariant.breaks;
   broke = c.loop-i.invariant.broke;
 }
+
+-- ---- its writes
+
+pub returns-clause-most : goal.returns-clause-most
+returns-clause-most g c =
+    let end : c.args.to ≤ c.loop-i.i = c.loop-i-test.false in
+    let some : c.loop-i.i ≤ c.args.to = c.loop-i.auto.i-end c.requires.first in
+    writes-more 0 0 (c.loop-i.i - c.args.from) (c.args.to - c.args.from) (devices (g.M.Medium.state c.args.unit.now) (g.C.Chip.state c.args.card_a.now) (g.D.Chip.state c.args.card_b.now)) (devices (g.M.Medium.state c.loop-i.unit) (g.C.Chip.state c.loop-i.card_a) (g.D.Chip.state c.loop-i.card_b)) (omega arith) (omega (arith, end, some)) c.loop-i.invariant.most

@@ -8,6 +8,7 @@ use Rattle.run_acts.specs.Power.{is_lit}
 use Rattle.run_acts.specs.Room.{HasRoomWithin}
 use Rattle.recorder_with_cards.specs.Acting.{AreActed}
 use Rattle.recorder_with_cards.specs.Items.{between, insertions_in}
+use Rattle.recorder_with_cards.specs.Writes.{WritesFor}
 use Rattle.run_outcome.specs.Broken.{BreaksDown}
 use Rattle.recorder_with_cards.proofs.acts.act_all.Given as goal
 
@@ -22,6 +23,7 @@ invariant-loop-i g l = record {
   still : is_lit l.fn.run.power ≡ false → (is_lit l.run.power ≡ false) × (l.unit ≡ l.fn.unit) × (l.card_a ≡ l.fn.card_a) × (l.card_b ≡ l.fn.card_b);
   later : AreLater (devices (g.M.Medium.state l.fn.unit) (g.C.Chip.state l.fn.card_a) (g.D.Chip.state l.fn.card_b)) (devices (g.M.Medium.state l.unit) (g.C.Chip.state l.card_a) (g.D.Chip.state l.card_b));
   calm : AreCalm l.fn.outcome.breaks.items l.outcome.breaks.items (devices (g.M.Medium.state l.fn.unit) (g.C.Chip.state l.fn.card_a) (g.D.Chip.state l.fn.card_b)) (devices (g.M.Medium.state l.unit) (g.C.Chip.state l.card_a) (g.D.Chip.state l.card_b));
+  most : WritesFor 0 (l.i - l.from) (devices (g.M.Medium.state l.fn.unit) (g.C.Chip.state l.fn.card_a) (g.D.Chip.state l.fn.card_b)) (devices (g.M.Medium.state l.unit) (g.C.Chip.state l.card_a) (g.D.Chip.state l.card_b));
   broke : BreaksDown l.fn.outcome.breaks.items l.outcome.breaks.items (g.M.Medium.state l.fn.unit) (g.M.Medium.state l.unit);
   dark : l.has_power ≡ false → is_lit l.run.power ≡ false;
   next : l.run.next ≡ l.fn.run.next;

@@ -15,6 +15,7 @@ use Rattle.recorder_with_cards.specs.Carded.{InSecondCarded, CardsActions}
 use Rattle.run_outcome.proofs.Broken.{broke-none}
 use Rattle.run_minutes.proofs.Calm.{calm-same}
 use Rattle.run_minutes.proofs.Later.{later-same}
+use Rattle.recorder_with_cards.proofs.Writes.{writes-none}
 use Rattle.recorder_with_cards.proofs.acts.act_item.Goals as goal
 
 pub returns-in-Act-clause-room : goal.returns-in-Act-clause-room
@@ -107,3 +108,14 @@ returns-in-Off-clause-goes g c = record {
   more = omega arith;
   broke = broke-none c.args.outcome.now.breaks.items {old = (g.M.Medium.state c.args.unit.now)} {new = (g.M.Medium.state c.args.unit.now)} (omega arith);
 }
+
+-- ---- its writes
+
+pub returns-in-Act-clause-most : goal.returns-in-Act-clause-most
+returns-in-Act-clause-most g c = c.act.ensures.most
+
+pub returns-in-Run-clause-most : goal.returns-in-Run-clause-most
+returns-in-Run-clause-most g c = writes-none 0 1 (devices (g.M.Medium.state c.args.unit.now) (g.C.Chip.state c.args.card_a.now) (g.D.Chip.state c.args.card_b.now))
+
+pub returns-in-Off-clause-most : goal.returns-in-Off-clause-most
+returns-in-Off-clause-most g c = writes-none 0 1 (devices (g.M.Medium.state c.args.unit.now) (g.C.Chip.state c.args.card_a.now) (g.D.Chip.state c.args.card_b.now))

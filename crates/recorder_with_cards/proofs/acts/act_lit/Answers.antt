@@ -50,6 +50,7 @@ use Rattle.trace_model.specs.Trace.{TraceSecond}
 use Rattle.std.proofs.lemmas.List.{append-nil}
 use Rattle.recorder_with_cards.proofs.acts.act_lit.Given.{Over}
 use Rattle.recorder_with_cards.proofs.acts.act_lit.Goals.{After-carry_out}
+use Rattle.recorder_with_cards.proofs.Writes.{writes-none}
 use Rattle.recorder_with_cards.proofs.acts.act_lit.Goals as goal
 
 -- ---- WHAT THE ACTION LEAVES
@@ -369,3 +370,14 @@ returns-else-is_err-clause-goes g c = record {
   more = c.carry_out.ensures.goes.more;
   broke = uncut-broke _ _ (g.M.Medium.state c.args.unit.now) (g.M.Medium.state c.carry_out.new.unit) (is_err c.carry_out.result) c.carry_out.ensures.held.cause (sym c.is_err.ensures.value ∙ c.if-is_err.false) (done-uncut c.args.action _ c.args.speed _ _ _ _ _ c.carry_out.ensures.done.action_done);
 }
+
+-- ---- its writes
+
+pub returns-in-Err-clause-most : goal.returns-in-Err-clause-most
+returns-in-Err-clause-most g c = writes-none 0 1 (devices (g.M.Medium.state c.args.unit.now) (g.C.Chip.state c.args.card_a.now) (g.D.Chip.state c.args.card_b.now))
+
+pub returns-then-is_err-clause-most : goal.returns-then-is_err-clause-most
+returns-then-is_err-clause-most g c = c.carry_out.ensures.most
+
+pub returns-else-is_err-clause-most : goal.returns-else-is_err-clause-most
+returns-else-is_err-clause-most g c = c.carry_out.ensures.most

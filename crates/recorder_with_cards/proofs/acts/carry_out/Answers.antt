@@ -46,6 +46,8 @@ use Rattle.tach_media.proofs.Runs.{no_reads}
 use Rattle.run_minutes.proofs.Counts.{lines-length}
 use Rattle.recorder_with_cards.proofs.acts.carry_out.Given.{Over}
 use Rattle.recorder_with_cards.proofs.acts.carry_out.Goals.{After-insert, After-note_place, After-pull, After-withdraw}
+use Rattle.recorder_with_cards.proofs.Writes.{writes-none, writes-act}
+use Rattle.run_minutes.proofs.Writes.{wrote-more}
 use Rattle.recorder_with_cards.proofs.acts.carry_out.Goals as goal
 
 -- an action that was matched, at the moment that was taken
@@ -488,3 +490,23 @@ returns-in-Tear-clause-goes g c = record {
       let told = ap (λ (l : Listed Break). length l.items) c.pull.ensures.breaks ∙ lines-length (pulled_breaks (card_in (seat_in c.args.run.now.keeper.cabin.slots.seats c.in-Tear.slot)) c.in-Tear.slot c.moment-at.result) c.args.outcome.now.breaks in
       omega (arith, told);
 }
+
+-- ---- its writes
+
+pub returns-in-Insert-clause-most : goal.returns-in-Insert-clause-most
+returns-in-Insert-clause-most g c = writes-act _ _ c.insert.ensures.most
+
+pub returns-in-Withdraw-clause-most : goal.returns-in-Withdraw-clause-most
+returns-in-Withdraw-clause-most g c = writes-act _ _ (wrote-more 82 102 110 1174 _ _ (omega arith) (omega arith) c.withdraw.ensures.most)
+
+pub returns-in-Place-clause-most : goal.returns-in-Place-clause-most
+returns-in-Place-clause-most g c = writes-act _ _ (wrote-more 9 102 5 1174 _ _ (omega arith) (omega arith) c.note_place.ensures.most)
+
+pub returns-in-Select-clause-most : goal.returns-in-Select-clause-most
+returns-in-Select-clause-most g c = writes-none 0 1 (devices (g.M.Medium.state c.args.unit.now) (g.C.Chip.state c.args.card_a.now) (g.D.Chip.state c.args.card_b.now))
+
+pub returns-in-Manual-clause-most : goal.returns-in-Manual-clause-most
+returns-in-Manual-clause-most g c = writes-none 0 1 (devices (g.M.Medium.state c.args.unit.now) (g.C.Chip.state c.args.card_a.now) (g.D.Chip.state c.args.card_b.now))
+
+pub returns-in-Tear-clause-most : goal.returns-in-Tear-clause-most
+returns-in-Tear-clause-most g c = writes-none 0 1 (devices (g.M.Medium.state c.args.unit.now) (g.C.Chip.state c.args.card_a.now) (g.D.Chip.state c.args.card_b.now))

@@ -37,6 +37,7 @@ use Rattle.recorder_with_cards.proofs.Resumed.{same-devices}
 use Rattle.recorder_with_cards.proofs.Time.{later-time, after-time}
 use Rattle.recorder_with_cards.proofs.driving.drive.Given.{Over}
 use Rattle.recorder_with_cards.proofs.driving.drive.Goals.{After-drive_on}
+use Rattle.recorder_with_cards.proofs.Writes.{writes-begun, writes-driven}
 use Rattle.recorder_with_cards.proofs.driving.drive.Goals as goal
 
 -- ---- THE FIRST SECOND, and those behind it
@@ -314,3 +315,13 @@ returns-clause-calm g c = calm-then (dev0 g c) (dev1 g c) (dev4 g c) c.in_ok-has
 
 pub returns-in_err-has_power-clause-calm : goal.returns-in_err-has_power-clause-calm
 returns-in_err-has_power-clause-calm g c = c.in_err-has_power.ensures.goes.calm
+
+-- ---- its writes
+
+pub returns-clause-most : goal.returns-clause-most
+returns-clause-most g c =
+    writes-driven c.args.seconds (c.args.to - c.args.from) (dev0 g c) (dev1 g c) (dev2 g c) (dev3 g c) (dev4 g c) c.requires.some c.in_ok-has_power.ensures.most c.act_all.ensures.most c.turn.ensures.most c.drive_on.ensures.most
+
+pub returns-in_err-has_power-clause-most : goal.returns-in_err-has_power-clause-most
+returns-in_err-has_power-clause-most g c =
+    writes-begun c.args.seconds (c.args.to - c.args.from) (devices (g.M.Medium.state c.args.unit.now) (g.C.Chip.state c.args.card_a.now) (g.D.Chip.state c.args.card_b.now)) (devices (g.M.Medium.state c.begin_second.new.unit) (g.C.Chip.state c.begin_second.new.card_a) (g.D.Chip.state c.begin_second.new.card_b)) c.requires.some c.in_err-has_power.ensures.most

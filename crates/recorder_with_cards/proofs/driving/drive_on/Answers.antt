@@ -15,6 +15,7 @@ use Rattle.run_minutes.proofs.Later.{after-same, after-then}
 use Rattle.run_outcome.proofs.Broken.{broke-none, broke-then}
 use Rattle.run_minutes.proofs.Calm.{calm-then, calm-same}
 use Rattle.recorder_with_cards.proofs.Time.{after-time}
+use Rattle.recorder_with_cards.proofs.Writes.{writes-none, writes-then, writes-more}
 use Rattle.recorder_with_cards.proofs.driving.drive_on.Goals as goal
 
 pub loop-left-init : goal.loop-left-init
@@ -35,6 +36,7 @@ loop-left-init g c = record {
   later = after-same (devices (g.M.Medium.state c.args.unit.now) (g.C.Chip.state c.args.card_a.now) (g.D.Chip.state c.args.card_b.now));
   calm = calm-same (devices (g.M.Medium.state c.args.unit.now) (g.C.Chip.state c.args.card_a.now) (g.D.Chip.state c.args.card_b.now));
   broke = broke-none c.args.outcome.now.breaks.items {old = (g.M.Medium.state c.args.unit.now)} {new = (g.M.Medium.state c.args.unit.now)} (omega arith);
+  most = writes-none (c.args.seconds - c.args.seconds) 0 (devices (g.M.Medium.state c.args.unit.now) (g.C.Chip.state c.args.card_a.now) (g.D.Chip.state c.args.card_b.now));
   unfound = c.requires.unfound;
 }
 
@@ -86,6 +88,10 @@ loop-left-preserved g c =
           (last-more n c.loop-left.run.next c.args.speed (done ++ driven so c.args.run.now.next c.args.speed []) was.0, c.in_ok-step.ensures.cards o (done ++ driven so c.args.run.now.next c.args.speed []) was.0 was.1 time);
       later = after-then (devices (g.M.Medium.state c.args.unit.now) (g.C.Chip.state c.args.card_a.now) (g.D.Chip.state c.args.card_b.now)) (devices (g.M.Medium.state c.loop-left.unit) (g.C.Chip.state c.loop-left.card_a) (g.D.Chip.state c.loop-left.card_b)) (devices (g.M.Medium.state c.step.new.unit) (g.C.Chip.state c.step.new.card_a) (g.D.Chip.state c.step.new.card_b)) v.later c.in_ok-step.ensures.later;
       calm = calm-then (devices (g.M.Medium.state c.args.unit.now) (g.C.Chip.state c.args.card_a.now) (g.D.Chip.state c.args.card_b.now)) (devices (g.M.Medium.state c.loop-left.unit) (g.C.Chip.state c.loop-left.card_a) (g.D.Chip.state c.loop-left.card_b)) (devices (g.M.Medium.state c.step.new.unit) (g.C.Chip.state c.step.new.card_a) (g.D.Chip.state c.step.new.card_b)) v.calm c.in_ok-step.ensures.calm;
+      most =
+          let few = v.few in
+          writes-more (c.args.seconds - left + n) (c.args.seconds - (left - n)) 0 0 (devices (g.M.Medium.state c.args.unit.now) (g.C.Chip.state c.args.card_a.now) (g.D.Chip.state c.args.card_b.now)) (devices (g.M.Medium.state c.step.new.unit) (g.C.Chip.state c.step.new.card_a) (g.D.Chip.state c.step.new.card_b)) (omega (arith, few, most)) (omega arith)
+          (writes-then (c.args.seconds - left) n 0 0 (devices (g.M.Medium.state c.args.unit.now) (g.C.Chip.state c.args.card_a.now) (g.D.Chip.state c.args.card_b.now)) (devices (g.M.Medium.state c.loop-left.unit) (g.C.Chip.state c.loop-left.card_a) (g.D.Chip.state c.loop-left.card_b)) (devices (g.M.Medium.state c.step.new.unit) (g.C.Chip.state c.step.new.card_a) (g.D.Chip.state c.step.new.card_b)) v.most c.in_ok-step.ensures.most);
       broke = broke-then c.loop-left.invariant.broke c.in_ok-step.ensures.broke;
       unfound = e.unfound;
     }
@@ -162,3 +168,16 @@ returns-clause-calm g c = c.loop-left.invariant.calm
 
 pub returns-in_err-step-clause-calm : goal.returns-in_err-step-clause-calm
 returns-in_err-step-clause-calm g c = calm-then (devices (g.M.Medium.state c.args.unit.now) (g.C.Chip.state c.args.card_a.now) (g.D.Chip.state c.args.card_b.now)) (devices (g.M.Medium.state c.loop-left.unit) (g.C.Chip.state c.loop-left.card_a) (g.D.Chip.state c.loop-left.card_b)) (devices (g.M.Medium.state c.step.new.unit) (g.C.Chip.state c.step.new.card_a) (g.D.Chip.state c.step.new.card_b)) c.loop-left.invariant.calm c.in_err-step.ensures.calm
+
+-- ---- its writes
+
+pub returns-clause-most : goal.returns-clause-most
+returns-clause-most g c =
+    writes-more (c.args.seconds - c.loop-left.left) c.args.seconds 0 0 (devices (g.M.Medium.state c.args.unit.now) (g.C.Chip.state c.args.card_a.now) (g.D.Chip.state c.args.card_b.now)) (devices (g.M.Medium.state c.loop-left.unit) (g.C.Chip.state c.loop-left.card_a) (g.D.Chip.state c.loop-left.card_b)) (omega arith) (omega arith) c.loop-left.invariant.most
+
+pub returns-in_err-step-clause-most : goal.returns-in_err-step-clause-most
+returns-in_err-step-clause-most g c =
+    let few = c.loop-left.invariant.few in
+    let most = c.turn_length-n.ensures.most in
+    writes-more (c.args.seconds - c.loop-left.left + c.turn_length-n.result) c.args.seconds 0 0 (devices (g.M.Medium.state c.args.unit.now) (g.C.Chip.state c.args.card_a.now) (g.D.Chip.state c.args.card_b.now)) (devices (g.M.Medium.state c.step.new.unit) (g.C.Chip.state c.step.new.card_a) (g.D.Chip.state c.step.new.card_b)) (omega (arith, few, most)) (omega arith)
+    (writes-then (c.args.seconds - c.loop-left.left) c.turn_length-n.result 0 0 (devices (g.M.Medium.state c.args.unit.now) (g.C.Chip.state c.args.card_a.now) (g.D.Chip.state c.args.card_b.now)) (devices (g.M.Medium.state c.loop-left.unit) (g.C.Chip.state c.loop-left.card_a) (g.D.Chip.state c.loop-left.card_b)) (devices (g.M.Medium.state c.step.new.unit) (g.C.Chip.state c.step.new.card_a) (g.D.Chip.state c.step.new.card_b)) c.loop-left.invariant.most c.in_err-step.ensures.most)

@@ -9,6 +9,7 @@ use Rattle.run_acts.specs.Room.{HasRoom}
 use Rattle.run_acts.specs.Evented.{LastAt}
 use Rattle.run_acts.specs.RunRinged.{RunRinged}
 use Rattle.recorder_with_cards.specs.Carded.{RunCarded}
+use Rattle.recorder_with_cards.specs.Writes.{WritesFor}
 use Rattle.run_outcome.specs.Broken.{BreaksDown}
 use Rattle.recorder_with_cards.proofs.driving.drive_on.Given as goal
 
@@ -23,6 +24,7 @@ invariant-loop-left g l = record {
   cards : (o : Origin) (done : List TraceSecond) → LastAt done l.speed → RunCarded o done l.fn.run l.fn.outcome (devices (g.M.Medium.state l.fn.unit) (g.C.Chip.state l.fn.card_a) (g.D.Chip.state l.fn.card_b)) → HaveTime (devices (g.M.Medium.state l.unit) (g.C.Chip.state l.card_a) (g.D.Chip.state l.card_b)) → LastAt (done ++ driven (l.seconds - l.left) l.fn.run.next l.speed []) l.speed × RunCarded o (done ++ driven (l.seconds - l.left) l.fn.run.next l.speed []) l.run l.outcome (devices (g.M.Medium.state l.unit) (g.C.Chip.state l.card_a) (g.D.Chip.state l.card_b));
   later : AreAfter (devices (g.M.Medium.state l.fn.unit) (g.C.Chip.state l.fn.card_a) (g.D.Chip.state l.fn.card_b)) (devices (g.M.Medium.state l.unit) (g.C.Chip.state l.card_a) (g.D.Chip.state l.card_b));
   calm : AreCalm l.fn.outcome.breaks.items l.outcome.breaks.items (devices (g.M.Medium.state l.fn.unit) (g.C.Chip.state l.fn.card_a) (g.D.Chip.state l.fn.card_b)) (devices (g.M.Medium.state l.unit) (g.C.Chip.state l.card_a) (g.D.Chip.state l.card_b));
+  most : WritesFor (l.seconds - l.left) 0 (devices (g.M.Medium.state l.fn.unit) (g.C.Chip.state l.fn.card_a) (g.D.Chip.state l.fn.card_b)) (devices (g.M.Medium.state l.unit) (g.C.Chip.state l.card_a) (g.D.Chip.state l.card_b));
   broke : BreaksDown l.fn.outcome.breaks.items l.outcome.breaks.items (g.M.Medium.state l.fn.unit) (g.M.Medium.state l.unit);
   unfound : l.run.unfound ≤ length l.outcome.breaks.items;
 }

@@ -27,6 +27,7 @@ use Rattle.recorder_with_cards.proofs.Resumed.{same-devices}
 use Rattle.recorder_with_cards.proofs.Time.{after-time}
 use Rattle.recorder_with_cards.proofs.driving.step.Given.{Over}
 use Rattle.recorder_with_cards.proofs.driving.step.Goals.{After-turn}
+use Rattle.recorder_with_cards.proofs.Writes.{writes-begun, writes-second}
 use Rattle.recorder_with_cards.proofs.driving.step.Goals as goal
 
 -- ---- THE SECOND THAT BEGINS, and those up to the turn
@@ -184,3 +185,12 @@ returns-clause-calm g c = calm-then (dev0 g c) (dev1 g c) (dev2 g c) c.in_ok-beg
 
 pub returns-in_err-begin_second-clause-calm : goal.returns-in_err-begin_second-clause-calm
 returns-in_err-begin_second-clause-calm g c = c.in_err-begin_second.ensures.goes.calm
+
+-- ---- its writes
+
+pub returns-clause-most : goal.returns-clause-most
+returns-clause-most g c = writes-second c.args.n (dev0 g c) (dev1 g c) (dev2 g c) c.requires.some c.in_ok-begin_second.ensures.most c.turn.ensures.most
+
+pub returns-in_err-begin_second-clause-most : goal.returns-in_err-begin_second-clause-most
+returns-in_err-begin_second-clause-most g c =
+    writes-begun c.args.n 0 (devices (g.M.Medium.state c.args.unit.now) (g.C.Chip.state c.args.card_a.now) (g.D.Chip.state c.args.card_b.now)) (devices (g.M.Medium.state c.begin_second.new.unit) (g.C.Chip.state c.begin_second.new.card_a) (g.D.Chip.state c.begin_second.new.card_b)) c.requires.some c.in_err-begin_second.ensures.most

@@ -55,6 +55,7 @@ use Rattle.run_minutes.specs.Books.{HaveTime}
 use Rattle.run_outcome.specs.declared.outcome.TheConstants.{MOST_OWED}
 use Rattle.recorder_with_cards.proofs.inserting.insert.Given.{Over}
 use Rattle.recorder_with_cards.proofs.inserting.insert.Goals.{After-accept_in, After-from_residual, After-settle, In_ok-settle}
+use Rattle.run_minutes.proofs.Writes.{wrote-more, wrote-then}
 use Rattle.recorder_with_cards.proofs.inserting.insert.Goals as goal
 
 -- ---- WHAT THE SETTLING LEAVES
@@ -445,3 +446,12 @@ returns-clause-goes g c = record {
   later = later-then (found g (settling g c)) (settled g (settling g c)) (behind g c) (settled-later c.settle.ensures.goes c.settle.ensures.speeds) c.accept_in.ensures.goes.later;
   calm = calm-then (found g (settling g c)) (settled g (settling g c)) (behind g c) c.settle.ensures.goes.all.calm c.accept_in.ensures.goes.calm;
 }
+
+-- ---- its writes
+
+pub returns-in_err-settle-clause-most : goal.returns-in_err-settle-clause-most
+returns-in_err-settle-clause-most g c = wrote-more 78 102 102 1174 _ _ (omega arith) (omega arith) c.settle.ensures.most
+
+pub returns-clause-most : goal.returns-clause-most
+returns-clause-most g c =
+    wrote-more (78 + 24) 102 (102 + 1072) 1174 _ _ (omega arith) (omega arith) (wrote-then 78 24 102 1072 _ _ _ c.settle.ensures.most c.accept_in.ensures.most)

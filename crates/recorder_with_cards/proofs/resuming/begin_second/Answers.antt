@@ -21,6 +21,7 @@ use Rattle.recorder_with_cards.proofs.RingsHeld.{ringed-lit}
 use Rattle.recorder_with_cards.proofs.CardsHeld.{in-carded_lit}
 use Rattle.recorder_with_cards.proofs.SecondsCards.{over-lit, over-vehicle, begins-cards}
 use Rattle.run_minutes.proofs.Calm.{calm-same}
+use Rattle.run_minutes.proofs.Writes.{wrote-none}
 use Rattle.recorder_with_cards.proofs.resuming.begin_second.Goals as goal
 
 away-dark : (p : Power) (next : ℕ) → has_power p next ≡ false → is_lit p ≡ false
@@ -231,3 +232,17 @@ returns-clause-goes g c = record {
   calm = c.power_on.ensures.goes.calm;
   broke = c.power_on.ensures.goes.broke;
 }
+
+-- ---- its writes
+
+pub returns-then-not-has_power-clause-most : goal.returns-then-not-has_power-clause-most
+returns-then-not-has_power-clause-most g c = wrote-none 94 2152 (devices (g.M.Medium.state c.args.unit.now) (g.C.Chip.state c.args.card_a.now) (g.D.Chip.state c.args.card_b.now))
+
+pub returns-then-is_lit-clause-most : goal.returns-then-is_lit-clause-most
+returns-then-is_lit-clause-most g c = wrote-none 94 2152 (devices (g.M.Medium.state c.args.unit.now) (g.C.Chip.state c.args.card_a.now) (g.D.Chip.state c.args.card_b.now))
+
+pub returns-in_err-power_on-clause-most : goal.returns-in_err-power_on-clause-most
+returns-in_err-power_on-clause-most g c = c.power_on.ensures.most
+
+pub returns-clause-most : goal.returns-clause-most
+returns-clause-most g c = c.power_on.ensures.most

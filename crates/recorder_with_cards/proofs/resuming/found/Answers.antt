@@ -61,6 +61,7 @@ use Rattle.run_note_record.specs.Evented.{limit_in}
 use Rattle.run_minutes.specs.Keeping.{with_lines}
 use Rattle.recorder_with_cards.proofs.resuming.found.Given.{Over}
 use Rattle.recorder_with_cards.proofs.resuming.found.Goals.{After-cut, After-from_residual, After-resume}
+use Rattle.run_minutes.proofs.Writes.{wrote-none}
 use Rattle.recorder_with_cards.proofs.resuming.found.Goals as goal
 
 -- ---- WHAT THE READING AND RESUMING LEAVE
@@ -358,3 +359,14 @@ returns-clause-goes g c = record {
       calm-then (dev0 g here) (dev0 g here) (dev1 g here) {mids = c.learn.new.breaks.items} (calm g here) c.resume.ensures.goes.calm;
   broke = broke-then (broke g (goal.at.returns-clause-goes g c).After-resume) (uncut-broke _ _ (g.M.Medium.state c.args.unit.now) (g.M.Medium.state c.resume.new.unit) (is_err c.resume.result) c.resume.ensures.held.cause (sym c.is_err.ensures.value ∙ c.if-is_err.false) c.resume.ensures.resumed.uncut);
 }
+
+-- ---- its writes
+
+pub returns-in_err-judge_clock-clause-most : goal.returns-in_err-judge_clock-clause-most
+returns-in_err-judge_clock-clause-most g c = wrote-none 94 2152 (devices (g.M.Medium.state c.args.unit.now) (g.C.Chip.state c.args.card_a.now) (g.D.Chip.state c.args.card_b.now))
+
+pub returns-then-is_err-clause-most : goal.returns-then-is_err-clause-most
+returns-then-is_err-clause-most g c = c.resume.ensures.most
+
+pub returns-clause-most : goal.returns-clause-most
+returns-clause-most g c = c.resume.ensures.most

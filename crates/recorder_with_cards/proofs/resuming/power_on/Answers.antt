@@ -342,3 +342,17 @@ returns-in-Err-Failed-clause-goes g c = record {
       let rose = rw c.in-Err-Failed.field-0-is at c.in-Err-Failed.ensures.broke in
       broke-once _ _ (ap (λ (l : Listed Break). l.items) c.cut.ensures.breaks) rose;
 }
+
+-- ---- its writes
+
+pub returns-in-Ok-clause-most : goal.returns-in-Ok-clause-most
+returns-in-Ok-clause-most g c =
+    let same = c.open_unit.ensures.clock in
+    let last = c.found.ensures.most in
+    record { unit = (let a = last.unit in omega (arith, same, a)); card_a = last.card_a; card_b = last.card_b }
+
+pub returns-in-Err-BadUnit-clause-most : goal.returns-in-Err-BadUnit-clause-most
+returns-in-Err-BadUnit-clause-most g c = let same = c.open_unit.ensures.clock in record { unit = omega (arith, same); card_a = omega arith; card_b = omega arith }
+
+pub returns-in-Err-Failed-clause-most : goal.returns-in-Err-Failed-clause-most
+returns-in-Err-Failed-clause-most g c = let same = c.open_unit.ensures.clock in record { unit = omega (arith, same); card_a = omega arith; card_b = omega arith }

@@ -102,6 +102,7 @@ use Rattle.unit_notes.specs.declared.unit_event.UnitEvent.{UnitEvent}
 use Rattle.recorder_with_cards.specs.Waking.{TakesUp}
 use Rattle.recorder_with_cards.proofs.resuming.resume.Given.{Over}
 use Rattle.recorder_with_cards.proofs.resuming.resume.Goals.{After-moment-at, After-accept_anew, After-accept_anew-2, After-note_gap, After-from_residual, After-from_residual-in_err-accept_anew, After-from_residual-in_err-accept_anew-2, Then-is_first}
+use Rattle.run_minutes.proofs.Writes.{wrote-more, wrote-then, wrote-unit}
 use Rattle.recorder_with_cards.proofs.resuming.resume.Goals as goal
 
 -- ---- WHAT EACH RETURN STANDS ON
@@ -1222,3 +1223,29 @@ returns-clause-goes g c = record {
       let gap = c.note_gap.ensures.goes.more in
       omega (arith, cards, gap);
 }
+
+-- ---- its writes
+
+pub returns-in_err-mend-clause-most : goal.returns-in_err-mend-clause-most
+returns-in_err-mend-clause-most g c = wrote-more 34 94 0 2152 (devices (g.M.Medium.state c.args.unit.now) (g.C.Chip.state c.args.card_a.now) (g.D.Chip.state c.args.card_b.now)) (devices (g.M.Medium.state c.mend.new.unit) (g.C.Chip.state c.args.card_a.now) (g.D.Chip.state c.args.card_b.now)) (omega arith) (omega arith) (wrote-unit 34 0 (g.M.Medium.state c.args.unit.now) (g.M.Medium.state c.mend.new.unit) (g.C.Chip.state c.args.card_a.now) (g.D.Chip.state c.args.card_b.now) c.mend.ensures.most)
+
+pub returns-in_err-accept_anew-clause-most : goal.returns-in_err-accept_anew-clause-most
+returns-in_err-accept_anew-clause-most g c =
+    wrote-more (34 + 24) 94 (0 + 1072) 2152 (devices (g.M.Medium.state c.args.unit.now) (g.C.Chip.state c.args.card_a.now) (g.D.Chip.state c.args.card_b.now)) (devices (g.M.Medium.state c.accept_anew.new.unit) (g.C.Chip.state c.accept_anew.new.card_a) (g.D.Chip.state c.accept_anew.new.card_b)) (omega arith) (omega arith)
+    (wrote-then 34 24 0 1072 (devices (g.M.Medium.state c.args.unit.now) (g.C.Chip.state c.args.card_a.now) (g.D.Chip.state c.args.card_b.now)) (devices (g.M.Medium.state c.mend.new.unit) (g.C.Chip.state c.args.card_a.now) (g.D.Chip.state c.args.card_b.now)) (devices (g.M.Medium.state c.accept_anew.new.unit) (g.C.Chip.state c.accept_anew.new.card_a) (g.D.Chip.state c.accept_anew.new.card_b)) (wrote-unit 34 0 (g.M.Medium.state c.args.unit.now) (g.M.Medium.state c.mend.new.unit) (g.C.Chip.state c.args.card_a.now) (g.D.Chip.state c.args.card_b.now) c.mend.ensures.most) c.accept_anew.ensures.most)
+
+pub returns-in_err-accept_anew-2-clause-most : goal.returns-in_err-accept_anew-2-clause-most
+returns-in_err-accept_anew-2-clause-most g c =
+    wrote-more (34 + 24 + 24) 94 (0 + 1072 + 1072) 2152 (devices (g.M.Medium.state c.args.unit.now) (g.C.Chip.state c.args.card_a.now) (g.D.Chip.state c.args.card_b.now)) (devices (g.M.Medium.state c.accept_anew-2.new.unit) (g.C.Chip.state c.accept_anew-2.new.card_a) (g.D.Chip.state c.accept_anew-2.new.card_b)) (omega arith) (omega arith)
+    (wrote-then (34 + 24) 24 (0 + 1072) 1072 (devices (g.M.Medium.state c.args.unit.now) (g.C.Chip.state c.args.card_a.now) (g.D.Chip.state c.args.card_b.now)) (devices (g.M.Medium.state c.accept_anew.new.unit) (g.C.Chip.state c.accept_anew.new.card_a) (g.D.Chip.state c.accept_anew.new.card_b)) (devices (g.M.Medium.state c.accept_anew-2.new.unit) (g.C.Chip.state c.accept_anew-2.new.card_a) (g.D.Chip.state c.accept_anew-2.new.card_b)) (wrote-then 34 24 0 1072 (devices (g.M.Medium.state c.args.unit.now) (g.C.Chip.state c.args.card_a.now) (g.D.Chip.state c.args.card_b.now)) (devices (g.M.Medium.state c.mend.new.unit) (g.C.Chip.state c.args.card_a.now) (g.D.Chip.state c.args.card_b.now)) (devices (g.M.Medium.state c.accept_anew.new.unit) (g.C.Chip.state c.accept_anew.new.card_a) (g.D.Chip.state c.accept_anew.new.card_b)) (wrote-unit 34 0 (g.M.Medium.state c.args.unit.now) (g.M.Medium.state c.mend.new.unit) (g.C.Chip.state c.args.card_a.now) (g.D.Chip.state c.args.card_b.now) c.mend.ensures.most) c.accept_anew.ensures.most) c.accept_anew-2.ensures.most)
+
+pub returns-then-is_first-clause-most : goal.returns-then-is_first-clause-most
+returns-then-is_first-clause-most g c =
+    wrote-more (34 + 24 + 24) 94 (0 + 1072 + 1072) 2152 (devices (g.M.Medium.state c.args.unit.now) (g.C.Chip.state c.args.card_a.now) (g.D.Chip.state c.args.card_b.now)) (devices (g.M.Medium.state c.accept_anew-2.new.unit) (g.C.Chip.state c.accept_anew-2.new.card_a) (g.D.Chip.state c.accept_anew-2.new.card_b)) (omega arith) (omega arith)
+    (wrote-then (34 + 24) 24 (0 + 1072) 1072 (devices (g.M.Medium.state c.args.unit.now) (g.C.Chip.state c.args.card_a.now) (g.D.Chip.state c.args.card_b.now)) (devices (g.M.Medium.state c.accept_anew.new.unit) (g.C.Chip.state c.accept_anew.new.card_a) (g.D.Chip.state c.accept_anew.new.card_b)) (devices (g.M.Medium.state c.accept_anew-2.new.unit) (g.C.Chip.state c.accept_anew-2.new.card_a) (g.D.Chip.state c.accept_anew-2.new.card_b)) (wrote-then 34 24 0 1072 (devices (g.M.Medium.state c.args.unit.now) (g.C.Chip.state c.args.card_a.now) (g.D.Chip.state c.args.card_b.now)) (devices (g.M.Medium.state c.mend.new.unit) (g.C.Chip.state c.args.card_a.now) (g.D.Chip.state c.args.card_b.now)) (devices (g.M.Medium.state c.accept_anew.new.unit) (g.C.Chip.state c.accept_anew.new.card_a) (g.D.Chip.state c.accept_anew.new.card_b)) (wrote-unit 34 0 (g.M.Medium.state c.args.unit.now) (g.M.Medium.state c.mend.new.unit) (g.C.Chip.state c.args.card_a.now) (g.D.Chip.state c.args.card_b.now) c.mend.ensures.most) c.accept_anew.ensures.most) c.accept_anew-2.ensures.most)
+
+pub returns-clause-most : goal.returns-clause-most
+returns-clause-most g c =
+    wrote-more (34 + 24 + 24 + 12) 94 (0 + 1072 + 1072 + 8) 2152 (devices (g.M.Medium.state c.args.unit.now) (g.C.Chip.state c.args.card_a.now) (g.D.Chip.state c.args.card_b.now)) (devices (g.M.Medium.state c.note_gap.new.unit) (g.C.Chip.state c.note_gap.new.card_a) (g.D.Chip.state c.note_gap.new.card_b)) (omega arith) (omega arith)
+    (wrote-then (34 + 24 + 24) 12 (0 + 1072 + 1072) 8 (devices (g.M.Medium.state c.args.unit.now) (g.C.Chip.state c.args.card_a.now) (g.D.Chip.state c.args.card_b.now)) (devices (g.M.Medium.state c.accept_anew-2.new.unit) (g.C.Chip.state c.accept_anew-2.new.card_a) (g.D.Chip.state c.accept_anew-2.new.card_b)) (devices (g.M.Medium.state c.note_gap.new.unit) (g.C.Chip.state c.note_gap.new.card_a) (g.D.Chip.state c.note_gap.new.card_b))
+    (wrote-then (34 + 24) 24 (0 + 1072) 1072 (devices (g.M.Medium.state c.args.unit.now) (g.C.Chip.state c.args.card_a.now) (g.D.Chip.state c.args.card_b.now)) (devices (g.M.Medium.state c.accept_anew.new.unit) (g.C.Chip.state c.accept_anew.new.card_a) (g.D.Chip.state c.accept_anew.new.card_b)) (devices (g.M.Medium.state c.accept_anew-2.new.unit) (g.C.Chip.state c.accept_anew-2.new.card_a) (g.D.Chip.state c.accept_anew-2.new.card_b)) (wrote-then 34 24 0 1072 (devices (g.M.Medium.state c.args.unit.now) (g.C.Chip.state c.args.card_a.now) (g.D.Chip.state c.args.card_b.now)) (devices (g.M.Medium.state c.mend.new.unit) (g.C.Chip.state c.args.card_a.now) (g.D.Chip.state c.args.card_b.now)) (devices (g.M.Medium.state c.accept_anew.new.unit) (g.C.Chip.state c.accept_anew.new.card_a) (g.D.Chip.state c.accept_anew.new.card_b)) (wrote-unit 34 0 (g.M.Medium.state c.args.unit.now) (g.M.Medium.state c.mend.new.unit) (g.C.Chip.state c.args.card_a.now) (g.D.Chip.state c.args.card_b.now) c.mend.ensures.most) c.accept_anew.ensures.most) c.accept_anew-2.ensures.most) c.note_gap.ensures.most)

@@ -31,6 +31,9 @@ use Rattle.run_minutes.proofs.Later.{after-same}
 use Rattle.run_outcome.proofs.Broken.{broke-none, broke-behind}
 use Rattle.recorder_with_cards.proofs.Uncut.{off-uncut, off-calm}
 use Rattle.run_minutes.proofs.Calm.{calm-told, calm-same}
+use Rattle.recorder_with_cards.proofs.Writes.{writes-none, writes-more}
+use Rattle.recorder_with_cards.specs.Writes.{WritesFor}
+use Rattle.recorder_with_cards.specs.Gone.{first_waiting}
 use Rattle.recorder_with_cards.proofs.run.go_on.Goals as goal
 
 -- ---- an action waits
@@ -201,3 +204,16 @@ returns-in-Off-clause-calm g c = calm-told (devices (g.M.Medium.state c.args.uni
 
 pub returns-in-Run-clause-calm : goal.returns-in-Run-clause-calm
 returns-in-Run-clause-calm g c = c.drive.ensures.calm
+
+-- ---- its writes
+
+pub returns-in-Act-clause-most : goal.returns-in-Act-clause-most
+returns-in-Act-clause-most g c = writes-none (item_seconds c.args.item) (first_waiting c.args.item c.args.from c.args.to - c.args.from) (devices (g.M.Medium.state c.args.unit.now) (g.C.Chip.state c.args.card_a.now) (g.D.Chip.state c.args.card_b.now))
+
+pub returns-in-Off-clause-most : goal.returns-in-Off-clause-most
+returns-in-Off-clause-most g c = writes-none (item_seconds c.args.item) (first_waiting c.args.item c.args.from c.args.to - c.args.from) (devices (g.M.Medium.state c.args.unit.now) (g.C.Chip.state c.args.card_a.now) (g.D.Chip.state c.args.card_b.now))
+
+pub returns-in-Run-clause-most : goal.returns-in-Run-clause-most
+returns-in-Run-clause-most g c =
+    subst (λ (i : Item). WritesFor (item_seconds i) (first_waiting i c.args.from c.args.to - c.args.from) (devices (g.M.Medium.state c.args.unit.now) (g.C.Chip.state c.args.card_a.now) (g.D.Chip.state c.args.card_b.now)) (devices (g.M.Medium.state c.drive.new.unit) (g.C.Chip.state c.drive.new.card_a) (g.D.Chip.state c.drive.new.card_b))) (sym c.in-Run.is)
+    (writes-more c.in-Run.seconds c.in-Run.seconds (c.args.to - c.args.from) (c.args.to + 1 - c.args.from) (devices (g.M.Medium.state c.args.unit.now) (g.C.Chip.state c.args.card_a.now) (g.D.Chip.state c.args.card_b.now)) (devices (g.M.Medium.state c.drive.new.unit) (g.C.Chip.state c.drive.new.card_a) (g.D.Chip.state c.drive.new.card_b)) (omega arith) (omega arith) c.drive.ensures.most)

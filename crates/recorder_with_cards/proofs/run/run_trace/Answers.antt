@@ -40,6 +40,9 @@ use Rattle.run_acts.specs.Recording.{log_of}
 use Rattle.run_outcome.proofs.Broken.{broke-none, broke-then, broke-all, broke-nothing, calm-all}
 use Rattle.run_minutes.proofs.Calm.{card-rests, calm-then, still-all}
 use Rattle.recorder_with_cards.proofs.Time.{after-time}
+use Rattle.recorder_with_cards.proofs.Writes.{writes-then, writes-more, waiting-on}
+use Rattle.recorder_with_cards.specs.Gone.{first_waiting}
+use Rattle.recorder_with_cards.specs.Writes.{WritesFor}
 use Rattle.recorder_with_cards.proofs.run.run_trace.Goals as goal
 
 -- ---- the opening
@@ -88,6 +91,11 @@ loop-i-init g c =
       later = record { unit = state-as-it-was (g.U.Medium.state c.args.unit.now) (g.U.Medium.state c.judge.new.unit) c.judge.ensures.unit; card_a = state-as-it-was (g.C.Chip.state c.args.card_a.now) (g.C.Chip.state c.judge.new.card_a) c.judge.ensures.card_a; card_b = state-as-it-was (g.C.Chip.state c.args.card_b.now) (g.C.Chip.state c.judge.new.card_b) c.judge.ensures.card_b };
       calm = record { card_a = card-rests refl (e.card_a_works.unbroken refl); card_b = card-rests refl (e.card_b_works.unbroken refl) };
       broke = broke-none c.args.outcome.now.breaks.items {old = (g.U.Medium.state c.args.unit.now)} {new = (g.U.Medium.state c.judge.new.unit)} (e.unit_works.unbroken refl);
+      most =
+          let u = c.judge.ensures.unit.clock in
+          let p = c.judge.ensures.card_a.clock in
+          let q = c.judge.ensures.card_b.clock in
+          record { unit = omega (arith, u); card_a = omega (arith, p); card_b = omega (arith, q) };
       time = λ h.
           let u = c.judge.ensures.unit.clock in
           let p = c.judge.ensures.card_a.clock in
@@ -173,6 +181,14 @@ loop-i-preserved g c =
       time = λ h. v.time (after-time f.later h);
       later = after-then (devices (g.U.Medium.state c.args.unit.now) (g.C.Chip.state c.args.card_a.now) (g.C.Chip.state c.args.card_b.now)) (devices (g.U.Medium.state c.loop-i.unit) (g.C.Chip.state c.loop-i.card_a) (g.C.Chip.state c.loop-i.card_b)) (devices (g.U.Medium.state c.go_on.new.unit) (g.C.Chip.state c.go_on.new.card_a) (g.C.Chip.state c.go_on.new.card_b)) v.later f.later;
       calm = calm-then (devices (g.U.Medium.state c.args.unit.now) (g.C.Chip.state c.args.card_a.now) (g.C.Chip.state c.args.card_b.now)) (devices (g.U.Medium.state c.loop-i.unit) (g.C.Chip.state c.loop-i.card_a) (g.C.Chip.state c.loop-i.card_b)) (devices (g.U.Medium.state c.go_on.new.unit) (g.C.Chip.state c.go_on.new.card_a) (g.C.Chip.state c.go_on.new.card_b)) v.calm f.calm;
+      most =
+          let was = total-parts items i in
+          let now = total-parts items (i + 1) in
+          let on = waiting-on item c.loop-i.first i v.first in
+          subst (λ (n : ℕ). WritesFor (total_seconds (take (i + 1) items)) n (devices (g.U.Medium.state c.args.unit.now) (g.C.Chip.state c.args.card_a.now) (g.C.Chip.state c.args.card_b.now)) (devices (g.U.Medium.state c.go_on.new.unit) (g.C.Chip.state c.go_on.new.card_a) (g.C.Chip.state c.go_on.new.card_b))) (sym waits)
+          (writes-more (total_seconds (take i items) + item_seconds item) (total_seconds (take (i + 1) items)) (c.loop-i.first + (first_waiting item c.loop-i.first i - c.loop-i.first)) (first_waiting item c.loop-i.first i)
+          (devices (g.U.Medium.state c.args.unit.now) (g.C.Chip.state c.args.card_a.now) (g.C.Chip.state c.args.card_b.now)) (devices (g.U.Medium.state c.go_on.new.unit) (g.C.Chip.state c.go_on.new.card_a) (g.C.Chip.state c.go_on.new.card_b)) (omega (arith, was, now, s)) (omega (arith, on))
+          (writes-then (total_seconds (take i items)) (item_seconds item) c.loop-i.first (first_waiting item c.loop-i.first i - c.loop-i.first) (devices (g.U.Medium.state c.args.unit.now) (g.C.Chip.state c.args.card_a.now) (g.C.Chip.state c.args.card_b.now)) (devices (g.U.Medium.state c.loop-i.unit) (g.C.Chip.state c.loop-i.card_a) (g.C.Chip.state c.loop-i.card_b)) (devices (g.U.Medium.state c.go_on.new.unit) (g.C.Chip.state c.go_on.new.card_a) (g.C.Chip.state c.go_on.new.card_b)) v.most f.most));
       broke = broke-then v.broke f.broke;
       told = v.told;
       cards = λ x a b h time few.
@@ -271,3 +287,35 @@ returns-clause-calm g c = calm-all (log_of c.loop-i.outcome) (ap (λ (l : Listed
 
 pub returns-clause-still : goal.returns-clause-still
 returns-clause-still g c = still-all (log_of c.loop-i.outcome) (ap (λ (l : Listed Break). l.items) c.requires.reserved.breaks) c.loop-i.invariant.calm
+
+-- ---- its writes
+
+pub returns-clause-most : goal.returns-clause-most
+returns-clause-most g c =
+    let items = c.args.trace.now.items in
+    let all = total-parts items c.loop-i.i in
+    let first = c.loop-i.invariant.first in
+    let len = c.len-i-end.ensures in
+    writes-more (total_seconds (take c.loop-i.i items)) (total_seconds items) c.loop-i.first (length items) (devices (g.U.Medium.state c.args.unit.now) (g.C.Chip.state c.args.card_a.now) (g.C.Chip.state c.args.card_b.now)) (devices (g.U.Medium.state c.loop-i.unit) (g.C.Chip.state c.loop-i.card_a) (g.C.Chip.state c.loop-i.card_b)) (omega (arith, all)) (omega (arith, first, c.loop-i.auto.i-end, len)) c.loop-i.invariant.most
+
+pub returns-in_err-go_on-clause-most : goal.returns-in_err-go_on-clause-most
+returns-in_err-go_on-clause-most g c =
+    let items = c.args.trace.now.items in
+    let i : ℕ = c.loop-i.i in
+    let item = c.get-item.result.now in
+    let v = c.loop-i.invariant in
+    let s = seconds-here items i item c.get-item.ensures in
+    let all = total-parts items i in
+    let on = waiting-on item c.loop-i.first i v.first in
+    let most = waiting-most item c.loop-i.first i v.first in
+    let low : i < length items = omega (arith, c.loop-i-test.true, c.len-i-end.ensures) in
+    writes-more (total_seconds (take i items) + item_seconds item) (total_seconds items) (c.loop-i.first + (first_waiting item c.loop-i.first i - c.loop-i.first)) (length items) (devices (g.U.Medium.state c.args.unit.now) (g.C.Chip.state c.args.card_a.now) (g.C.Chip.state c.args.card_b.now)) (devices (g.U.Medium.state c.go_on.new.unit) (g.C.Chip.state c.go_on.new.card_a) (g.C.Chip.state c.go_on.new.card_b))
+    (omega (arith, all, s)) (omega (arith, on, most, low))
+    (writes-then (total_seconds (take i items)) (item_seconds item) c.loop-i.first (first_waiting item c.loop-i.first i - c.loop-i.first) (devices (g.U.Medium.state c.args.unit.now) (g.C.Chip.state c.args.card_a.now) (g.C.Chip.state c.args.card_b.now)) (devices (g.U.Medium.state c.loop-i.unit) (g.C.Chip.state c.loop-i.card_a) (g.C.Chip.state c.loop-i.card_b)) (devices (g.U.Medium.state c.go_on.new.unit) (g.C.Chip.state c.go_on.new.card_a) (g.C.Chip.state c.go_on.new.card_b)) v.most c.in_err-go_on.ensures.most)
+
+pub returns-in_err-opened-clause-most : goal.returns-in_err-opened-clause-most
+returns-in_err-opened-clause-most g c =
+    let u = c.judge.ensures.unit.clock in
+    let p = c.judge.ensures.card_a.clock in
+    let q = c.judge.ensures.card_b.clock in
+    record { unit = omega (arith, u); card_a = omega (arith, p); card_b = omega (arith, q) }

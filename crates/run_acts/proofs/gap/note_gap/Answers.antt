@@ -51,6 +51,7 @@ use Rattle.run_acts.proofs.CardNotes.{both-cards, on-none, on-unbegun, session-n
 use Rattle.run_acts.proofs.CardPlaces.{places-self, leaves-then}
 use Rattle.run_minutes.proofs.Calm.{calm-of-unit, calm-same, calm-then}
 use Rattle.run_acts.proofs.OneCard.{none-there}
+use Rattle.run_minutes.proofs.Writes.{wrote-none}
 use Rattle.run_acts.proofs.gap.note_gap.Goals as goal
 
 pub note_in-requires-clause-going : goal.note_in-requires-clause-going
@@ -559,3 +560,32 @@ returns-clause-goes g c = record {
   calm = calm-then (devices (g.M.Medium.state c.args.unit.now) (g.C.Chip.state c.args.card_a.now) (g.D.Chip.state c.args.card_b.now)) (devices (g.M.Medium.state c.note_event.new.unit) (g.C.Chip.state c.args.card_a.now) (g.D.Chip.state c.args.card_b.now)) (devices (g.M.Medium.state c.note_in-2.new.unit) (g.C.Chip.state c.note_in-2.new.card_a) (g.D.Chip.state c.note_in-2.new.card_b)) (calm-of-unit (g.M.Medium.state c.args.unit.now) (g.M.Medium.state c.note_event.new.unit) (g.C.Chip.state c.args.card_a.now) (g.D.Chip.state c.args.card_b.now)) (calm-then (devices (g.M.Medium.state c.note_event.new.unit) (g.C.Chip.state c.args.card_a.now) (g.D.Chip.state c.args.card_b.now)) (devices (g.M.Medium.state c.note_in.new.unit) (g.C.Chip.state c.note_in.new.card_a) (g.D.Chip.state c.note_in.new.card_b)) (devices (g.M.Medium.state c.note_in-2.new.unit) (g.C.Chip.state c.note_in-2.new.card_a) (g.D.Chip.state c.note_in-2.new.card_b)) c.note_in.ensures.goes.calm c.note_in-2.ensures.goes.calm);
   more = (let a = c.note_in.ensures.goes.more in let b = c.note_in-2.ensures.goes.more in omega (arith, a, b));
 }
+
+-- ---- its writes
+
+pub returns-in_default-clause-most : goal.returns-in_default-clause-most
+returns-in_default-clause-most g c = wrote-none 12 8 (devices (g.M.Medium.state c.args.unit.now) (g.C.Chip.state c.args.card_a.now) (g.D.Chip.state c.args.card_b.now))
+
+pub returns-in_err-note_event-clause-most : goal.returns-in_err-note_event-clause-most
+returns-in_err-note_event-clause-most g c = record { unit = (let one = c.in_err-note_event.ensures.most in omega (arith, one)); card_a = omega arith; card_b = omega arith }
+
+pub returns-in_err-note_in-clause-most : goal.returns-in_err-note_in-clause-most
+returns-in_err-note_in-clause-most g c =
+    let one = c.in_ok-note_event.ensures.most in
+    let next = c.in_err-note_in.ensures.most in
+    record {
+      unit = (let a = next.unit in omega (arith, one, a));
+      card_a = (let a = next.card_a in omega (arith, a));
+      card_b = (let a = next.card_b in omega (arith, a));
+    }
+
+pub returns-clause-most : goal.returns-clause-most
+returns-clause-most g c =
+    let one = c.in_ok-note_event.ensures.most in
+    let next = c.in_ok-note_in.ensures.most in
+    let last = c.note_in-2.ensures.most in
+    record {
+      unit = (let a = next.unit in let b = last.unit in omega (arith, one, a, b));
+      card_a = (let a = next.card_a in let b = last.card_a in omega (arith, a, b));
+      card_b = (let a = next.card_b in let b = last.card_b in omega (arith, a, b));
+    }

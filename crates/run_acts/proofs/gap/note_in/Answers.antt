@@ -1,4 +1,4 @@
-use Rattle.std.proofs.Common.{arith, ◌≡◌, ◌∙◌, ℕ, Bool, true, false, Option, Some, None, [], ◌∷◌, refl, ap, sym, subst, is_some, ◌≤◌}
+use Rattle.std.proofs.Common.{arith, ◌≡◌, ◌∙◌, ℕ, Bool, true, false, Option, Some, None, [], ◌∷◌, refl, ap, sym, subst, is_some, ◌≤◌, ◌+◌}
 use Rattle.activity_codec.specs.declared.values.Slot.{Slot}
 use Rattle.trace_model.specs.declared.Card.{Card}
 use Rattle.trace_model.specs.declared.Card.TheVariants.{A, B}
@@ -46,6 +46,7 @@ use Rattle.run_acts.specs.Acts.{ShowsGapOn, UnitWrites, NotesInSession, StandsBe
 use Rattle.unit_notes.specs.declared.unit_event.UnitEvent.{UnitEvent}
 use Rattle.run_acts.proofs.gap.note_in.Given.{Over}
 use Rattle.run_acts.proofs.gap.note_in.Goals.{In-Some-number_in, After-note_on, After-note_on-in-B}
+use Rattle.run_minutes.proofs.Writes.{wrote-none}
 use Rattle.run_acts.proofs.gap.note_in.Goals as goal
 
 -- ---- what is known of the note on a card
@@ -59,6 +60,7 @@ NotesThere state chip which slot event result old new breaks after U V x y = rec
   behind : StandsBehind which result old new U V (state x) (state y) (chip y);
   stands : (from : ℕ) (leaving : Option Card) → CabinIsSound from leaving old.keeper.cabin → CabinIsSound from leaving new.keeper.cabin;
   clock_card : (state x).clock ≤ (state y).clock;
+  most : (V.clock ≤ U.clock + 4) × ((state y).clock ≤ (state x).clock + 4);
 }
 
 -- one event is noted on it, and none on the other
@@ -343,3 +345,17 @@ returns-in_default-number_in-clause-goes g c = record {
   calm = calm-same (devices (g.M.Medium.state c.args.unit.now) (g.C.Chip.state c.args.card_a.now) (g.D.Chip.state c.args.card_b.now));
   more = omega arith;
 }
+
+-- ---- its writes
+
+pub returns-in_default-clause-most : goal.returns-in_default-clause-most
+returns-in_default-clause-most g c = wrote-none 4 4 (devices (g.M.Medium.state c.args.unit.now) (g.C.Chip.state c.args.card_a.now) (g.D.Chip.state c.args.card_b.now))
+
+pub returns-in_default-number_in-clause-most : goal.returns-in_default-number_in-clause-most
+returns-in_default-number_in-clause-most g c = wrote-none 4 4 (devices (g.M.Medium.state c.args.unit.now) (g.C.Chip.state c.args.card_a.now) (g.D.Chip.state c.args.card_b.now))
+
+pub returns-in-A-clause-most : goal.returns-in-A-clause-most
+returns-in-A-clause-most g c = record { unit = c.note_on.ensures.most.0; card_a = c.note_on.ensures.most.1; card_b = omega arith }
+
+pub returns-in-B-clause-most : goal.returns-in-B-clause-most
+returns-in-B-clause-most g c = record { unit = c.note_on-in-B.ensures.most.0; card_a = omega arith; card_b = c.note_on-in-B.ensures.most.1 }

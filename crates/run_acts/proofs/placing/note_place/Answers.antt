@@ -1,4 +1,4 @@
-use Rattle.std.proofs.Common.{rules, ◌≡◌, ◌∙◌, ℕ, Bool, true, false, Option, Some, None, is_some, length, refl, ap, sym, subst, arith, inl, inr, ◌^◌, ◌<◌, ◌≤◌}
+use Rattle.std.proofs.Common.{rules, ◌≡◌, ◌∙◌, ℕ, Bool, true, false, Option, Some, None, is_some, length, refl, ap, sym, subst, arith, inl, inr, ◌^◌, ◌<◌, ◌≤◌, ◌+◌}
 use Rattle.trace_model.specs.declared.Card.TheVariants.{A, B}
 use Rattle.tach_media.proofs.Runs.{on_ok, ok_gives, cause_after, no_reads}
 use Rattle.minute_model.specs.Span.{ungiven_of}
@@ -75,6 +75,7 @@ use Rattle.run_devices.specs.Told.{arranged}
 use Rattle.run_acts.specs.Acts.{ShowsPlaceOn, UnitWrites, NotesInSession, StandsBehind}
 use Rattle.run_acts.proofs.placing.note_place.Given.{Over}
 use Rattle.run_acts.proofs.placing.note_place.Goals.{In_ok-note_place, After-note_place_in, After-note_place_in-in-B}
+use Rattle.run_minutes.proofs.Writes.{wrote-none}
 use Rattle.run_acts.proofs.placing.note_place.Goals as goal
 
 -- ---- what is known of a place that was noted on the unit
@@ -123,6 +124,7 @@ NotesThere state chip which slot entry at result old new breaks after U V x y = 
   behind : StandsBehind which result old new U V (state x) (state y) (chip y);
   stands : (from : ℕ) (leaving : Option Card) → CabinIsSound from leaving old.keeper.cabin → CabinIsSound from leaving new.keeper.cabin;
   clock_card : (state x).clock ≤ (state y).clock;
+  most : (V.clock ≤ U.clock + 4) × ((state y).clock ≤ (state x).clock + 5);
 }
 
 -- a card with a session was called alone
@@ -673,3 +675,34 @@ returns-in-B-clause-goes g c = record {
   calm = calm g (noted-first-b g c) (side-b g c) c.note_place_in-in-B.ensures;
   more = more-noted B c.args.slot c.args.at c.args.run.now c.note_place_in-in-B.new.run c.args.breaks.now c.note_place_in-in-B.new.breaks c.note_place_in-in-B.ensures.noted.0 c.note_place_in-in-B.ensures.noted.1;
 }
+
+-- ---- its writes
+
+pub returns-in_default-clause-most : goal.returns-in_default-clause-most
+returns-in_default-clause-most g c = wrote-none 9 5 (devices (g.M.Medium.state c.args.unit.now) (g.C.Chip.state c.args.card_a.now) (g.D.Chip.state c.args.card_b.now))
+
+pub returns-in_default-number_in-clause-most : goal.returns-in_default-number_in-clause-most
+returns-in_default-number_in-clause-most g c = wrote-none 9 5 (devices (g.M.Medium.state c.args.unit.now) (g.C.Chip.state c.args.card_a.now) (g.D.Chip.state c.args.card_b.now))
+
+pub returns-in_err-note_place-clause-most : goal.returns-in_err-note_place-clause-most
+returns-in_err-note_place-clause-most g c = record { unit = (let one = c.in_err-note_place.ensures.most in omega (arith, one)); card_a = omega arith; card_b = omega arith }
+
+pub returns-in-A-clause-most : goal.returns-in-A-clause-most
+returns-in-A-clause-most g c =
+    let one = c.in_ok-note_place.ensures.most in
+    let next = c.note_place_in.ensures.most in
+    record {
+      unit = (let a = next.0 in omega (arith, one, a));
+      card_a = next.1;
+      card_b = omega arith;
+    }
+
+pub returns-in-B-clause-most : goal.returns-in-B-clause-most
+returns-in-B-clause-most g c =
+    let one = c.in_ok-note_place.ensures.most in
+    let next = c.note_place_in-in-B.ensures.most in
+    record {
+      unit = (let a = next.0 in omega (arith, one, a));
+      card_b = next.1;
+      card_a = omega arith;
+    }

@@ -60,13 +60,13 @@ module _ (g : Over) (c : After-tear g) where
   sizes-fell = cc
 
   cabin-fell : c.tear.new.self.cabin ≡ torn_out c.args.which c.args.at.second c.args.run.now.keeper.cabin
-  cabin-fell = ap (λ (k : Keeper). k.cabin) c.tear.ensures.keeper ∙ torn-apart c.args.which c.args.at.second c.args.run.now.keeper.cabin c.take.new.self c.take.ensures.left
+  cabin-fell = ap (λ (k : Keeper). k.cabin) c.tear.ensures.torn.keeper ∙ torn-apart c.args.which c.args.at.second c.args.run.now.keeper.cabin c.take.new.self c.take.ensures.left
 
   cause-bad : HasCause (g.C.Chip.state c.args.card.now) (g.C.Chip.state c.note_place_on.new.card) true
   cause-bad = subst (λ (b : Bool). HasCause (g.C.Chip.state c.args.card.now) (g.C.Chip.state c.note_place_on.new.card) b) (sym c.is_err.ensures.value ∙ c.if-is_err.true) c.note_place_on.ensures.cause
 
   noted-fell : IsNotedOn c.args.which c.args.slot c.args.at c.args.run.now (record c.args.run.now { keeper = c.tear.new.self }) c.args.breaks.now c.tear.new.breaks true
-  noted-fell = record { run = ap (λ (k : Keeper). record c.args.run.now { keeper = k }) (c.tear.ensures.keeper ∙ ap (λ (b : Cabin). record c.args.run.now.keeper { cabin = b }) (torn-apart c.args.which c.args.at.second c.args.run.now.keeper.cabin c.take.new.self c.take.ensures.left)); told = c.tear.ensures.told }
+  noted-fell = record { run = ap (λ (k : Keeper). record c.args.run.now { keeper = k }) (c.tear.ensures.torn.keeper ∙ ap (λ (b : Cabin). record c.args.run.now.keeper { cabin = b }) (torn-apart c.args.which c.args.at.second c.args.run.now.keeper.cabin c.take.new.self c.take.ensures.left)); told = c.tear.ensures.torn.told }
 
 -- ---- it is noted, and the session given back
 
@@ -156,16 +156,16 @@ returns-then-is_err-clause-shows g c = record {
         noted = noted-fell g c;
         failing = λ _. refl;
         notes = one-noted U V X X Y Y (g.met.M.Medium.coherent c.args.unit.now) (g.met.M.Medium.coherent c.tear.new.unit) c.requires.ready.is_unit (entry_of CARD_FAULT c.args.at.second c.args.at.second crew crew) (is_err c.tear.result)
-            (λ well. ok_gives c.tear.result c.tear.ensures.noted well) c.tear.ensures.moments c.tear.ensures.cause.works;
+            (λ well. ok_gives c.tear.result c.tear.ensures.leaves.noted well) c.tear.ensures.leaves.moments c.tear.ensures.behind.cause.works;
       };
   rings =
-      rings-moments (g.M.Medium.state c.args.unit.now) (g.M.Medium.state c.tear.new.unit) (IsNotingEvent CARD_FAULT (fault_of c.args.at.second (crew_of c.tear.new.self.cabin))) (g.met.M.Medium.coherent c.args.unit.now) c.tear.ensures.moments
+      rings-moments (g.M.Medium.state c.args.unit.now) (g.M.Medium.state c.tear.new.unit) (IsNotingEvent CARD_FAULT (fault_of c.args.at.second (crew_of c.tear.new.self.cabin))) (g.met.M.Medium.coherent c.args.unit.now) c.tear.ensures.leaves.moments
       (λ x n moment. table-outside CARD_FAULT x n moment.outside);
 }
 
 pub returns-then-is_err-clause-writes : goal.returns-then-is_err-clause-writes
 returns-then-is_err-clause-writes g c = record {
-  speeds = event-leaves-speeds CARD_FAULT (fault_of c.args.at.second (crew_of c.tear.new.self.cabin)) (g.M.Medium.state c.args.unit.now) (g.M.Medium.state c.tear.new.unit) (g.met.M.Medium.coherent c.args.unit.now) c.tear.ensures.moments;
+  speeds = event-leaves-speeds CARD_FAULT (fault_of c.args.at.second (crew_of c.tear.new.self.cabin)) (g.M.Medium.state c.args.unit.now) (g.M.Medium.state c.tear.new.unit) (g.met.M.Medium.coherent c.args.unit.now) c.tear.ensures.leaves.moments;
   journal = first_of (search rules, grind (arith, common_steps));
 }
 
@@ -185,7 +185,7 @@ returns-then-is_err-clause-behind g c = record {
   rows =
       λ card h.
       let cards = c.args.run.now.keeper.cabin.cards in
-      c.tear.ensures.rows card (has-row cards c.take.new.self (g.M.Medium.state c.args.unit.now) (g.M.Medium.state c.args.unit.now) card
+      c.tear.ensures.behind.rows card (has-row cards c.take.new.self (g.M.Medium.state c.args.unit.now) (g.M.Medium.state c.args.unit.now) card
       (ap (λ (q : Cards). (known_of q card).number) c.take.ensures.left ∙ number-set c.args.which card None cards)
       (ap (λ (q : Cards). (known_of q card).row) c.take.ensures.left ∙ row-set c.args.which card None cards) (λ r n at. at) h);
   card = first_of (search rules, grind (arith, common_steps));
@@ -270,3 +270,11 @@ returns-clause-behind g c = record {
   size = first_of (search rules, grind (arith, common_steps));
   cause = first_of (search rules, grind (arith, common_steps));
 }
+
+-- ---- its writes
+
+pub returns-then-is_err-clause-most : goal.returns-then-is_err-clause-most
+returns-then-is_err-clause-most g c = (c.tear.ensures.most, c.note_place_on.ensures.most)
+
+pub returns-clause-most : goal.returns-clause-most
+returns-clause-most g c = (omega arith, c.note_place_on.ensures.most)

@@ -1,7 +1,8 @@
-use Rattle.std.proofs.Common.{suc, ◌≡◌, ℕ, ◌/◌, length, refl, ap, arith}
+use Rattle.std.proofs.Common.{suc, ◌≡◌, ℕ, ◌*◌, ◌/◌, ◌≤◌, length, refl, ap, arith}
 use Rattle.std.specs.Prelude.{is_err}
 use Rattle.tach_media.proofs.Runs.{on_ok}
 use Rattle.minute_model.specs.Span.{ungiven_of, settled}
+use Rattle.minute_rules.proofs.GoingOn.{owing-few}
 use Rattle.run_minutes.specs.Minutes.{AreKept, KeepingState}
 use Rattle.run_acts.specs.declared.run.Run.{Run}
 use Rattle.run_acts.specs.declared.run.Power.{Power}
@@ -25,6 +26,7 @@ use Rattle.run_acts.proofs.Due.{Decides}
 use Rattle.run_acts.specs.Devices.{DevicesGoOn}
 use Rattle.run_acts.proofs.settling.settle.Given.{Over}
 use Rattle.run_acts.proofs.settling.settle.Goals.{After-as_slice, After-keep_all}
+use Rattle.run_minutes.proofs.Writes.{wrote-more}
 use Rattle.run_acts.proofs.settling.settle.Goals as goal
 
 -- ---- what is decided
@@ -201,3 +203,18 @@ returns-clause-goes g c = c.keep_all.ensures.goes
 
 pub returns-clause-speeds : goal.returns-clause-speeds
 returns-clause-speeds g c = c.keep_all.ensures.speeds
+
+-- ---- its writes
+
+pub returns-clause-most : goal.returns-clause-most
+returns-clause-most g c =
+    let h = c.requires.going in
+    let d = decided g (goal.at.returns-clause-most g c).After-as_slice in
+    let is = settled-ungiven h.0 (c.args.run.now.next / 60) c.args.run.now h.1 in
+    let count = d.count in
+    let sum = owing-sum c.args.run.now.minutes h.1.span h.1.stands in
+    let end = h.1.next in
+    let some = (owing-few h.1.span c.args.run.now.minutes h.1.stands).0 in
+    let few : length c.settle-decided.result.items ≤ 3 = omega (arith, is, count, sum, end, some) in
+    wrote-more (26 * length c.settle-decided.result.items) 78 (34 * length c.settle-decided.result.items) 102 (first g (goal.at.returns-clause-most g c).After-keep_all) (last g (goal.at.returns-clause-most g c).After-keep_all)
+    (omega (arith, few)) (omega (arith, few)) (rw c.as_slice.ensures.value at c.keep_all.ensures.most)

@@ -1,4 +1,4 @@
-use Rattle.std.proofs.Common.{rules, ◌≡◌, ◌∙◌, inl, inr, Bool, true, refl, ap, subst}
+use Rattle.std.proofs.Common.{rules, ◌≡◌, ◌∙◌, inl, inr, Bool, true, refl, ap, subst, arith}
 use Rattle.std.specs.Prelude.{is_err, not}
 use Rattle.tach_media.proofs.Runs.{cause_after, ok_gives}
 use Rattle.run_crew.specs.declared.cards.Crew.{Crew}
@@ -160,3 +160,19 @@ returns-clause-bare g c = c.keep_all.ensures.bare
 
 pub returns-in_err-keep_all-clause-bare : goal.returns-in_err-keep_all-clause-bare
 returns-in_err-keep_all-clause-bare g c = c.keep_all.ensures.bare
+
+-- ---- its writes
+
+pub returns-clause-most : goal.returns-clause-most
+returns-clause-most g c = record {
+  unit = (let a = c.keep_all.ensures.most.unit in let b = c.turn.ensures.most in omega (arith, a, b));
+  card_a = c.keep_all.ensures.most.card_a;
+  card_b = c.keep_all.ensures.most.card_b;
+}
+
+pub returns-in_err-keep_all-clause-most : goal.returns-in_err-keep_all-clause-most
+returns-in_err-keep_all-clause-most g c = record {
+  unit = (let a = c.keep_all.ensures.most.unit in omega (arith, a));
+  card_a = c.keep_all.ensures.most.card_a;
+  card_b = c.keep_all.ensures.most.card_b;
+}

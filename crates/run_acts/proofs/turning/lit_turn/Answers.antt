@@ -1,11 +1,13 @@
-use Rattle.std.proofs.Common.{◌≡◌, ◌∙◌, ℕ, ◌+◌, ◌-◌, ◌/◌, true, false, length, refl, ap, sym, subst, arith, ◌∷◌, [], ◌<◌, All, Bool, Option, ◌≤◌}
+use Rattle.std.proofs.Common.{◌≡◌, ◌∙◌, ℕ, ◌+◌, ◌-◌, ◌*◌, ◌/◌, true, false, length, refl, ap, sym, subst, arith, ◌∷◌, [], ◌<◌, All, Bool, Option, ◌≤◌}
 use Rattle.std.specs.Prelude.{is_err, None}
 use Rattle.minute_model.specs.Span.{ungiven_of, fed_many}
+use Rattle.minute_rules.proofs.GoingOn.{owing-few}
 use Rattle.log_model.specs.declared.lines.Break.{Break}
 use Rattle.run_outcome.specs.Lines.{Listed, cut_at}
 use Rattle.run_outcome.specs.declared.outcome.Outcome.{Outcome}
 use Rattle.run_minutes.specs.Keeping.{with_lines}
 use Rattle.run_minutes.specs.Minutes.{kept_after}
+use Rattle.run_minutes.specs.Writes.{WroteAtMost}
 use Rattle.run_acts.specs.declared.run.Run.{Run}
 use Rattle.run_acts.specs.declared.run.Power.{Power}
 use Rattle.run_acts.specs.declared.run.Power.TheVariants.{Lit, Lost}
@@ -39,6 +41,7 @@ use Rattle.run_minutes.specs.declared.keeper.Keeper.{Keeper}
 use Rattle.minute_model.specs.declared.Minute.{Minute}
 use Rattle.run_acts.proofs.turning.lit_turn.Given.{Over}
 use Rattle.run_acts.proofs.turning.lit_turn.Goals.{After-as_slice, After-is_err, After-cut}
+use Rattle.run_minutes.proofs.Writes.{wrote-more}
 use Rattle.run_acts.proofs.turning.lit_turn.Goals as goal
 
 -- ---- what the seconds decide
@@ -337,3 +340,28 @@ returns-else-is_err-clause-goes g c = record {
   more = c.keep_turn-kept.ensures.goes.all.more;
   broke = uncut-broke _ _ (g.M.Medium.state c.args.unit.now) (g.M.Medium.state c.keep_turn-kept.new.unit) (is_err c.keep_turn-kept.result) c.keep_turn-kept.ensures.stands.cause (sym c.is_err.ensures.value ∙ c.if-is_err.false) (turn-uncut _ _ _ _ _ _ _ _ _ c.keep_turn-kept.ensures.kept.kept);
 }
+
+-- ---- its writes
+
+-- three minutes at most are decided
+module _ (g : Over) (c : After-is_err g) where
+  few-decided : length c.feed-decided.result.items ≤ 3
+  few-decided =
+      let l = power g c in
+      let count = (decides g c).count in
+      let least = turn-most c.args.run.now l c.args.speed c.args.n c.requires.minute in
+      let sum = owing-sum c.args.run.now.minutes l.span l.stands in
+      let next = l.next in
+      let some = (owing-few l.span c.args.run.now.minutes l.stands).0 in
+      omega (arith, count, least, sum, next, some)
+
+  wrote : WroteAtMost 93 102 (first_devices g c) (last_devices g c)
+  wrote =
+      let few = few-decided in
+      wrote-more (26 * length c.feed-decided.result.items + 15) 93 (34 * length c.feed-decided.result.items) 102 (first_devices g c) (last_devices g c) (omega (arith, few)) (omega (arith, few)) (rw c.as_slice.ensures.value at c.keep_turn-kept.ensures.most)
+
+pub returns-then-is_err-clause-most : goal.returns-then-is_err-clause-most
+returns-then-is_err-clause-most g c = wrote g (goal.at.returns-then-is_err-clause-most g c).After-is_err
+
+pub returns-else-is_err-clause-most : goal.returns-else-is_err-clause-most
+returns-else-is_err-clause-most g c = wrote g (goal.at.returns-else-is_err-clause-most g c).After-is_err

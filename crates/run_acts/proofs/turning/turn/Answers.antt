@@ -32,6 +32,7 @@ use Rattle.run_acts.specs.Speeds.{SpeedsBehind, SpeedsInBy}
 use Rattle.run_acts.proofs.SpeedsTurn.{dark-speeds, seconds-speeds}
 use Rattle.run_acts.proofs.CardTurn.{dark-cards, seconds-shown}
 use Rattle.run_minutes.proofs.Calm.{calm-same}
+use Rattle.run_minutes.proofs.Writes.{wrote-none}
 use Rattle.run_acts.proofs.turning.turn.Goals as goal
 
 -- ---- without power
@@ -273,3 +274,11 @@ returns-clause-goes g c = record {
   more = c.lit_turn.ensures.goes.more;
   broke = c.lit_turn.ensures.goes.broke;
 }
+
+-- ---- its writes
+
+pub returns-then-not-is_lit-clause-most : goal.returns-then-not-is_lit-clause-most
+returns-then-not-is_lit-clause-most g c = wrote-none 93 102 (devices (g.M.Medium.state c.args.unit.now) (g.C.Chip.state c.args.card_a.now) (g.D.Chip.state c.args.card_b.now))
+
+pub returns-clause-most : goal.returns-clause-most
+returns-clause-most g c = c.lit_turn.ensures.most

@@ -82,8 +82,8 @@ module _ (g : Over) (c : After-tear g) where
   closed-fell : IsClosed c.args.which c.args.slot c.args.at c.args.run.now (record c.args.run.now { keeper = c.tear.new.self }) c.args.breaks.now c.tear.new.breaks Fell
   closed-fell = record {
     is = subst (λ (o : Option Accepted). IsClosingOf o Fell) c.in-Some.ensures.session tt;
-    run = ap (λ (k : Keeper). record c.args.run.now { keeper = k }) (c.tear.ensures.keeper ∙ ap (λ (b : Cabin). record c.args.run.now.keeper { cabin = torn_out c.args.which c.args.at.second b }) c.close.ensures.kept);
-    told = c.tear.ensures.told;
+    run = ap (λ (k : Keeper). record c.args.run.now { keeper = k }) (c.tear.ensures.torn.keeper ∙ ap (λ (b : Cabin). record c.args.run.now.keeper { cabin = torn_out c.args.which c.args.at.second b }) c.close.ensures.kept);
+    told = c.tear.ensures.torn.told;
   }
 
 -- it has no session
@@ -315,14 +315,14 @@ returns-in-Err-clause-shows g c = record {
         closing = Fell;
         closed = closed-fell g c;
         notes = one-noted U V X X Y Y (g.met.M.Medium.coherent c.args.unit.now) (g.met.M.Medium.coherent c.tear.new.unit) c.requires.ready.is_unit (entry_of CARD_FAULT c.args.at.second c.args.at.second crew crew) (is_err c.tear.result)
-            (λ well. ok_gives c.tear.result c.tear.ensures.noted well) c.tear.ensures.moments c.tear.ensures.cause.works;
+            (λ well. ok_gives c.tear.result c.tear.ensures.leaves.noted well) c.tear.ensures.leaves.moments c.tear.ensures.behind.cause.works;
       };
   rings =
       λ tells.
       record {
         closing = Fell;
         closed = closed-fell g c;
-        rings = rings-moments (g.M.Medium.state c.args.unit.now) (g.M.Medium.state c.tear.new.unit) (IsNotingEvent CARD_FAULT (fault_of c.args.at.second (crew_of c.tear.new.self.cabin))) (g.met.M.Medium.coherent c.args.unit.now) c.tear.ensures.moments
+        rings = rings-moments (g.M.Medium.state c.args.unit.now) (g.M.Medium.state c.tear.new.unit) (IsNotingEvent CARD_FAULT (fault_of c.args.at.second (crew_of c.tear.new.self.cabin))) (g.met.M.Medium.coherent c.args.unit.now) c.tear.ensures.leaves.moments
             (λ x n moment. table-outside CARD_FAULT x n moment.outside);
       };
   left =
@@ -340,7 +340,7 @@ returns-in-Err-clause-shows g c = record {
 
 pub returns-in-Err-clause-writes : goal.returns-in-Err-clause-writes
 returns-in-Err-clause-writes g c = record {
-  speeds = event-leaves-speeds CARD_FAULT (fault_of c.args.at.second (crew_of c.tear.new.self.cabin)) (g.M.Medium.state c.args.unit.now) (g.M.Medium.state c.tear.new.unit) (g.met.M.Medium.coherent c.args.unit.now) c.tear.ensures.moments;
+  speeds = event-leaves-speeds CARD_FAULT (fault_of c.args.at.second (crew_of c.tear.new.self.cabin)) (g.M.Medium.state c.args.unit.now) (g.M.Medium.state c.tear.new.unit) (g.met.M.Medium.coherent c.args.unit.now) c.tear.ensures.leaves.moments;
   journal = first_of (search rules, grind (arith, common_steps));
 }
 
@@ -351,7 +351,7 @@ returns-in-Err-clause-behind g c = record {
   rows =
       λ card h.
       let U = g.M.Medium.state c.args.unit.now in
-      c.tear.ensures.rows card (subst (λ (b : Cabin). HasItsRow b.cards U card) (sym c.close.ensures.kept) (row-beside c.args.which None c.args.run.now.keeper.cabin.cards U card h));
+      c.tear.ensures.behind.rows card (subst (λ (b : Cabin). HasItsRow b.cards U card) (sym c.close.ensures.kept) (row-beside c.args.which None c.args.run.now.keeper.cabin.cards U card h));
   card =
       let cards = c.args.run.now.keeper.cabin.cards in
       let which = c.args.which in
@@ -359,7 +359,7 @@ returns-in-Err-clause-behind g c = record {
       let X = g.C.Chip.state c.leave.new.card in
       let told : (known_of cards which).sizes ≡ Ok c.in-Ok.app = cc in
       let after : c.tear.new.self.cabin.cards ≡ with_session which None (with_session which None cards) =
-      ap (λ (k : Keeper). k.cabin.cards) c.tear.ensures.keeper ∙ ap (λ (b : Cabin). with_session which None b.cards) c.close.ensures.kept in
+      ap (λ (k : Keeper). k.cabin.cards) c.tear.ensures.torn.keeper ∙ ap (λ (b : Cabin). with_session which None b.cards) c.close.ensures.kept in
       subst (λ (q : Cards). CardMayBeCalled (known_of q which) chip X) (sym after)
       (twice-ready which cards (λ app is. let same : c.in-Ok.app ≡ app = cc in subst (λ (a : Application). IsPort a None chip X) same c.leave.ensures.port));
   size = first_of (search rules, grind (arith, common_steps));
@@ -369,5 +369,19 @@ returns-in-Err-clause-behind g c = record {
 pub returns-in-Err-clause-goes : goal.returns-in-Err-clause-goes
 returns-in-Err-clause-goes g c = record {
   later = state-by (g.C.Chip.state c.args.card.now) (g.C.Chip.state c.leave.new.card) (is_err c.leave.result) c.leave.ensures.moments.later c.leave.ensures.cause;
-  calm = card-fell c.args.slot c.args.at (ap (λ (l : Listed Break). l.items) c.tear.ensures.told);
+  calm = card-fell c.args.slot c.args.at (ap (λ (l : Listed Break). l.items) c.tear.ensures.torn.told);
 }
+
+-- ---- its writes
+
+pub returns-in_default-clause-most : goal.returns-in_default-clause-most
+returns-in_default-clause-most g c = (omega arith, omega arith)
+
+pub returns-in_default-sizes-clause-most : goal.returns-in_default-sizes-clause-most
+returns-in_default-sizes-clause-most g c = (omega arith, omega arith)
+
+pub returns-in-Ok-leave-clause-most : goal.returns-in-Ok-leave-clause-most
+returns-in-Ok-leave-clause-most g c = let one = c.note_withdrawal.ensures.most in (omega (arith, one), c.leave.ensures.most)
+
+pub returns-in-Err-clause-most : goal.returns-in-Err-clause-most
+returns-in-Err-clause-most g c = (c.tear.ensures.most, c.leave.ensures.most)

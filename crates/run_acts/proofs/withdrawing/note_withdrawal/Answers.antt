@@ -52,3 +52,11 @@ returns-clause-rings g c = λ tells span stands.
     subst (λ (q : Odometer). Withdraws (is_err c.note_withdrawal.result) s c.args.at.second q U V) is
     (withdrawal-noted s c.args.at.second o (is_err c.note_withdrawal.result) U V (g.met.M.Medium.coherent c.args.unit.now) (g.met.M.Medium.coherent c.note_withdrawal.new.unit) tells few
     (λ fine. ok_gives c.note_withdrawal.result c.note_withdrawal.ensures.noted fine) c.note_withdrawal.ensures.moments c.note_withdrawal.ensures.cause.works)
+
+-- ---- its writes
+
+pub returns-then-run-noted-ge-INSERTIONS-clause-most : goal.returns-then-run-noted-ge-INSERTIONS-clause-most
+returns-then-run-noted-ge-INSERTIONS-clause-most g c = omega arith
+
+pub returns-clause-most : goal.returns-clause-most
+returns-clause-most g c = c.note_withdrawal.ensures.most

@@ -89,6 +89,7 @@ use Rattle.run_rings.specs.Same.{LeavesRings}
 use Rattle.run_acts.specs.Acts.{ShowsClosing, UnitWrites, StandsBehind, CardGoesOn}
 use Rattle.run_acts.proofs.withdrawing.withdraw.Given.{Over}
 use Rattle.run_acts.proofs.withdrawing.withdraw.Goals.{In_ok-settle, In_default, After-from_residual, After-close, After-close-in-B}
+use Rattle.run_minutes.proofs.Writes.{wrote-none, wrote-more}
 use Rattle.run_acts.proofs.withdrawing.withdraw.Goals as goal
 
 -- ---- a card that has left its slot
@@ -201,6 +202,7 @@ Closes state chip which slot at result old new breaks after U V x y = record {
   bare : session_of old.keeper.cabin.cards which ≡ None → y ≡ x;
   behind : StandsBehind which result old new U V (state x) (state y) (chip y);
   stands : (from : ℕ) → CabinIsSound from (Some which) old.keeper.cabin → CabinIsSound from None new.keeper.cabin;
+  most : (V.clock ≤ U.clock + 4) × ((state y).clock ≤ (state x).clock + 8);
   goes : CardGoesOn breaks.items after.items (state x) (state y);
 }
 
@@ -774,3 +776,31 @@ returns-in-B-clause-goes g c = record {
   calm = calm g (kept-b g c) (side-b g c) c.close-in-B.ensures;
   more = more g (kept-b g c) (side-b g c) c.close-in-B.ensures;
 }
+
+-- ---- its writes
+
+pub returns-in_default-clause-most : goal.returns-in_default-clause-most
+returns-in_default-clause-most g c = wrote-none 82 110 (devices (g.M.Medium.state c.args.unit.now) (g.C.Chip.state c.args.card_a.now) (g.D.Chip.state c.args.card_b.now))
+
+pub returns-in_err-settle-clause-most : goal.returns-in_err-settle-clause-most
+returns-in_err-settle-clause-most g c = wrote-more 78 82 102 110 _ _ (omega arith) (omega arith) c.settle.ensures.most
+
+pub returns-in-A-clause-most : goal.returns-in-A-clause-most
+returns-in-A-clause-most g c =
+    let first = c.settle.ensures.most in
+    let next = c.close.ensures.most in
+    record {
+      unit = (let a = first.unit in let b = next.0 in omega (arith, a, b));
+      card_a = (let a = first.card_a in let b = next.1 in omega (arith, a, b));
+      card_b = (let a = first.card_b in omega (arith, a));
+    }
+
+pub returns-in-B-clause-most : goal.returns-in-B-clause-most
+returns-in-B-clause-most g c =
+    let first = c.settle.ensures.most in
+    let next = c.close-in-B.ensures.most in
+    record {
+      unit = (let a = first.unit in let b = next.0 in omega (arith, a, b));
+      card_b = (let a = first.card_b in let b = next.1 in omega (arith, a, b));
+      card_a = (let a = first.card_a in omega (arith, a));
+    }

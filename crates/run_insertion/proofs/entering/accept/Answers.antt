@@ -45,14 +45,14 @@ returns-in_default-clause-entered g c =
     let Z = g.D.Chip.state c.args.others.now in
     let X = g.C.Chip.state c.args.card.now in
     let M = g.C.Chip.state c.wake.new.card in
-    let keeper = c.tear.ensures.keeper ∙ ap (λ (b : Cabin). record k { cabin = torn_out e.which e.at.second b }) c.measure.ensures.kept in
+    let keeper = c.tear.ensures.torn.keeper ∙ ap (λ (b : Cabin). record k { cabin = torn_out e.which e.at.second b }) c.measure.ensures.kept in
     let notes = subst (λ (b : Cabin). HasNoted IsOnUnit IsComing (fault_of e b ∷ []) (is_err c.tear.result) U W) c.measure.ensures.kept
-    (fault-noted e (record k { cabin = c.measure.new.self }) c.tear.new.self c.tear.result c.tear.ensures.keeper c.tear.ensures.noted c.tear.ensures.moments) in (
+    (fault-noted e (record k { cabin = c.measure.new.self }) c.tear.new.self c.tear.result c.tear.ensures.torn.keeper c.tear.ensures.leaves.noted c.tear.ensures.leaves.moments) in (
       Unread,
       entered-unread e k c.args.noted.now c.args.outcome.now U X M (g.met.C.Chip.coherent c.wake.new.card) c.wake.ensures.leaves (g.met.C.Chip.coherent c.args.card.now) c.in_default.ensures.cause
-          (is_err c.tear.result) c.tear.new.self c.tear.new.breaks W keeper c.tear.ensures.told notes,
+          (is_err c.tear.result) c.tear.new.self c.tear.new.breaks W keeper c.tear.ensures.torn.told notes,
       λ f w m named low. let may = woken-may e k (Err UNTOLD) U X M Z (g.met.M.Medium.coherent c.args.unit.now) (g.met.C.Chip.coherent c.args.card.now) c.wake.ensures.leaves c.wake.ensures.clock c.requires.bare f w m in record {
-        taken = torn-carried f (with_standing e.which Out w) e (record k { cabin = with_sizes_of e.which (Err UNTOLD) k.cabin }) c.tear.new.self U W M Z (is_err c.tear.result) (still-bare e k (Err UNTOLD) U X M Z (g.met.M.Medium.coherent c.args.unit.now) (g.met.C.Chip.coherent c.args.card.now) c.wake.ensures.leaves c.wake.ensures.clock c.requires.bare) may.found (g.met.M.Medium.coherent c.args.unit.now) may.powered keeper c.tear.ensures.journal c.tear.ensures.cause;
+        taken = torn-carried f (with_standing e.which Out w) e (record k { cabin = with_sizes_of e.which (Err UNTOLD) k.cabin }) c.tear.new.self U W M Z (is_err c.tear.result) (still-bare e k (Err UNTOLD) U X M Z (g.met.M.Medium.coherent c.args.unit.now) (g.met.C.Chip.coherent c.args.card.now) c.wake.ensures.leaves c.wake.ensures.clock c.requires.bare) may.found (g.met.M.Medium.coherent c.args.unit.now) may.powered keeper c.tear.ensures.leaves.journal c.tear.ensures.behind.cause;
         found = found-fallen true f e (record k { cabin = with_sizes_of e.which (Err UNTOLD) k.cabin }) c.tear.new.self keeper may.found;
         told = tt;
         timed = λ valid. woken-timed e k (Err UNTOLD) U X M Z (g.met.M.Medium.coherent c.args.unit.now) (g.met.C.Chip.coherent c.args.card.now) c.wake.ensures.leaves c.wake.ensures.clock c.requires.bare f w m;
@@ -120,7 +120,7 @@ returns-in-Err-clause-entered g c =
 -- ---- the clocks
 
 pub returns-in_default-clause-clock : goal.returns-in_default-clause-clock
-returns-in_default-clause-clock g c = c.tear.ensures.journal.later
+returns-in_default-clause-clock g c = c.tear.ensures.leaves.journal.later
 
 pub returns-in-Err-clause-clock : goal.returns-in-Err-clause-clock
 returns-in-Err-clause-clock g c = c.refuse.ensures.journal.later
@@ -144,7 +144,7 @@ returns-in_default-clause-behind g c = record {
   rows =
       λ card h.
       let U = g.M.Medium.state c.args.unit.now in
-      c.tear.ensures.rows card (subst (λ (b : Cabin). HasItsRow b.cards U card) (sym c.measure.ensures.kept) (row-measured c.args.entering.which (Err UNTOLD) c.args.keeper.now.cabin.cards U card h));
+      c.tear.ensures.behind.rows card (subst (λ (b : Cabin). HasItsRow b.cards U card) (sym c.measure.ensures.kept) (row-measured c.args.entering.which (Err UNTOLD) c.args.keeper.now.cabin.cards U card h));
   stands = λ from le s. c.tear.ensures.stands from None (c.measure.ensures.stands from None s);
   cause = first_of (search rules, grind (arith, common_steps));
   card = first_of (search rules, grind (arith, common_steps));
@@ -154,7 +154,7 @@ returns-in_default-clause-behind g c = record {
 pub returns-in_default-clause-goes : goal.returns-in_default-clause-goes
 returns-in_default-clause-goes g c = record {
   later = let same = c.wake.ensures.clock in state-revived (g.C.Chip.state c.args.card.now) (g.C.Chip.state c.wake.new.card) _ (omega (arith, same)) c.in_default.ensures.cause;
-  calm = card-fell c.args.entering.slot c.args.entering.at (ap (λ (l : Listed Break). l.items) c.tear.ensures.told);
+  calm = card-fell c.args.entering.slot c.args.entering.at (ap (λ (l : Listed Break). l.items) c.tear.ensures.torn.told);
 }
 
 pub returns-in-Ok-sizes-clause-behind : goal.returns-in-Ok-sizes-clause-behind
@@ -199,3 +199,14 @@ returns-in-Err-clause-goes g c = record {
   later = let same = c.wake.ensures.clock in state-revived (g.C.Chip.state c.args.card.now) (g.C.Chip.state c.wake.new.card) _ (omega (arith, same)) c.in-Ok.ensures.cause;
   calm = card-told [] (ap (λ (o : Outcome). o.breaks.items) c.refuse.ensures.told) refl (c.in-Ok.ensures.cause.unbroken refl);
 }
+
+-- ---- its writes
+
+pub returns-in_default-clause-most : goal.returns-in_default-clause-most
+returns-in_default-clause-most g c = let same = c.wake.ensures.clock in let last = c.tear.ensures.most in (omega (arith, last), omega (arith, same))
+
+pub returns-in-Ok-sizes-clause-most : goal.returns-in-Ok-sizes-clause-most
+returns-in-Ok-sizes-clause-most g c = let same = c.wake.ensures.clock in let last = c.accept_by.ensures.most.1 in (c.accept_by.ensures.most.0, omega (arith, same, last))
+
+pub returns-in-Err-clause-most : goal.returns-in-Err-clause-most
+returns-in-Err-clause-most g c = let same = c.wake.ensures.clock in let last = c.refuse.ensures.most in (omega (arith, last), omega (arith, same))

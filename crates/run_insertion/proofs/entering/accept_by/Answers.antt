@@ -69,9 +69,9 @@ returns-in-Err-CardFailed-clause-ended g c =
     let is : c.in-Err-CardFailed.field-0 ≡ CardFailed = cc (c.in-Err-CardFailed.field-0-is) in
     let enters : EntersNow g p (Err CardFailed) = subst (λ (i : Identity). EntersBy g p i (Err CardFailed)) c.identity.ensures (subst (λ (f : NotEntered). EntersBy g p c.identity.result (Err f)) is c.in-Err-CardFailed.ensures.enters) in (
       Fell,
-      judged-fell c.args.app c.args.entering c.args.keeper.now c.args.noted.now c.args.outcome.now (g.M.Medium.state c.args.unit.now) (g.M.Medium.state c.enter.new.unit) (g.C.Chip.state c.args.card.now) (g.C.Chip.state c.enter.new.card) (is_err c.tear.result) c.tear.new.self c.tear.new.breaks (g.M.Medium.state c.tear.new.unit) c.requires.works enters c.tear.ensures.keeper c.tear.ensures.told
-          (fault-noted c.args.entering c.args.keeper.now c.tear.new.self c.tear.result c.tear.ensures.keeper c.tear.ensures.noted c.tear.ensures.moments),
-      λ f w m named out low. fell-known c.args.app c.args.entering c.args.keeper.now (g.M.Medium.state c.args.unit.now) (g.M.Medium.state c.enter.new.unit) (g.C.Chip.state c.args.card.now) (g.C.Chip.state c.enter.new.card) (g.D.Chip.state c.args.others.now) (g.met.M.Medium.coherent c.args.unit.now) (g.met.M.Medium.coherent c.enter.new.unit) (g.met.C.Chip.coherent c.args.card.now) (g.met.C.Chip.coherent c.enter.new.card) c.requires.bare c.requires.sized (roomy g p) c.args.keeper.now.memory.registration (long g p) c.args.entering.odometer.0 (omega (arith, c.requires.last)) (Err CardFailed) enters f w m named out (is_err c.tear.result) (g.M.Medium.state c.tear.new.unit) (enters.unit.rests refl c.requires.ready.works).works c.tear.ensures.journal c.tear.ensures.cause c.tear.new.self c.tear.ensures.keeper,
+      judged-fell c.args.app c.args.entering c.args.keeper.now c.args.noted.now c.args.outcome.now (g.M.Medium.state c.args.unit.now) (g.M.Medium.state c.enter.new.unit) (g.C.Chip.state c.args.card.now) (g.C.Chip.state c.enter.new.card) (is_err c.tear.result) c.tear.new.self c.tear.new.breaks (g.M.Medium.state c.tear.new.unit) c.requires.works enters c.tear.ensures.torn.keeper c.tear.ensures.torn.told
+          (fault-noted c.args.entering c.args.keeper.now c.tear.new.self c.tear.result c.tear.ensures.torn.keeper c.tear.ensures.leaves.noted c.tear.ensures.leaves.moments),
+      λ f w m named out low. fell-known c.args.app c.args.entering c.args.keeper.now (g.M.Medium.state c.args.unit.now) (g.M.Medium.state c.enter.new.unit) (g.C.Chip.state c.args.card.now) (g.C.Chip.state c.enter.new.card) (g.D.Chip.state c.args.others.now) (g.met.M.Medium.coherent c.args.unit.now) (g.met.M.Medium.coherent c.enter.new.unit) (g.met.C.Chip.coherent c.args.card.now) (g.met.C.Chip.coherent c.enter.new.card) c.requires.bare c.requires.sized (roomy g p) c.args.keeper.now.memory.registration (long g p) c.args.entering.odometer.0 (omega (arith, c.requires.last)) (Err CardFailed) enters f w m named out (is_err c.tear.result) (g.M.Medium.state c.tear.new.unit) (enters.unit.rests refl c.requires.ready.works).works c.tear.ensures.leaves.journal c.tear.ensures.behind.cause c.tear.new.self c.tear.ensures.torn.keeper,
     )
 
 pub returns-in-Err-NotValid-clause-ended : goal.returns-in-Err-NotValid-clause-ended
@@ -110,7 +110,7 @@ pub returns-in-Err-UnitFailed-clause-clock : goal.returns-in-Err-UnitFailed-clau
 returns-in-Err-UnitFailed-clause-clock g c = let same = c.in-Err-UnitFailed.ensures.enters.unit.clock in omega (arith, same)
 
 pub returns-in-Err-CardFailed-clause-clock : goal.returns-in-Err-CardFailed-clause-clock
-returns-in-Err-CardFailed-clause-clock g c = let same = c.in-Err-CardFailed.ensures.enters.unit.clock in let later = c.tear.ensures.journal.later in omega (arith, same, later)
+returns-in-Err-CardFailed-clause-clock g c = let same = c.in-Err-CardFailed.ensures.enters.unit.clock in let later = c.tear.ensures.leaves.journal.later in omega (arith, same, later)
 
 pub returns-in-Err-NotValid-clause-clock : goal.returns-in-Err-NotValid-clause-clock
 returns-in-Err-NotValid-clause-clock g c = let same = c.in-Err-NotValid.ensures.enters.unit.clock in let later = c.refuse.ensures.journal.later in omega (arith, same, later)
@@ -198,7 +198,7 @@ returns-in-Err-CardFailed-clause-behind g c = record {
 pub returns-in-Err-CardFailed-clause-goes : goal.returns-in-Err-CardFailed-clause-goes
 returns-in-Err-CardFailed-clause-goes g c = record {
   later = state-by (g.C.Chip.state c.args.card.now) (g.C.Chip.state c.enter.new.card) _ c.enter.ensures.leaves.later c.in-Err-CardFailed.ensures.enters.cause;
-  calm = card-fell c.args.entering.slot c.args.entering.at (ap (λ (l : Listed Break). l.items) c.tear.ensures.told);
+  calm = card-fell c.args.entering.slot c.args.entering.at (ap (λ (l : Listed Break). l.items) c.tear.ensures.torn.told);
 }
 
 pub returns-in-Err-NotValid-clause-behind : goal.returns-in-Err-NotValid-clause-behind
@@ -240,3 +240,25 @@ returns-in-Err-TimeOverlap-clause-goes g c = record {
       let is : c.in-Err-TimeOverlap.field-0 ≡ TimeOverlap stored now = cc (c.in-Err-TimeOverlap.field-0-is) in
       card-told [] (ap (λ (o : Outcome). o.breaks.items) c.defer.ensures.told) refl (c.in-Err-TimeOverlap.ensures.enters.cause.unbroken (ap (λ (f : NotEntered). card_failed {T = Entered} (Err f)) is));
 }
+
+-- ---- its writes
+
+pub returns-in-Ok-clause-most : goal.returns-in-Ok-clause-most
+returns-in-Ok-clause-most g c =
+    let same = c.in-Ok.ensures.enters.unit.clock in
+    let last = c.take_in.ensures.most.0 in
+    let first = c.enter.ensures.most in
+    let next = c.take_in.ensures.most.1 in
+    (omega (arith, same, last), omega (arith, first, next))
+
+pub returns-in-Err-UnitFailed-clause-most : goal.returns-in-Err-UnitFailed-clause-most
+returns-in-Err-UnitFailed-clause-most g c = let same = c.in-Err-UnitFailed.ensures.enters.unit.clock in let first = c.enter.ensures.most in (omega (arith, same), omega (arith, first))
+
+pub returns-in-Err-CardFailed-clause-most : goal.returns-in-Err-CardFailed-clause-most
+returns-in-Err-CardFailed-clause-most g c = let same = c.in-Err-CardFailed.ensures.enters.unit.clock in let last = c.tear.ensures.most in let first = c.enter.ensures.most in (omega (arith, same, last), omega (arith, first))
+
+pub returns-in-Err-NotValid-clause-most : goal.returns-in-Err-NotValid-clause-most
+returns-in-Err-NotValid-clause-most g c = let same = c.in-Err-NotValid.ensures.enters.unit.clock in let last = c.refuse.ensures.most in let first = c.enter.ensures.most in (omega (arith, same, last), omega (arith, first))
+
+pub returns-in-Err-TimeOverlap-clause-most : goal.returns-in-Err-TimeOverlap-clause-most
+returns-in-Err-TimeOverlap-clause-most g c = let same = c.in-Err-TimeOverlap.ensures.enters.unit.clock in let last = c.defer.ensures.most in let first = c.enter.ensures.most in (omega (arith, same, last), omega (arith, first))

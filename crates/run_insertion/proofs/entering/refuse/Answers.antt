@@ -7,3 +7,6 @@ use Rattle.run_insertion.proofs.entering.refuse.Goals as goal
 pub returns-clause-notes : goal.returns-clause-notes
 returns-clause-notes g c =
     one-note IsOnUnit IsComing (event_of CARD_NOT_VALID c.args.entering.at.second c.args.entering.at.second c.args.keeper.now.cabin) (λ well. ok_gives c.note_not_valid.result c.note_not_valid.ensures.noted well) c.note_not_valid.ensures.moments
+
+pub returns-clause-most : goal.returns-clause-most
+returns-clause-most g c = c.note_not_valid.ensures.most

@@ -11,3 +11,6 @@ returns-clause-ready g c =
 pub returns-clause-rows : goal.returns-clause-rows
 returns-clause-rows g c = λ card h.
     on_ok c.note_event.result (λ well. noted-row (g.met.M.Medium.coherent c.args.unit.now) (g.met.M.Medium.coherent c.note_event.new.unit) c.note_event.ensures.journal c.args.keeper.now c.requires.ready c.args.keeper.now.cabin.cards card h)
+
+pub returns-clause-most : goal.returns-clause-most
+returns-clause-most g c = c.note_event.ensures.most

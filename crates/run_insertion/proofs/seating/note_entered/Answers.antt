@@ -167,3 +167,26 @@ returns-clause-goes g c = record {
         | else-entering-gt0 w ↦ rw (w.breaks-is, w.card-is) (card-beside (g.C.Chip.state c.args.card.now) (omega arith))
       ];
 }
+
+-- ---- its writes
+
+pub returns-in_err-note_moving-clause-most : goal.returns-in_err-note_moving-clause-most
+returns-in_err-note_moving-clause-most g c = let one = c.in_err-note_moving.ensures.most.0 in (omega (arith, one), c.in_err-note_moving.ensures.most.1)
+
+pub returns-then-session-eq0-clause-most : goal.returns-then-session-eq0-clause-most
+returns-then-session-eq0-clause-most g c =
+    elim c.if-entering-gt0.branch [
+      | then-entering-gt0+in_ok-note_moving w ↦ let one = w.in_ok-note_moving.ensures.most.0 in rw (w.unit-is, w.card-is) (omega (arith, one), w.in_ok-note_moving.ensures.most.1)
+      | else-entering-gt0 w ↦ rw (w.unit-is, w.card-is) (omega arith, omega arith)
+    ]
+
+pub returns-clause-most : goal.returns-clause-most
+returns-clause-most g c =
+    let next = c.note_unclosed.ensures.most in
+    elim c.if-entering-gt0.branch [
+      | then-entering-gt0+in_ok-note_moving w ↦ let one = w.in_ok-note_moving.ensures.most.0 in
+          let last = (rw w.unit-is at next) in
+          rw w.card-is (omega (arith, one, last), w.in_ok-note_moving.ensures.most.1)
+      | else-entering-gt0 w ↦ let last = (rw w.unit-is at next) in
+          rw w.card-is (omega (arith, last), omega arith)
+    ]

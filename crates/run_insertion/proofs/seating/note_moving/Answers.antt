@@ -54,9 +54,9 @@ returns-in-Err-clause-noted g c =
       moved-torn c.args.app e k c.args.breaks.now (g.M.Medium.state c.args.unit.now) (g.M.Medium.state c.note_driving.new.unit) (g.C.Chip.state c.args.card.now) (g.C.Chip.state c.note_event_on.new.card) c.on_card-event.result
           (event-is _ _ _ _ e c.crew.result c.on_card-event.ensures c.card_driving.ensures c.identity.ensures) c.note_event_on.ensures.moments c.note_event_on.ensures.most
           (one-note IsOnUnit IsComing (event_of INSERTION_WHILE_DRIVING e.at.second e.at.second k.cabin) (λ well. c.in_ok-note_driving.ensures.noted) c.note_driving.ensures.moments)
-          (is_err c.tear.result) c.tear.new.self c.tear.new.breaks (g.M.Medium.state c.tear.new.unit) c.requires.works c.in-Err.ensures.cause c.tear.ensures.keeper c.tear.ensures.told
-          (fault-noted e k c.tear.new.self c.tear.result c.tear.ensures.keeper c.tear.ensures.noted c.tear.ensures.moments),
-      λ f w a m. booked.moved-torn f w c.args.app a e k (g.M.Medium.state c.args.unit.now) (g.M.Medium.state c.note_driving.new.unit) (g.C.Chip.state c.args.card.now) (g.D.Chip.state c.args.others.now) m (g.met.M.Medium.coherent c.args.unit.now) c.note_driving.ensures.journal c.in_ok-note_driving.ensures.cause (g.met.M.Medium.coherent c.note_driving.new.unit) (g.met.C.Chip.coherent c.args.card.now) (g.C.Chip.state c.note_event_on.new.card) (g.met.C.Chip.coherent c.note_event_on.new.card) c.on_card-event.result c.note_event_on.ensures.moments (is_err c.tear.result) c.tear.new.self (g.M.Medium.state c.tear.new.unit) c.tear.ensures.keeper c.tear.ensures.journal c.tear.ensures.cause,
+          (is_err c.tear.result) c.tear.new.self c.tear.new.breaks (g.M.Medium.state c.tear.new.unit) c.requires.works c.in-Err.ensures.cause c.tear.ensures.torn.keeper c.tear.ensures.torn.told
+          (fault-noted e k c.tear.new.self c.tear.result c.tear.ensures.torn.keeper c.tear.ensures.leaves.noted c.tear.ensures.leaves.moments),
+      λ f w a m. booked.moved-torn f w c.args.app a e k (g.M.Medium.state c.args.unit.now) (g.M.Medium.state c.note_driving.new.unit) (g.C.Chip.state c.args.card.now) (g.D.Chip.state c.args.others.now) m (g.met.M.Medium.coherent c.args.unit.now) c.note_driving.ensures.journal c.in_ok-note_driving.ensures.cause (g.met.M.Medium.coherent c.note_driving.new.unit) (g.met.C.Chip.coherent c.args.card.now) (g.C.Chip.state c.note_event_on.new.card) (g.met.C.Chip.coherent c.note_event_on.new.card) c.on_card-event.result c.note_event_on.ensures.moments (is_err c.tear.result) c.tear.new.self (g.M.Medium.state c.tear.new.unit) c.tear.ensures.torn.keeper c.tear.ensures.leaves.journal c.tear.ensures.behind.cause,
     )
 
 -- ---- when the card was last used
@@ -117,5 +117,16 @@ returns-in-Err-clause-behind g c = record {
 pub returns-in-Err-clause-goes : goal.returns-in-Err-clause-goes
 returns-in-Err-clause-goes g c = record {
   later = state-by (g.C.Chip.state c.args.card.now) (g.C.Chip.state c.note_event_on.new.card) _ c.note_event_on.ensures.moments.later c.in-Err.ensures.cause;
-  calm = card-fell c.args.entering.slot c.args.entering.at (ap (λ (l : Listed Break). l.items) c.tear.ensures.told);
+  calm = card-fell c.args.entering.slot c.args.entering.at (ap (λ (l : Listed Break). l.items) c.tear.ensures.torn.told);
 }
+
+-- ---- its writes
+
+pub returns-in_err-note_driving-clause-most : goal.returns-in_err-note_driving-clause-most
+returns-in_err-note_driving-clause-most g c = let one = c.in_err-note_driving.ensures.most in (omega (arith, one), omega arith)
+
+pub returns-in-Ok-clause-most : goal.returns-in-Ok-clause-most
+returns-in-Ok-clause-most g c = let one = c.in_ok-note_driving.ensures.most in (omega (arith, one), c.note_event_on.ensures.most)
+
+pub returns-in-Err-clause-most : goal.returns-in-Err-clause-most
+returns-in-Err-clause-most g c = let one = c.in_ok-note_driving.ensures.most in let last = c.tear.ensures.most in (omega (arith, one, last), c.note_event_on.ensures.most)

@@ -1,4 +1,4 @@
-use Rattle.std.proofs.Common.{◌≡◌, ℕ, Bool, true, rules, Option, Some, None, List, IfSome, option_map, refl, sym, subst}
+use Rattle.std.proofs.Common.{◌≡◌, ℕ, Bool, true, rules, Option, Some, None, List, IfSome, option_map, refl, sym, subst, arith}
 use Rattle.std.specs.Prelude.{is_err}
 use Rattle.tacho_types.specs.declared.card_number.FullCardNumber.{FullCardNumber}
 use Rattle.unit_owed.specs.Rows.{IsRowFor}
@@ -102,3 +102,11 @@ returns-in_err-entry-clause-booked g c = λ f w m.
     subst (λ (b : Bool). IsCarriedOn b f (carried_row b c.args.session e k.journal.kept w) k.cabin.cards (arranged e.which V X Z)) failed
     (noted-carried e.which f (with_brought e.which k.journal.kept w) k.cabin.cards U V X Z true m.found (g.met.M.Medium.coherent c.args.unit.now)
     (brought-powered f w k.cabin.cards e.which U X Z m.found e.at.second c.args.session.minute m.put.entered m.late m.powered k.journal.kept) c.note_insertion.ensures.journal c.in_err-entry.ensures.cause)
+
+-- ---- its writes
+
+pub returns-in_err-entry-clause-most : goal.returns-in_err-entry-clause-most
+returns-in_err-entry-clause-most g c = let one = c.in_err-entry.ensures.most in omega (arith, one)
+
+pub returns-clause-most : goal.returns-clause-most
+returns-clause-most g c = let one = c.in_ok-entry.ensures.most in let last = c.begin.ensures.most in omega (arith, one, last)

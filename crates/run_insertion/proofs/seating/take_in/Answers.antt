@@ -126,3 +126,11 @@ returns-clause-goes g c = record {
   later = c.note_entered.ensures.goes.later;
   calm = c.note_entered.ensures.goes.calm;
 }
+
+-- ---- its writes
+
+pub returns-in_err-seat-clause-most : goal.returns-in_err-seat-clause-most
+returns-in_err-seat-clause-most g c = let one = c.in_err-seat.ensures.most in (omega (arith, one), omega arith)
+
+pub returns-clause-most : goal.returns-clause-most
+returns-clause-most g c = let one = c.in_ok-seat.ensures.most in let last = c.note_entered.ensures.most.0 in (omega (arith, one, last), c.note_entered.ensures.most.1)

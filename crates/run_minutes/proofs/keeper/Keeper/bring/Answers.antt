@@ -1,4 +1,4 @@
-use Rattle.std.proofs.Common.{rules, ◌≡◌, Bool, true, false, Option, Some, None, refl, ap, sym, subst}
+use Rattle.std.proofs.Common.{rules, ◌≡◌, Bool, true, false, Option, Some, None, refl, ap, sym, subst, arith}
 use Rattle.std.specs.Prelude.{is_err}
 use Rattle.trace_model.specs.declared.Card.{Card}
 use Rattle.trace_model.specs.declared.Card.TheVariants.{A, B}
@@ -20,6 +20,7 @@ use Rattle.run_minutes.proofs.Speeds.{fault-leaves}
 use Rattle.run_minutes.proofs.Later.{state-by, after-of-a, after-of-b}
 use Rattle.run_minutes.proofs.Calm.{brought-calm, calm-of-a, calm-of-b}
 use Rattle.run_minutes.proofs.Rests.{brought-rests, rest-of-a, rest-of-b}
+use Rattle.run_minutes.proofs.Writes.{wrote-none}
 use Rattle.run_minutes.proofs.keeper.Keeper.bring.Goals as goal
 
 pub returns-in-None-clause-brought : goal.returns-in-None-clause-brought
@@ -54,7 +55,7 @@ returns-in-Some-A-clause-brought g c =
       was.0,
       was.1,
       was.2,
-      brought-booked A c.args.kept.now was.0 k.cabin v.cabin c.args.at.second U V X Y Z (g.met.M.Medium.coherent c.args.unit.now) (ap (λ (q : Keeper). q.cabin) was.1.keeper) c.bring_to.ensures.journal failed c.bring_to.ensures.cause.works was.3,
+      brought-booked A c.args.kept.now was.0 k.cabin v.cabin c.args.at.second U V X Y Z (g.met.M.Medium.coherent c.args.unit.now) (ap (λ (q : Keeper). q.cabin) was.1.keeper) c.bring_to.ensures.journal failed c.bring_to.ensures.behind.cause.works was.3,
     )
 
 pub returns-in-Some-B-clause-brought : goal.returns-in-Some-B-clause-brought
@@ -74,7 +75,7 @@ returns-in-Some-B-clause-brought g c =
       was.0,
       was.1,
       was.2,
-      brought-booked B c.args.kept.now was.0 k.cabin v.cabin c.args.at.second U V X Y Z (g.met.M.Medium.coherent c.args.unit.now) (ap (λ (q : Keeper). q.cabin) was.1.keeper) c.bring_to-in-Some-B.ensures.journal failed c.bring_to-in-Some-B.ensures.cause.works was.3,
+      brought-booked B c.args.kept.now was.0 k.cabin v.cabin c.args.at.second U V X Y Z (g.met.M.Medium.coherent c.args.unit.now) (ap (λ (q : Keeper). q.cabin) was.1.keeper) c.bring_to-in-Some-B.ensures.journal failed c.bring_to-in-Some-B.ensures.behind.cause.works was.3,
     )
 
 -- ---- all goes on
@@ -94,8 +95,8 @@ returns-in-Some-A-clause-goes g c =
     let b = e.brought.1 in
     let rests : (session_of c.args.self.now.cabin.cards A ≡ None) → Y.breakdowns ≡ X.breakdowns = λ none. ap (λ (s : State). s.breakdowns) (ap g.C.Chip.state (e.bare none)) in
     goes_of_a c.args.kept.now c.args.at (is_err c.bring_to.result) c.args.self.now c.bring_to.new.self c.args.marks.now c.bring_to.new.marks c.args.breaks.now c.bring_to.new.breaks e.brought.0 U V X Y Z (g.C.Chip.card c.args.card_a.now) (g.C.Chip.card c.bring_to.new.card) (g.D.Chip.card c.args.card_b.now)
-    e.journal.keeps e.journal.tells b (record { size = e.size; tells = e.tells; keeps = e.card_keeps; broken = e.broken })
-    (after-of-a U V X Y Z (state-by U V (is_err c.bring_to.result) e.journal.later e.cause) e.later)
+    e.journal.keeps e.journal.tells b (record { size = e.behind.size; tells = e.goes.tells; keeps = e.goes.keeps; broken = e.goes.broken })
+    (after-of-a U V X Y Z (state-by U V (is_err c.bring_to.result) e.journal.later e.behind.cause) e.goes.later)
     (calm-of-a U V X Y Z (brought-calm A _ _ _ _ _ _ _ _ _ _ _ _ _ _ b rests))
     (rest-of-a c.args.self.now.cabin.cards c.bring_to.new.self.cabin.cards U V X Y Z (brought-rests A _ _ _ _ _ _ _ _ _ _ _ _ _ _ b rests))
 
@@ -110,8 +111,8 @@ returns-in-Some-B-clause-goes g c =
     let b = e.brought.1 in
     let rests : (session_of c.args.self.now.cabin.cards B ≡ None) → Y.breakdowns ≡ X.breakdowns = λ none. ap (λ (s : State). s.breakdowns) (ap g.D.Chip.state (e.bare none)) in
     goes_of_b c.args.kept.now c.args.at (is_err c.bring_to-in-Some-B.result) c.args.self.now c.bring_to-in-Some-B.new.self c.args.marks.now c.bring_to-in-Some-B.new.marks c.args.breaks.now c.bring_to-in-Some-B.new.breaks e.brought.0 U V X Y Z (g.D.Chip.card c.args.card_b.now) (g.D.Chip.card c.bring_to-in-Some-B.new.card) (g.C.Chip.card c.args.card_a.now)
-    e.journal.keeps e.journal.tells b (record { size = e.size; tells = e.tells; keeps = e.card_keeps; broken = e.broken })
-    (after-of-b U V Z X Y (state-by U V (is_err c.bring_to-in-Some-B.result) e.journal.later e.cause) e.later)
+    e.journal.keeps e.journal.tells b (record { size = e.behind.size; tells = e.goes.tells; keeps = e.goes.keeps; broken = e.goes.broken })
+    (after-of-b U V Z X Y (state-by U V (is_err c.bring_to-in-Some-B.result) e.journal.later e.behind.cause) e.goes.later)
     (calm-of-b U V Z X Y (brought-calm B _ _ _ _ _ _ _ _ _ _ _ _ _ _ b rests))
     (rest-of-b c.args.self.now.cabin.cards c.bring_to-in-Some-B.new.self.cabin.cards U V Z X Y (brought-rests B _ _ _ _ _ _ _ _ _ _ _ _ _ _ b rests))
 
@@ -135,7 +136,7 @@ returns-in-Some-B-clause-speeds g c =
 pub returns-in-None-clause-stands : goal.returns-in-None-clause-stands
 returns-in-None-clause-stands g c =
     stands_none (standing c.args.self.now c.args.marks.now c.args.breaks.now (g.M.Medium.state c.args.unit.now) (g.C.Chip.state c.args.card_a.now) (g.D.Chip.state c.args.card_b.now) (g.C.Chip.card c.args.card_a.now) (g.D.Chip.card c.args.card_b.now))
-    c.args.at c.requires.ready c.requires.minute
+    c.args.at c.requires.ready c.requires.may.minute
 
 pub returns-in-Some-A-clause-stands : goal.returns-in-Some-A-clause-stands
 returns-in-Some-A-clause-stands g c =
@@ -146,8 +147,8 @@ returns-in-Some-A-clause-stands g c =
     let Y = g.C.Chip.state c.bring_to.new.card in
     let Z = g.D.Chip.state c.args.card_b.now in
     stands_of_a c.args.kept.now c.args.at (is_err c.bring_to.result) c.args.self.now c.bring_to.new.self c.args.marks.now c.bring_to.new.marks c.args.breaks.now c.bring_to.new.breaks e.brought.0 U V X Y Z (g.C.Chip.card c.args.card_a.now) (g.C.Chip.card c.bring_to.new.card) (g.D.Chip.card c.args.card_b.now)
-    (unit-stays e.journal c.requires.ready.unit_ready.is_unit) e.cause (λ well. ok_gives c.bring_to.result e.ready well) (λ well card h. ok_gives c.bring_to.result (e.rows card h) well)
-    e.brought.1 c.requires.minute e.card c.requires.ready.card_b
+    (unit-stays e.journal c.requires.ready.unit_ready.is_unit) e.behind.cause (λ well. ok_gives c.bring_to.result e.behind.ready well) (λ well card h. ok_gives c.bring_to.result (e.behind.rows card h) well)
+    e.brought.1 c.requires.may.minute e.behind.card c.requires.ready.card_b
 
 pub returns-in-Some-B-clause-stands : goal.returns-in-Some-B-clause-stands
 returns-in-Some-B-clause-stands g c =
@@ -158,8 +159,8 @@ returns-in-Some-B-clause-stands g c =
     let Y = g.D.Chip.state c.bring_to-in-Some-B.new.card in
     let Z = g.C.Chip.state c.args.card_a.now in
     stands_of_b c.args.kept.now c.args.at (is_err c.bring_to-in-Some-B.result) c.args.self.now c.bring_to-in-Some-B.new.self c.args.marks.now c.bring_to-in-Some-B.new.marks c.args.breaks.now c.bring_to-in-Some-B.new.breaks e.brought.0 U V X Y Z (g.D.Chip.card c.args.card_b.now) (g.D.Chip.card c.bring_to-in-Some-B.new.card) (g.C.Chip.card c.args.card_a.now)
-    (unit-stays e.journal c.requires.ready.unit_ready.is_unit) e.cause (λ well. ok_gives c.bring_to-in-Some-B.result e.ready well) (λ well card h. ok_gives c.bring_to-in-Some-B.result (e.rows card h) well)
-    e.brought.1 c.requires.minute e.card c.requires.ready.card_a
+    (unit-stays e.journal c.requires.ready.unit_ready.is_unit) e.behind.cause (λ well. ok_gives c.bring_to-in-Some-B.result e.behind.ready well) (λ well card h. ok_gives c.bring_to-in-Some-B.result (e.behind.rows card h) well)
+    e.brought.1 c.requires.may.minute e.behind.card c.requires.ready.card_a
 
 -- ---- which cards are not called
 
@@ -186,3 +187,14 @@ returns-in-Some-B-clause-calls g c =
       bare = record { card_a = λ none. refl; card_b = c.bring_to-in-Some-B.ensures.bare };
       out = record { card_a = λ out. refl; card_b = λ out. let other : is_this c.args.present B ≡ false = out in absurd (cc) };
     }
+
+-- ---- its writes
+
+pub returns-in-None-clause-most : goal.returns-in-None-clause-most
+returns-in-None-clause-most g c = wrote-none 4 17 (devices (g.M.Medium.state c.args.unit.now) (g.C.Chip.state c.args.card_a.now) (g.D.Chip.state c.args.card_b.now))
+
+pub returns-in-Some-A-clause-most : goal.returns-in-Some-A-clause-most
+returns-in-Some-A-clause-most g c = record { unit = c.bring_to.ensures.most.0; card_a = c.bring_to.ensures.most.1; card_b = omega arith }
+
+pub returns-in-Some-B-clause-most : goal.returns-in-Some-B-clause-most
+returns-in-Some-B-clause-most g c = record { unit = c.bring_to-in-Some-B.ensures.most.0; card_a = omega arith; card_b = c.bring_to-in-Some-B.ensures.most.1 }

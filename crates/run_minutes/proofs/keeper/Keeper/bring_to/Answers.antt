@@ -1,4 +1,5 @@
-use Rattle.std.proofs.Common.{◌≡◌, ◌∙◌, ℕ, ◌+◌, Bool, true, false, Some, None, refl, ap, sym, subst, arith}
+use Rattle.std.proofs.lemmas.Grind.{common_steps}
+use Rattle.std.proofs.Common.{rules, ◌≡◌, ◌∙◌, ℕ, ◌+◌, Bool, true, false, Some, None, refl, ap, sym, subst, arith}
 use Rattle.std.specs.Prelude.{is_err, [], ◌∷◌}
 use Rattle.tach_media.specs.Medium.{HasCause}
 use Rattle.tach_media.proofs.Runs.{ok_gives, starts}
@@ -55,12 +56,12 @@ returns-then-is_err-clause-brought g c =
     let bad : is_err c.keep_on_card.result ≡ true = sym c.is_err.ensures.value ∙ c.if-is_err.true in
     let cause = subst (λ (b : Bool). HasCause (g.C.Chip.state c.args.card.now) (g.C.Chip.state c.keep_on_card.new.card) b) bad c.keep_on_card.ensures.cause in
     let keeper =
-    c.tear.ensures.keeper ∙ ap (λ (cards : Cards). record k { cabin = torn_out c.args.which c.args.at.second (record { slots = k.cabin.slots; cards = cards }) }) c.take.ensures.left
+    c.tear.ensures.torn.keeper ∙ ap (λ (cards : Cards). record k { cabin = torn_out c.args.which c.args.at.second (record { slots = k.cabin.slots; cards = cards }) }) c.take.ensures.left
     ∙ ap (λ (cards : Cards). record k { cabin = record { slots = left_from (slot_with k.cabin.slots.seats c.args.which) c.args.at.second k.cabin.slots; cards = cards } }) (session-twice c.args.which None None k.cabin.cards) in (
       Fell,
       fell-brought c.args.which c.args.kept.now c.args.at k c.tear.new.self c.args.marks.now c.args.breaks.now (g.M.Medium.state c.args.unit.now) (g.M.Medium.state c.tear.new.unit) (g.C.Chip.state c.args.card.now) (g.C.Chip.state c.keep_on_card.new.card)
-          (is_err c.tear.result) c.in-Some.accepted c.tear.new.breaks (sym c.in-Some.ensures.taken) cause keeper c.tear.ensures.told (λ well. ok_gives c.tear.result c.tear.ensures.noted well),
-      c.tear.ensures.moments,
+          (is_err c.tear.result) c.in-Some.accepted c.tear.new.breaks (sym c.in-Some.ensures.taken) cause keeper c.tear.ensures.torn.told (λ well. ok_gives c.tear.result c.tear.ensures.leaves.noted well),
+      c.tear.ensures.leaves.moments,
       booked-fell c.args.which c.args.kept.now k.cabin.cards (g.M.Medium.state c.args.unit.now) (g.C.Chip.state c.args.card.now) c.tear.new.self.cabin.cards (g.C.Chip.state c.keep_on_card.new.card) (g.C.Chip.card c.args.card.now) c.in-Some.accepted
           (g.met.M.Medium.coherent c.args.unit.now) (g.met.C.Chip.coherent c.args.card.now) (g.met.C.Chip.coherent c.keep_on_card.new.card) (sym c.in-Some.ensures.taken) c.requires.card c.requires.behind c.keep_on_card.ensures.moments
           (ap (λ (q : Keeper). session_of q.cabin.cards c.args.which) keeper ∙ session-set c.args.which None k.cabin.cards),
@@ -70,7 +71,7 @@ pub returns-then-is_err-clause-stands : goal.returns-then-is_err-clause-stands
 returns-then-is_err-clause-stands g c = λ from leaving le h.
     let k = c.args.self.now in
     let cabin =
-    ap (λ (q : Keeper). q.cabin) c.tear.ensures.keeper ∙ ap (λ (cards : Cards). torn_out c.args.which c.args.at.second (record { slots = k.cabin.slots; cards = cards })) c.take.ensures.left
+    ap (λ (q : Keeper). q.cabin) c.tear.ensures.torn.keeper ∙ ap (λ (cards : Cards). torn_out c.args.which c.args.at.second (record { slots = k.cabin.slots; cards = cards })) c.take.ensures.left
     ∙ ap (λ (cards : Cards). record { slots = left_from (slot_with k.cabin.slots.seats c.args.which) c.args.at.second k.cabin.slots; cards = cards }) (session-twice c.args.which None None k.cabin.cards) in
     subst (λ (b : Cabin). CabinIsSound (c.args.kept.now.entry.minute + 1) leaving b) (sym cabin)
     (torn-stands k.cabin c.args.which c.args.at.second (c.args.kept.now.entry.minute + 1) leaving c.requires.minute (stands-later from (c.args.kept.now.entry.minute + 1) le leaving k.cabin h))
@@ -125,34 +126,98 @@ returns-clause-bare g c = λ none.
 
 -- ---- what holds of the devices after any calls
 
-pub returns-in_default-clause-later : goal.returns-in_default-clause-later
-returns-in_default-clause-later g c = state-same (g.C.Chip.state c.args.card.now)
+pub returns-in_default-clause-behind : goal.returns-in_default-clause-behind
+returns-in_default-clause-behind g c = record {
+  cause = first_of (search rules, grind (arith, common_steps));
+  ready = first_of (search rules, grind (arith, common_steps));
+  rows = first_of (search rules, grind (arith, common_steps));
+  card = first_of (search rules, grind (arith, common_steps));
+  size = first_of (search rules, grind (arith, common_steps));
+}
 
-pub returns-in_default-take-clause-later : goal.returns-in_default-take-clause-later
-returns-in_default-take-clause-later g c = state-same (g.C.Chip.state c.args.card.now)
-
-pub returns-then-is_err-clause-later : goal.returns-then-is_err-clause-later
-returns-then-is_err-clause-later g c = state-by (g.C.Chip.state c.args.card.now) (g.C.Chip.state c.keep_on_card.new.card) (is_err c.keep_on_card.result) c.keep_on_card.ensures.moments.later c.keep_on_card.ensures.cause
-
-pub returns-clause-later : goal.returns-clause-later
-returns-clause-later g c = state-by (g.C.Chip.state c.args.card.now) (g.C.Chip.state c.keep_on_card.new.card) (is_err c.keep_on_card.result) c.keep_on_card.ensures.moments.later c.keep_on_card.ensures.cause
+pub returns-in_default-clause-goes : goal.returns-in_default-clause-goes
+returns-in_default-clause-goes g c = record {
+  keeps = first_of (search rules, grind (arith, common_steps));
+  tells = first_of (search rules, grind (arith, common_steps));
+  broken = first_of (search rules, grind (arith, common_steps));
+  later = state-same (g.C.Chip.state c.args.card.now);
+}
 
 -- ---- each card that has its row has it still
 
-pub returns-in_default-take-clause-rows : goal.returns-in_default-take-clause-rows
-returns-in_default-take-clause-rows g c = λ card h.
-    let U = g.M.Medium.state c.args.unit.now in
-    subst (λ (q : Cards). HasItsRow q U card) (sym c.take.ensures.left) (row-beside c.args.which None c.args.self.now.cabin.cards U card h)
+pub returns-in_default-take-clause-behind : goal.returns-in_default-take-clause-behind
+returns-in_default-take-clause-behind g c = record {
+  cause = first_of (search rules, grind (arith, common_steps));
+  ready = first_of (search rules, grind (arith, common_steps));
+  rows =
+      λ card h.
+      let U = g.M.Medium.state c.args.unit.now in
+      subst (λ (q : Cards). HasItsRow q U card) (sym c.take.ensures.left) (row-beside c.args.which None c.args.self.now.cabin.cards U card h);
+  card = first_of (search rules, grind (arith, common_steps));
+  size = first_of (search rules, grind (arith, common_steps));
+}
 
-pub returns-then-is_err-clause-rows : goal.returns-then-is_err-clause-rows
-returns-then-is_err-clause-rows g c = λ card h.
-    let U = g.M.Medium.state c.args.unit.now in
-    c.tear.ensures.rows card (subst (λ (q : Cards). HasItsRow q U card) (sym c.take.ensures.left) (row-beside c.args.which None c.args.self.now.cabin.cards U card h))
+pub returns-in_default-take-clause-goes : goal.returns-in_default-take-clause-goes
+returns-in_default-take-clause-goes g c = record {
+  keeps = first_of (search rules, grind (arith, common_steps));
+  tells = first_of (search rules, grind (arith, common_steps));
+  broken = first_of (search rules, grind (arith, common_steps));
+  later = state-same (g.C.Chip.state c.args.card.now);
+}
 
-pub returns-clause-rows : goal.returns-clause-rows
-returns-clause-rows g c = λ card h.
-    let U = g.M.Medium.state c.args.unit.now in
-    let k = c.args.self.now in
-    let after : Accepted = record { session = c.keep_on_card.new.session; entry = c.in-Some.accepted.entry; noted = c.in-Some.accepted.noted } in
-    let cards = c.set_session.ensures ∙ ap (λ (q : Cards). with_session c.args.which (Some after) q) c.take.ensures.left ∙ session-twice c.args.which None (Some after) k.cabin.cards in
-    subst (λ (q : Cards). HasItsRow q U card) (sym cards) (row-beside c.args.which (Some after) k.cabin.cards U card h)
+pub returns-then-is_err-clause-behind : goal.returns-then-is_err-clause-behind
+returns-then-is_err-clause-behind g c = record {
+  cause = c.tear.ensures.behind.cause;
+  ready = c.tear.ensures.behind.ready;
+  rows =
+      λ card h.
+      let U = g.M.Medium.state c.args.unit.now in
+      c.tear.ensures.behind.rows card (subst (λ (q : Cards). HasItsRow q U card) (sym c.take.ensures.left) (row-beside c.args.which None c.args.self.now.cabin.cards U card h));
+  card = let torn = c.tear.ensures.torn.keeper in first_of (search rules, grind (arith, common_steps));
+  size = first_of (search rules, grind (arith, common_steps));
+}
+
+pub returns-then-is_err-clause-goes : goal.returns-then-is_err-clause-goes
+returns-then-is_err-clause-goes g c = record {
+  keeps = first_of (search rules, grind (arith, common_steps));
+  tells = first_of (search rules, grind (arith, common_steps));
+  broken = let torn = c.tear.ensures.torn.keeper in first_of (search rules, grind (arith, common_steps));
+  later = state-by (g.C.Chip.state c.args.card.now) (g.C.Chip.state c.keep_on_card.new.card) (is_err c.keep_on_card.result) c.keep_on_card.ensures.moments.later c.keep_on_card.ensures.cause;
+}
+
+pub returns-clause-behind : goal.returns-clause-behind
+returns-clause-behind g c = record {
+  cause = first_of (search rules, grind (arith, common_steps));
+  ready = first_of (search rules, grind (arith, common_steps));
+  rows =
+      λ card h.
+      let U = g.M.Medium.state c.args.unit.now in
+      let k = c.args.self.now in
+      let after : Accepted = record { session = c.keep_on_card.new.session; entry = c.in-Some.accepted.entry; noted = c.in-Some.accepted.noted } in
+      let cards = c.set_session.ensures ∙ ap (λ (q : Cards). with_session c.args.which (Some after) q) c.take.ensures.left ∙ session-twice c.args.which None (Some after) k.cabin.cards in
+      subst (λ (q : Cards). HasItsRow q U card) (sym cards) (row-beside c.args.which (Some after) k.cabin.cards U card h);
+  card = first_of (search rules, grind (arith, common_steps));
+  size = first_of (search rules, grind (arith, common_steps));
+}
+
+pub returns-clause-goes : goal.returns-clause-goes
+returns-clause-goes g c = record {
+  keeps = first_of (search rules, grind (arith, common_steps));
+  tells = first_of (search rules, grind (arith, common_steps));
+  broken = first_of (search rules, grind (arith, common_steps));
+  later = state-by (g.C.Chip.state c.args.card.now) (g.C.Chip.state c.keep_on_card.new.card) (is_err c.keep_on_card.result) c.keep_on_card.ensures.moments.later c.keep_on_card.ensures.cause;
+}
+
+-- ---- its writes
+
+pub returns-in_default-clause-most : goal.returns-in_default-clause-most
+returns-in_default-clause-most g c = (omega arith, omega arith)
+
+pub returns-in_default-take-clause-most : goal.returns-in_default-take-clause-most
+returns-in_default-take-clause-most g c = (omega arith, omega arith)
+
+pub returns-then-is_err-clause-most : goal.returns-then-is_err-clause-most
+returns-then-is_err-clause-most g c = (c.tear.ensures.most, c.keep_on_card.ensures.most)
+
+pub returns-clause-most : goal.returns-clause-most
+returns-clause-most g c = (omega arith, c.keep_on_card.ensures.most)

@@ -1,13 +1,16 @@
-use Rattle.std.proofs.Common.{rules, ◌≡◌, true, refl, arith}
+use Rattle.std.proofs.Common.{rules, ◌≡◌, ◌+◌, true, length, refl, arith}
 use Rattle.std.specs.Prelude.{is_err}
+use Rattle.run_promise.specs.Between.{devices}
 use Rattle.run_speeds.proofs.Leaving.{leaves-none, leaves-then}
 use Rattle.run_minutes.proofs.Goes.{bare-none, bare-then, keeping_then, stands_then, stands_by}
 use Rattle.run_minutes.proofs.SoFar.{so-none, so-all, so-more, so-cut, may-next, stands-next, ended-next}
+use Rattle.run_minutes.proofs.Writes.{wrote-none, wrote-minute, wrote-minutes}
 use Rattle.run_minutes.proofs.keeper.Keeper.keep_all.Goals as goal
 
 pub loop-minute-init : goal.loop-minute-init
 loop-minute-init g c = record {
   so = so-none c.args.decided.now c.args.at c.requires.may c.requires.ready;
+  most = wrote-none _ _ (devices (g.M.Medium.state c.args.unit.now) (g.C.Chip.state c.args.card_a.now) (g.D.Chip.state c.args.card_b.now));
   speeds = leaves-none (g.M.Medium.state c.args.unit.now);
   bare = bare-none c.args.self.now.cabin.cards c.args.card_a.now c.args.card_b.now;
 }
@@ -35,6 +38,7 @@ loop-minute-preserved g c =
     let e = c.in_ok-keep_minute.ensures in
     record {
       so = so-more c.args.decided.now c.args.at c.requires.may c.loop-minute.minute-index so c.loop-minute-test.true c.present-present.result c.present-present.ensures.present c.kept_of-kept.ensures e.goes e.stands e.kept;
+      most = wrote-minute c.loop-minute.minute-index (devices (g.M.Medium.state c.args.unit.now) (g.C.Chip.state c.args.card_a.now) (g.D.Chip.state c.args.card_b.now)) (devices (g.M.Medium.state c.loop-minute.unit) (g.C.Chip.state c.loop-minute.card_a) (g.D.Chip.state c.loop-minute.card_b)) (devices (g.M.Medium.state c.keep_minute.new.unit) (g.C.Chip.state c.keep_minute.new.card_a) (g.D.Chip.state c.keep_minute.new.card_b)) c.loop-minute.invariant.most e.most;
       speeds = leaves-then (g.M.Medium.state c.args.unit.now) (g.M.Medium.state c.loop-minute.unit) (g.M.Medium.state c.keep_minute.new.unit) c.loop-minute.invariant.speeds e.speeds;
       bare = bare-then c.args.self.now.cabin.cards c.loop-minute.self.cabin.cards c.args.card_a.now c.loop-minute.card_a c.keep_minute.new.card_a c.args.card_b.now c.loop-minute.card_b c.keep_minute.new.card_b so.goes.sessions c.loop-minute.invariant.bare e.calls.bare;
     }
@@ -79,3 +83,15 @@ returns-in_err-keep_minute-clause-speeds g c =
 pub returns-in_err-keep_minute-clause-bare : goal.returns-in_err-keep_minute-clause-bare
 returns-in_err-keep_minute-clause-bare g c =
     bare-then c.args.self.now.cabin.cards c.loop-minute.self.cabin.cards c.args.card_a.now c.loop-minute.card_a c.keep_minute.new.card_a c.args.card_b.now c.loop-minute.card_b c.keep_minute.new.card_b c.loop-minute.invariant.so.goes.sessions c.loop-minute.invariant.bare c.in_err-keep_minute.ensures.calls.bare
+
+-- ---- its writes
+
+pub returns-clause-most : goal.returns-clause-most
+returns-clause-most g c =
+    wrote-minutes c.loop-minute.minute-index (length c.args.decided.now) (devices (g.M.Medium.state c.args.unit.now) (g.C.Chip.state c.args.card_a.now) (g.D.Chip.state c.args.card_b.now)) (devices (g.M.Medium.state c.loop-minute.unit) (g.C.Chip.state c.loop-minute.card_a) (g.D.Chip.state c.loop-minute.card_b)) c.loop-minute.invariant.so.within c.loop-minute.invariant.most
+
+pub returns-in_err-keep_minute-clause-most : goal.returns-in_err-keep_minute-clause-most
+returns-in_err-keep_minute-clause-most g c =
+    let low = c.loop-minute-test.true in
+    wrote-minutes (c.loop-minute.minute-index + 1) (length c.args.decided.now) (devices (g.M.Medium.state c.args.unit.now) (g.C.Chip.state c.args.card_a.now) (g.D.Chip.state c.args.card_b.now)) (devices (g.M.Medium.state c.keep_minute.new.unit) (g.C.Chip.state c.keep_minute.new.card_a) (g.D.Chip.state c.keep_minute.new.card_b)) (omega (arith, low))
+    (wrote-minute c.loop-minute.minute-index (devices (g.M.Medium.state c.args.unit.now) (g.C.Chip.state c.args.card_a.now) (g.D.Chip.state c.args.card_b.now)) (devices (g.M.Medium.state c.loop-minute.unit) (g.C.Chip.state c.loop-minute.card_a) (g.D.Chip.state c.loop-minute.card_b)) (devices (g.M.Medium.state c.keep_minute.new.unit) (g.C.Chip.state c.keep_minute.new.card_a) (g.D.Chip.state c.keep_minute.new.card_b)) c.loop-minute.invariant.most c.in_err-keep_minute.ensures.most)

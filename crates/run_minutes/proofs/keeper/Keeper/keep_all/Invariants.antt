@@ -1,5 +1,8 @@
+use Rattle.std.specs.Prelude.{◌*◌}
 use Rattle.run_speeds.specs.Speeds.{LeavesSpeeds}
+use Rattle.run_promise.specs.Between.{devices}
 use Rattle.run_minutes.specs.Stand.{AreBare, standing}
+use Rattle.run_minutes.specs.Writes.{WroteAtMost}
 use Rattle.run_minutes.proofs.SoFar.{SoFar}
 use Rattle.run_minutes.proofs.keeper.Keeper.keep_all.Given as goal
 
@@ -8,6 +11,9 @@ invariant-loop-minute g l = record {
   so : SoFar l.decided l.minute-index l.at
       (standing l.fn.self l.fn.marks l.fn.breaks (g.M.Medium.state l.fn.unit) (g.C.Chip.state l.fn.card_a) (g.D.Chip.state l.fn.card_b) (g.C.Chip.card l.fn.card_a) (g.D.Chip.card l.fn.card_b))
       (standing l.self l.marks l.breaks (g.M.Medium.state l.unit) (g.C.Chip.state l.card_a) (g.D.Chip.state l.card_b) (g.C.Chip.card l.card_a) (g.D.Chip.card l.card_b));
+  most : WroteAtMost (26 * l.minute-index) (34 * l.minute-index)
+      (devices (g.M.Medium.state l.fn.unit) (g.C.Chip.state l.fn.card_a) (g.D.Chip.state l.fn.card_b))
+      (devices (g.M.Medium.state l.unit) (g.C.Chip.state l.card_a) (g.D.Chip.state l.card_b));
   speeds : LeavesSpeeds (g.M.Medium.state l.fn.unit) (g.M.Medium.state l.unit);
   bare : AreBare l.fn.self.cabin.cards l.fn.card_a l.card_a l.fn.card_b l.card_b;
 }

@@ -1,4 +1,4 @@
-use Rattle.std.proofs.Common.{◌∙◌, Option, IfSome, ap, sym, subst}
+use Rattle.std.proofs.Common.{◌∙◌, Option, IfSome, ap, sym, subst, arith}
 use Rattle.std.specs.Prelude.{is_err}
 use Rattle.tach_media.proofs.Runs.{ok_gives}
 use Rattle.unit_owed.specs.Rows.{IsPutting}
@@ -85,3 +85,14 @@ pub owe-requires-in-B-clause-row : goal.owe-requires-in-B-clause-row
 owe-requires-in-B-clause-row g c =
     (row-known c.args.self.now.cabin.cards (g.M.Medium.state c.args.unit.now) c.in-Some.card c.of-known.result.now c.number_or_zeros-number.result
     (subst (λ (o : Option Card). IfSome o (HasItsRow c.args.self.now.cabin.cards (g.M.Medium.state c.args.unit.now))) c.in-Some.is c.requires.row) c.of-known.ensures c.number_or_zeros-number.ensures).1
+
+-- ---- its writes
+
+pub returns-in_default-clause-most : goal.returns-in_default-clause-most
+returns-in_default-clause-most g c = omega arith
+
+pub returns-in-A-clause-most : goal.returns-in-A-clause-most
+returns-in-A-clause-most g c = c.owe.ensures.most
+
+pub returns-in-B-clause-most : goal.returns-in-B-clause-most
+returns-in-B-clause-most g c = c.owe-in-B.ensures.most

@@ -14,3 +14,6 @@ returns-clause-bare g c = c.keep_all.ensures.bare
 
 pub returns-clause-speeds : goal.returns-clause-speeds
 returns-clause-speeds g c = c.keep_all.ensures.speeds
+
+pub returns-clause-most : goal.returns-clause-most
+returns-clause-most g c = c.keep_all.ensures.most

@@ -14,3 +14,6 @@ returns-clause-calls g c = c.keep_minute.ensures.calls
 
 pub returns-clause-speeds : goal.returns-clause-speeds
 returns-clause-speeds g c = c.keep_minute.ensures.speeds
+
+pub returns-clause-most : goal.returns-clause-most
+returns-clause-most g c = c.keep_minute.ensures.most
