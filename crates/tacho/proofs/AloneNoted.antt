@@ -85,7 +85,7 @@ unfolding notes_of done_of
 notes-nothing log ss each = all-nothing log (done_from log not_begun.before ss) (all-idle log not_begun.before ss refl each)
 
 -- so the rings show what they showed
-pub shows-old : {N : Type 0} (r : Shape) (is_sure : N → Bool) (Is : N → List ℕ → Type 0) (notes : List N) (x y : List ℕ) → notes ≡ [] → RingShows r is_sure Is notes x y → IsDense r y → ShowsOld r x y
+pub shows-old : {N : Type 0} (r : Shape) (is_sure : N → Bool) (Is : N → List ℕ → Type 0) (notes : List N) (x y : List ℕ) → notes ≡ [] → RingShows r is_sure Is notes x y → (IsDense r x → IsDense r y) → ShowsOld r x y
 shows-old {N} r is_sure Is notes x y none h dense =
     let nothing : h.more ≡ [] = subst (λ (ns : List N). Stand is_sure Is ns h.more) none h.stand in
     let was : ring_list r x ≡ h.gone ++ ring_list r y = sym (ap (λ (more : List (List ℕ)). ring_list r x ++ more) nothing ∙ append-nil (ring_list r x)) ∙ h.shown in

@@ -126,8 +126,8 @@ module _ (x : List ℕ) (start : ℕ) (items : List Item) (out : Outcome) (U V A
       words = h.ends.words;
       stored = λ y left. let s = h.side y left in record { spans = s.spans; are_spans = s.are_spans; odometer = s.odometer };
       events = λ number sessions t y left. events-alone sessions t number y left;
-      insertions = λ dense y left. shows-old insertion_ring _ _ _ x y (ap insertions_of (notes-nothing log ss selects)) ((h.side y left).insertions dense) (h.dense.insertions dense y left);
-      places = λ dense y left. shows-old unit_place_ring _ _ _ x y (ap places_of (notes-nothing log ss selects)) ((h.side y left).places dense) (h.dense.places dense y left);
+      insertions = λ y left. shows-old insertion_ring _ _ _ x y (ap insertions_of (notes-nothing log ss selects)) (h.side y left).insertions (λ dense. h.dense.insertions dense y left);
+      places = λ y left. shows-old unit_place_ring _ _ _ x y (ap places_of (notes-nothing log ss selects)) (h.side y left).places (λ dense. h.dense.places dense y left);
       speeds = h.speeds;
       kept = h.kept;
       last = safe-same.1;

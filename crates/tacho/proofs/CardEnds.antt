@@ -16,7 +16,7 @@ use Rattle.tacho.specs.End.{ended_by, is_medium_fault}
 use Rattle.tacho.specs.Outside.{Outside, SinkTold, CardTold, memory_of}
 use Rattle.tacho.specs.Outcomes.{IsEmpty}
 use Rattle.tacho.specs.CardFile.{end_of_card, EndsCard}
-use Rattle.tacho.specs.Program.{Ends, HasCauses, NamesField}
+use Rattle.tacho.specs.Program.{Ends, HasCauses, EndsBefore}
 
 -- it never ends for words in no form, nor by the source
 not-usage : (device : Device) (r : Result (Unit {0}) CardFileFault) → end_of_card device r ≡ Usage → ⊥
@@ -109,7 +109,7 @@ card-b-ends old new r writes wrote source counts reads outcome none = record {
 }
 
 -- a field that is named is one for which the card file was not begun
-pub is-bad : (device : Device) (r : Result (Unit {0}) CardFileFault) → NamesField (Some (CardFile A)) (end_of_card device r) → IsBad r
+pub is-bad : (device : Device) (r : Result (Unit {0}) CardFileFault) → EndsBefore (Some (CardFile A)) (end_of_card device r) → IsBad r
 is-bad device (Err (writing.BadApplication field)) is = tt
 is-bad device (Ok done) is = absurd is
 is-bad device (Err writing.Failed) is = absurd is

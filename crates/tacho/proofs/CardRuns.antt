@@ -1,5 +1,5 @@
 -- How a trace with cards ends that is recorded on the unit and both cards.
-use Rattle.std.proofs.Common.{◌≡◌, ◌∙◌, ◌≤◌, ◌⊎◌, inl, inr, ⊎_elim, ℕ, true, refl, sym, subst, arith, List, [], length, Some}
+use Rattle.std.proofs.Common.{◌≡◌, ◌∙◌, ◌≤◌, ◌^◌, ◌⊎◌, inl, inr, ⊎_elim, ℕ, true, refl, sym, subst, arith, List, [], length, Some}
 use Rattle.tach_media.specs.Medium.{State, Rose, HasBroken}
 use Rattle.run_promise.specs.Between.{devices}
 use Rattle.run_model.specs.declared.Device.{Device}
@@ -9,6 +9,8 @@ use Rattle.safety_model.specs.Safe.{breakdowns_of}
 use Rattle.recorder_with_cards.specs.Words.{AreAfter, log_of, IsFoundLater, HaveTime}
 use Rattle.trace_model.specs.declared.Card.TheVariants.{A, B}
 use Rattle.trace_model.specs.declared.Item.{Item}
+use Rattle.trace_model.specs.Trace.{total_seconds}
+use Rattle.recorder_with_cards.specs.Writes.{WritesFor}
 use Rattle.trace_text.specs.declared.lines_trace.Form.TheVariants.{Whole}
 use Rattle.trace_text.specs.Judged.{IsTraceText}
 use Rattle.run_opening.specs.declared.fault.RunFault.{RunFault}
@@ -23,7 +25,7 @@ use Rattle.tacho.specs.declared.end.Fault.TheVariants.{WriteFault, MediumFault}
 use Rattle.tacho.specs.Outside.{Outside, memory_of}
 use Rattle.tacho.specs.Program.{HasCauses}
 use Rattle.tacho.specs.Outcomes.{IsEmpty, IsRun, IsRefusal, SourceTells, refusal_of_run}
-use Rattle.tacho.specs.CardsRecorded.{devices_of, StartWith, AreSound, HaveCounts, IsRefusedInOpening, EndsWithCards}
+use Rattle.tacho.specs.CardsRecorded.{devices_of, StartWith, AreSound, HaveCounts, HaveLongTime, IsRefusedInOpening, EndsWithCards}
 use Rattle.tacho.proofs.Recordings.{none-bad, run-refusal, refused-no-run}
 use Rattle.tacho.proofs.UnitRuns.{run-done}
 use Rattle.tacho.proofs.Unbroken.{none-failed, unbroken-log}
@@ -78,10 +80,21 @@ none-broke old new sound later CardA = ⊎_elim (λ rose. absurd (sound.card_a r
 none-broke old new sound later CardB = ⊎_elim (λ rose. absurd (sound.card_b rose)) (λ same. same) later.card_b.unbroken
 
 module _ (old new : Outside) (outcome : Outcome) (start : ℕ) (items : List Item) (not_unit : IsForUnit items → ⊥)
-    (later : AreAfter (devices_of old) (devices_of new)) (broke : HasBroken old.unit new.unit (length (cuts true (log_of outcome))))
+    (later : AreAfter (devices_of old) (devices_of new)) (broke : HasBroken old.unit new.unit (length (cuts true (log_of outcome)))) (writes : WritesFor (total_seconds items) (length items) (devices_of old) (devices_of new))
+    (short : total_seconds items ≤ 2 ^ 32) (few : length items ≤ 2 ^ 32)
     (is_read : (text : List ℕ) (s : ℕ) (is : List Item) → old.source.left ≡ Some text → IsTraceText Whole text s is → (start ≡ s) × (items ≡ is)) where
   same-trace : (s : ℕ) (is : List Item) → SourceTells old s is → (start ≡ s) × (items ≡ is)
   same-trace s is told = is_read told.text s is told.told told.trace
+
+  time-left : HaveLongTime (devices_of old) → HaveTime (devices_of new)
+  time-left long = record {
+    unit = (let a = writes.unit in let b = long.unit in omega (arith, a, b, short, few));
+    card_a = (let a = writes.card_a in let b = long.card_a in omega (arith, a, b, short, few));
+    card_b = (let a = writes.card_b in let b = long.card_b in omega (arith, a, b, short, few));
+  }
+
+  writes-by : (s : ℕ) (is : List Item) → SourceTells old s is → WritesFor (total_seconds is) (length is) (devices_of old) (devices_of new)
+  writes-by s is told = subst (λ (l : List Item). WritesFor (total_seconds l) (length l) (devices_of old) (devices_of new)) (same-trace s is told).1 writes
 
   not-unit : (s : ℕ) (is : List Item) → SourceTells old s is → IsForUnit is → ⊥
   not-unit s is told for = not_unit (subst IsForUnit (sym (same-trace s is told).1) for)
@@ -98,6 +111,8 @@ module _ (old new : Outside) (outcome : Outcome) (start : ℕ) (items : List Ite
     finds = λ s is x a b starts sound not. record { by = fault; is = refl; kept = kept-from s is x a b starts };
     later = later;
     broke = broke;
+    writes = writes-by;
+    time = λ s is told. time-left;
     calm = λ ran. absurd (refused-no-run (refusal_of_run fault) (run-refusal fault) ran);
     still = λ ran. absurd (refused-no-run (refusal_of_run fault) (run-refusal fault) ran);
     early = λ s is told ref. record {
@@ -127,6 +142,8 @@ module _ (old new : Outside) (outcome : Outcome) (start : ℕ) (items : List Ite
         absurd (not (subst (λ (t : ℕ). MayRecord x a b t) (same-trace s is starts.told).0 (begun x a b starts.begins)));
     later = later;
     broke = broke;
+    writes = writes-by;
+    time = λ s is told. time-left;
     calm = λ done. calm;
     still = λ done. still;
     early = λ s is told ref. absurd (refused-no-run fault ref ran);

@@ -37,9 +37,9 @@ module _ (x a b : List ℕ) (start : ℕ) (items : List Item) (out : Outcome) (p
     spans = h.spans;
     are_spans = h.are_spans;
     odometer = h.odometer;
-    insertions = λ dense. subst (λ (k : Card → ℕ). RingShows insertion_ring (is_sure_insertion r.log h.spans (holder_of r)) (λ n e. IsInsertion r.log h.spans (holder_of r)
+    insertions = subst (λ (k : Card → ℕ). RingShows insertion_ring (is_sure_insertion r.log h.spans (holder_of r)) (λ n e. IsInsertion r.log h.spans (holder_of r)
         (λ c registration time. IsPrevious r (k c) (card_of now c) registration time × (TellsAtStart r c registration time ⊎ HasComeBefore (told_of r) r.trace c n.accepted.second)) n e) (insertions_of (notes_in r)) r.unit y)
-        (λ i c. cards c i) (h.insertions dense);
+        (λ i c. cards c i) h.insertions;
     places = h.places;
     events =
         let was = h.events in

@@ -1,7 +1,7 @@
 -- How `minutes`, the forms that read a file, `help` and `--version` end, by what they answer.
 use Rattle.std.proofs.Common.{◌≡◌, ◌≤◌, ◌<◌, ◌⊎◌, inl, inr, refl, ℕ, List, [], length, Option, ap, subst, arith}
 use Rattle.std.specs.Prelude.{Result, Ok, Err, Some, OnOk, IfErr, IsErrAnd}
-use Rattle.std.specs.Io.KnownBytes.{Appends, IsAtEnd}
+use Rattle.std.specs.Io.KnownBytes.{Appends, IsAtEnd, Keeps}
 use Rattle.tach_media.specs.Medium.{Rose}
 use Rattle.tach_media.specs.Streams.{AppendsFront}
 use Rattle.run_model.specs.declared.Device.{Device}
@@ -74,9 +74,10 @@ pub ends-reading : {T : Type 0} (PrintsSo : (bytes out : List ℕ) → Type 0) (
     → (r ≡ Err ReadFault → Rose old.source.faults new.source.faults)
     → (r ≡ Err WriteFault → Rose old.sink.faults new.sink.faults)
     → ((bytes : List ℕ) → old.source.left ≡ Some bytes → r ≡ Err WriteFault → (out : List ℕ) × PrintsSo bytes out × AppendsFront old.sink.held new.sink.held out)
+    → ((bytes : List ℕ) → old.source.left ≡ Some bytes → r ≡ Err Memory → Keeps old.sink.held new.sink.held ⊎ ((out : List ℕ) × PrintsSo bytes out × AppendsFront old.sink.held new.sink.held out))
     → IfErr r (λ fault. (fault ≡ Done → ⊥) × IsReadingEnd fault)
     → EndsReading PrintsSo IsBadAt old new (end_of r)
-ends-reading PrintsSo IsBadAt old new (Ok u) printed read bad long finds_long read_fault write_fault front other = record {
+ends-reading PrintsSo IsBadAt old new (Ok u) printed read bad long finds_long read_fault write_fault front short other = record {
   ends = tt;
   printed = λ bytes told is. printed bytes told;
   read = λ is. read;
@@ -85,8 +86,9 @@ ends-reading PrintsSo IsBadAt old new (Ok u) printed read bad long finds_long re
   judges = λ bytes told few no_read no_write. inl refl;
   finds_too_long = λ bytes told many no_read. absurd (finds_long bytes told many);
   front = λ bytes told is. absurd (cc);
+  short = λ bytes told is. absurd (cc);
 }
-ends-reading PrintsSo IsBadAt old new (Err fault) printed read bad long finds_long read_fault write_fault front other = record {
+ends-reading PrintsSo IsBadAt old new (Err fault) printed read bad long finds_long read_fault write_fault front short other = record {
   ends = other.1;
   printed = λ bytes told is. absurd (other.0 is);
   read = λ is. absurd (other.0 is);
@@ -97,6 +99,7 @@ ends-reading PrintsSo IsBadAt old new (Err fault) printed read bad long finds_lo
       (λ n e. let many = long bytes n told (ap Err e) in omega (arith, few, many.1));
   finds_too_long = λ bytes told many no_read. wanted-end fault (TooLong 0) (finds_long bytes told many) (λ e. no_read (read_fault (ap Err e)));
   front = λ bytes told is. front bytes told (ap Err is);
+  short = λ bytes told is. short bytes told (ap Err is);
 }
 
 -- so the call ends that was asked for it, where the form uses the source and the sink alone

@@ -9,6 +9,9 @@ pub mod Below
 pub mod EndLaws
 pub mod Endings
 pub mod Views
+pub mod Puts
+pub mod Pieces
+pub mod Spared
 pub mod Formats
 pub mod Upgraded
 pub mod Stated

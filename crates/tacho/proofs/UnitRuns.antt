@@ -1,11 +1,11 @@
 -- How a trace without a card's line ends that is recorded on the unit alone.
-use Rattle.std.proofs.Common.{◌≡◌, ◌∙◌, ◌≤◌, ◌<◌, ◌⊎◌, ℕ, ◌/◌, inl, inr, ⊎_elim, refl, ap, sym, subst, arith, true, List, [], length, Option, Some, None}
+use Rattle.std.proofs.Common.{◌≡◌, ◌∙◌, ◌≤◌, ◌<◌, ◌⊎◌, ℕ, ◌+◌, ◌*◌, ◌/◌, inl, inr, ⊎_elim, refl, ap, sym, subst, arith, true, List, [], length, Option, Some, None}
 use Rattle.std.specs.Prelude.{IfSome, is_some}
 use Rattle.tach_media.specs.Medium.{State, IsCoherent, LeavesOnly, Unchanged, Rose, HasBroken, last_count}
 use Rattle.run_model.specs.declared.Device.{Device}
 use Rattle.run_model.specs.declared.Device.TheVariants.{Unit as OfUnit, CardA, CardB}
 use Rattle.trace_model.specs.declared.Item.{Item}
-use Rattle.trace_model.specs.Trace.{seconds_of}
+use Rattle.trace_model.specs.Trace.{seconds_of, total_seconds}
 use Rattle.trace_text.specs.declared.lines_trace.Form.TheVariants.{Whole}
 use Rattle.trace_text.specs.Judged.{IsTraceText}
 use Rattle.log_model.proofs.Spanning.{seconds-order}
@@ -64,11 +64,14 @@ module _ (old new : Outside) (outcome : Outcome) (start : ℕ) (items : List Ite
   on-read fault when s is told =
       subst (λ (t : ℕ). (IsUnitRefused t old.unit new.unit fault × LeavesOnly old.unit new.unit Unchanged × IsEmpty outcome) ⊎ IsFoundLater fault) (is_read told.text s is told.told told.trace).0 when
 
-  pub unit-refused : (fault : RunFault) → IsUnitFault old.unit new.unit fault → HasBroken old.unit new.unit (length (cuts true (log_of outcome)))
+  writes-by : new.unit.clock ≤ old.unit.clock + (187 * total_seconds items + 102 * length items) → (s : ℕ) (is : List Item) → SourceTells old s is → new.unit.clock ≤ old.unit.clock + (187 * total_seconds is + 102 * length is)
+  writes-by writes s is told = subst (λ (l : List Item). new.unit.clock ≤ old.unit.clock + (187 * total_seconds l + 102 * length l)) (is_read told.text s is told.told told.trace).1 writes
+
+  pub unit-refused : (fault : RunFault) → IsUnitFault old.unit new.unit fault → HasBroken old.unit new.unit (length (cuts true (log_of outcome))) → new.unit.clock ≤ old.unit.clock + (187 * total_seconds items + 102 * length items)
       → (IsUnitRefused start old.unit new.unit fault × LeavesOnly old.unit new.unit Unchanged × IsEmpty outcome) ⊎ IsFoundLater fault
       → ((x : List ℕ) → StartsAs x old.unit → new.unit.clock < last_count → IsUnitRefused start old.unit new.unit fault × LeavesOnly old.unit new.unit Unchanged × IsEmpty outcome)
       → EndsOnUnit old new outcome (refusal_of_run fault)
-  unit-refused (run.MediumFault device) of_unit broke when refused = record {
+  unit-refused (run.MediumFault device) of_unit broke writes when refused = record {
     for_unit = only-lines;
     only = λ d is. let e : device ≡ d = cc in sym e ∙ of_unit.0;
     run = λ s is x told starts no. absurd no;
@@ -80,12 +83,13 @@ module _ (old new : Outside) (outcome : Outcome) (start : ℕ) (items : List Ite
     finds_bad_unit = λ s is x place told starts sound bad. absurd (sound.unit of_unit.1);
     finds_clock_back = λ s is x told starts sound decodes back. absurd (sound.unit of_unit.1);
     broke = broke;
+    writes = writes-by writes;
     calm = λ no. absurd no;
     early = λ s is told ref. record { by = (run.MediumFault device); is = refl; when = on-read (run.MediumFault device) when s is told };
     unbroken = λ s is x told starts sound counts. unbroken-log (log_of outcome) (refused x starts.alone starts.clock).2.breaks;
     whole = λ s is x told starts sound counts no. absurd no;
   }
-  unit-refused (run.BadUnit place) of_unit broke when refused =
+  unit-refused (run.BadUnit place) of_unit broke writes when refused =
       let bad : (x : List ℕ) → Starts x old.unit new.unit → first_bad_place x ≡ Some place = λ x starts.
       let r = refused x starts.alone starts.clock in still x old.unit new.unit (λ y. first_bad_place y ≡ Some place) whole whole_new starts.alone r.1 r.0 in
       record {
@@ -100,12 +104,13 @@ module _ (old new : Outside) (outcome : Outcome) (start : ℕ) (items : List Ite
         finds_bad_unit = λ s is x p told starts sound found. let e : Some place ≡ Some p = sym (bad x starts) ∙ found in let f : place ≡ p = cc in ap BadUnit f;
         finds_clock_back = λ s is x told starts sound decodes back. absurd (none-bad x place decodes (bad x starts));
         broke = broke;
+        writes = writes-by writes;
         calm = λ no. absurd no;
         early = λ s is told ref. record { by = (run.BadUnit place); is = refl; when = on-read (run.BadUnit place) when s is told };
         unbroken = λ s is x told starts sound counts. unbroken-log (log_of outcome) (refused x starts.alone starts.clock).2.breaks;
         whole = λ s is x told starts sound counts no. absurd no;
       }
-  unit-refused (run.ClockBack kept second) of_unit broke when refused =
+  unit-refused (run.ClockBack kept second) of_unit broke writes when refused =
       let found : (x : List ℕ) → Starts x old.unit new.unit → Decodes x × (last_kept x ≡ kept) = λ x starts.
       let r = refused x starts.alone starts.clock in still x old.unit new.unit (λ y. Decodes y × (last_kept y ≡ kept)) whole whole_new starts.alone r.1 r.0.2 in
       let at : (x : List ℕ) → Starts x old.unit new.unit → (second ≡ start) × (start / 60 ≤ kept) = λ x starts.
@@ -132,12 +137,13 @@ module _ (old new : Outside) (outcome : Outcome) (start : ℕ) (items : List Ite
             let kept_is = (found x starts).1 in let w = (at x starts).0 in
             ap (λ (k : ℕ). ClockBack k second) (sym kept_is) ∙ ap (ClockBack (last_kept x)) (w ∙ same);
         broke = broke;
+        writes = writes-by writes;
         calm = λ no. absurd no;
         early = λ s is told ref. record { by = (run.ClockBack kept second); is = refl; when = on-read (run.ClockBack kept second) when s is told };
         unbroken = λ s is x told starts sound counts. unbroken-log (log_of outcome) (refused x starts.alone starts.clock).2.breaks;
         whole = λ s is x told starts sound counts no. absurd no;
       }
-  unit-refused (run.SameCard number) of_unit broke when refused = absurd of_unit
+  unit-refused (run.SameCard number) of_unit broke writes when refused = absurd of_unit
 
 -- the cause of a refusal that names a device
 unit-cause : (old new : Outside) (fault : RunFault) → IsUnitFault old.unit new.unit fault → (device : Device) → refusal_of_run fault ≡ MediumFault device → Rose (memory_of device old).faults (memory_of device new).faults
@@ -182,9 +188,9 @@ pub unit-run : (old new : Outside) (outcome : Outcome) (start : ℕ) (items : Li
     → ((x : List ℕ) → StartsAs x old.unit → new.unit.clock < last_count → IsRecorded x start items old.unit.clock outcome new.unit)
     → ((x : List ℕ) → StartsAs x old.unit → new.unit.clock < last_count → IsCaused old new start items outcome)
     → ((x : List ℕ) → StartsAs x old.unit → Decodes x × (last_kept x < start / 60))
-    → HasBroken old.unit new.unit (length (cuts true (log_of outcome))) → (cuts true (log_of outcome) ≡ [] → new.unit.breakdowns ≡ old.unit.breakdowns) → Rose old.unit.faults new.unit.faults ⊎ (new.unit.breakdowns ≡ old.unit.breakdowns) → new.card_a.memory ≡ old.card_a.memory → new.card_b.memory ≡ old.card_b.memory
+    → HasBroken old.unit new.unit (length (cuts true (log_of outcome))) → new.unit.clock ≤ old.unit.clock + (187 * total_seconds items + 102 * length items) → (cuts true (log_of outcome) ≡ [] → new.unit.breakdowns ≡ old.unit.breakdowns) → Rose old.unit.faults new.unit.faults ⊎ (new.unit.breakdowns ≡ old.unit.breakdowns) → new.card_a.memory ≡ old.card_a.memory → new.card_b.memory ≡ old.card_b.memory
     → (fault : Fault) → IsRun fault → (fault ≡ WriteFault → Rose old.sink.faults new.sink.faults) → EndsOnUnit old new outcome fault
-unit-run old new outcome start items for_unit is_read recorded caused begun broke calm unit_unbroken same_a same_b fault ran rose = record {
+unit-run old new outcome start items for_unit is_read recorded caused begun broke writes calm unit_unbroken same_a same_b fault ran rose = record {
   for_unit = λ s is told. subst IsForUnit (is_read told.text s is told.told told.trace).1 for_unit;
   only = λ device is. absurd (subst IsRun is ran);
   run = λ s is x told starts done. of_trace s is x (is_read told.text s is told.told told.trace) (recorded x starts.alone starts.clock);
@@ -196,6 +202,7 @@ unit-run old new outcome start items for_unit is_read recorded caused begun brok
   finds_bad_unit = λ s is x place told starts sound bad. absurd (none-bad x place (begun x starts.alone).0 bad);
   finds_clock_back = λ s is x told starts sound decodes back. absurd (not_back s x (is_read told.text s is told.told told.trace).0 (begun x starts.alone).1 back);
   broke = broke;
+  writes = λ s is told. subst (λ (l : List Item). new.unit.clock ≤ old.unit.clock + (187 * total_seconds l + 102 * length l)) (is_read told.text s is told.told told.trace).1 writes;
   calm = λ done. calm;
   early = λ s is told ref. absurd (refused-no-run fault ref ran);
   unbroken = λ s is x told starts sound counts. unbroken_as x starts sound counts;

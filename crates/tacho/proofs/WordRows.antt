@@ -120,9 +120,13 @@ speeds-too-many-row : form_of (codes "speeds" ∷ codes "last" ∷ codes "1441" 
 unfolding form_of number_in
 speeds-too-many-row = refl
 
-show-row : form_of (codes "show" ∷ []) ≡ Some (Read Show)
+show-row : form_of (codes "show" ∷ []) ≡ Some (Read (Show None))
 unfolding form_of
 show-row = refl
+
+show-last-row : form_of (codes "show" ∷ codes "last" ∷ codes "2" ∷ []) ≡ Some (Read (Show (Some 2)))
+unfolding form_of number_in digits
+show-last-row = refl
 
 not-last-row : form_of (codes "view" ∷ codes "first" ∷ codes "1" ∷ []) ≡ None
 unfolding form_of

@@ -94,10 +94,10 @@ pub record ShowsStored (x : List ℕ) (start : ℕ) (items : List Item) (o : Out
   pub are_spans : AreSpansFrom (rule_of x) (log_of o) (told_of o start items) (odometer_at x) (last_kept x) spans
   pub odometer : MayStore (rule_of x) (odometer_at x) (last_kept x) spans (last_kept y) (odometer_at y)
 
--- a ring shows exactly what it showed at the start
+-- a ring shows exactly what it showed at the start, and is dense where it was
 pub record ShowsOld (ring : Shape) (x y : List ℕ) : Type 0 where
   pub shown : ring_list ring y ≡ ring_list ring x
-  pub dense : IsDense ring y
+  pub dense : IsDense ring x → IsDense ring y
 
 -- WHAT A RUN HAS RECORDED on the unit alone of a trace, that began with this image, at this clock: the crash-safety
 -- theorem of the unit, by the rule of minutes of that image.
@@ -128,8 +128,8 @@ pub record IsAlone (cards : Start) (x : List ℕ) (start : ℕ) (items : List It
   pub events : (number : Card → List ℕ) (sessions : ℕ → Visit → ℕ) (t : Tearing) (y : List ℕ) → unit.may_leave y
       → ShowsRun number x (log_of o) (seconds_of start items) sessions t y
   -- the rings of insertions and places show what they showed
-  pub insertions : IsDense insertion_ring x → (y : List ℕ) → unit.may_leave y → ShowsOld insertion_ring x y
-  pub places : IsDense unit_place_ring x → (y : List ℕ) → unit.may_leave y → ShowsOld unit_place_ring x y
+  pub insertions : (y : List ℕ) → unit.may_leave y → ShowsOld insertion_ring x y
+  pub places : (y : List ℕ) → unit.may_leave y → ShowsOld unit_place_ring x y
   -- where its ring was dense, each image that a stop may leave carries the blocks of detailed speed of the run
   pub speeds : HasSpeedRing x → HasSpeeds (is_sure_block (log_of o)) x clock
       (blocks_by (log_of o) (seconds_of start items)) unit

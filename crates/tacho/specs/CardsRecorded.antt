@@ -1,5 +1,5 @@
 -- How a trace with cards is recorded on the unit and both cards (profile).
-use Rattle.std.specs.Prelude.{◌≡◌, ◌⊎◌, ◌<◌, ℕ, true, List, [], length}
+use Rattle.std.specs.Prelude.{◌≡◌, ◌⊎◌, ◌<◌, ◌^◌, ℕ, true, List, [], length}
 use Rattle.tach_media.specs.Medium.{Rose, HasBroken, last_count}
 use Rattle.run_model.specs.declared.Device.{Device}
 use Rattle.log_model.specs.Causes.{cuts, tears}
@@ -14,6 +14,8 @@ use Rattle.recorder_with_cards.specs.Whole.{IsAllThere}
 use Rattle.recorder_with_cards.specs.Ends.{recording_of, BeginAs, MayRecord, EndsTrace, IsKeptFrom}
 use Rattle.run_outcome.specs.declared.outcome.Outcome.{Outcome}
 use Rattle.trace_model.specs.declared.Item.{Item}
+use Rattle.trace_model.specs.Trace.{total_seconds}
+use Rattle.recorder_with_cards.specs.Writes.{WritesFor}
 use Rattle.tacho.specs.declared.end.Fault.{Fault}
 use Rattle.tacho.specs.declared.end.Fault.TheVariants.{Done}
 use Rattle.tacho.specs.Outside.{Outside}
@@ -28,6 +30,12 @@ pub record StartWith (unit card_a card_b : List ℕ) (start : ℕ) (items : List
   pub told : SourceTells old start items
   pub begins : BeginAs unit card_a card_b (devices_of old)
   pub clocks : HaveTime (devices_of new)
+
+-- no clock stands in its upper half
+pub record HaveLongTime (d : Devices) : Type 0 where
+  pub unit : d.unit.clock < 2 ^ 63
+  pub card_a : d.card_a.clock < 2 ^ 63
+  pub card_b : d.card_b.clock < 2 ^ 63
 
 -- neither stream failed, and no call on a device
 pub record AreSound (old new : Outside) : Type 0 where
@@ -89,6 +97,12 @@ pub record EndsWithCards (old new : Outside) (outcome : Outcome) (fault : Fault)
   pub later : AreAfter (devices_of old) (devices_of new)
   pub early : (start : ℕ) (items : List Item) → SourceTells old start items → IsRefusal fault
       → IsNotRecorded start (devices_of old) (devices_of new) outcome fault
+  -- So many writes began at most on each device, by the seconds of the trace and by its items.
+  pub writes : (start : ℕ) (items : List Item) → SourceTells old start items
+      → WritesFor (total_seconds items) (length items) (devices_of old) (devices_of new)
+  -- So a clock comes to its end in no run that it began in its lower half.
+  pub time : (start : ℕ) (items : List Item) → SourceTells old start items → HaveLongTime (devices_of old)
+      → HaveTime (devices_of new)
   -- Each cut that a failed call made is a breakdown of the unit more.
   pub broke : HasBroken old.unit new.unit (length (cuts true (log_of outcome)))
   -- And where the trace was recorded and no failed call has cut the power, the unit has not broken down.

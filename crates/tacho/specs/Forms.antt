@@ -61,7 +61,7 @@ reading_of word =
     else (if bytes_eq word (codes "totals") then Some (Totals None)
     else (if bytes_eq word (codes "chart") then Some (Chart None)
     else (if bytes_eq word (codes "speeds") then Some (Speeds None)
-    else (if bytes_eq word (codes "show") then Some Show else None)))))
+    else (if bytes_eq word (codes "show") then Some (Show None) else None)))))
 
 abbrev pub read_form : List ℕ → Option Form
 read_form word = do
@@ -133,12 +133,13 @@ form_of_six command what first second third fourth =
 abbrev pub last_in : (most : ℕ) → (which count : List ℕ) → Option ℕ
 last_in most which count = if bytes_eq which (codes "last") then number_in LAST_LEAST most count else None
 
--- `view`, `totals` and `chart`, of so many last days
+-- `view`, `totals`, `chart` and `show`, of so many last days
 abbrev pub days_form : (command : List ℕ) (days : ℕ) → Option Form
 days_form command days =
     if bytes_eq command (codes "view") then Some (Read (View (Some days)))
     else (if bytes_eq command (codes "totals") then Some (Read (Totals (Some days)))
-    else (if bytes_eq command (codes "chart") then Some (Read (Chart (Some days))) else None))
+    else (if bytes_eq command (codes "chart") then Some (Read (Chart (Some days)))
+    else (if bytes_eq command (codes "show") then Some (Read (Show (Some days))) else None)))
 
 -- `noisy X`, X from 0 to 2147483647
 abbrev pub noisy_form : List ℕ → Option Form

@@ -35,6 +35,7 @@ help_text = as_lines (
     codes "tacho speeds < FILE                      print the speed of each minute of a unit's file" ∷
     codes "tacho speeds last N < FILE               print that of its last N minutes (1 to 1440)" ∷
     codes "tacho show < FILE                        print all that stands in such a file, as JSON" ∷
+    codes "tacho show last N < FILE                 print it with its last N days alone" ∷
     codes "tacho match < FILES                      say whether a card's file, behind a unit's, stands in that" ∷
     codes "tacho match all < FILES                  print each difference, and the counts" ∷
     codes "tacho format unit N PLATE VIN LIMIT      make a new unit in unit.img: what it held is lost" ∷
@@ -48,7 +49,7 @@ help_text = as_lines (
 
 -- the version, and that of the toolchain which proves it
 unfoldable pub version_text : List ℕ
-version_text = as_lines (codes "tacho 1.3.0" ∷ codes "rattle-kit-13f logic dac8208d650f15bf" ∷ [])
+version_text = as_lines (codes "tacho 1.4.0" ∷ codes "rattle-kit-13f logic dac8208d650f15bf" ∷ [])
 
 -- all is done, or the sink failed
 abbrev pub IsTextEnd : Fault → Type 0

@@ -39,6 +39,50 @@ outside left read_faults held write_faults unit_memory card_memory card_state so
   card_b = record { memory = card_memory card_b; state = card_state card_b };
 }
 
+-- what a call is handed: a source, a sink, a unit and both cards
+pub record Handed (S K U C : Type 0) : Type 0 where
+  pub source : S
+  pub sink : K
+  pub unit : U
+  pub card_a : C
+  pub card_b : C
+
+abbrev pub handed : {S K U C : Type 0} → S → K → U → C → C → Handed S K U C
+handed source sink unit card_a card_b = record {
+  source = source;
+  sink = sink;
+  unit = unit;
+  card_a = card_a;
+  card_b = card_b;
+}
+
+-- what each kind of them tells
+pub record Tells (S K U C : Type 0) : Type 1 where
+  pub left : S → Option (List ℕ)
+  pub read_faults : S → ℕ
+  pub held : K → Option (List ℕ)
+  pub write_faults : K → ℕ
+  pub unit_memory : U → State
+  pub card_memory : C → State
+  pub card_state : C → CardState
+
+abbrev pub tells : {S K U C : Type 0} → (S → Option (List ℕ)) → (S → ℕ) → (K → Option (List ℕ)) → (K → ℕ) → (U → State)
+    → (C → State) → (C → CardState) → Tells S K U C
+tells left read_faults held write_faults unit_memory card_memory card_state = record {
+  left = left;
+  read_faults = read_faults;
+  held = held;
+  write_faults = write_faults;
+  unit_memory = unit_memory;
+  card_memory = card_memory;
+  card_state = card_state;
+}
+
+-- and so all of what a call is handed
+abbrev pub told_by : {S K U C : Type 0} → Tells S K U C → Handed S K U C → Outside
+told_by t h = outside t.left t.read_faults t.held t.write_faults t.unit_memory t.card_memory t.card_state h.source
+    h.sink h.unit h.card_a h.card_b
+
 -- the memory of a device
 abbrev pub memory_of : Device → Outside → State
 memory_of OfUnit told = told.unit

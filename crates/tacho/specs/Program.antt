@@ -9,6 +9,7 @@ use Rattle.run_model.specs.declared.Device.TheVariants.{CardA, CardB}
 use Rattle.unit_model.specs.Image.{IsUnit}
 use Rattle.tacho.specs.declared.end.Fault.{Fault}
 use Rattle.tacho.specs.declared.end.Fault.TheVariants.{Done, Usage, ReadFault, WriteFault, MediumFault, BadCard}
+use Rattle.tacho.specs.declared.end.Fault.TheVariants.{TooLong, BadFile}
 use Rattle.tacho.specs.declared.end.Ended.{Ended}
 use Rattle.run_outcome.specs.declared.outcome.Outcome.{Outcome}
 use Rattle.unit_download.specs.declared.wire.Passed.{Passed}
@@ -17,10 +18,11 @@ use Rattle.tacho.specs.declared.forms.Form.TheVariants.{Minutes, Record, FormatC
 use Rattle.tacho.specs.declared.forms.Form.TheVariants.{State as AskState, Serve, ServeHex, ServePackets, Download}
 use Rattle.tacho.specs.declared.forms.Form.TheVariants.{DownloadNoisy, DownloadPackets, Read, CardFile, Demo, Help}
 use Rattle.tacho.specs.declared.forms.Form.TheVariants.{Version}
+use Rattle.tacho.specs.declared.forms.Reading.TheVariants.{Show}
 use Rattle.tacho.specs.End.{status_of, IsBeforeDevices}
-use Rattle.tacho.specs.Outside.{Outside, memory_of}
+use Rattle.tacho.specs.Outside.{Outside, Handed, Tells, told_by, memory_of}
 use Rattle.tacho.specs.Minutes.{EndsMinutes}
-use Rattle.tacho.specs.Outcomes.{IsEmpty}
+use Rattle.tacho.specs.Outcomes.{IsEmpty, IsToldForUnit}
 use Rattle.tacho.specs.Recorded.{EndsRecord}
 use Rattle.tacho.specs.Serving.{EndsServe, EndsServeHex}
 use Rattle.tacho.specs.Downloading.{EndsDownload}
@@ -117,9 +119,10 @@ pub record Ends (asked : Option Form) (old new : Outside) (ended : Ended) : Type
   pub unpassed : IsUnpassed asked ended.wire
   pub causes : HasCauses old new ended.fault
 
--- what reads all of its source before it uses a device or prints, if it reads any: each form but `serve`, `serve
--- --hex`, `download`, `download noisy`, `serve packets`, `download packets`, `card a` and `card b`, which write as they
--- read, and `state` and `demo`, which read none
+-- what reads all of its source before it uses a device or prints, if it reads any, and makes all that it prints before
+-- it prints: each form but `serve`, `serve --hex`, `download`, `download noisy`, `serve packets`, `download packets`,
+-- `card a` and `card b`, which write as they read, `show`, which writes as it makes, and `state` and `demo`, which read
+-- none
 abbrev pub ReadsFirst : Option Form → Type 0
 ReadsFirst (Some AskState) = ⊥
 ReadsFirst (Some Serve) = ⊥
@@ -128,14 +131,18 @@ ReadsFirst (Some ServePackets) = ⊥
 ReadsFirst (Some Download) = ⊥
 ReadsFirst (Some (DownloadNoisy seed)) = ⊥
 ReadsFirst (Some DownloadPackets) = ⊥
+ReadsFirst (Some (Read (Show last))) = ⊥
 ReadsFirst (Some (CardFile card)) = ⊥
 ReadsFirst (Some (Demo seed)) = ⊥
 ReadsFirst asked = Unit {0}
 
--- `card a` or `card b` ends with the number of a field
-abbrev pub NamesField : Option Form → Fault → Type 0
-NamesField (Some (CardFile card)) (BadCard field) = Unit {0}
-NamesField asked fault = ⊥
+-- `card a` or `card b` ends with the number of a field, or `show` before its file was judged to be one
+abbrev pub EndsBefore : Option Form → Fault → Type 0
+EndsBefore (Some (CardFile card)) (BadCard field) = Unit {0}
+EndsBefore (Some (Read (Show last))) ReadFault = Unit {0}
+EndsBefore (Some (Read (Show last))) (TooLong n) = Unit {0}
+EndsBefore (Some (Read (Show last))) (BadFile place) = Unit {0}
+EndsBefore asked fault = ⊥
 
 -- WHAT IT LEAVES UNTOUCHED. Each argument says that one of what it is handed is as it was.
 pub record Spares (asked : Option Form) (fault : Fault) (for_unit source sink unit card_a card_b : Type 0) : Type
@@ -148,5 +155,14 @@ pub record Spares (asked : Option Form) (fault : Fault) (for_unit source sink un
   pub before : ReadsFirst asked → IsBeforeDevices fault → unit × card_a × card_b
   -- But at Done and at a write fault the sink is as it was.
   pub nothing : ReadsFirst asked → (fault ≡ Done → ⊥) → (fault ≡ WriteFault → ⊥) → sink
-  -- Of a card of which a field is named nothing was printed.
-  pub unprinted : NamesField asked fault → sink
+  -- Of a card of which a field is named nothing was printed, and of what is no file for `show`.
+  pub unprinted : EndsBefore asked fault → sink
+
+-- WHAT THE CALL OF A FORM DOES with what it is handed, by what each kind of that tells: how it ends, and what it leaves
+-- untouched.
+pub record Does {S K U C : Type 0} (t : Tells S K U C) (asked : Option Form) (old new : Handed S K U C)
+    (ended : Ended) : Type 0 where
+  pub ends : Ends asked (told_by t old) (told_by t new) ended
+  pub spares : Spares asked ended.fault (IsToldForUnit (t.left old.source))
+      (new.source ≡ old.source) (new.sink ≡ old.sink) (new.unit ≡ old.unit) (new.card_a ≡ old.card_a)
+      (new.card_b ≡ old.card_b)

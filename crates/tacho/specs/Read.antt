@@ -1,6 +1,6 @@
 -- How a form ends that reads a file and prints what it tells, and what each of them prints.
-use Rattle.std.specs.Prelude.{◌≡◌, ◌⊎◌, ◌<◌, ◌≤◌, ℕ, Some, List, length}
-use Rattle.std.specs.Io.KnownBytes.{Appends, IsAtEnd}
+use Rattle.std.specs.Prelude.{◌≡◌, ◌⊎◌, ◌<◌, ◌≤◌, ℕ, Option, Some, Result, Ok, Err, List, length}
+use Rattle.std.specs.Io.KnownBytes.{Appends, IsAtEnd, Keeps}
 use Rattle.tach_media.specs.Medium.{Rose}
 use Rattle.tach_media.specs.Streams.{AppendsFront}
 use Rattle.card_match.specs.Files.{IsBadSource}
@@ -28,7 +28,7 @@ Prints MatchAll bytes out = PrintsDifferences bytes out
 Prints (Totals last) bytes out = PrintsTotals last bytes out
 Prints (Chart last) bytes out = PrintsChart last bytes out
 Prints (Speeds last) bytes out = PrintsSpeeds last bytes out
-Prints Show bytes out = PrintsJson bytes out
+Prints (Show last) bytes out = PrintsJson last bytes out
 
 -- the bytes are outside the grammar, first at this place
 abbrev pub IsBad : Reading → (place : ℕ) → List ℕ → Type 0
@@ -39,13 +39,42 @@ IsBad MatchAll place bytes = IsBadSource place bytes
 IsBad (Totals last) place bytes = IsBadFile place bytes
 IsBad (Chart last) place bytes = IsBadFile place bytes
 IsBad (Speeds last) place bytes = IsBadUnitFile place bytes
-IsBad Show place bytes = IsBadFile place bytes
+IsBad (Show last) place bytes = IsBadFile place bytes
 
 -- the file is bad at a place of which this holds, or memory ran out
 abbrev pub IsUnshown : (ℕ → Type 0) → Fault → Type 0
 IsUnshown IsPlace (BadFile place) = IsPlace place
 IsUnshown IsPlace Memory = Unit {0}
 IsUnshown IsPlace _ = ⊥
+
+-- what is printed is made whole first: of each but `show`
+abbrev pub IsWhole : Reading → Type 0
+IsWhole (Show last) = ⊥
+IsWhole reading = Unit {0}
+
+-- of what is made whole first nothing is printed where memory runs out; `show` is printed piece by piece, so of that a
+-- front may be
+abbrev pub IsUnfinished : Reading → (same front : Type 0) → Type 0
+IsUnfinished (Show last) same front = same ⊎ front
+IsUnfinished reading same front = same
+
+-- What printing leaves in the sink, by what it answered: all, or a front where the sink failed. The last argument says
+-- that the sink is as it was.
+abbrev pub EndsPut : Reading → (bytes : List ℕ) → Result (Unit {0}) Fault → (held sunk : Option (List ℕ))
+    → (same : Type 0) → Type 0
+EndsPut reading bytes (Ok done) held sunk same = (out : List ℕ) × Prints reading bytes out × Appends held sunk out
+EndsPut reading bytes (Err (BadFile place)) held sunk same = IsBad reading place bytes × same
+EndsPut reading bytes (Err WriteFault) held sunk same = (out : List ℕ) × Prints reading bytes out
+    × AppendsFront held sunk out
+EndsPut reading bytes (Err Memory) held sunk same = IsUnfinished reading same
+    ((out : List ℕ) × Prints reading bytes out × AppendsFront held sunk out)
+EndsPut reading bytes (Err _) held sunk same = ⊥
+
+-- a front may have been printed
+abbrev pub MayStopWithin : Reading → Fault → Type 0
+MayStopWithin reading WriteFault = Unit {0}
+MayStopWithin (Show last) Memory = Unit {0}
+MayStopWithin reading fault = ⊥
 
 -- how such a form can end
 abbrev pub IsReadingEnd : Fault → Type 0
@@ -80,3 +109,7 @@ pub record EndsReading (Prints : (bytes out : List ℕ) → Type 0) (IsBad : (pl
   -- At a write fault a front of what Done appends was appended.
   pub front : (bytes : List ℕ) → old.source.left ≡ Some bytes → fault ≡ WriteFault
       → (out : List ℕ) × Prints bytes out × AppendsFront old.sink.held new.sink.held out
+  -- Where memory ran out nothing was, or a front.
+  pub short : (bytes : List ℕ) → old.source.left ≡ Some bytes → fault ≡ Memory
+      → Keeps old.sink.held new.sink.held
+      ⊎ ((out : List ℕ) × Prints bytes out × AppendsFront old.sink.held new.sink.held out)

@@ -1,4 +1,4 @@
--- What the commands `totals` and `chart` print of a file, of all its days or of the last so many.
+-- What the commands `totals`, `chart` and `show` print of a file, of all its days or of the last so many.
 use Rattle.std.specs.Prelude.{ℕ, MatchBool, Option, List}
 use Rattle.file_json.specs.Cards.{IsCardJson}
 use Rattle.file_json.specs.Units.{IsUnitJson}
@@ -16,5 +16,5 @@ PrintsChart last bytes out = MatchBool (is_unit_file bytes) (PrintsUnitChart las
     (PrintsCardChart last bytes out)
 
 -- `show` prints all that stands in a file, as JSON
-abbrev pub PrintsJson : (bytes out : List ℕ) → Type 0
-PrintsJson bytes out = MatchBool (is_unit_file bytes) (IsUnitJson bytes out) (IsCardJson bytes out)
+abbrev pub PrintsJson : Option ℕ → (bytes out : List ℕ) → Type 0
+PrintsJson last bytes out = MatchBool (is_unit_file bytes) (IsUnitJson last bytes out) (IsCardJson last bytes out)

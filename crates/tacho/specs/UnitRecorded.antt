@@ -1,5 +1,5 @@
 -- How a trace without a card's line is recorded on the unit alone (profile).
-use Rattle.std.specs.Prelude.{◌≡◌, ◌⊎◌, ℕ, ◌/◌, ◌<◌, ◌≤◌, true, Some, List, [], length}
+use Rattle.std.specs.Prelude.{◌≡◌, ◌⊎◌, ℕ, ◌+◌, ◌*◌, ◌/◌, ◌<◌, ◌≤◌, true, Some, List, [], length}
 use Rattle.tach_media.specs.Medium.{State, Rose, HasBroken, LeavesOnly, Unchanged, last_count}
 use Rattle.run_model.specs.declared.Device.{Device}
 use Rattle.run_model.specs.declared.Device.TheVariants.{Unit as OfUnit}
@@ -14,7 +14,7 @@ use Rattle.run_opening.specs.declared.fault.RunFault.{RunFault}
 use Rattle.recorder_with_cards.specs.Words.{log_of, IsFoundLater}
 use Rattle.run_outcome.specs.declared.outcome.Outcome.{Outcome}
 use Rattle.trace_model.specs.declared.Item.{Item}
-use Rattle.trace_model.specs.Trace.{seconds_of}
+use Rattle.trace_model.specs.Trace.{seconds_of, total_seconds}
 use Rattle.unit_minutes.specs.DayOdometers.{RecordsDay}
 use Rattle.unit_model.specs.Image.{recorded, last_kept, odometer_at}
 use Rattle.unit_model.specs.Versions.{rule_of}
@@ -107,6 +107,9 @@ pub record EndsOnUnit (old new : Outside) (outcome : Outcome) (fault : Fault) : 
   pub finds_clock_back : (start : ℕ) (items : List Item) (x : List ℕ) → SourceTells old start items
       → Starts x old.unit new.unit → IsSound old new
       → Decodes x → start / 60 ≤ last_kept x → fault ≡ ClockBack (last_kept x) start
+  -- So many writes began at most on the unit, by the seconds of the trace and by its items.
+  pub writes : (start : ℕ) (items : List Item) → SourceTells old start items
+      → new.unit.clock ≤ old.unit.clock + (187 * total_seconds items + 102 * length items)
   -- Whatever the unit tells, a refusal came in the opening, with the unit as it was and no outcome, or of a unit that
   -- was read anew at a power-on.
   pub early : (start : ℕ) (items : List Item) → SourceTells old start items → IsRefusal fault

@@ -1,8 +1,8 @@
 //! A trace without a card's line is recorded on the unit alone.
-ghost use Rattle.std.specs.Prelude.{◌≡◌, ◌⊎◌, ◌/◌, ◌≤◌, ◌<◌, ℕ, List, [], true, false, length, OnOk, IfErr};
+ghost use Rattle.std.specs.Prelude.{◌≡◌, ◌⊎◌, ◌+◌, ◌*◌, ◌/◌, ◌≤◌, ◌<◌, ℕ, List, [], true, false, length, OnOk, IfErr};
 ghost use Rattle.tach_media.specs.Medium.{HasBroken, LeavesOnly, Unchanged, Rose, last_count};
 ghost use Rattle.log_model.specs.Causes.{HasCauses, cuts};
-ghost use Rattle.trace_model.specs.Trace.{seconds_of};
+ghost use Rattle.trace_model.specs.Trace.{seconds_of, total_seconds};
 ghost use Rattle.trace_text.specs.Trace.{IsWellFormed};
 ghost use Rattle.history_model.specs.Presence.{Start};
 ghost use Rattle.unit_model.specs.Decoding.{Decodes};
@@ -69,6 +69,9 @@ pub fn record_alone<U: Medium>(
         → length trace.now.items ≤ largest_number
         → OnOk result (HasCauses NoVerdict (counts (U.state unit.old).breakdowns a b)
         (counts (U.state unit.new).breakdowns a b) (seconds_of trace.now.start trace.now.items) (log_of outcome.new)) }
+    // So many writes it begins at most, by the seconds of the trace and by its items.
+    ensures most { (U.state unit.new).clock ≤ (U.state unit.old).clock
+        + (187 * total_seconds trace.now.items + 102 * length trace.now.items) }
     // Each cut that a failed call made is a breakdown of the unit more; and where none has cut the power of a run that
     // is recorded, it has not broken down, nor where no call on it failed.
     ensures broke { HasBroken (U.state unit.old) (U.state unit.new) (length (cuts true (log_of outcome.new))) }

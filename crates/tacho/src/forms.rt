@@ -105,8 +105,8 @@ pub enum Reading {
     Chart { last: Option<u32> },
     /// `speeds`: the detailed speed of a unit file; `speeds last N`: of its last so many minutes, from 1 to 1440.
     Speeds { last: Option<u32> },
-    /// `show`: all that stands in a unit file or a card file, as JSON.
-    Show,
+    /// `show`: all that stands in a unit file or a card file, as JSON; `show last N`: of its days the last so many.
+    Show { last: Option<u32> },
 }
 
 /// What the words ask for, if they are in a form that is known. The test takes no memory.
@@ -184,7 +184,7 @@ fn reading_of(word: &str) -> Option<Reading>
         return Some(Reading::Speeds { last: None });
     }
     if is_text(word, "show") {
-        return Some(Reading::Show);
+        return Some(Reading::Show { last: None });
     }
     None
 }
@@ -323,6 +323,11 @@ fn days_form(command: &str, days: u32) -> Option<Form>
     if is_text(command, "chart") {
         return Some(Form::Read {
             reading: Reading::Chart { last },
+        });
+    }
+    if is_text(command, "show") {
+        return Some(Form::Read {
+            reading: Reading::Show { last },
         });
     }
     None

@@ -28,6 +28,7 @@ tacho chart last N < FILE > PICTURE      draw its last N days
 tacho speeds < FILE                      print the speed of each minute of a unit's file
 tacho speeds last N < FILE               print that of its last N minutes (1 to 1440)
 tacho show < FILE                        print all that stands in such a file, as JSON
+tacho show last N < FILE                 print it with its last N days alone
 tacho match < FILES                      say whether a card's file, behind a unit's, stands in that
 tacho match all < FILES                  print each difference, and the counts
 tacho format unit N PLATE VIN LIMIT      make a new unit in unit.img: what it held is lost
@@ -41,7 +42,7 @@ Example: (echo start 1267401600; echo run 3600 50) | tacho minutes
 ";
 
 /// What `--version` prints: the version, and that of the toolchain which proves it.
-const VERSION: &[u8] = b"tacho 1.3.0
+const VERSION: &[u8] = b"tacho 1.4.0
 rattle-kit-13f logic dac8208d650f15bf
 ";
 

@@ -23,6 +23,7 @@ mod reading_command;
 mod record_command;
 mod report_command;
 mod serve_command;
+mod show_command;
 mod state_command;
 mod top;
 mod upgrade_command;

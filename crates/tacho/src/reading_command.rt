@@ -5,12 +5,13 @@ ghost use Rattle.std.specs.Io.KnownBytes.{Appends, IsAtEnd};
 ghost use Rattle.tach_media.specs.Medium.{Rose};
 ghost use Rattle.tach_media.specs.Streams.{AppendsFront};
 ghost use Rattle.tacho.specs.End.{IsUnread};
-ghost use Rattle.tacho.specs.Read.{most_bytes, Prints, IsBad, IsUnshown, IsReadingEnd};
+ghost use Rattle.tacho.specs.Read.{EndsPut, IsBad, IsReadingEnd, IsUnshown, IsWhole, MayStopWithin, Prints, most_bytes};
 
 use crate::end::Fault;
 use crate::forms::Reading;
 use crate::match_command::{match_all_answer, match_answer};
-use crate::report_command::{file_chart, file_show, file_speeds, file_totals};
+use crate::report_command::{file_chart, file_speeds, file_totals};
+use crate::show_command::put_json;
 use crate::view_command::{file_view, hand_view};
 use std::alloc::Global;
 use tach_media::{Sink, Source, TakeFault, put_all, take_all};
@@ -39,7 +40,10 @@ pub fn print_reading<S: Source, K: Sink>(
     ensures counts { (S.faults source.old ≤ S.faults source.new) × (K.faults sink.old ≤ K.faults sink.new) }
     ensures front { (bytes : List ℕ) → S.left source.old ≡ Some bytes → result ≡ Err Fault.WriteFault
         → (out : List ℕ) × Prints reading bytes out × AppendsFront (K.held sink.old) (K.held sink.new) out }
-    ensures nothing { IfErr result (λ fault. fault ≢ Fault.WriteFault → sink.new ≡ sink.old) }
+    ensures short { (bytes : List ℕ) → S.left source.old ≡ Some bytes → result ≡ Err Fault.Memory
+        → (sink.new ≡ sink.old)
+        ⊎ ((out : List ℕ) × Prints reading bytes out × AppendsFront (K.held sink.old) (K.held sink.new) out) }
+    ensures nothing { IfErr result (λ fault. (MayStopWithin reading fault → ⊥) → sink.new ≡ sink.old) }
     ensures other { IfErr result (λ fault. (fault ≢ Fault.Done) × IsReadingEnd fault) }
 {
     let bytes = match take_all(alloc, source, MOST_BYTES) {
@@ -48,7 +52,36 @@ pub fn print_reading<S: Source, K: Sink>(
         Err(TakeFault::TooLong) => return Err(Fault::TooLong(0)),
         Err(TakeFault::Memory) => return Err(Fault::Memory),
     };
-    let text = match reading_text(alloc, reading, bytes.as_slice()) {
+    put_reading(alloc, reading, bytes.as_slice(), sink)
+}
+
+/// Prints what a file tells.
+fn put_reading<K: Sink>(
+    alloc: Global,
+    reading: Reading,
+    b: &[u8],
+    sink: &mut K,
+) -> Result<(), Fault>
+    requires { length b.now < 2 ^ 32 }
+    ensures ends { EndsPut reading b.now result (K.held sink.old) (K.held sink.new) (sink.new ≡ sink.old) }
+    ensures cause { result ≡ Err Fault.WriteFault → Rose (K.faults sink.old) (K.faults sink.new) }
+    ensures counts { K.faults sink.old ≤ K.faults sink.new }
+{
+    match reading {
+        Reading::Show { last } => put_json(alloc, last, b, sink),
+        _ => put_text(alloc, reading, b, sink),
+    }
+}
+
+/// Makes all that is printed of a file, and prints it.
+fn put_text<K: Sink>(alloc: Global, reading: Reading, b: &[u8], sink: &mut K) -> Result<(), Fault>
+    requires whole { IsWhole reading }
+    requires short { length b.now < 2 ^ 32 }
+    ensures ends { EndsPut reading b.now result (K.held sink.old) (K.held sink.new) (sink.new ≡ sink.old) }
+    ensures cause { result ≡ Err Fault.WriteFault → Rose (K.faults sink.old) (K.faults sink.new) }
+    ensures counts { K.faults sink.old ≤ K.faults sink.new }
+{
+    let text = match reading_text(alloc, reading, b) {
         Ok(text) => text,
         Err(fault) => return Err(fault),
     };
@@ -59,9 +92,10 @@ pub fn print_reading<S: Source, K: Sink>(
     Ok(())
 }
 
-/// What is printed of a file.
+/// What is printed of a file, made whole.
 fn reading_text(alloc: Global, reading: Reading, b: &[u8]) -> Result<Vec<u8>, Fault>
-    requires { length b.now < 2 ^ 32 }
+    requires whole { IsWhole reading }
+    requires short { length b.now < 2 ^ 32 }
     ensures text { IfOk result (λ text. Prints reading b.now text.items) }
     ensures err { IfErr result (IsUnshown (λ place. IsBad reading place b.now)) }
 {
@@ -73,6 +107,6 @@ fn reading_text(alloc: Global, reading: Reading, b: &[u8]) -> Result<Vec<u8>, Fa
         Reading::Totals { last } => file_totals(alloc, last, b),
         Reading::Chart { last } => file_chart(alloc, last, b),
         Reading::Speeds { last } => file_speeds(alloc, last, b),
-        Reading::Show => file_show(alloc, b),
+        Reading::Show { last: _last } => unreachable!(),
     }
 }

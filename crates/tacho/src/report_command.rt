@@ -1,20 +1,17 @@
-//! What `totals`, `chart`, `speeds` and `show` print: the hours of each day of a unit file or of a card file, a picture
-//! of the days, the detailed speed of a unit file, and all that stands in a file.
+//! What `totals`, `chart` and `speeds` print: the hours of each day of a unit file or of a card file, a picture of the
+//! days, and the detailed speed of a unit file.
 ghost use Rattle.std.specs.Prelude.{◌<◌, ◌^◌, IfOk, IfErr, length};
 ghost use Rattle.file_view.specs.CardFiles.{IsBadCardFile};
 ghost use Rattle.file_view.specs.UnitFiles.{IsBadUnitFile};
 ghost use Rattle.day_reports.specs.Printing.{PrintsUnitTotals, PrintsCardTotals, PrintsUnitChart, PrintsCardChart};
 ghost use Rattle.unit_speeds.specs.Text.{PrintsSpeeds};
 ghost use Rattle.tacho.specs.View.{IsBadFile};
-ghost use Rattle.file_json.specs.Cards.{IsCardJson};
-ghost use Rattle.file_json.specs.Units.{IsUnitJson};
-ghost use Rattle.tacho.specs.Reports.{PrintsTotals, PrintsChart, PrintsJson};
+ghost use Rattle.tacho.specs.Reports.{PrintsTotals, PrintsChart};
 ghost use Rattle.tacho.specs.Read.{IsUnshown};
 
 use crate::end::Fault;
 use crate::view_command::{is_unit_file, refusal};
 use day_reports::{card_chart, card_totals, unit_chart, unit_totals};
-use file_json::{card_json, unit_json};
 use std::alloc::Global;
 use unit_speeds::speeds_text;
 
@@ -97,42 +94,6 @@ pub fn file_speeds(alloc: Global, last: Option<u32>, b: &[u8]) -> Result<Vec<u8>
     ensures err { IfErr result (IsUnshown (λ place. IsBadUnitFile place b.now)) }
 {
     match speeds_text(alloc, b, last) {
-        Ok(text) => Ok(text),
-        Err(fault) => Err(refusal(fault)),
-    }
-}
-
-/// All that stands in a file, as JSON.
-pub fn file_show(alloc: Global, b: &[u8]) -> Result<Vec<u8>, Fault>
-    requires { length b.now < 2 ^ 32 }
-    ensures text { IfOk result (λ text. PrintsJson b.now text.items) }
-    ensures err { IfErr result (IsUnshown (λ place. IsBadFile place b.now)) }
-{
-    if is_unit_file(b) {
-        return unit_json_text(alloc, b);
-    }
-    card_json_text(alloc, b)
-}
-
-/// A unit file as JSON.
-fn unit_json_text(alloc: Global, b: &[u8]) -> Result<Vec<u8>, Fault>
-    requires { length b.now < 2 ^ 32 }
-    ensures text { IfOk result (λ text. IsUnitJson b.now text.items) }
-    ensures err { IfErr result (IsUnshown (λ place. IsBadUnitFile place b.now)) }
-{
-    match unit_json(alloc, b) {
-        Ok(text) => Ok(text),
-        Err(fault) => Err(refusal(fault)),
-    }
-}
-
-/// A card file as JSON.
-fn card_json_text(alloc: Global, b: &[u8]) -> Result<Vec<u8>, Fault>
-    requires { length b.now < 2 ^ 32 }
-    ensures text { IfOk result (λ text. IsCardJson b.now text.items) }
-    ensures err { IfErr result (IsUnshown (λ place. IsBadCardFile place b.now)) }
-{
-    match card_json(alloc, b) {
         Ok(text) => Ok(text),
         Err(fault) => Err(refusal(fault)),
     }

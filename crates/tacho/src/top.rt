@@ -1,11 +1,11 @@
 //! The top call: all that the program does, over any source, sink and devices.
 ghost use Rattle.std.specs.Prelude.{◌≡◌, Some};
 ghost use Rattle.tacho.specs.Forms.{form_of};
-ghost use Rattle.tacho.specs.Outside.{outside};
+ghost use Rattle.tacho.specs.Outside.{outside, tells, handed};
 ghost use Rattle.tacho.specs.declared.forms.Form.TheVariants.{Record as FormOfRecord, FormatCard as FormOfFormat};
 ghost use Rattle.tacho.specs.declared.forms.Form.TheVariants.{CardFile as FormOfCard, Demo as FormOfDemo};
 ghost use Rattle.tacho.specs.Outcomes.{IsEmpty, IsToldForUnit};
-ghost use Rattle.tacho.specs.Program.{AreDevices, Ends, Spares};
+ghost use Rattle.tacho.specs.Program.{AreDevices, Ends, Spares, Does};
 ghost use Rattle.tacho.specs.Serving.{AnswersWaiting};
 ghost use Rattle.tacho.specs.Packets.{WritesFile};
 ghost use Rattle.tach_media.specs.Medium.{Rose};
@@ -77,8 +77,8 @@ pub fn tacho<S: Peer<K>, K: Sink, F: Sink, U: Medium, C: Chip>(
 
     // What the form does not name is as it was, and so are the cards where `record` reads a trace without a card's
     // line; so are the devices where memory ran out, and the sink where nothing is to be printed, but for `serve`,
-    // `serve --hex` and `download`, which write as they read, and for `card a` and `card b`, which leave the sink as it
-    // was where a field is named.
+    // `serve --hex` and `download`, which write as they read, for `show`, which leaves the sink as it was where its file
+    // is none, and for `card a` and `card b`, which do so where a field is named.
     ensures spares { Spares (form_of words.now) result.fault (IsToldForUnit (S.left source.old))
         (source.new ≡ source.old) (sink.new ≡ sink.old) (unit.new ≡ unit.old) (card_a.new ≡ card_a.old)
         (card_b.new ≡ card_b.old) }
@@ -114,14 +114,9 @@ fn perform<S: Peer<K>, K: Sink, F: Sink, U: Medium, C: Chip>(
     card_b: &mut C,
 ) -> Ended
     requires { AreDevices (U.state unit.old) (C.state card_a.old) (C.state card_b.old) }
-    ensures ends { Ends (Some form)
-        (outside S.left S.faults K.held K.faults U.state C.state C.card source.old sink.old unit.old card_a.old
-        card_b.old)
-        (outside S.left S.faults K.held K.faults U.state C.state C.card source.new sink.new unit.new card_a.new
-        card_b.new) result }
-    ensures spares { Spares (Some form) result.fault (IsToldForUnit (S.left source.old))
-        (source.new ≡ source.old) (sink.new ≡ sink.old) (unit.new ≡ unit.old) (card_a.new ≡ card_a.old)
-        (card_b.new ≡ card_b.old) }
+    ensures does { Does (tells S.left S.faults K.held K.faults U.state C.state C.card) (Some form)
+        (handed source.old sink.old unit.old card_a.old card_b.old)
+        (handed source.new sink.new unit.new card_a.new card_b.new) result }
     ensures in_time { AnswersWaiting (Some form)
         (outside S.left S.faults K.held K.faults U.state C.state C.card source.old sink.old unit.old card_a.old
         card_b.old)
@@ -201,14 +196,9 @@ fn perform_record<S: Source, K: Sink, U: Medium, C: Chip>(
     card_b: &mut C,
 ) -> Ended
     requires { AreDevices (U.state unit.old) (C.state card_a.old) (C.state card_b.old) }
-    ensures ends { Ends (Some FormOfRecord)
-        (outside S.left S.faults K.held K.faults U.state C.state C.card source.old sink.old unit.old card_a.old
-        card_b.old)
-        (outside S.left S.faults K.held K.faults U.state C.state C.card source.new sink.new unit.new card_a.new
-        card_b.new) result }
-    ensures spares { Spares (Some FormOfRecord) result.fault (IsToldForUnit (S.left source.old))
-        (source.new ≡ source.old) (sink.new ≡ sink.old) (unit.new ≡ unit.old) (card_a.new ≡ card_a.old)
-        (card_b.new ≡ card_b.old) }
+    ensures does { Does (tells S.left S.faults K.held K.faults U.state C.state C.card) (Some FormOfRecord)
+        (handed source.old sink.old unit.old card_a.old card_b.old)
+        (handed source.new sink.new unit.new card_a.new card_b.new) result }
 {
     let mut outcome = nothing(alloc);
     let done = record(alloc, source, sink, unit, card_a, card_b, &mut outcome);
@@ -227,14 +217,10 @@ fn perform_format<S: Source, K: Sink, U: Medium, C: Chip>(
     card_b: &mut C,
 ) -> Ended
     requires { AreDevices (U.state unit.old) (C.state card_a.old) (C.state card_b.old) }
-    ensures ends { Ends (Some (FormOfFormat card identity.now))
-        (outside S.left S.faults K.held K.faults U.state C.state C.card source.old sink.old unit.old card_a.old
-        card_b.old)
-        (outside S.left S.faults K.held K.faults U.state C.state C.card source.new sink.new unit.new card_a.new
-        card_b.new) result }
-    ensures spares { Spares (Some (FormOfFormat card identity.now)) result.fault (IsToldForUnit (S.left source.old))
-        (source.new ≡ source.old) (sink.new ≡ sink.old) (unit.new ≡ unit.old) (card_a.new ≡ card_a.old)
-        (card_b.new ≡ card_b.old) }
+    ensures does { Does (tells S.left S.faults K.held K.faults U.state C.state C.card)
+        (Some (FormOfFormat card identity.now))
+        (handed source.old sink.old unit.old card_a.old card_b.old)
+        (handed source.new sink.new unit.new card_a.new card_b.new) result }
 {
     let outcome = nothing(alloc);
     match card {
@@ -262,14 +248,9 @@ fn perform_card<S: Source, K: Sink, U: Medium, C: Chip>(
     card_b: &mut C,
 ) -> Ended
     requires { AreDevices (U.state unit.old) (C.state card_a.old) (C.state card_b.old) }
-    ensures ends { Ends (Some (FormOfCard card))
-        (outside S.left S.faults K.held K.faults U.state C.state C.card source.old sink.old unit.old card_a.old
-        card_b.old)
-        (outside S.left S.faults K.held K.faults U.state C.state C.card source.new sink.new unit.new card_a.new
-        card_b.new) result }
-    ensures spares { Spares (Some (FormOfCard card)) result.fault (IsToldForUnit (S.left source.old))
-        (source.new ≡ source.old) (sink.new ≡ sink.old) (unit.new ≡ unit.old) (card_a.new ≡ card_a.old)
-        (card_b.new ≡ card_b.old) }
+    ensures does { Does (tells S.left S.faults K.held K.faults U.state C.state C.card) (Some (FormOfCard card))
+        (handed source.old sink.old unit.old card_a.old card_b.old)
+        (handed source.new sink.new unit.new card_a.new card_b.new) result }
 {
     let outcome = nothing(alloc);
     match card {
@@ -297,14 +278,9 @@ fn perform_demo<S: Source, K: Sink, U: Medium, C: Chip>(
     card_b: &mut C,
 ) -> Ended
     requires { AreDevices (U.state unit.old) (C.state card_a.old) (C.state card_b.old) }
-    ensures ends { Ends (Some (FormOfDemo seed))
-        (outside S.left S.faults K.held K.faults U.state C.state C.card source.old sink.old unit.old card_a.old
-        card_b.old)
-        (outside S.left S.faults K.held K.faults U.state C.state C.card source.new sink.new unit.new card_a.new
-        card_b.new) result }
-    ensures spares { Spares (Some (FormOfDemo seed)) result.fault (IsToldForUnit (S.left source.old))
-        (source.new ≡ source.old) (sink.new ≡ sink.old) (unit.new ≡ unit.old) (card_a.new ≡ card_a.old)
-        (card_b.new ≡ card_b.old) }
+    ensures does { Does (tells S.left S.faults K.held K.faults U.state C.state C.card) (Some (FormOfDemo seed))
+        (handed source.old sink.old unit.old card_a.old card_b.old)
+        (handed source.new sink.new unit.new card_a.new card_b.new) result }
 {
     let mut outcome = nothing(alloc);
     let done = demo(

@@ -54,3 +54,6 @@ returns-clause-refused g c =
     refused-by c.args.trace.now.start (g.U.Medium.state c.args.unit.now) (g.U.Medium.state c.run_trace.new.unit) c.no_card-card_a.result.medium.broken c.no_card-card_b.result.medium.broken c.run_trace.new.card_a.medium.broken c.run_trace.new.card_b.medium.broken
     c.no_card-card_a.ensures c.no_card-card_b.ensures c.run_trace.result _ c.args.outcome.now c.run_trace.new.outcome
     (g.met.U.Medium.coherent c.args.unit.now) (g.met.U.Medium.coherent c.run_trace.new.unit) c.run_trace.ensures.fault
+
+pub returns-clause-most : goal.returns-clause-most
+returns-clause-most g c = c.run_trace.ensures.most.unit

@@ -1,66 +1,62 @@
-use Rattle.std.proofs.Common.{◌≡◌, ◌∙◌, sym, subst, arith}
-use Rattle.tacho.specs.declared.end.Fault.TheVariants as end
-use Rattle.tacho.specs.Read.{Prints, IsBad, IsUnshown}
-use Rattle.tacho.proofs.Formats.{of-ok}
-use Rattle.tacho.proofs.Views.{of-told, not-long, of-err, unshown-end}
+use Rattle.std.proofs.Common.{◌≡◌, List, ℕ, inl, refl, arith}
+use Rattle.tacho.specs.Read.{EndsPut}
+use Rattle.tacho.proofs.Views.{of-told, not-long}
+use Rattle.tacho.proofs.Puts.{put-printed, put-bad, put-front, put-not-long, put-not-read, put-other, put-short, put-nothing, on-ok}
 use Rattle.tacho.proofs.reading_command.print_reading.Goals as goal
 
-pub returns-in-Err-clause-bad_file : goal.returns-in-Err-clause-bad_file
-returns-in-Err-clause-bad_file g c = λ bytes place told is.
-    let same : c.in-Err.fault ≡ end.BadFile place = cc in
-    of-told (IsBad c.args.reading place) (g.S.Source.left c.args.source.now) (g.S.Source.left c.take_all.new.source) c.in-Ok.bytes.items c.as_slice.result.now bytes c.in-Ok.ensures.bytes c.in-Ok.ensures.end c.as_slice.ensures.value
-    told (subst (IsUnshown (λ p. IsBad c.args.reading p c.as_slice.result.now)) same c.in-Err.ensures.err)
-
-pub returns-in-Err-clause-too_long : goal.returns-in-Err-clause-too_long
-returns-in-Err-clause-too_long g c = λ bytes n told is.
-    let same : c.in-Err.fault ≡ end.TooLong n = cc in
-    absurd (subst (IsUnshown (λ p. IsBad c.args.reading p c.as_slice.result.now)) same c.in-Err.ensures.err)
-
-pub returns-in-Err-clause-finds_too_long : goal.returns-in-Err-clause-finds_too_long
-returns-in-Err-clause-finds_too_long g c = λ bytes told many.
-    absurd (not-long (g.S.Source.left c.args.source.now) (g.S.Source.left c.take_all.new.source) c.in-Ok.bytes.items c.as_slice.result.now bytes c.in-Ok.ensures.bytes c.in-Ok.ensures.end c.as_slice.ensures.value
-    (omega (arith, c.as_slice.ensures.len, c.in-Ok.ensures.few)) told many)
-
-pub returns-in-Err-clause-read_fault : goal.returns-in-Err-clause-read_fault
-returns-in-Err-clause-read_fault g c = λ is.
-    let same : c.in-Err.fault ≡ end.ReadFault = cc in
-    absurd (subst (IsUnshown (λ p. IsBad c.args.reading p c.as_slice.result.now)) same c.in-Err.ensures.err)
-
-pub returns-in-Err-clause-write_fault : goal.returns-in-Err-clause-write_fault
-returns-in-Err-clause-write_fault g c = λ is.
-    let same : c.in-Err.fault ≡ end.WriteFault = cc in
-    absurd (subst (IsUnshown (λ p. IsBad c.args.reading p c.as_slice.result.now)) same c.in-Err.ensures.err)
-
-pub returns-in-Err-clause-front : goal.returns-in-Err-clause-front
-returns-in-Err-clause-front g c = λ bytes told is.
-    let same : c.in-Err.fault ≡ end.WriteFault = cc in
-    absurd (subst (IsUnshown (λ p. IsBad c.args.reading p c.as_slice.result.now)) same c.in-Err.ensures.err)
-
-pub returns-in-Err-clause-other : goal.returns-in-Err-clause-other
-returns-in-Err-clause-other g c = unshown-end (λ p. IsBad c.args.reading p c.as_slice.result.now) c.in-Err.fault c.in-Err.ensures.err
-
-pub returns-then-is_err-clause-finds_too_long : goal.returns-then-is_err-clause-finds_too_long
-returns-then-is_err-clause-finds_too_long g c = λ bytes told many.
-    absurd (not-long (g.S.Source.left c.args.source.now) (g.S.Source.left c.take_all.new.source) c.in-Ok.bytes.items c.as_slice.result.now bytes c.in-Ok.ensures.bytes c.in-Ok.ensures.end c.as_slice.ensures.value
-    (omega (arith, c.as_slice.ensures.len, c.in-Ok.ensures.few)) told many)
-
-pub returns-then-is_err-clause-front : goal.returns-then-is_err-clause-front
-returns-then-is_err-clause-front g c = λ bytes told is. (
-  c.as_slice-shown.result.now,
-  of-told (λ b. Prints c.args.reading b c.as_slice-shown.result.now) (g.S.Source.left c.args.source.now) (g.S.Source.left c.take_all.new.source) c.in-Ok.bytes.items c.as_slice.result.now bytes c.in-Ok.ensures.bytes c.in-Ok.ensures.end c.as_slice.ensures.value
-      told (rw c.as_slice-shown.ensures.value c.in-Ok-reading_text.ensures.text),
-  of-err c.put_all.result (sym c.is_err.ensures.value ∙ c.if-is_err.true) c.put_all.ensures.err,
-)
-
 pub returns-clause-printed : goal.returns-clause-printed
-returns-clause-printed g c = λ bytes told. (
-  c.as_slice-shown.result.now,
-  of-told (λ b. Prints c.args.reading b c.as_slice-shown.result.now) (g.S.Source.left c.args.source.now) (g.S.Source.left c.take_all.new.source) c.in-Ok.bytes.items c.as_slice.result.now bytes c.in-Ok.ensures.bytes c.in-Ok.ensures.end c.as_slice.ensures.value
-      told (rw c.as_slice-shown.ensures.value c.in-Ok-reading_text.ensures.text),
-  of-ok c.put_all.result (sym c.is_err.ensures.value ∙ c.if-is_err.false) c.put_all.ensures.ok,
-)
+returns-clause-printed g c = λ bytes told.
+    put-printed c.args.reading bytes (g.K.Sink.held c.args.sink.now) (g.K.Sink.held c.put_reading.new.sink) (c.put_reading.new.sink ≡ c.args.sink.now) c.put_reading.result
+    (of-told (λ (bs : List ℕ). EndsPut c.args.reading bs c.put_reading.result (g.K.Sink.held c.args.sink.now) (g.K.Sink.held c.put_reading.new.sink) (c.put_reading.new.sink ≡ c.args.sink.now))
+    (g.S.Source.left c.args.source.now) (g.S.Source.left c.take_all.new.source) c.in-Ok.bytes.items c.as_slice.result.now bytes c.in-Ok.ensures.bytes c.in-Ok.ensures.end c.as_slice.ensures.value told c.put_reading.ensures.ends)
+
+pub returns-clause-read : goal.returns-clause-read
+returns-clause-read g c = on-ok c.put_reading.result c.in-Ok.ensures.end
+
+pub returns-clause-bad_file : goal.returns-clause-bad_file
+returns-clause-bad_file g c = λ bytes place told is.
+    put-bad c.args.reading bytes (g.K.Sink.held c.args.sink.now) (g.K.Sink.held c.put_reading.new.sink) (c.put_reading.new.sink ≡ c.args.sink.now) c.put_reading.result place
+    (of-told (λ (bs : List ℕ). EndsPut c.args.reading bs c.put_reading.result (g.K.Sink.held c.args.sink.now) (g.K.Sink.held c.put_reading.new.sink) (c.put_reading.new.sink ≡ c.args.sink.now))
+    (g.S.Source.left c.args.source.now) (g.S.Source.left c.take_all.new.source) c.in-Ok.bytes.items c.as_slice.result.now bytes c.in-Ok.ensures.bytes c.in-Ok.ensures.end c.as_slice.ensures.value told c.put_reading.ensures.ends)
+    is
+
+pub returns-clause-too_long : goal.returns-clause-too_long
+returns-clause-too_long g c = λ bytes n told is.
+    absurd (put-not-long c.args.reading c.as_slice.result.now (g.K.Sink.held c.args.sink.now) (g.K.Sink.held c.put_reading.new.sink) (c.put_reading.new.sink ≡ c.args.sink.now) c.put_reading.result n c.put_reading.ensures.ends is)
 
 pub returns-clause-finds_too_long : goal.returns-clause-finds_too_long
 returns-clause-finds_too_long g c = λ bytes told many.
     absurd (not-long (g.S.Source.left c.args.source.now) (g.S.Source.left c.take_all.new.source) c.in-Ok.bytes.items c.as_slice.result.now bytes c.in-Ok.ensures.bytes c.in-Ok.ensures.end c.as_slice.ensures.value
     (omega (arith, c.as_slice.ensures.len, c.in-Ok.ensures.few)) told many)
+
+pub returns-clause-read_fault : goal.returns-clause-read_fault
+returns-clause-read_fault g c = λ is.
+    absurd (put-not-read c.args.reading c.as_slice.result.now (g.K.Sink.held c.args.sink.now) (g.K.Sink.held c.put_reading.new.sink) (c.put_reading.new.sink ≡ c.args.sink.now) c.put_reading.result c.put_reading.ensures.ends is)
+
+pub returns-clause-write_fault : goal.returns-clause-write_fault
+returns-clause-write_fault g c = c.put_reading.ensures.cause
+
+pub returns-clause-front : goal.returns-clause-front
+returns-clause-front g c = λ bytes told is.
+    put-front c.args.reading bytes (g.K.Sink.held c.args.sink.now) (g.K.Sink.held c.put_reading.new.sink) (c.put_reading.new.sink ≡ c.args.sink.now) c.put_reading.result
+    (of-told (λ (bs : List ℕ). EndsPut c.args.reading bs c.put_reading.result (g.K.Sink.held c.args.sink.now) (g.K.Sink.held c.put_reading.new.sink) (c.put_reading.new.sink ≡ c.args.sink.now))
+    (g.S.Source.left c.args.source.now) (g.S.Source.left c.take_all.new.source) c.in-Ok.bytes.items c.as_slice.result.now bytes c.in-Ok.ensures.bytes c.in-Ok.ensures.end c.as_slice.ensures.value told c.put_reading.ensures.ends)
+    is
+
+pub returns-clause-short : goal.returns-clause-short
+returns-clause-short g c = λ bytes told is.
+    put-short c.args.reading bytes (g.K.Sink.held c.args.sink.now) (g.K.Sink.held c.put_reading.new.sink) (c.put_reading.new.sink ≡ c.args.sink.now) c.put_reading.result
+    (of-told (λ (bs : List ℕ). EndsPut c.args.reading bs c.put_reading.result (g.K.Sink.held c.args.sink.now) (g.K.Sink.held c.put_reading.new.sink) (c.put_reading.new.sink ≡ c.args.sink.now))
+    (g.S.Source.left c.args.source.now) (g.S.Source.left c.take_all.new.source) c.in-Ok.bytes.items c.as_slice.result.now bytes c.in-Ok.ensures.bytes c.in-Ok.ensures.end c.as_slice.ensures.value told c.put_reading.ensures.ends)
+    is
+
+pub returns-in-Err-Memory-clause-short : goal.returns-in-Err-Memory-clause-short
+returns-in-Err-Memory-clause-short g c = λ bytes told is. inl refl
+
+pub returns-clause-nothing : goal.returns-clause-nothing
+returns-clause-nothing g c =
+    put-nothing c.args.reading c.as_slice.result.now (g.K.Sink.held c.args.sink.now) (g.K.Sink.held c.put_reading.new.sink) (c.put_reading.new.sink ≡ c.args.sink.now) c.put_reading.result c.put_reading.ensures.ends
+
+pub returns-clause-other : goal.returns-clause-other
+returns-clause-other g c =
+    put-other c.args.reading c.as_slice.result.now (g.K.Sink.held c.args.sink.now) (g.K.Sink.held c.put_reading.new.sink) (c.put_reading.new.sink ≡ c.args.sink.now) c.put_reading.result c.put_reading.ensures.ends

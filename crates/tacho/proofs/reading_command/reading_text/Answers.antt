@@ -42,8 +42,5 @@ returns-in-Speeds-clause-text c = rw c.in-Speeds.is c.file_speeds.ensures.text
 pub returns-in-Speeds-clause-err : goal.returns-in-Speeds-clause-err
 returns-in-Speeds-clause-err c = rw c.in-Speeds.is c.file_speeds.ensures.err
 
-pub returns-in-Show-clause-text : goal.returns-in-Show-clause-text
-returns-in-Show-clause-text c = rw c.in-Show.is c.file_show.ensures.text
-
-pub returns-in-Show-clause-err : goal.returns-in-Show-clause-err
-returns-in-Show-clause-err c = rw c.in-Show.is c.file_show.ensures.err
+pub unreachable-requires : goal.unreachable-requires
+unreachable-requires c = rw c.in-Show.is at c.requires.whole

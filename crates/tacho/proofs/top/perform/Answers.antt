@@ -1,4 +1,4 @@
-use Rattle.std.proofs.Common.{refl, arith}
+use Rattle.std.proofs.Common.{◌≡◌, rules, refl, ap, arith}
 use Rattle.tacho.specs.Read.{Prints, IsBad}
 use Rattle.tacho.proofs.Endings.{ends-minutes, minutes-ends, ends-reading, reading-ends, help-ends, version-ends, no-other-end}
 use Rattle.tacho.proofs.Services.{serve-ends}
@@ -8,54 +8,58 @@ use Rattle.tacho.proofs.PacketServices.{serve-packets-ends, download-packets-end
 use Rattle.tach_media.specs.Medium.{Rose}
 use Rattle.tacho.proofs.Upgraded.{upgrade-ends, upgrade-spares}
 use Rattle.tacho.proofs.Stated.{state-ends}
+use Rattle.tacho.proofs.Spared.{reading-spares, kept-or}
 use Rattle.tacho.proofs.top.perform.Goals as goal
 
-pub returns-in-Minutes-clause-ends : goal.returns-in-Minutes-clause-ends
-returns-in-Minutes-clause-ends g c =
-    let e = c.print_minutes.ensures in
-    rw (c.in-Minutes.is, c.after.ensures)
-    (minutes-ends c.in-Minutes.rule _ _ c.print_minutes.result
-    (ends-minutes c.in-Minutes.rule _ _ c.print_minutes.result e.printed e.read e.bad_trace e.too_long e.read_fault e.write_fault e.prints e.finds_bad_trace e.finds_too_long e.front e.other)
-    e.read_fault e.write_fault e.counts c.nothing-nothing.result c.nothing-nothing.ensures)
+pub returns-in-Minutes-clause-does : goal.returns-in-Minutes-clause-does
+returns-in-Minutes-clause-does g c = record {
+  ends =
+      let e = c.print_minutes.ensures in
+      rw (c.in-Minutes.is, c.after.ensures)
+      (minutes-ends c.in-Minutes.rule _ _ c.print_minutes.result
+      (ends-minutes c.in-Minutes.rule _ _ c.print_minutes.result e.printed e.read e.bad_trace e.too_long e.read_fault e.write_fault e.prints e.finds_bad_trace e.finds_too_long e.front e.other)
+      e.read_fault e.write_fault e.counts c.nothing-nothing.result c.nothing-nothing.ensures);
+  spares = search rules;
+}
 
-pub returns-in-Serve-clause-ends : goal.returns-in-Serve-clause-ends
-returns-in-Serve-clause-ends g c =
-    let e = c.serve.ensures in
-    rw (c.in-Serve.is, c.of.ensures, c.service_end.ensures)
-    (serve-ends _ _ c.serve.result e.served e.end e.cause e.unit e.counts c.nothing-nothing.result c.nothing-nothing.ensures)
+pub returns-in-Serve-clause-does : goal.returns-in-Serve-clause-does
+returns-in-Serve-clause-does g c = record {
+  ends =
+      let e = c.serve.ensures in
+      rw (c.in-Serve.is, c.of.ensures, c.service_end.ensures)
+      (serve-ends _ _ c.serve.result e.served e.end e.cause e.unit e.counts c.nothing-nothing.result c.nothing-nothing.ensures);
+  spares = rw c.in-Serve.is (record { others = (refl, refl); cards = λ is. absurd (cc); before = λ none. absurd none; nothing = λ none. absurd none; unprinted = λ none. absurd none });
+}
 
-pub returns-in-Serve-clause-spares : goal.returns-in-Serve-clause-spares
-returns-in-Serve-clause-spares g c = rw c.in-Serve.is (record { others = (refl, refl); cards = λ is. absurd (cc); before = λ none. absurd none; nothing = λ none. absurd none; unprinted = λ none. absurd none })
+pub returns-in-ServeHex-clause-does : goal.returns-in-ServeHex-clause-does
+returns-in-ServeHex-clause-does g c = record {
+  ends =
+      let e = c.serve_lines.ensures in
+      rw (c.in-ServeHex.is, c.of-in-ServeHex.ensures, c.lines_end.ensures)
+      (serve-hex-ends _ _ c.serve_lines.result e.served e.end e.cause e.unit e.counts c.nothing-nothing.result c.nothing-nothing.ensures);
+  spares = rw c.in-ServeHex.is (record { others = (refl, refl); cards = λ is. absurd (cc); before = λ none. absurd none; nothing = λ none. absurd none; unprinted = λ none. absurd none });
+}
 
-pub returns-in-ServeHex-clause-ends : goal.returns-in-ServeHex-clause-ends
-returns-in-ServeHex-clause-ends g c =
-    let e = c.serve_lines.ensures in
-    rw (c.in-ServeHex.is, c.of-in-ServeHex.ensures, c.lines_end.ensures)
-    (serve-hex-ends _ _ c.serve_lines.result e.served e.end e.cause e.unit e.counts c.nothing-nothing.result c.nothing-nothing.ensures)
-
-pub returns-in-ServeHex-clause-spares : goal.returns-in-ServeHex-clause-spares
-returns-in-ServeHex-clause-spares g c = rw c.in-ServeHex.is (record { others = (refl, refl); cards = λ is. absurd (cc); before = λ none. absurd none; nothing = λ none. absurd none; unprinted = λ none. absurd none })
-
-pub returns-in-ServePackets-clause-ends : goal.returns-in-ServePackets-clause-ends
-returns-in-ServePackets-clause-ends g c =
-    let e = c.serve_packets.ensures in
-    rw (c.in-ServePackets.is, c.of-in-ServePackets.ensures, c.service_end-in-ServePackets.ensures)
-    (serve-packets-ends _ _ c.serve_packets.result e.served e.end e.cause e.unit e.counts c.nothing-nothing.result c.nothing-nothing.ensures)
-
-pub returns-in-ServePackets-clause-spares : goal.returns-in-ServePackets-clause-spares
-returns-in-ServePackets-clause-spares g c = rw c.in-ServePackets.is (record { others = (refl, refl); cards = λ is. absurd (cc); before = λ none. absurd none; nothing = λ none. absurd none; unprinted = λ none. absurd none })
+pub returns-in-ServePackets-clause-does : goal.returns-in-ServePackets-clause-does
+returns-in-ServePackets-clause-does g c = record {
+  ends =
+      let e = c.serve_packets.ensures in
+      rw (c.in-ServePackets.is, c.of-in-ServePackets.ensures, c.service_end-in-ServePackets.ensures)
+      (serve-packets-ends _ _ c.serve_packets.result e.served e.end e.cause e.unit e.counts c.nothing-nothing.result c.nothing-nothing.ensures);
+  spares = rw c.in-ServePackets.is (record { others = (refl, refl); cards = λ is. absurd (cc); before = λ none. absurd none; nothing = λ none. absurd none; unprinted = λ none. absurd none });
+}
 
 pub returns-in-ServePackets-clause-in_time : goal.returns-in-ServePackets-clause-in_time
 returns-in-ServePackets-clause-in_time g c = rw c.in-ServePackets.is c.serve_packets.ensures.in_time
 
-pub returns-in-DownloadPackets-clause-ends : goal.returns-in-DownloadPackets-clause-ends
-returns-in-DownloadPackets-clause-ends g c =
-    let e = c.download_packets.ensures in
-    rw (c.in-DownloadPackets.is, c.of-in-DownloadPackets.ensures, c.packets_end.ensures)
-    (download-packets-ends _ _ c.download_packets.result (Rose (g.F.Sink.faults c.args.file.now) (g.F.Sink.faults c.download_packets.new.file)) e.cause e.counts.0 e.counts.1 c.nothing-nothing.result c.nothing-nothing.ensures)
-
-pub returns-in-DownloadPackets-clause-spares : goal.returns-in-DownloadPackets-clause-spares
-returns-in-DownloadPackets-clause-spares g c = rw c.in-DownloadPackets.is (record { others = (refl, refl, refl); cards = λ is. absurd (cc); before = λ none. absurd none; nothing = λ none. absurd none; unprinted = λ none. absurd none })
+pub returns-in-DownloadPackets-clause-does : goal.returns-in-DownloadPackets-clause-does
+returns-in-DownloadPackets-clause-does g c = record {
+  ends =
+      let e = c.download_packets.ensures in
+      rw (c.in-DownloadPackets.is, c.of-in-DownloadPackets.ensures, c.packets_end.ensures)
+      (download-packets-ends _ _ c.download_packets.result (Rose (g.F.Sink.faults c.args.file.now) (g.F.Sink.faults c.download_packets.new.file)) e.cause e.counts.0 e.counts.1 c.nothing-nothing.result c.nothing-nothing.ensures);
+  spares = rw c.in-DownloadPackets.is (record { others = (refl, refl, refl); cards = λ is. absurd (cc); before = λ none. absurd none; nothing = λ none. absurd none; unprinted = λ none. absurd none });
+}
 
 pub returns-in-DownloadPackets-clause-in_time : goal.returns-in-DownloadPackets-clause-in_time
 returns-in-DownloadPackets-clause-in_time g c = rw c.in-DownloadPackets.is c.download_packets.ensures.in_time
@@ -73,79 +77,89 @@ returns-in-Serve-clause-in_time g c = rw c.in-Serve.is c.serve.ensures.in_time
 pub returns-in-ServeHex-clause-in_time : goal.returns-in-ServeHex-clause-in_time
 returns-in-ServeHex-clause-in_time g c = rw c.in-ServeHex.is c.serve_lines.ensures.in_time
 
-pub returns-in-Read-clause-ends : goal.returns-in-Read-clause-ends
-returns-in-Read-clause-ends g c =
-    let e = c.print_reading.ensures in
-    rw (c.in-Read.is, c.after-in-Read.ensures)
-    (reading-ends c.in-Read.reading _ _ c.print_reading.result
-    (ends-reading (Prints c.in-Read.reading) (IsBad c.in-Read.reading) _ _ c.print_reading.result e.printed e.read e.bad_file e.too_long e.finds_too_long e.read_fault e.write_fault e.front e.other)
-    e.read_fault e.write_fault e.counts c.nothing-nothing.result c.nothing-nothing.ensures)
+pub returns-in-Read-clause-does : goal.returns-in-Read-clause-does
+returns-in-Read-clause-does g c = record {
+  ends =
+      let e = c.print_reading.ensures in
+      rw (c.in-Read.is, c.after-in-Read.ensures)
+      (reading-ends c.in-Read.reading _ _ c.print_reading.result
+      (ends-reading (Prints c.in-Read.reading) (IsBad c.in-Read.reading) _ _ c.print_reading.result e.printed e.read e.bad_file e.too_long e.finds_too_long e.read_fault e.write_fault e.front
+      (λ bytes told is. kept-or (g.K.Sink.held c.args.sink.now) (g.K.Sink.held c.print_reading.new.sink) (c.print_reading.new.sink ≡ c.args.sink.now) _ (λ same. ap (λ s. g.K.Sink.held s) same) (e.short bytes told is)) e.other)
+      e.read_fault e.write_fault e.counts c.nothing-nothing.result c.nothing-nothing.ensures);
+  spares =
+      rw (c.in-Read.is, c.after-in-Read.ensures)
+      (reading-spares c.in-Read.reading c.print_reading.result refl refl refl c.print_reading.ensures.nothing);
+}
 
-pub returns-in-Download-clause-ends : goal.returns-in-Download-clause-ends
-returns-in-Download-clause-ends g c =
-    let e = c.download-done.ensures in
-    rw (c.in-Download.is, c.with.ensures, c.download_end.ensures)
-    (download-ends _ _ c.download-done.new.wire c.download-done.result e.downloaded e.file e.front e.changed e.bad e.nothing e.cause (omega arith) e.counts e.unit c.nothing-nothing.result c.nothing-nothing.ensures)
+pub returns-in-Download-clause-does : goal.returns-in-Download-clause-does
+returns-in-Download-clause-does g c = record {
+  ends =
+      let e = c.download-done.ensures in
+      rw (c.in-Download.is, c.with.ensures, c.download_end.ensures)
+      (download-ends _ _ c.download-done.new.wire c.download-done.result e.downloaded e.file e.front e.changed e.bad e.nothing e.cause (omega arith) e.counts e.unit c.nothing-nothing.result c.nothing-nothing.ensures);
+  spares = rw c.in-Download.is (record { others = (refl, refl, refl); cards = λ is. absurd (cc); before = λ none. absurd none; nothing = λ none. absurd none; unprinted = λ none. absurd none });
+}
 
-pub returns-in-Download-clause-spares : goal.returns-in-Download-clause-spares
-returns-in-Download-clause-spares g c = rw c.in-Download.is (record { others = (refl, refl, refl); cards = λ is. absurd (cc); before = λ none. absurd none; nothing = λ none. absurd none; unprinted = λ none. absurd none })
+pub returns-in-DownloadNoisy-clause-does : goal.returns-in-DownloadNoisy-clause-does
+returns-in-DownloadNoisy-clause-does g c = record {
+  ends =
+      let e = c.download_noisy-done.ensures in
+      rw (c.in-DownloadNoisy.is, c.with-in-DownloadNoisy.ensures, c.download_end-in-DownloadNoisy.ensures)
+      (download-noisy-ends c.in-DownloadNoisy.seed _ _ c.download_noisy-done.new.wire c.download_noisy-done.result e.downloaded e.cause (omega arith) e.counts e.unit c.nothing-nothing.result c.nothing-nothing.ensures);
+  spares = rw c.in-DownloadNoisy.is (record { others = (refl, refl, refl); cards = λ is. absurd (cc); before = λ none. absurd none; nothing = λ none. absurd none; unprinted = λ none. absurd none });
+}
 
-pub returns-in-DownloadNoisy-clause-ends : goal.returns-in-DownloadNoisy-clause-ends
-returns-in-DownloadNoisy-clause-ends g c =
-    let e = c.download_noisy-done.ensures in
-    rw (c.in-DownloadNoisy.is, c.with-in-DownloadNoisy.ensures, c.download_end-in-DownloadNoisy.ensures)
-    (download-noisy-ends c.in-DownloadNoisy.seed _ _ c.download_noisy-done.new.wire c.download_noisy-done.result e.downloaded e.cause (omega arith) e.counts e.unit c.nothing-nothing.result c.nothing-nothing.ensures)
+pub returns-in-Upgrade-clause-does : goal.returns-in-Upgrade-clause-does
+returns-in-Upgrade-clause-does g c = record {
+  ends =
+      let e = c.upgrade_unit.ensures in
+      rw (c.in-Upgrade.is, c.after-in-Upgrade.ensures)
+      (upgrade-ends _ _ c.nothing-nothing.result c.upgrade_unit.result e.ends c.nothing-nothing.ensures (omega arith) e.counts);
+  spares =
+      let e = c.upgrade_unit.ensures in
+      rw (c.in-Upgrade.is, c.after-in-Upgrade.ensures) (upgrade-spares c.upgrade_unit.result e.ends refl refl refl e.nothing);
+}
 
-pub returns-in-DownloadNoisy-clause-spares : goal.returns-in-DownloadNoisy-clause-spares
-returns-in-DownloadNoisy-clause-spares g c =
-    rw c.in-DownloadNoisy.is (record { others = (refl, refl, refl); cards = λ is. absurd (cc); before = λ none. absurd none; nothing = λ none. absurd none; unprinted = λ none. absurd none })
+pub returns-in-State-clause-does : goal.returns-in-State-clause-does
+returns-in-State-clause-does g c = record {
+  ends =
+      let d = c.devices_state-told.ensures in
+      rw (c.in-State.is, c.after-in-State.ensures)
+      (state-ends c.devices_state-told.result _ _ c.nothing-nothing.result c.print_state.result
+      (record { unit = d.unit; card_a = d.card_a; card_b = d.card_b; reads_unit = d.reads_unit; reads_a = d.reads_a; reads_b = d.reads_b })
+      c.print_state.ensures.prints c.nothing-nothing.ensures (omega arith) c.print_state.ensures.counts);
+  spares = rw c.in-State.is (record { others = refl; cards = λ is. absurd (cc); before = λ none. absurd none; nothing = λ none. absurd none; unprinted = λ none. absurd none });
+}
 
-pub returns-in-Upgrade-clause-ends : goal.returns-in-Upgrade-clause-ends
-returns-in-Upgrade-clause-ends g c =
-    let e = c.upgrade_unit.ensures in
-    rw (c.in-Upgrade.is, c.after-in-Upgrade.ensures)
-    (upgrade-ends _ _ c.nothing-nothing.result c.upgrade_unit.result e.ends c.nothing-nothing.ensures (omega arith) e.counts)
+pub returns-in-Help-clause-does : goal.returns-in-Help-clause-does
+returns-in-Help-clause-does g c = record {
+  ends =
+      rw (c.in-Help.is, c.after-in-Help.ensures)
+      (help-ends _ _ c.print_help.result c.print_help.ensures.ends (omega arith) c.print_help.ensures.counts c.nothing-nothing.result c.nothing-nothing.ensures);
+  spares =
+      rw (c.in-Help.is, c.after-in-Help.ensures) (record {
+        others = (refl, refl, refl, refl);
+        cards = λ is. absurd (cc);
+        before = λ first is. (refl, refl, refl);
+        nothing = λ first done wrote. absurd (no-other-end _ c.print_help.ensures.ends.ends done wrote);
+        unprinted = λ none. absurd none;
+      });
+}
 
-pub returns-in-Upgrade-clause-spares : goal.returns-in-Upgrade-clause-spares
-returns-in-Upgrade-clause-spares g c =
-    let e = c.upgrade_unit.ensures in
-    rw (c.in-Upgrade.is, c.after-in-Upgrade.ensures) (upgrade-spares c.upgrade_unit.result e.ends refl refl refl e.nothing)
+pub returns-in-Version-clause-does : goal.returns-in-Version-clause-does
+returns-in-Version-clause-does g c = record {
+  ends =
+      rw (c.in-Version.is, c.after-in-Version.ensures)
+      (version-ends _ _ c.print_version.result c.print_version.ensures.ends (omega arith) c.print_version.ensures.counts c.nothing-nothing.result c.nothing-nothing.ensures);
+  spares =
+      rw (c.in-Version.is, c.after-in-Version.ensures) (record {
+        others = (refl, refl, refl, refl);
+        cards = λ is. absurd (cc);
+        before = λ first is. (refl, refl, refl);
+        nothing = λ first done wrote. absurd (no-other-end _ c.print_version.ensures.ends.ends done wrote);
+        unprinted = λ none. absurd none;
+      });
+}
 
-pub returns-in-State-clause-ends : goal.returns-in-State-clause-ends
-returns-in-State-clause-ends g c =
-    let d = c.devices_state-told.ensures in
-    rw (c.in-State.is, c.after-in-State.ensures)
-    (state-ends c.devices_state-told.result _ _ c.nothing-nothing.result c.print_state.result
-    (record { unit = d.unit; card_a = d.card_a; card_b = d.card_b; reads_unit = d.reads_unit; reads_a = d.reads_a; reads_b = d.reads_b })
-    c.print_state.ensures.prints c.nothing-nothing.ensures (omega arith) c.print_state.ensures.counts)
-
-pub returns-in-State-clause-spares : goal.returns-in-State-clause-spares
-returns-in-State-clause-spares g c = rw c.in-State.is (record { others = refl; cards = λ is. absurd (cc); before = λ none. absurd none; nothing = λ none. absurd none; unprinted = λ none. absurd none })
-
-pub returns-in-Help-clause-ends : goal.returns-in-Help-clause-ends
-returns-in-Help-clause-ends g c =
-    rw (c.in-Help.is, c.after-in-Help.ensures)
-    (help-ends _ _ c.print_help.result c.print_help.ensures.ends (omega arith) c.print_help.ensures.counts c.nothing-nothing.result c.nothing-nothing.ensures)
-
-pub returns-in-Help-clause-spares : goal.returns-in-Help-clause-spares
-returns-in-Help-clause-spares g c = rw (c.in-Help.is, c.after-in-Help.ensures) (record {
-  others = (refl, refl, refl, refl);
-  cards = λ is. absurd (cc);
-  before = λ first is. (refl, refl, refl);
-  nothing = λ first done wrote. absurd (no-other-end _ c.print_help.ensures.ends.ends done wrote);
-  unprinted = λ none. absurd none;
-})
-
-pub returns-in-Version-clause-ends : goal.returns-in-Version-clause-ends
-returns-in-Version-clause-ends g c =
-    rw (c.in-Version.is, c.after-in-Version.ensures)
-    (version-ends _ _ c.print_version.result c.print_version.ensures.ends (omega arith) c.print_version.ensures.counts c.nothing-nothing.result c.nothing-nothing.ensures)
-
-pub returns-in-Version-clause-spares : goal.returns-in-Version-clause-spares
-returns-in-Version-clause-spares g c = rw (c.in-Version.is, c.after-in-Version.ensures) (record {
-  others = (refl, refl, refl, refl);
-  cards = λ is. absurd (cc);
-  before = λ first is. (refl, refl, refl);
-  nothing = λ first done wrote. absurd (no-other-end _ c.print_version.ensures.ends.ends done wrote);
-  unprinted = λ none. absurd none;
-})
+pub returns-in-FormatUnit-clause-does : goal.returns-in-FormatUnit-clause-does
+returns-in-FormatUnit-clause-does g c = record { ends = search rules; spares = search rules }
