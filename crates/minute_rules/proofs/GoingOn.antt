@@ -276,7 +276,7 @@ turned-full speed k goes =
     ap (λ (i : Kept). length i.past) (sym ends ∙ goes.alike) ∙ length-map k.past (further (60 * 1 * speed)) ∙ goes.full
 
 -- the minutes that stand for a span were not given, if they are more than may be undecided
-owing-few : (span : Span) (k : Kept) → CountsSpan k span → (k.owing ≤ 3) × (k.owing ≤ k.next / 60)
+pub owing-few : (span : Span) (k : Kept) → CountsSpan k span → (k.owing ≤ 3) × (k.owing ≤ k.next / 60)
 owing-few span k h =
     let o : k.owing ≡ end_of span / 60 - ungiven_of span = ap (λ (j : Kept). j.owing) h.kept in
     let e : k.next ≡ end_of span = ap (λ (j : Kept). j.next) h.kept in
