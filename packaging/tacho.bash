@@ -10,7 +10,7 @@ _tacho() {
     '2 download') words='noisy packets' ;;
     '2 card') words='a b' ;;
     '2 view') words='last manual' ;;
-    '2 totals' | '2 chart' | '2 speeds') words=last ;;
+    '2 totals' | '2 chart' | '2 speeds' | '2 show') words=last ;;
     '2 format') words='unit a b' ;;
   esac
   mapfile -t COMPREPLY < <(compgen -W "$words" -- "$word")
