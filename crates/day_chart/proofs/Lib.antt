@@ -1,4 +1,5 @@
 pub mod Counted
+pub mod Drawing
 pub mod Joining
 pub mod Marked
 mod Rows

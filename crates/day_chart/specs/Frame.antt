@@ -54,9 +54,13 @@ legend_rest = codes "<rect x=\"384\" y=\"34\" width=\"20\" height=\"6\" fill=\"#
 abbrev pub legend_marks : List ℕ
 legend_marks = codes "<use xlink:href=\"#mark-begin\" x=\"708\" y=\"12\"/><text x=\"717\" y=\"38\">work begins</text>\n<use xlink:href=\"#mark-end\" x=\"804\" y=\"12\"/><text x=\"808\" y=\"38\">ends</text>\n<use xlink:href=\"#mark-event\" x=\"852\" y=\"3\"/><text x=\"859\" y=\"38\">event</text>\n<use xlink:href=\"#mark-fault\" x=\"912\" y=\"3\"/><text x=\"919\" y=\"38\">fault</text>\n"
 
--- THE FRAME: a picture so high, with the totals as its text, and bands
-unfoldable pub frame_text : (height : ℕ) → (totals bands : List ℕ) → List ℕ
-frame_text height totals bands =
+-- what stands in front of the bands: the height, the totals as the picture's text, what is drawn with, and the legend
+unfoldable pub frame_head : (height : ℕ) → (totals : List ℕ) → List ℕ
+frame_head height totals =
     opening ++ decimal height ++ box ++ decimal height ++ titling ++ totals
     ++ patterns ++ drive_sign ++ other_signs ++ lane_signs ++ mark_signs ++ axis ++ hours ++ legend_bars ++ legend_rest
-    ++ legend_marks ++ bands ++ codes "</svg>\n"
+    ++ legend_marks
+
+-- THE FRAME: a picture so high, with the totals as its text, and bands
+unfoldable pub frame_text : (height : ℕ) → (totals bands : List ℕ) → List ℕ
+frame_text height totals bands = frame_head height totals ++ bands ++ codes "</svg>\n"

@@ -1,14 +1,14 @@
 //! The picture of the days of a unit, and of a card.
-ghost use Rattle.std.specs.Prelude.{◌≡◌, ◌++◌, IfOk, OnOk, ℕ, List};
+ghost use Rattle.std.specs.Prelude.{◌≡◌, ◌++◌, IfOk, OnOk, ℕ, List, length};
 ghost use Rattle.tacho_types.specs.Calendar.{IsDateText};
 ghost use Rattle.view_model.specs.Lines.{same_unit, same_card};
 ghost use Rattle.file_view.specs.Histories.{AreLines, minutes_on};
-ghost use Rattle.slot_bars.specs.DayLines.{IsOneDay};
-ghost use Rattle.slot_bars.specs.DaysOf.{day_of};
+ghost use Rattle.slot_bars.specs.DayLines.{AreDayLines, IsOneDay};
+ghost use Rattle.slot_bars.specs.DaysOf.{day_of, days_of};
 ghost use Rattle.day_chart.specs.Chart.{IsUnitChart, IsCardChart, unit_band, card_band};
 
 use crate::band::{write_band_head, write_lane};
-use crate::frame::framed;
+use crate::frame::frame_head;
 use crate::mark::{Mark, write_marks};
 use activity_codec::Slot;
 use slot_bars::{Gap, card_bars, day_number, first_day, unit_bars};
@@ -27,16 +27,17 @@ pub fn unit_chart(
     requires { AreLines same_unit lines.now }
     ensures { IfOk result (λ text. IsUnitChart gaps.now marks.now totals.now (minutes_on lines.now) text.items) }
 {
-    let mut bands = Vec::new(alloc);
+    let count = days_in(lines);
+    let mut text = frame_head(alloc, 80 + 92 * count as u128, totals)?;
     let mut place = 0u64;
     let mut rest = lines;
     'days: while rest.len() > 0 {
         let (day, behind) = rest.split_at(first_day(rest));
-        write_unit_band(alloc, &mut bands, day, gaps, marks, place)?;
+        write_unit_band(alloc, &mut text, day, gaps, marks, place)?;
         place += 1;
         rest = behind;
     }
-    let text = framed(alloc, 80 + 92 * place as u128, totals, bands.as_slice())?;
+    text.extend_from_slice(b"</svg>\n")?;
     Ok(text)
 }
 
@@ -50,17 +51,33 @@ pub fn card_chart(
     requires { AreLines same_card lines.now }
     ensures { IfOk result (λ text. IsCardChart marks.now totals.now (minutes_on lines.now) text.items) }
 {
-    let mut bands = Vec::new(alloc);
+    let count = days_in(lines);
+    let mut text = frame_head(alloc, 80 + 62 * count as u128, totals)?;
     let mut place = 0u64;
     let mut rest = lines;
     'days: while rest.len() > 0 {
         let (day, behind) = rest.split_at(first_day(rest));
-        write_card_band(alloc, &mut bands, day, marks, place)?;
+        write_card_band(alloc, &mut text, day, marks, place)?;
         place += 1;
         rest = behind;
     }
-    let text = framed(alloc, 80 + 62 * place as u128, totals, bands.as_slice())?;
+    text.extend_from_slice(b"</svg>\n")?;
     Ok(text)
+}
+
+/// How many days these lines have.
+fn days_in<T: Copy>(lines: &[Line<T>]) -> u64
+    requires { AreDayLines lines.now }
+    ensures { result ≡ length (days_of (minutes_on lines.now)) }
+{
+    let mut count = 0u64;
+    let mut rest = lines;
+    'days: while rest.len() > 0 {
+        let (_day, behind) = rest.split_at(first_day(rest));
+        count += 1;
+        rest = behind;
+    }
+    count
 }
 
 /// Adds the band of a day of a unit.

@@ -1,19 +1,14 @@
 //! The frame of the picture: its size, its text, what it draws with, and its legend.
 ghost use Rattle.std.specs.Prelude.{◌≡◌, ◌++◌, IfOk, OnOk, decimal};
-ghost use Rattle.day_chart.specs.Frame.{frame_text, opening, box, titling, patterns, drive_sign, other_signs};
+ghost use Rattle.day_chart.specs.Frame.{frame_head, opening, box, titling, patterns, drive_sign, other_signs};
 ghost use Rattle.day_chart.specs.Frame.{lane_signs, mark_signs, axis, hours, legend_bars, legend_rest, legend_marks};
 
 use itoa::Buffer;
 use std::alloc::{AllocError, Global};
 
-/// The picture, so high, with the totals as its text.
-pub(crate) fn framed(
-    alloc: Global,
-    height: u128,
-    totals: &[u8],
-    bands: &[u8],
-) -> Result<Vec<u8>, AllocError>
-    ensures { IfOk result (λ text. text.items ≡ frame_text height totals.now bands.now) }
+/// What stands in front of the bands of a picture, so high, with the totals as its text.
+pub(crate) fn frame_head(alloc: Global, height: u128, totals: &[u8]) -> Result<Vec<u8>, AllocError>
+    ensures { IfOk result (λ text. text.items ≡ frame_head height totals.now) }
 {
     let mut text = Vec::new(alloc);
     text.extend_from_slice(
@@ -27,8 +22,6 @@ pub(crate) fn framed(
     )?;
     text.extend_from_slice(totals)?;
     write_drawn(&mut text)?;
-    text.extend_from_slice(bands)?;
-    text.extend_from_slice(b"</svg>\n")?;
     Ok(text)
 }
 

@@ -213,13 +213,13 @@ both-bytes (b ∷ front) behind ff fb = one_more_byte b (front ++ behind) (ff 0)
 
 day-numbers : (bytes : List ℕ) → 14 ≤ length bytes → IsBytes bytes → HasNumbers (day_shown bytes)
 day-numbers bytes long fits =
-    fields_numbers (fields_of kind.DailyRecord) bytes (member (name_text ActivityChangeInfos) (array (changes_shown ((length bytes - 12) / 2) (drop 12 bytes))) no_members) (kinds_are kind.DailyRecord)
-    (omega (arith, long)) fits (changes-numbers ((length bytes - 12) / 2) (drop 12 bytes), tt)
+    fields_numbers (fields_of kind.DailyRecord) bytes (member (name_text ActivityChangeInfos) (array (changes_shown true ((length bytes - 12) / 2) (drop 12 bytes))) no_members) (kinds_are kind.DailyRecord)
+    (omega (arith, long)) fits (changes-numbers true ((length bytes - 12) / 2) (drop 12 bytes), tt)
 
 day-depth : (bytes : List ℕ) → depth (day_shown bytes) ≤ 4
 day-depth bytes =
-    let inner : members_depth (member (name_text ActivityChangeInfos) (array (changes_shown ((length bytes - 12) / 2) (drop 12 bytes))) no_members) ≤ 3 = omega (arith, changes-depth ((length bytes - 12) / 2) (drop 12 bytes)) in
-    omega (arith, fields_depth (fields_of kind.DailyRecord) bytes (member (name_text ActivityChangeInfos) (array (changes_shown ((length bytes - 12) / 2) (drop 12 bytes))) no_members) 3 (omega arith) inner)
+    let inner : members_depth (member (name_text ActivityChangeInfos) (array (changes_shown true ((length bytes - 12) / 2) (drop 12 bytes))) no_members) ≤ 3 = omega (arith, changes-depth true ((length bytes - 12) / 2) (drop 12 bytes)) in
+    omega (arith, fields_depth (fields_of kind.DailyRecord) bytes (member (name_text ActivityChangeInfos) (array (changes_shown true ((length bytes - 12) / 2) (drop 12 bytes))) no_members) 3 (omega arith) inner)
 
 days-numbers : (most far : ℕ) (bytes : List ℕ) → IsBytes bytes → ItemsHaveNumbers (days_shown most far bytes)
 unfolding days_shown

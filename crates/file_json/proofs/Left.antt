@@ -1,6 +1,6 @@
 -- The parts of a message that are still to be written, and the records of lists.
 use Rattle.std.proofs.Common.{◌≡◌, ◌≢◌, ℕ, ◌+◌, ◌-◌, ◌*◌, zero, suc, ◌≤◌, List, [], ◌∷◌, ◌++◌, length, take, drop, refl, ap, ◌∙◌, sym, subst, arith, append_assoc, length-drop}
-use Rattle.std.specs.Prelude.{Option, Some}
+use Rattle.std.specs.Prelude.{Option, Some, Bool}
 use Rattle.byteorder.specs.Endian.{big_number}
 use Rattle.json.specs.Token.{Token}
 use Rattle.json.specs.Tree.{json_tokens, items_tokens, members_tokens}
@@ -31,30 +31,30 @@ one_item_more j js tokens after whole so_far is =
     ap (λ (ts : List Token). ts ++ items_tokens js) is ∙ append_assoc tokens (json_tokens j) (items_tokens js) ∙ so_far
 
 -- so many changes are left
-pub record AreChanges (n : ℕ) (rest : List ℕ) (tokens whole : List Token) : Type 0 where
+pub record AreChanges (on_card : Bool) (n : ℕ) (rest : List ℕ) (tokens whole : List Token) : Type 0 where
   pub sized : 2 * n ≤ length rest
-  pub text : tokens ++ items_tokens (changes_shown n rest) ≡ whole
+  pub text : tokens ++ items_tokens (changes_shown on_card n rest) ≡ whole
 
-one_change : (n : ℕ) (rest : List ℕ) (tokens after whole : List Token) → AreChanges (suc n) rest tokens whole → after ≡ tokens ++ json_tokens (change_value (big_number 2 (take 2 rest)))
-    → AreChanges n (drop 2 rest) after whole
+one_change : (on_card : Bool) (n : ℕ) (rest : List ℕ) (tokens after whole : List Token) → AreChanges on_card (suc n) rest tokens whole → after ≡ tokens ++ json_tokens (change_value on_card (big_number 2 (take 2 rest)))
+    → AreChanges on_card n (drop 2 rest) after whole
 unfolding changes_shown
-one_change n rest tokens after whole left is =
+one_change on_card n rest tokens after whole left is =
     record {
       sized = omega (arith, length-drop 2 rest, left.sized);
-      text = one_item_more (change_value (big_number 2 (take 2 rest))) (changes_shown n (drop 2 rest)) tokens after whole left.text is;
+      text = one_item_more (change_value on_card (big_number 2 (take 2 rest))) (changes_shown on_card n (drop 2 rest)) tokens after whole left.text is;
     }
 
-pub one_change_more : (n : ℕ) (rest front behind : List ℕ) (tokens after whole : List Token) → n ≢ 0 → front ≡ take 2 rest → behind ≡ drop 2 rest
-    → AreChanges n rest tokens whole → after ≡ tokens ++ json_tokens (change_value (big_number 2 front)) → AreChanges (n - 1) behind after whole
-one_change_more zero rest front behind tokens after whole some f b left is = absurd (some refl)
-one_change_more (suc n) rest front behind tokens after whole some f b left is =
+pub one_change_more : (on_card : Bool) (n : ℕ) (rest front behind : List ℕ) (tokens after whole : List Token) → n ≢ 0 → front ≡ take 2 rest → behind ≡ drop 2 rest
+    → AreChanges on_card n rest tokens whole → after ≡ tokens ++ json_tokens (change_value on_card (big_number 2 front)) → AreChanges on_card (n - 1) behind after whole
+one_change_more on_card zero rest front behind tokens after whole some f b left is = absurd (some refl)
+one_change_more on_card (suc n) rest front behind tokens after whole some f b left is =
     let e : suc n - 1 ≡ n = omega arith in
-    rw (e, b) (one_change n rest tokens after whole left (rw f at is))
+    rw (e, b) (one_change on_card n rest tokens after whole left (rw f at is))
 
-pub no_change_left : (n : ℕ) (rest : List ℕ) (tokens whole : List Token) → n ≡ 0 → AreChanges n rest tokens whole → tokens ++ Token.end_array ∷ [] ≡ whole
+pub no_change_left : (on_card : Bool) (n : ℕ) (rest : List ℕ) (tokens whole : List Token) → n ≡ 0 → AreChanges on_card n rest tokens whole → tokens ++ Token.end_array ∷ [] ≡ whole
 unfolding changes_shown
-no_change_left zero rest tokens whole none left = left.text
-no_change_left (suc n) rest tokens whole none left = absurd (omega (arith, none))
+no_change_left on_card zero rest tokens whole none left = left.text
+no_change_left on_card (suc n) rest tokens whole none left = absurd (omega (arith, none))
 
 -- so many lists are left
 pub record AreLists (n len : ℕ) (kind : Kind) (rest : List ℕ) (tokens whole : List Token) : Type 0 where

@@ -6,6 +6,8 @@ mod Making
 mod Walking
 mod Filing
 mod Stringing
+mod CardDays
+mod Sets
 mod UnitTelling
 mod CardTelling
 mod Apart

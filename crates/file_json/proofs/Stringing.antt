@@ -22,7 +22,7 @@ day_first most far rest is = rw is refl
 abbrev pub left_after : (left far len : ℕ) → ℕ
 left_after left far len = if nat_lt far len then 0 else left - 1
 
-no_days : (far : ℕ) (rest : List ℕ) → days_shown 0 far rest ≡ no_items
+pub no_days : (far : ℕ) (rest : List ℕ) → days_shown 0 far rest ≡ no_items
 unfolding days_shown
 no_days far rest = refl
 
@@ -62,7 +62,7 @@ two_of (suc most) false is = absurd (nowhere (suc most == 0) is)
     nowhere false wrong = cc
 
 -- no record is left
-none_there : (left far : ℕ) (rest : List ℕ) → (not (left == 0) && is_day rest) ≡ false → days_shown left far rest ≡ no_items
+pub none_there : (left far : ℕ) (rest : List ℕ) → (not (left == 0) && is_day rest) ≡ false → days_shown left far rest ≡ no_items
 unfolding days_shown
 none_there zero far rest is = refl
 none_there (suc most) far rest is = by_test (is_day rest) (λ x. absurd (always most (rw x at is))) (λ x. rw x refl)
@@ -94,7 +94,7 @@ pub none_from : (at : DaysAt) (circle : List ℕ) → stands_at at circle ≡ fa
 none_from at circle none = none_there at.most at.far (drop at.place circle) none
 
 -- one of them, and those behind it
-first_day : (left far : ℕ) (rest : List ℕ) → left ≢ 0 → is_day rest ≡ true
+pub first_day : (left far : ℕ) (rest : List ℕ) → left ≢ 0 → is_day rest ≡ true
     → days_shown left far rest ≡ item (day_shown (take (day_len rest) rest)) (days_shown (left_after left far (day_len rest)) (far - day_len rest) (drop (day_len rest) rest))
 first_day zero far rest some is = absurd (some refl)
 first_day (suc most) far rest some is =

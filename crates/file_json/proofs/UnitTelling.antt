@@ -78,22 +78,22 @@ front_number n xs ys lx ly bx by e =
     big_number-injective n (take n xs) (take n ys) (length-take-le n xs lx) (length-take-le n ys ly) (IsBytes-take n xs bx) (IsBytes-take n ys by)
     (big_from-take 0 n n xs (omega arith) ∙ e ∙ sym (big_from-take 0 n n ys (omega arith)))
 
-count-changes : (n : ℕ) (bytes : List ℕ) → count_in (changes_shown n bytes) ≡ n
+count-changes : (on_card : Bool) (n : ℕ) (bytes : List ℕ) → count_in (changes_shown on_card n bytes) ≡ n
 unfolding changes_shown
-count-changes zero bytes = refl
-count-changes (suc n) bytes = ap suc (count-changes n (drop 2 bytes))
+count-changes on_card zero bytes = refl
+count-changes on_card (suc n) bytes = ap suc (count-changes on_card n (drop 2 bytes))
 
 word_low : (bytes : List ℕ) → IsBytes bytes → big_number 2 bytes < 65536
 word_low bytes fits = omega (arith, fits 0, fits 1)
 
-changes_front : (n : ℕ) (xs ys : List ℕ) → 2 * n ≤ length xs → 2 * n ≤ length ys → IsBytes xs → IsBytes ys → changes_shown n xs ≡ changes_shown n ys → take (2 * n) xs ≡ take (2 * n) ys
+changes_front : (on_card : Bool) (n : ℕ) (xs ys : List ℕ) → 2 * n ≤ length xs → 2 * n ≤ length ys → IsBytes xs → IsBytes ys → changes_shown on_card n xs ≡ changes_shown on_card n ys → take (2 * n) xs ≡ take (2 * n) ys
 unfolding changes_shown
-changes_front zero xs ys lx ly bx by e = refl
-changes_front (suc n) xs ys lx ly bx by e =
+changes_front on_card zero xs ys lx ly bx by e = refl
+changes_front on_card (suc n) xs ys lx ly bx by e =
     let word : big_number 2 (take 2 xs) ≡ big_number 2 (take 2 ys) =
-    change-tells (big_number 2 (take 2 xs)) (big_number 2 (take 2 ys)) (word_low (take 2 xs) (IsBytes-take 2 xs bx)) (word_low (take 2 ys) (IsBytes-take 2 ys by)) (ap first_item e) in
+    change-tells on_card (big_number 2 (take 2 xs)) (big_number 2 (take 2 ys)) (word_low (take 2 xs) (IsBytes-take 2 xs bx)) (word_low (take 2 ys) (IsBytes-take 2 ys by)) (ap first_item e) in
     let front : take 2 xs ≡ take 2 ys = front_number 2 xs ys (omega (arith, lx)) (omega (arith, ly)) bx by (sym (big_from-take 0 2 2 xs (omega arith)) ∙ word ∙ big_from-take 0 2 2 ys (omega arith)) in
-    let behind = changes_front n (drop 2 xs) (drop 2 ys) (omega (arith, length-drop 2 xs, lx)) (omega (arith, length-drop 2 ys, ly)) (IsBytes-drop 2 xs bx) (IsBytes-drop 2 ys by) (ap behind_item e) in
+    let behind = changes_front on_card n (drop 2 xs) (drop 2 ys) (omega (arith, length-drop 2 xs, lx)) (omega (arith, length-drop 2 ys, ly)) (IsBytes-drop 2 xs bx) (IsBytes-drop 2 ys by) (ap behind_item e) in
     let more : 2 * suc n ≡ 2 + 2 * n = omega arith in
     rw more (two_parts 2 (2 * n) xs ys front behind)
 
@@ -122,11 +122,11 @@ list_told name count k xs ys more others hx hy bx by e =
 changes_told : (xs ys : List ℕ) (more others : Members) → IsThere Changes xs → IsThere Changes ys → IsBytes xs → IsBytes ys → part_then Changes xs more ≡ part_then Changes ys others → IsTold Changes xs ys more others
 changes_told xs ys more others hx hy bx by e =
     let items = ap (λ ms. items_in (first_in ms)) e in
-    let same : big_number 2 xs ≡ big_number 2 ys = sym (count-changes (big_number 2 xs) (drop 2 xs)) ∙ ap count_in items ∙ count-changes (big_number 2 ys) (drop 2 ys) in
-    let alike : changes_shown (big_number 2 xs) (drop 2 xs) ≡ changes_shown (big_number 2 xs) (drop 2 ys) = items ∙ ap (λ (m : ℕ). changes_shown m (drop 2 ys)) (sym same) in
+    let same : big_number 2 xs ≡ big_number 2 ys = sym (count-changes false (big_number 2 xs) (drop 2 xs)) ∙ ap count_in items ∙ count-changes false (big_number 2 ys) (drop 2 ys) in
+    let alike : changes_shown false (big_number 2 xs) (drop 2 xs) ≡ changes_shown false (big_number 2 xs) (drop 2 ys) = items ∙ ap (λ (m : ℕ). changes_shown false m (drop 2 ys)) (sym same) in
     let head : take 2 xs ≡ take 2 ys = front_number 2 xs ys hx.0 hy.0 bx by same in
     let long : part_len Changes xs ≡ part_len Changes ys = ap (λ (m : ℕ). 2 + 2 * m) same in
-    let words = changes_front (big_number 2 xs) (drop 2 xs) (drop 2 ys) (omega (arith, length-drop 2 xs, hx.1)) (omega (arith, length-drop 2 ys, hy.1, long)) (IsBytes-drop 2 xs bx) (IsBytes-drop 2 ys by) alike in
+    let words = changes_front false (big_number 2 xs) (drop 2 xs) (drop 2 ys) (omega (arith, length-drop 2 xs, hx.1)) (omega (arith, length-drop 2 ys, hy.1, long)) (IsBytes-drop 2 xs bx) (IsBytes-drop 2 ys by) alike in
     record { long = long; own = two_parts 2 (2 * big_number 2 xs) xs ys head words; behind = ap behind_in e }
 
 part_told : (p : Part) (xs ys : List ℕ) (more others : Members) → IsThere p xs → IsThere p ys → IsBytes xs → IsBytes ys → part_then p xs more ≡ part_then p ys others → IsTold p xs ys more others
@@ -183,16 +183,16 @@ messages_tell (m ∷ ms) (n ∷ ns) place other im ins bm bn e =
 
 -- ---- its numbers are numbers, and it nests a few steps
 
-pub changes-numbers : (n : ℕ) (bytes : List ℕ) → ItemsHaveNumbers (changes_shown n bytes)
+pub changes-numbers : (on_card : Bool) (n : ℕ) (bytes : List ℕ) → ItemsHaveNumbers (changes_shown on_card n bytes)
 unfolding changes_shown
-changes-numbers zero bytes = tt
-changes-numbers (suc n) bytes =
-    ((IsNumber-decimal (big_number 2 (take 2 bytes) % 2048) (omega arith), (tt, (tt, (tt, (tt, tt))))), changes-numbers n (drop 2 bytes))
+changes-numbers on_card zero bytes = tt
+changes-numbers on_card (suc n) bytes =
+    ((IsNumber-decimal (big_number 2 (take 2 bytes) % 2048) (omega arith), (tt, (tt, (tt, (tt, tt))))), changes-numbers on_card n (drop 2 bytes))
 
-pub changes-depth : (n : ℕ) (bytes : List ℕ) → items_depth (changes_shown n bytes) ≤ 1
+pub changes-depth : (on_card : Bool) (n : ℕ) (bytes : List ℕ) → items_depth (changes_shown on_card n bytes) ≤ 1
 unfolding changes_shown
-changes-depth zero bytes = omega arith
-changes-depth (suc n) bytes = omega (arith, changes-depth n (drop 2 bytes))
+changes-depth on_card zero bytes = omega arith
+changes-depth on_card (suc n) bytes = omega (arith, changes-depth on_card n (drop 2 bytes))
 
 part-numbers : (p : Part) (bytes : List ℕ) (more : Members) → IsThere p bytes → IsBytes bytes → MembersHaveNumbers more → MembersHaveNumbers (part_then p bytes more)
 part-numbers (Fields k) bytes more there fits has = fields_numbers (fields_of k) bytes more (kinds_are k) there.1 fits has
@@ -200,13 +200,13 @@ part-numbers (Record name k) bytes more there fits has = (members_numbers (field
 part-numbers (ListOf name count k) bytes more there fits has =
     let swap : width_of k * big_number count bytes ≡ big_number count bytes * width_of k = grind arith in
     (items_numbers (big_number count bytes) (fields_of k) (drop count bytes) (kinds_are k) (omega (arith, length-drop count bytes, there.1, swap)) (IsBytes-drop count bytes fits), has)
-part-numbers Changes bytes more there fits has = (changes-numbers (big_number 2 bytes) (drop 2 bytes), has)
+part-numbers Changes bytes more there fits has = (changes-numbers false (big_number 2 bytes) (drop 2 bytes), has)
 
 part-depth : (p : Part) (bytes : List ℕ) (more : Members) → members_depth more ≤ 5 → members_depth (part_then p bytes more) ≤ 5
 part-depth (Fields k) bytes more le = fields_depth (fields_of k) bytes more 5 (omega arith) le
 part-depth (Record name k) bytes more le = omega (arith, members_flat (fields_of k) bytes, le)
 part-depth (ListOf name count k) bytes more le = omega (arith, items_flat (big_number count bytes) (fields_of k) (drop count bytes), le)
-part-depth Changes bytes more le = omega (arith, changes-depth (big_number 2 bytes) (drop 2 bytes), le)
+part-depth Changes bytes more le = omega (arith, changes-depth false (big_number 2 bytes) (drop 2 bytes), le)
 
 parts-numbers : (ps : List Part) (bytes : List ℕ) → HasParts ps bytes → IsBytes bytes → MembersHaveNumbers (parts_then ps bytes no_members)
 parts-numbers [] bytes has fits = tt

@@ -36,6 +36,13 @@ lists_shown zero len kind value = no_items
 lists_shown (suc count) len kind value = item (list_shown kind (take len value))
     (lists_shown count len kind (drop len value))
 
+-- so many lists of so many records each
+abbrev pub lists_of : (count records : ℕ) → Kind → List ℕ → Items
+lists_of zero records kind value = no_items
+lists_of (suc count) records kind value =
+    item (records_shown records (fields_of kind) (take (records * width_of kind) value))
+    (lists_of count records kind (drop (records * width_of kind) value))
+
 abbrev pub sets_told : Sets → List ℕ → Json
 sets_told sets value = object (member (name_text sets.list)
     (array (lists_shown sets.count (length value / sets.count) sets.kind value)) no_members)

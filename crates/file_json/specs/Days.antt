@@ -1,5 +1,5 @@
 -- The string of days of a card as JSON, record by record.
-use Rattle.std.specs.Prelude.{◌≡◌, ℕ, zero, suc, ◌+◌, ◌-◌, ◌/◌, ◌<◌, ◌≤◌, ◌==◌, ◌&&◌, not, nat_le, nat_lt, Bool}
+use Rattle.std.specs.Prelude.{◌≡◌, ℕ, zero, suc, ◌+◌, ◌-◌, ◌/◌, ◌<◌, ◌≤◌, ◌==◌, ◌&&◌, not, nat_le, nat_lt, Bool, true}
 use Rattle.std.specs.Prelude.{if◌then◌else◌, Option, List, [], ◌∷◌, ◌++◌, length, take, drop}
 use Rattle.byteorder.specs.Endian.{big_number}
 use Rattle.json.specs.Json.{Json, array, object, Items, no_items, item, no_members, member}
@@ -8,6 +8,8 @@ use Rattle.json_fields.specs.declared.names.Name.TheVariants.{ActivityChangeInfo
 use Rattle.json_fields.specs.Names.{name_text}
 use Rattle.json_fields.specs.Kinds.{fields_of}
 use Rattle.json_fields.specs.Shown.{members_then, value_shown}
+use Rattle.card_model.specs.Days.{Day}
+use Rattle.card_model.specs.Walk.{day_told}
 use Rattle.file_view.specs.Showing.{before_last}
 use Rattle.file_json.specs.declared.days.DaysAt.{DaysAt}
 use Rattle.file_json.specs.Parts.{changes_shown}
@@ -23,7 +25,7 @@ is_day bytes = nat_le 14 (length bytes) && (nat_le 14 (day_len bytes) && nat_le 
 abbrev pub day_shown : List ℕ → Json
 day_shown bytes =
     object (members_then value_shown (fields_of DailyRecord) bytes
-    (member (name_text ActivityChangeInfos) (array (changes_shown ((length bytes - 12) / 2) (drop 12 bytes)))
+    (member (name_text ActivityChangeInfos) (array (changes_shown true ((length bytes - 12) / 2) (drop 12 bytes)))
     no_members))
 
 -- records one after the other, the last of them so far from the front; at most so many
@@ -83,3 +85,10 @@ pub record AreBehind (circle : List ℕ) (at next : DaysAt) : Type 0 where
   pub within : next.place ≤ length circle
   pub later : at.place < next.place
   pub fewer : next.most < at.most
+
+-- each item shows the record of a day: bytes that tell it, one each, in their order
+abbrev pub ShowDays : Items → List Day → Type 0
+ShowDays no_items [] = Unit {0}
+ShowDays no_items (d ∷ ds) = ⊥
+ShowDays (item j js) [] = ⊥
+ShowDays (item j js) (d ∷ ds) = ((bytes : List ℕ) × (j ≡ day_shown bytes) × (day_told bytes ≡ d)) × ShowDays js ds

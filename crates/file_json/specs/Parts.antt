@@ -1,5 +1,6 @@
 -- The parts of a message as members of a JSON object.
-use Rattle.std.specs.Prelude.{◌≡◌, ℕ, zero, suc, ◌+◌, ◌*◌, ◌≤◌, true, List, [], ◌∷◌, ◌++◌, length, take, drop, codes}
+use Rattle.std.specs.Prelude.{◌≡◌, ℕ, zero, suc, ◌+◌, ◌*◌, ◌≤◌, Bool, true, false, List, [], ◌∷◌, ◌++◌}
+use Rattle.std.specs.Prelude.{length, take, drop, codes}
 use Rattle.byteorder.specs.Endian.{big_number}
 use Rattle.json.specs.Json.{Json, array, Items, no_items, item, Members, no_members, member}
 use Rattle.json_fields.specs.declared.fields.Field.{Field}
@@ -13,10 +14,11 @@ use Rattle.json_fields.specs.Texts.{change_value}
 use Rattle.file_json.specs.declared.parts.Part.{Part}
 use Rattle.file_json.specs.declared.parts.Part.TheVariants.{Fields, Record, List as ListOf, Changes}
 
--- so many changes of activity
-unfoldable pub changes_shown : ℕ → List ℕ → Items
-changes_shown zero bytes = no_items
-changes_shown (suc n) bytes = item (change_value (big_number 2 (take 2 bytes))) (changes_shown n (drop 2 bytes))
+-- so many changes of activity, of a unit or on a card
+unfoldable pub changes_shown : (on_card : Bool) → ℕ → List ℕ → Items
+changes_shown on_card zero bytes = no_items
+changes_shown on_card (suc n) bytes = item (change_value on_card (big_number 2 (take 2 bytes)))
+    (changes_shown on_card n (drop 2 bytes))
 
 -- the bytes of a record
 abbrev pub width_of : Kind → ℕ
@@ -52,7 +54,7 @@ part_then (Record name kind) bytes more = member (name_text name) (record_shown 
 part_then (ListOf name count kind) bytes more = member (name_text name)
     (records_shown (big_number count bytes) (fields_of kind) (drop count bytes)) more
 part_then Changes bytes more = member (name_text ActivityChangeInfos)
-    (array (changes_shown (big_number 2 bytes) (drop 2 bytes))) more
+    (array (changes_shown false (big_number 2 bytes) (drop 2 bytes))) more
 
 -- THE PARTS OF A MESSAGE, one after the other, in front of other members
 abbrev pub parts_then : List Part → List ℕ → Members → Members

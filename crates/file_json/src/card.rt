@@ -1,6 +1,6 @@
 //! A file of a card file.
-ghost use Rattle.std.specs.Prelude.{◌≡◌, ◌+◌, ◌*◌, ◌<◌, ◌≤◌, ◌^◌, ◌++◌, ◌∷◌, [], ℕ, List, true, None, IfOk, IfErr, OnOk};
-ghost use Rattle.std.specs.Prelude.{drop, length, slice_index, take};
+ghost use Rattle.std.specs.Prelude.{◌≡◌, ◌+◌, ◌*◌, ◌<◌, ◌≤◌, ◌^◌, ◌++◌, ◌∷◌, [], ℕ, List, true, None};
+ghost use Rattle.std.specs.Prelude.{IfOk, IfErr, OnOk, drop, length, slice_index, take};
 ghost use Rattle.byteorder.specs.Endian.{big_number};
 ghost use Rattle.json.specs.Json.{array};
 ghost use Rattle.json.specs.Print.{print};

@@ -251,7 +251,7 @@ fn write_day(alloc: Global, writer: &mut TextWriter, day: &[u8]) -> Result<(), A
     writer.begin_object()?;
     write_fields(alloc, writer, Kind::DailyRecord.fields(), day)?;
     writer.key(Name::ActivityChangeInfos.text())?;
-    write_changes(writer, (day.len() - HEAD) / 2, &day[HEAD..])?;
+    write_changes(writer, true, (day.len() - HEAD) / 2, &day[HEAD..])?;
     writer.end_object()?;
     Ok(())
 }

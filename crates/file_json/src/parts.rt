@@ -204,26 +204,27 @@ fn write_part(
         }
         Part::Changes => {
             writer.key(Name::ActivityChangeInfos.text())?;
-            write_changes(writer, number(bytes, 2), &bytes[2..])
+            write_changes(writer, false, number(bytes, 2), &bytes[2..])
         }
     }
 }
 
-/// Writes so many changes of activity, one after the other, as a JSON array.
+/// Writes so many changes of activity, one after the other, as a JSON array: of a unit or on a card.
 pub(crate) fn write_changes(
     writer: &mut TextWriter,
+    on_card: bool,
     count: usize,
     bytes: &[u8],
 ) -> Result<(), AllocError>
     requires { 2 * count ≤ length bytes.now }
-    ensures { OnOk result (writer.new ≡ writer.old ++ json_tokens (array (changes_shown count bytes.now))) }
+    ensures { OnOk result (writer.new ≡ writer.old ++ json_tokens (array (changes_shown on_card count bytes.now))) }
 {
     writer.begin_array()?;
     let mut rest = bytes;
     let mut left = count;
     while left != 0 {
         let (word, behind) = rest.split_at(2);
-        write_change(writer, BigEndian::read_u16(word))?;
+        write_change(writer, on_card, BigEndian::read_u16(word))?;
         rest = behind;
         left -= 1;
     }

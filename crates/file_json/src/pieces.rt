@@ -172,8 +172,8 @@ pub fn card_pieces(alloc: Global, last: Option<u32>, b: &[u8]) -> Result<Vec<Pie
 /// Those of the files of a card, one after the other.
 fn pieces_of_files(alloc: Global, last: Option<u32>, b: &[u8]) -> Result<Vec<Piece>, AllocError>
     requires { (entries : List FileEntry) × AreFiles entries b.now }
-    ensures text { (entries : List FileEntry) → AreFiles entries b.now → IfOk result (λ pieces. pieces_text b.now pieces.items
-        ≡ print (json_tokens (json_of_card last entries)) ++ 10 ∷ []) }
+    ensures text { (entries : List FileEntry) → AreFiles entries b.now → IfOk result (λ pieces.
+        pieces_text b.now pieces.items ≡ print (json_tokens (json_of_card last entries)) ++ 10 ∷ []) }
     ensures each { IfOk result (λ pieces. All (IsPiece b.now) pieces.items) }
 {
     let mut pieces = begun(alloc, Piece::CardBegin)?;

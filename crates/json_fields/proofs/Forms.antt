@@ -192,8 +192,8 @@ act_is (suc (suc (suc zero))) low = refl
 act_is (suc (suc (suc (suc n)))) low = absurd (omega (arith, low))
 
 -- five fields tell a change of activity
-pub change-tells : (v w : ℕ) → v < 65536 → w < 65536 → change_value v ≡ change_value w → v ≡ w
-change-tells v w lv lw e =
+pub change-tells : (on_card : Bool) (v w : ℕ) → v < 65536 → w < 65536 → change_value on_card v ≡ change_value on_card w → v ≡ w
+change-tells on_card v w lv lw e =
     let ms = ap members_in e in
     let minute = decimal_injective (v % 2048) (w % 2048) (omega arith) (omega arith) (ap (λ m. text_in (first_in m)) ms) in
     let slot = slot-tells v w lv lw (ap (λ m. text_in (first_in (behind_in m))) ms) in

@@ -1,5 +1,5 @@
 -- Worked rows, computed by the checker: a vehicle entry as text, entries that were never written, codes, changes of activity, and times.
-use Rattle.std.proofs.Common.{◌≡◌, ℕ, List, [], ◌∷◌, refl}
+use Rattle.std.proofs.Common.{◌≡◌, ℕ, List, [], ◌∷◌, true, false, refl}
 use Rattle.std.specs.Prelude.{codes, replicate}
 use Rattle.std.specs.Fmt.{digits}
 use Rattle.hex.specs.Hex.{encode_with}
@@ -36,18 +36,27 @@ no_nation : print (json_tokens (code_value Nation 100)) ≡ codes "{\"code\":100
 unfolding print_from escape_byte digits
 no_nation = refl
 
--- a driver of a crew, with a card; without one an activity that was entered by hand, and one of which nothing is known
-of_a_crew : print (json_tokens (change_value 22903)) ≡ codes "{\"minute\":375,\"slot\":\"driver\",\"crew\":true,\"present\":true,\"activity\":\"drive\"}"
+-- an event of the manufacturer's
+of_its_own : print (json_tokens (code_value EventFault 0x80)) ≡ codes "{\"code\":128,\"name\":\"manufacturerSpecific\"}"
+unfolding print_from escape_byte digits
+of_its_own = refl
+
+-- on a card: a driver of a crew, an activity that was entered by hand, and one of which nothing is known; an empty slot of a unit
+of_a_crew : print (json_tokens (change_value true 22903)) ≡ codes "{\"minute\":375,\"slot\":\"driver\",\"crew\":true,\"present\":true,\"activity\":\"drive\"}"
 unfolding print_from escape_byte digits
 of_a_crew = refl
 
-by_hand : print (json_tokens (change_value 29152)) ≡ codes "{\"minute\":480,\"slot\":\"driver\",\"byHand\":true,\"present\":false,\"activity\":\"work\"}"
+by_hand : print (json_tokens (change_value true 29152)) ≡ codes "{\"minute\":480,\"slot\":\"driver\",\"byHand\":true,\"present\":false,\"activity\":\"work\"}"
 unfolding print_from escape_byte digits
 by_hand = refl
 
-unknown : print (json_tokens (change_value 8792)) ≡ codes "{\"minute\":600,\"slot\":\"driver\",\"byHand\":false,\"present\":false,\"activity\":\"rest\"}"
+unknown : print (json_tokens (change_value true 8792)) ≡ codes "{\"minute\":600,\"slot\":\"driver\",\"byHand\":false,\"present\":false,\"activity\":\"rest\"}"
 unfolding print_from escape_byte digits
 unknown = refl
+
+empty_slot : print (json_tokens (change_value false 40960)) ≡ codes "{\"minute\":0,\"slot\":\"codriver\",\"crew\":false,\"present\":false,\"activity\":\"rest\"}"
+unfolding print_from escape_byte digits
+empty_slot = refl
 
 -- the leap day of 1972, and the day after it
 leap_day : time_text 68255999 ≡ codes "1972-02-29T23:59:59Z"

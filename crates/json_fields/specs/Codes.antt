@@ -1,5 +1,5 @@
 -- What codes of one byte stand for, as the data types of Annex IB, Appendix 1, name them; nothing where they name none.
-use Rattle.std.specs.Prelude.{ℕ, ◌==◌, if◌then◌else◌, List, [], codes}
+use Rattle.std.specs.Prelude.{ℕ, ◌==◌, nat_le, if◌then◌else◌, List, [], codes}
 use Rattle.json_fields.specs.declared.codes.Coding.{Coding}
 use Rattle.json_fields.specs.declared.codes.Coding.TheVariants as coding
 
@@ -82,11 +82,11 @@ equipment code =
     else (if code == 4 then codes "companyCard" else (if code == 5 then codes "manufacturingCard" else (
     if code == 6 then codes "vehicleUnit" else (if code == 7 then codes "motionSensor" else ([]))))))))
 
--- NationNumeric, by its letters of NationAlpha
+-- NationNumeric, by its letters of NationAlpha; 0 has none
 abbrev pub nation : ℕ → List ℕ
 nation code =
-    if code == 1 then codes "A" else (if code == 2 then codes "AL"
-    else (if code == 3 then codes "AND" else (if code == 4 then codes "ARM" else (
+    if code == 0 then codes "noInformationAvailable" else (if code == 1 then codes "A" else (
+    if code == 2 then codes "AL" else (if code == 3 then codes "AND" else (if code == 4 then codes "ARM" else (
     if code == 5 then codes "AZ" else (if code == 6 then codes "B"
     else (if code == 7 then codes "BG" else (if code == 8 then codes "BIH" else (
     if code == 9 then codes "BY" else (if code == 0xa then codes "CH"
@@ -106,12 +106,16 @@ nation code =
     if code == 0x31 then codes "UA" else (if code == 0x32 then codes "V" else (if code == 0x33 then codes "YU" else (
     if code == 0xfd then codes "EC"
     else (if code == 0xfe then codes "EUR"
-    else (if code == 0xff then codes "WLD" else ([]))))))))))))))))))))))))))))))))))))))))))))))))))))))
+    else (if code == 0xff then codes "WLD" else ([])))))))))))))))))))))))))))))))))))))))))))))))))))))))
+
+-- an event, a fault or a purpose from 80 (hexadecimal) on is the manufacturer's
+abbrev pub of_manufacturer : (ℕ → List ℕ) → ℕ → List ℕ
+of_manufacturer told code = if nat_le 0x80 code then codes "manufacturerSpecific" else told code
 
 -- WHAT A CODE STANDS FOR
 abbrev pub meaning : Coding → ℕ → List ℕ
-meaning coding.EventFault code = event_fault code
-meaning coding.RecordPurpose code = record_purpose code
+meaning coding.EventFault code = of_manufacturer event_fault code
+meaning coding.RecordPurpose code = of_manufacturer record_purpose code
 meaning coding.Calibration code = calibration code
 meaning coding.Slot code = slot code
 meaning coding.ManualInput code = manual_input code

@@ -86,14 +86,17 @@ activity_word n = if n == 0 then codes "rest"
 abbrev pub slot_word : ℕ → List ℕ
 slot_word w = if w / 32768 == 0 then codes "driver" else codes "codriver"
 
--- what the bit behind the slot's tells (Appendix 1, ActivityChangeInfo): with a card in the slot whether there is a
--- crew, else whether the activity was entered by hand
-abbrev pub status_word : ℕ → List ℕ
-status_word w = if w / 8192 % 2 == 0 then codes "crew" else codes "byHand"
+-- what the bit behind the slot's tells (Appendix 1, ActivityChangeInfo): on a card that was in whether there was a
+-- crew, on one that was not whether the activity was entered by hand; of a unit whether there was a crew
+abbrev pub card_status : ℕ → List ℕ
+card_status w = if w / 8192 % 2 == 0 then codes "crew" else codes "byHand"
 
-abbrev pub change_value : ℕ → Json
-change_value w =
+abbrev pub status_word : (on_card : Bool) → ℕ → List ℕ
+status_word on_card w = if on_card then card_status w else codes "crew"
+
+abbrev pub change_value : (on_card : Bool) → ℕ → Json
+change_value on_card w =
     object (member (codes "minute") (number (decimal (w % 2048))) (member (codes "slot") (string (slot_word w))
-    (member (status_word w) (boolean (w / 16384 % 2 == 1))
+    (member (status_word on_card w) (boolean (w / 16384 % 2 == 1))
     (member (codes "present") (boolean (w / 8192 % 2 == 0))
     (member (codes "activity") (string (activity_word (w / 2048 % 4))) no_members)))))

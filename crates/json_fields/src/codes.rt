@@ -1,5 +1,5 @@
 //! What codes of one byte stand for (Annex IB, Appendix 1).
-ghost use Rattle.std.specs.Prelude.{◌≡◌};
+ghost use Rattle.std.specs.Prelude.{◌≡◌, nat_le, if◌then◌else◌, codes};
 ghost use Rattle.json_fields.specs.Codes.{meaning, event_fault, record_purpose, calibration, slot, manual_input};
 ghost use Rattle.json_fields.specs.Codes.{daily_work_period, specific_condition, equipment, nation};
 
@@ -164,11 +164,12 @@ fn equipment(code: u8) -> &'static str
     }
 }
 
-/// NationNumeric, by its letters of NationAlpha.
+/// NationNumeric, by its letters of NationAlpha; 0 has none.
 fn nation(code: u8) -> &'static str
     ensures { result.now ≡ nation code }
 {
     match code {
+        0x00 => "noInformationAvailable",
         0x01 => "A",
         0x02 => "AL",
         0x03 => "AND",
@@ -227,14 +228,25 @@ fn nation(code: u8) -> &'static str
     }
 }
 
+/// A code from 80 (hexadecimal) on is the manufacturer's.
+fn of_manufacturer(told: &'static str, code: u8) -> &'static str
+    ensures { result.now ≡ (if nat_le 0x80 code then codes "manufacturerSpecific" else told.now) }
+{
+    if code >= 0x80 {
+        "manufacturerSpecific"
+    } else {
+        told
+    }
+}
+
 impl Coding {
     /// What a code of it stands for: no text where the data type has no name for it.
     pub fn meaning(self, code: u8) -> &'static str
         ensures { result.now ≡ meaning self code }
     {
         match self {
-            Coding::EventFault => event_fault(code),
-            Coding::RecordPurpose => record_purpose(code),
+            Coding::EventFault => of_manufacturer(event_fault(code), code),
+            Coding::RecordPurpose => of_manufacturer(record_purpose(code), code),
             Coding::Calibration => calibration(code),
             Coding::Slot => slot(code),
             Coding::ManualInput => manual_input(code),

@@ -5,9 +5,9 @@ ghost use Rattle.hex.specs.Hex.{encode_lower};
 ghost use Rattle.json.specs.Json.{array, string};
 ghost use Rattle.json.specs.Tree.{json_tokens};
 ghost use Rattle.json_fields.specs.Shown.{CanShowPlain, plain_shown};
-ghost use Rattle.json_fields.specs.Texts.{activity_word, are_zeros, card_value, change_value, code_value, cut};
+ghost use Rattle.json_fields.specs.Texts.{activity_word, are_zeros, card_status, card_value, change_value, code_value};
 ghost use Rattle.json_fields.specs.Texts.{holder_value, name_value, numbers_shown, or_none, registration_value};
-ghost use Rattle.json_fields.specs.Texts.{slot_word, status_word, text_of, text_value, time_value};
+ghost use Rattle.json_fields.specs.Texts.{cut, slot_word, status_word, text_of, text_value, time_value};
 
 use crate::codes::Coding;
 use crate::fields::Form;
@@ -201,16 +201,16 @@ fn write_holder(alloc: Global, writer: &mut TextWriter, bytes: &[u8]) -> Result<
     Ok(())
 }
 
-/// Writes a change of activity.
-pub fn write_change(writer: &mut TextWriter, word: u16) -> Result<(), AllocError>
-    ensures { OnOk result (writer.new ≡ writer.old ++ json_tokens (change_value word)) }
+/// Writes a change of activity, of a unit or on a card.
+pub fn write_change(writer: &mut TextWriter, on_card: bool, word: u16) -> Result<(), AllocError>
+    ensures { OnOk result (writer.new ≡ writer.old ++ json_tokens (change_value on_card word)) }
 {
     writer.begin_object()?;
     writer.key("minute")?;
     writer.u64((word % 2048) as u64)?;
     writer.key("slot")?;
     writer.string(slot_word(word))?;
-    writer.key(status_word(word))?;
+    writer.key(status_word(on_card, word))?;
     writer.boolean(word / 16384 % 2 == 1)?;
     writer.key("present")?;
     writer.boolean(word / 8192 % 2 == 0)?;
@@ -243,9 +243,16 @@ fn slot_word(word: u16) -> &'static str
     }
 }
 
-/// What the bit behind the slot's tells: CREW where a card is in the slot, else an entry by hand.
-fn status_word(word: u16) -> &'static str
-    ensures { result.now ≡ status_word word }
+/// What the bit behind the slot's tells, of a unit or on a card.
+fn status_word(on_card: bool, word: u16) -> &'static str
+    ensures { result.now ≡ status_word on_card word }
+{
+    if on_card { card_status(word) } else { "crew" }
+}
+
+/// CREW where the card was in, else an entry by hand.
+fn card_status(word: u16) -> &'static str
+    ensures { result.now ≡ card_status word }
 {
     if word / 8192 % 2 == 0 {
         "crew"

@@ -8,11 +8,11 @@ use Rattle.file_json.proofs.parts.write_changes.Goals as goal
 
 pub loop-left-preserved : goal.loop-left-preserved
 loop-left-preserved c =
-    one_change_more c.loop-left.left c.loop-left.rest.now c.split_at.result.0.now c.split_at.result.1.now c.loop-left.writer c.write_change.new.writer
-    (c.args.writer.now ++ json_tokens (array (changes_shown c.args.count c.args.bytes.now)))
+    one_change_more c.args.on_card c.loop-left.left c.loop-left.rest.now c.split_at.result.0.now c.split_at.result.1.now c.loop-left.writer c.write_change.new.writer
+    (c.args.writer.now ++ json_tokens (array (changes_shown c.args.on_card c.args.count c.args.bytes.now)))
     (search rules) c.split_at.ensures.front c.split_at.ensures.back c.loop-left.invariant (c.in_ok-write_change.ensures ∙ search rules)
 
 pub returns : goal.returns
 returns c =
     c.in_ok-end_array.ensures
-    ∙ no_change_left c.loop-left.left c.loop-left.rest.now c.loop-left.writer (c.args.writer.now ++ json_tokens (array (changes_shown c.args.count c.args.bytes.now))) (search rules) c.loop-left.invariant
+    ∙ no_change_left c.args.on_card c.loop-left.left c.loop-left.rest.now c.loop-left.writer (c.args.writer.now ++ json_tokens (array (changes_shown c.args.on_card c.args.count c.args.bytes.now))) (search rules) c.loop-left.invariant

@@ -7,7 +7,7 @@ use Rattle.file_json.proofs.parts.write_changes.Given as goal
 
 -- what is written with the changes behind is the array
 abbrev pub invariant-loop-left : goal.invariant-loop-left
-invariant-loop-left l = AreChanges l.left l.rest l.writer (l.fn.writer ++ json_tokens (array (changes_shown l.fn.count l.fn.bytes)))
+invariant-loop-left l = AreChanges l.fn.on_card l.left l.rest l.writer (l.fn.writer ++ json_tokens (array (changes_shown l.fn.on_card l.fn.count l.fn.bytes)))
 
 abbrev pub decreases-loop-left : goal.decreases-loop-left
 decreases-loop-left l = l.left
