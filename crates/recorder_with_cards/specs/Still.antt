@@ -1,5 +1,5 @@
--- What a run with cards leaves as it was (profile): a ring of the unit that is dense, the holder of a card with all that
--- no call writes, and of which vehicles it tells.
+-- What a run with cards leaves as it was (profile): a ring of the unit that is dense, the holder of a card with all
+-- that no call writes, and of which vehicles it tells.
 use Rattle.std.specs.Prelude.{List, ℕ}
 use Rattle.trace_model.specs.declared.Card.{Card}
 use Rattle.tach_media.specs.Medium.{State}
@@ -31,9 +31,9 @@ KeepsHolder r c since card = IsOwnValid (card_image r c) → (x : List ℕ) → 
 abbrev pub KeepTheirHolders : Recording → (began now : Devices) → Type 0
 KeepTheirHolders r began now = (c : Card) → KeepsHolder r c (card_of began c).clock (card_of now c)
 
--- each vehicle entry of each image that a card might have left since a clock has the registration that the unit's image
--- says, or that of an entry at the start, and its current use tells of no open session, is that of the start, or has the
--- registration that the unit's image says, where the card's image at the start was valid
+-- each vehicle entry of each image that a card might have left since a clock has the registration that the unit's
+-- image says, or that of an entry at the start, and its current use tells of no open session, is that of the start, or
+-- has the registration that the unit's image says, where the card's image at the start was valid
 abbrev pub KeepsVehicles : Recording → Card → (since : ℕ) → State → Type 0
 KeepsVehicles r c since card = IsOwnValid (card_image r c) → (x : List ℕ) → card.left_since since x
     → TellsOfTwo (own_sizes (card_image r c)) (registration_of r.unit) (card_image r c) x

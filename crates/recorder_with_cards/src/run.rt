@@ -154,7 +154,8 @@ fn go_on<M: Medium, C: Chip, D: Chip>(
         (devices (M.state unit.new) (C.state card_a.new) (D.state card_b.new)) }
     ensures later { AreAfter (devices (M.state unit.old) (C.state card_a.old) (D.state card_b.old))
         (devices (M.state unit.new) (C.state card_a.new) (D.state card_b.new)) }
-    ensures most { WritesFor (item_seconds item) (first_waiting item from to - from) (devices (M.state unit.old) (C.state card_a.old) (D.state card_b.old))
+    ensures most { WritesFor (item_seconds item) (first_waiting item from to - from)
+        (devices (M.state unit.old) (C.state card_a.old) (D.state card_b.old))
         (devices (M.state unit.new) (C.state card_a.new) (D.state card_b.new)) }
     ensures calm { AreCalm outcome.old.breaks.items outcome.new.breaks.items
         (devices (M.state unit.old) (C.state card_a.old) (D.state card_b.old))

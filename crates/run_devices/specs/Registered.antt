@@ -1,5 +1,5 @@
--- Of which vehicles a card tells over a run, whatever calls failed (profile): in its vehicle entries, and in its current
--- use.
+-- Of which vehicles a card tells over a run, whatever calls failed (profile): in its vehicle entries, and in its
+-- current use.
 use Rattle.std.specs.Prelude.{◌≡◌, ◌⊎◌, ℕ, Option, Some, None, IfSome, List, [], ◌∷◌}
 use Rattle.tacho_types.specs.declared.texts.Registration.{Registration}
 use Rattle.card_layout.specs.declared.files.Application.{Application}

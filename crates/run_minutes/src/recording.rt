@@ -33,7 +33,8 @@ impl<U: Medium, C: Chip> Recorder<U, C> {
         ensures goes { KeepingGoes (⟦<Self as Stands>⟧.stand self.old) (⟦<Self as Stands>⟧.stand self.new) }
         ensures kept { Keeps minute.now present at (is_err result)
             (⟦<Self as Stands>⟧.stand self.old) (⟦<Self as Stands>⟧.stand self.new) }
-        ensures most { WroteAtMost 26 34 (devices (U.state self.old.unit) (C.state self.old.card_a) (C.state self.old.card_b))
+        ensures most { WroteAtMost 26 34
+            (devices (U.state self.old.unit) (C.state self.old.card_a) (C.state self.old.card_b))
             (devices (U.state self.new.unit) (C.state self.new.card_a) (C.state self.new.card_b)) }
         ensures speeds { LeavesSpeeds (U.state self.old.unit) (U.state self.new.unit) }
         ensures calls { CallsOnly (IsAbsent present) self.old.keeper.cabin.cards

@@ -148,7 +148,8 @@ impl<'a, R: Files<File = File>> Medium for FileMedium<'a, R> {
     ghost state = { λ m. untold_state m.size ((0, m.size) ∷ []) m.clock m.counts.works m.counts.faults
         m.counts.breakdowns };
 
-    ghost coherent = { λ m. untold m.size ((0, m.size) ∷ []) m.clock m.counts.works m.counts.faults m.counts.breakdowns };
+    ghost coherent = { λ m. untold m.size ((0, m.size) ∷ []) m.clock m.counts.works m.counts.faults
+        m.counts.breakdowns };
 
     fn size(&self) -> u32 {
         self.size

@@ -77,8 +77,8 @@ pub fn tacho<S: Peer<K>, K: Sink, F: Sink, U: Medium, C: Chip>(
 
     // What the form does not name is as it was, and so are the cards where `record` reads a trace without a card's
     // line; so are the devices where memory ran out, and the sink where nothing is to be printed, but for `serve`,
-    // `serve --hex` and `download`, which write as they read, for `show`, which leaves the sink as it was where its file
-    // is none, and for `card a` and `card b`, which do so where a field is named.
+    // `serve --hex` and `download`, which write as they read, for `show`, which leaves the sink as it was where its
+    // file is none, and for `card a` and `card b`, which do so where a field is named.
     ensures spares { Spares (form_of words.now) result.fault (IsToldForUnit (S.left source.old))
         (source.new ≡ source.old) (sink.new ≡ sink.old) (unit.new ≡ unit.old) (card_a.new ≡ card_a.old)
         (card_b.new ≡ card_b.old) }
