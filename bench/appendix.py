@@ -99,6 +99,9 @@ CODES = {
     },
 }
 MEANINGS = {coding: {first + n: name for first, names in runs.items() for n, name in enumerate(names.split())} for coding, runs in CODES.items()}
+MEANINGS["nation"][0] = "noInformationAvailable"
+for own in range(0x80, 0x100):
+    MEANINGS["event"][own] = MEANINGS["purpose"][own] = "manufacturerSpecific"
 
 
 def number(data):
@@ -182,14 +185,14 @@ def whole(name, data):
     return entries(name, len(data) // WIDTHS[name], Reader(data))
 
 
-def change(word):
+def change(word, on_card):
     activity = ["rest", "available", "work", "drive"][word >> 11 & 3]
-    return {"minute": word & 2047, "slot": "codriver" if word >> 15 else "driver", "byHand" if word >> 13 & 1 else "crew": bool(word >> 14 & 1),
+    return {"minute": word & 2047, "slot": "codriver" if word >> 15 else "driver", "byHand" if on_card and word >> 13 & 1 else "crew": bool(word >> 14 & 1),
             "present": not word >> 13 & 1, "activity": activity}
 
 
-def changes(data):
-    return [change(number(data[n : n + 2])) for n in range(0, len(data) - 1, 2)]
+def changes(data, on_card):
+    return [change(number(data[n : n + 2]), on_card) for n in range(0, len(data) - 1, 2)]
 
 
 def overview(reader):
@@ -199,7 +202,7 @@ def overview(reader):
 
 def activities(reader):
     return {**record("day", reader.take(7)), "vuCardIWRecords": counted("insertion", 2, reader),
-            "activityChangeInfos": changes(reader.take(2 * number(reader.take(2)))),
+            "activityChangeInfos": changes(reader.take(2 * number(reader.take(2))), False),
             "vuPlaceDailyWorkPeriodRecords": counted("unit place", 1, reader), "specificConditionRecords": counted("condition", 2, reader)}
 
 
@@ -241,7 +244,7 @@ def days(data):
         length = number(turned[2:4])
         if length < 14:
             break
-        records.append({**record("card day", turned[:12]), "activityChangeInfos": changes(turned[12:length])})
+        records.append({**record("card day", turned[:12]), "activityChangeInfos": changes(turned[12:length], True)})
         if at == newest:
             break
         at = (at + length) % len(string)
