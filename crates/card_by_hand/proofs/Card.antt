@@ -46,14 +46,14 @@ module _ (app : Application) (sound : IsApplication app) (x : List ℕ) (ordered
     marks v same is = mark_told app y ∙ ap (λ (o : Vehicles). last_use_in o / 60) (is ∙ same) ∙ sym (mark_told app x)
 
     -- the word counts
-    pub goes_by_hand : BeginsLater app e.minute x → is_open (end_mark app x) (card_days app x) ≡ false → (slack : Bound) (covered from : ℕ) (c : Counted) → 16 ≤ slack.bytes → from ≤ e.minute → DaysFollowOverwriting app slack covered from c x
-        → IsCard app (IsBook (by_hand app.activity e (book_of app x))) x y → DaysFollowOverwriting app slack covered (suc e.minute) (with_by_hand covered c e.minute) y
-    goes_by_hand clear shut slack covered from c least later goes card =
+    pub goes_by_hand : is_open (end_mark app x) (card_days app x) ≡ false → end_mark app x < e.minute → (slack : Bound) (covered from to : ℕ) (c : Counted) → 16 ≤ slack.bytes → (from ≤ e.minute) ⊎ ((end_mark app x < covered) × (from / 1440 ≤ e.minute / 1440)) → from ≤ to → e.minute < to
+        → DaysFollowOverwriting app slack covered from c x → IsCard app (IsBook (by_hand app.activity e (book_of app x))) x y → DaysFollowOverwriting app slack covered to (with_by_hand covered c e.minute) y
+    goes_by_hand shut past slack covered from to c least comes low below goes card =
         let days : card_days app y ≡ with_word_at app.activity e.minute (manual_word e) (card_days app x) = sym (book_days app y) ∙ card.told.0 ∙ ap (with_word_at app.activity e.minute (manual_word e)) (book_days app x) in
         let are : AreDays 0 (with_word_at app.activity e.minute (manual_word e) (card_days app x)) = subst (λ (ds : List Day). AreDays 0 ds) (sym (book_days app y) ∙ book_days app y ∙ days) (subst (λ (ds : List Day). AreDays 0 ds) (book_days app y) card.holds.ordered) in
-        let lives = counted_lives app.activity slack covered from (end_mark app x) c (card_days app x) goes e.minute (manual_word e) (minute_is e) (absent_is e) later shut sound.string_least least clear are in
-        subst (λ (ds : List Day). Lives app.activity slack covered (suc e.minute) (end_mark app y) (with_by_hand covered c e.minute) ds) (sym days)
-        (subst (λ (n : ℕ). Lives app.activity slack covered (suc e.minute) n (with_by_hand covered c e.minute) (with_word_at app.activity e.minute (manual_word e) (card_days app x))) (sym (marks (book_of app x).vehicles refl card.told.1)) lives)
+        let lives = counted_lives app.activity slack covered from (end_mark app x) c (card_days app x) goes e.minute (manual_word e) (minute_is e) (absent_is e) past comes to low below shut sound.string_least least are in
+        subst (λ (ds : List Day). Lives app.activity slack covered to (end_mark app y) (with_by_hand covered c e.minute) ds) (sym days)
+        (subst (λ (n : ℕ). Lives app.activity slack covered to n (with_by_hand covered c e.minute) (with_word_at app.activity e.minute (manual_word e) (card_days app x))) (sym (marks (book_of app x).vehicles refl card.told.1)) lives)
 
     module _ (late : mark_of (book_of app x) < e.minute) (card : IsCard app (IsByHandMoment app.activity e (book_of app x)) x y) where
       abbrev Moment : List Day → Type 0
@@ -88,24 +88,24 @@ over_repaired app sound x y bytes few same over slack covered from next c least 
 -- a moment of the entry behind them, before the end mark moves
 module _ (app : Application) (sound : IsApplication app) (x : List ℕ) (ordered : AreDays 0 (book_of app x).days) (e : Entry) (registration : Registration) (odometer more : ℕ) (y : List ℕ) (before : IsBeforeGapOf e.minute (book_of app x))
     (card : IsCard app (IsKeepMoment app.activity registration odometer more e (book_of app x)) x y) (same : end_mark app y ≡ end_mark app x) (newest : is_newest (e.minute / 1440) (sizes (card_days app x)) ≡ true)
-    (shut : is_open (end_mark app x) (card_days app x) ≡ false) (days : List Day) (bytes : ℕ) (few : bytes ≤ 30) (over : IsOver app.activity (end_mark app x) bytes days (card_days app x)) where
-  abbrev b : Book
+    (shut : is_open (end_mark app x) (card_days app x) ≡ false) where
+  abbrev pub b : Book
   b = book_of app x
 
-  abbrev gapped : List Day
+  abbrev pub gapped : List Day
   gapped = gap_closed app.activity (mark_of b) e.minute b.days
 
-  shut_there : is_open (mark_of b) b.days ≡ false
+  pub shut_there : is_open (mark_of b) b.days ≡ false
   shut_there = subst (λ (ds : List Day). is_open (mark_of b) ds ≡ false) (sym (book_days app x)) (subst (λ (n : ℕ). is_open n (card_days app x) ≡ false) (mark_told app x) shut)
 
   no_gap : gapped ≡ b.days
   no_gap = ap (λ (o : Bool). cond (o && nat_lt (suc (mark_of b)) e.minute) (with_change app.activity (closing_word (suc (mark_of b)) Rest (latest_of b.days)) b.days) b.days) shut_there
 
   -- the keep's own last state before its mark moves is that with its words, but for the distance
-  abbrev Before : List Day → Type 0
+  abbrev pub Before : List Day → Type 0
   Before kept = IsBeforeMark app.activity b (with_entry app.activity registration odometer more b e) e kept
 
-  still : Before (book_of app y).days
+  pub still : Before (book_of app y).days
   still = ⊎_elim
       (λ old. old.1)
       (λ new. ⊎_elim
@@ -117,53 +117,54 @@ module _ (app : Application) (sound : IsApplication app) (x : List ℕ) (ordered
       new.1)
       card.told
 
-  late : end_mark app x < e.minute
+  pub late : end_mark app x < e.minute
   late = omega (arith, before.1, mark_told app x)
 
-  are : AreDays 0 (card_days app x)
+  pub are : AreDays 0 (card_days app x)
   are = subst (λ (ds : List Day). AreDays 0 ds) (book_days app x) ordered
 
-  base_is : gapped ≡ card_days app x
+  pub base_is : gapped ≡ card_days app x
   base_is = no_gap ∙ book_days app x
 
-  -- a moment but for the distance
-  moment_over : (kept : List Day) → IsBeforeGap app.activity (mark_of b) e.minute b.days kept ⊎ (IsBeforeWords app.activity e gapped kept ⊎ (kept ≡ entered_days app.activity e gapped)) → IsOver app.activity (end_mark app x) (bytes + 2) days kept
-  moment_over kept moment = ⊎_elim
-      (λ gap. ⊎_elim
-      (λ unchanged. subst (λ (l : List Day). IsOver app.activity (end_mark app x) (bytes + 2) days l) (sym (unchanged ∙ book_days app x)) (over_words app.activity (end_mark app x) sound.string_least days bytes (card_days app x) few are over e late newest (card_days app x) (inl refl)))
-      (λ gone. absurd (differ (sym gone.0 ∙ shut_there))) gap)
-      (λ rest. ⊎_elim
-      (λ words. over_words app.activity (end_mark app x) sound.string_least days bytes (card_days app x) few are over e late newest kept (subst (λ (l : List Day). IsBeforeWords app.activity e l kept) base_is words))
-      (λ done. subst (λ (l : List Day). IsOver app.activity (end_mark app x) (bytes + 2) days l) (sym (done ∙ ap (entered_days app.activity e) base_is)) (over_entered app.activity (end_mark app x) sound.string_least days bytes (card_days app x) few are over e late newest)) rest) moment
-    where
-      differ : true ≡ false → ⊥
-      differ e = cc
-
-  module _ (slack : Bound) (covered from next : ℕ) (c : Counted) (least : 32 ≤ slack.bytes) (later : from ≤ next) (first : List ℕ) (days_are : card_days app first ≡ days) (mark : end_mark app first ≡ end_mark app x) (goes : DaysFollowOverwriting app slack covered from c first) where
-    lives : Lives app.activity slack covered from (end_mark app x) c days
-    lives = subst (λ (n : ℕ). Lives app.activity slack covered from n c days) mark (subst (λ (ds : List Day). Lives app.activity slack covered from (end_mark app first) c ds) days_are goes)
-
-    rests : (kept : List Day) → IsOver app.activity (end_mark app x) (bytes + 2) days kept → Rests app.activity slack covered next (end_mark app x) c (trimmed (end_mark app x) kept)
-    rests kept o = over_rests app.activity (end_mark app x) sound.string_least days slack covered from c lives next later least (bytes + 2) kept (omega (arith, few)) o
-
-    rests_there : (kept : List Day) → AreDays 0 kept → Before kept → Rests app.activity slack covered next (end_mark app x) c (trimmed (end_mark app x) kept)
-    rests_there kept whole moment = ⊎_elim
-        (λ gap. rests kept (moment_over kept (inl gap)))
+  module _ (days : List Day) (bytes : ℕ) (few : bytes ≤ 30) (over : IsOver app.activity (end_mark app x) bytes days (card_days app x)) where
+    -- a moment but for the distance
+    moment_over : (kept : List Day) → IsBeforeGap app.activity (mark_of b) e.minute b.days kept ⊎ (IsBeforeWords app.activity e gapped kept ⊎ (kept ≡ entered_days app.activity e gapped)) → IsOver app.activity (end_mark app x) (bytes + 2) days kept
+    moment_over kept moment = ⊎_elim
+        (λ gap. ⊎_elim
+        (λ unchanged. subst (λ (l : List Day). IsOver app.activity (end_mark app x) (bytes + 2) days l) (sym (unchanged ∙ book_days app x)) (over_words app.activity (end_mark app x) sound.string_least days bytes (card_days app x) few are over e late newest (card_days app x) (inl refl)))
+        (λ gone. absurd (differ (sym gone.0 ∙ shut_there))) gap)
         (λ rest. ⊎_elim
-        (λ words. rests kept (moment_over kept (inr (inl words))))
-        (λ last. ⊎_elim
-        (λ word. rests kept (moment_over kept (inr (inr word))))
-        (λ km.
-        rests_alike app.activity slack covered next (end_mark app x) c (trimmed (end_mark app x) (entered_days app.activity e gapped)) (trimmed (end_mark app x) kept)
-        (subst (λ (l : List Day). Alike (trimmed (end_mark app x) (entered_days app.activity e gapped)) (trimmed (end_mark app x) l)) (sym km) (trimmed_alike (end_mark app x) (entered_days app.activity e gapped) (travelled more (entered_days app.activity e gapped)) (alike_km more (entered_days app.activity e gapped))))
-        (are_trimmed (end_mark app x) 0 kept whole)
-        (rests (entered_days app.activity e gapped) (moment_over (entered_days app.activity e gapped) (inr (inr refl)))))
-        last) rest) moment
+        (λ words. over_words app.activity (end_mark app x) sound.string_least days bytes (card_days app x) few are over e late newest kept (subst (λ (l : List Day). IsBeforeWords app.activity e l kept) base_is words))
+        (λ done. subst (λ (l : List Day). IsOver app.activity (end_mark app x) (bytes + 2) days l) (sym (done ∙ ap (entered_days app.activity e) base_is)) (over_entered app.activity (end_mark app x) sound.string_least days bytes (card_days app x) few are over e late newest)) rest) moment
+      where
+        differ : true ≡ false → ⊥
+        differ e = cc
 
-    pub keep_repaired_at : IsRepairable app slack covered next c y
-    keep_repaired_at =
-        subst (λ (n : ℕ). Rests app.activity slack covered next n c (trimmed n (card_days app y))) (sym same)
-        (subst (λ (ds : List Day). Rests app.activity slack covered next (end_mark app x) c (trimmed (end_mark app x) ds)) (book_days app y) (rests_there (book_of app y).days card.holds.ordered still))
+    module _ (slack : Bound) (covered from next : ℕ) (c : Counted) (least : 32 ≤ slack.bytes) (later : from ≤ next) (first : List ℕ) (days_are : card_days app first ≡ days) (mark : end_mark app first ≡ end_mark app x) (goes : DaysFollowOverwriting app slack covered from c first) where
+      lives : Lives app.activity slack covered from (end_mark app x) c days
+      lives = subst (λ (n : ℕ). Lives app.activity slack covered from n c days) mark (subst (λ (ds : List Day). Lives app.activity slack covered from (end_mark app first) c ds) days_are goes)
+
+      rests : (kept : List Day) → IsOver app.activity (end_mark app x) (bytes + 2) days kept → Rests app.activity slack covered next (end_mark app x) c (trimmed (end_mark app x) kept)
+      rests kept o = over_rests app.activity (end_mark app x) sound.string_least days slack covered from c lives next later least (bytes + 2) kept (omega (arith, few)) o
+
+      rests_there : (kept : List Day) → AreDays 0 kept → Before kept → Rests app.activity slack covered next (end_mark app x) c (trimmed (end_mark app x) kept)
+      rests_there kept whole moment = ⊎_elim
+          (λ gap. rests kept (moment_over kept (inl gap)))
+          (λ rest. ⊎_elim
+          (λ words. rests kept (moment_over kept (inr (inl words))))
+          (λ last. ⊎_elim
+          (λ word. rests kept (moment_over kept (inr (inr word))))
+          (λ km.
+          rests_alike app.activity slack covered next (end_mark app x) c (trimmed (end_mark app x) (entered_days app.activity e gapped)) (trimmed (end_mark app x) kept)
+          (subst (λ (l : List Day). Alike (trimmed (end_mark app x) (entered_days app.activity e gapped)) (trimmed (end_mark app x) l)) (sym km) (trimmed_alike (end_mark app x) (entered_days app.activity e gapped) (travelled more (entered_days app.activity e gapped)) (alike_km more (entered_days app.activity e gapped))))
+          (are_trimmed (end_mark app x) 0 kept whole)
+          (rests (entered_days app.activity e gapped) (moment_over (entered_days app.activity e gapped) (inr (inr refl)))))
+          last) rest) moment
+
+      pub keep_repaired_at : IsRepairable app slack covered next c y
+      keep_repaired_at =
+          subst (λ (n : ℕ). Rests app.activity slack covered next n c (trimmed n (card_days app y))) (sym same)
+          (subst (λ (ds : List Day). Rests app.activity slack covered next (end_mark app x) c (trimmed (end_mark app x) ds)) (book_days app y) (rests_there (book_of app y).days card.holds.ordered still))
 
 pub keep_repaired : (app : Application) (sound : IsApplication app) (x : List ℕ) (ordered : AreDays 0 (book_of app x).days) (e : Entry) (registration : Registration) (odometer more : ℕ) (y : List ℕ) → IsBeforeGapOf e.minute (book_of app x)
     → IsCard app (IsKeepMoment app.activity registration odometer more e (book_of app x)) x y → end_mark app y ≡ end_mark app x → is_newest (e.minute / 1440) (sizes (card_days app x)) ≡ true

@@ -1,19 +1,22 @@
 -- Days with an entry by hand more are those that the stated overwriting leaves, where its word counts.
-use Rattle.std.proofs.Common.{◌≡◌, ℕ, suc, ◌+◌, ◌-◌, ◌*◌, ◌/◌, ◌%◌, ◌<◌, ◌≤◌, Bool, true, false, cond, Some, None, List, [], ◌∷◌, ◌++◌, length, refl, sym, ◌∙◌, ap, subst, arith}
+use Rattle.std.proofs.Common.{◌≡◌, ◌⊎◌, ⊎_elim, ℕ, suc, ◌+◌, ◌-◌, ◌*◌, ◌/◌, ◌%◌, ◌<◌, ◌≤◌, max, Bool, true, false, cond, not, Option, Some, None, List, [], ◌∷◌, ◌++◌, length, refl, sym, ◌∙◌, ap, subst, arith}
 use Rattle.std.specs.Prelude.{nat_eq, nat_lt, ◌&&◌}
+use Rattle.std.proofs.lemmas.Bool.Decides.{nat_tests}
 use Rattle.activity_codec.specs.declared.entries.Entry.{Entry}
 use Rattle.activity_codec.specs.Words.{word_minute, word_absent}
 use Rattle.card_model.specs.Days.{Day, AreDays, last_word}
-use Rattle.card_model.specs.Changes.{OnNewest, fitting, with_newest, with_word, new_day, date_of, trimmed}
+use Rattle.card_model.specs.Changes.{OnNewest, fitting, with_newest, with_word, cut, new_day, date_of, trimmed}
 use Rattle.card_model.proofs.Retention.{remain_fitting}
-use Rattle.card_model.proofs.Trims.{Behind, trimmed_word, trimmed_day}
-use Rattle.card_retention.specs.Expected.{WordDay, Counted, more, is_newest, closes, first_words}
+use Rattle.card_model.proofs.Trims.{Behind, cut_date, trimmed_word, trimmed_day}
+use Rattle.card_retention.specs.Expected.{WordDay, Counted, more, is_newest, is_closed, closes, expected_days, first_words}
 use Rattle.card_retention.specs.Shown.{Bound, Shows, Left, Grows, Rising, Filled, AllBefore, sizes, size_day, is_open, owing, Rests, EndsAbsent, Sound, Sound.Flat, Sound.Tail, Lives}
 use Rattle.card_retention.proofs.Growing.{shows_word, shows_day, shows_again, shows_left, left_of, left_newest, more_grows, grows_longer, sizes_word, sizes_append}
 use Rattle.card_retention.proofs.Entering.{rising_more, before_more, before_later, before_newest, before_append, before_left, newest_shown, shows_before, rising_sizes, fits_sizes, date_newest, closes_is, on_append, last_append}
 use Rattle.card_retention.proofs.Stops.{open_left, are_left, absent_shut, sound_left}
-use Rattle.card_session.specs.Books.{with_change}
+use Rattle.card_retention.proofs.Stub.{trimmed_stub}
+use Rattle.card_session.specs.Books.{bare_word, with_change}
 use Rattle.card_session.specs.ByHand.{words_from, with_day_from, with_word_at}
+use Rattle.card_session.proofs.OnMark.{cut_first, shut_first}
 use Rattle.hand_model.specs.Counted.{with_by_hand}
 
 -- ---- lists of days with their words
@@ -50,11 +53,30 @@ grows_same : (ws : List WordDay) → Grows ws ws
 grows_same [] = tt
 grows_same (w ∷ ws) = (refl, omega arith, grows_same ws)
 
--- ---- a word at a minute, of no entry
+-- ---- behind an entry in front of the words of the start no closing word counts
+
+not_lt : (m n : ℕ) → n ≤ m → nat_lt m n ≡ false
+not_lt m n le = grind (arith, nat_tests)
+
+never_closed : (covered n : ℕ) (p : Entry) → p.minute < covered → is_closed covered p n ≡ false
+never_closed covered n p lt =
+    ap (λ (b : Bool). not (nat_eq (suc p.minute % 1440) 0) && (b && nat_lt (suc p.minute) n)) (not_lt covered (suc p.minute) (omega (arith, lt)))
+    ∙ by (not (nat_eq (suc p.minute % 1440) 0))
+  where
+    by : (b : Bool) → (b && false) ≡ false
+    by true = refl
+    by false = refl
+
+closes_alike : (covered n m : ℕ) (o : Option Entry) (ws : List WordDay) → ((p : Entry) → o ≡ Some p → p.minute < covered) → closes covered o n ws ≡ closes covered o m ws
+closes_alike covered n m None ws low = refl
+closes_alike covered n m (Some p) ws low =
+    ap (λ (b : Bool). cond b (more ws) ws) (never_closed covered n p (low p refl)) ∙ sym (ap (λ (b : Bool). cond b (more ws) ws) (never_closed covered m p (low p refl)))
+
+-- ---- a word at a minute, of no entry: no earlier than it may come; or the end mark is in front of words of the start, to which a cut has left it, and it comes on no earlier day
 
 module _ (size : ℕ) (slack : Bound) (covered from mark : ℕ) (c : Counted) (days : List Day) (l : Lives size slack covered from mark c days) (minute w : ℕ)
-    (at : word_minute w ≡ minute % 1440) (absent : word_absent w ≡ true) (later : from ≤ minute) (shut : is_open mark days ≡ false) (long : 5544 ≤ size) (least : 16 ≤ slack.bytes)
-    (clear : is_newest (minute / 1440) (sizes days) ≡ false → mark / 1440 < minute / 1440) where
+    (at : word_minute w ≡ minute % 1440) (absent : word_absent w ≡ true) (mark_before : mark < minute) (later : (from ≤ minute) ⊎ ((mark < covered) × (from / 1440 ≤ minute / 1440))) (to : ℕ) (from_to : from ≤ to) (below : minute < to)
+    (shut : is_open mark days ≡ false) (long : 5544 ≤ size) (least : 16 ≤ slack.bytes) where
   abbrev r : Rests size slack covered from mark c days
   r = l.rests
 
@@ -73,18 +95,26 @@ module _ (size : ℕ) (slack : Bound) (covered from mark : ℕ) (c : Counted) (d
   x_filled : Filled x
   x_filled = closes_is Filled covered c.before minute c.days r.filled (filled_more c.days r.filled)
 
+  top_low : r.top / 1440 ≤ minute / 1440
+  top_low = ⊎_elim (λ le. omega (arith, r.next, le)) (λ cut. omega (arith, r.next, cut.1)) later
+
   x_low : AllBefore (suc (r.top / 1440)) x
   x_low = closes_is (λ k. AllBefore (suc (r.top / 1440)) k) covered c.before minute c.days r.low (before_more (suc (r.top / 1440)) c.days r.low)
 
   x_before : AllBefore (suc day) x
-  x_before = before_later (suc (r.top / 1440)) (suc day) x (omega (arith, r.next, later)) x_low
-
-  mark_before : mark < minute
-  mark_before = omega (arith, r.later, later)
+  x_before = before_later (suc (r.top / 1440)) (suc day) x (omega (arith, top_low)) x_low
 
   -- the days before it, with no closing word to come
   now : Shows size slack x (sizes days)
-  now = subst (λ (o : Bool). Shows size slack x (cond (o && nat_lt (suc mark) minute) (more (sizes days)) (sizes days))) shut (r.shows minute later)
+  now = ⊎_elim
+      (λ le. flat minute (r.shows minute le))
+      (λ cut.
+      subst (λ (k : List WordDay). Shows size slack k (sizes days)) (closes_alike covered from minute c.before c.days (λ p is. omega (arith, (r.entry p is).1, cut.0)))
+      (flat from (r.shows from (omega arith))))
+      later
+    where
+      flat : (n : ℕ) → Shows size slack (expected_days covered n c) (owing n mark days) → Shows size slack (closes covered c.before n c.days) (sizes days)
+      flat n shows = subst (λ (o : Bool). Shows size slack (closes covered c.before n c.days) (cond (o && nat_lt (suc mark) n) (more (sizes days)) (sizes days))) shut shows
 
   few : first_words minute ≤ 2
   few = by (nat_eq (minute % 1440) 0)
@@ -225,34 +255,81 @@ module _ (size : ℕ) (slack : Bound) (covered from mark : ℕ) (c : Counted) (d
     day_ends : EndsAbsent (older ++ begun ∷ [])
     day_ends = on_append (λ d. word_absent (last_word d.words) ≡ true) older begun (ap word_absent last_from ∙ absent)
 
-    day_grows : (n : ℕ) → Sound mark r.top c.before older → Grows (owing n mark (trimmed mark (older ++ begun ∷ []))) (sizes (older ++ begun ∷ []))
-    day_grows n sound =
-        subst (λ (t : List Day). Grows (owing n mark t) (sizes (older ++ begun ∷ []))) (sym (trimmed_day mark older begun (omega (arith, clear other))))
+    older_are : AreDays 0 older
+    older_are = are_left room days older (remain_fitting room days) r.ordered
+
+    shut_older : is_open mark older ≡ false
+    shut_older = open_left mark room days older (fits_sizes 0 room days (omega (arith, long, count, few)) r.ordered).0 (remain_fitting room days) ∙ shut
+
+    -- a day behind that of the mark
+    later_grows : mark / 1440 < minute / 1440 → (n : ℕ) → Sound mark r.top c.before older → Grows (owing n mark (trimmed mark (older ++ begun ∷ []))) (sizes (older ++ begun ∷ []))
+    later_grows lt n sound =
+        subst (λ (t : List Day). Grows (owing n mark t) (sizes (older ++ begun ∷ []))) (sym (trimmed_day mark older begun (omega (arith, lt))))
         (subst (λ (k : List WordDay). Grows (owing n mark (trimmed mark older)) k) (sym (sizes_append older (begun ∷ []))) (by sound))
       where
-        shut_older : is_open mark older ≡ false
-        shut_older = open_left mark room days older (fits_sizes 0 room days (omega (arith, long, count, few)) r.ordered).0 (remain_fitting room days) ∙ shut
-
         by : Sound mark r.top c.before older → Grows (owing n mark (trimmed mark older)) (sizes older ++ sizes (begun ∷ []))
         by (Flat same) =
             subst (λ (t : List Day). Grows (owing n mark t) (sizes older ++ sizes (begun ∷ []))) (sym same)
             (subst (λ (o : Bool). Grows (cond (o && nat_lt (suc mark) n) (more (sizes older)) (sizes older)) (sizes older ++ sizes (begun ∷ []))) (sym shut_older) (grows_longer (sizes older) (sizes (begun ∷ []))))
         by (Tail ends fewer apart) = grows_append (owing n mark (trimmed mark older)) (sizes older) (sizes (begun ∷ [])) (fewer n)
 
+    -- that of the mark itself, of which a cut leaves the first word
+    same_grows : minute / 1440 ≡ mark / 1440 → (n : ℕ) → Grows (owing n mark (trimmed mark (older ++ begun ∷ []))) (sizes (older ++ begun ∷ []))
+    same_grows here n =
+        subst (λ (t : List Day). Grows (owing n mark t) (sizes (older ++ begun ∷ []))) (sym (trimmed_stub mark older begun older_are (subst (λ (k : ℕ). AllBefore k (sizes older)) here fits.1) date))
+        (subst (λ (o : Bool). Grows (cond (o && nat_lt (suc mark) n) (more (sizes (older ++ cut mark begun ∷ []))) (sizes (older ++ cut mark begun ∷ []))) (sizes (older ++ begun ∷ []))) (sym (shut_first mark older (cut mark begun) first))
+        (subst (λ (k : List WordDay). Grows k (sizes (older ++ begun ∷ []))) (sym (sizes_append older (cut mark begun ∷ [])))
+        (subst (λ (k : List WordDay). Grows (sizes older ++ sizes (cut mark begun ∷ [])) k) (sym (sizes_append older (begun ∷ []))) (one_shorter (sizes older)))))
+      where
+        date : begun.date ≡ date_of mark
+        date = ap (λ (k : ℕ). k * 86400) here
+
+        not_zero : (k : ℕ) → 0 < k → nat_eq k 0 ≡ false
+        not_zero k lt = grind (arith, nat_tests)
+
+        two : words_from minute w ≡ bare_word ∷ w ∷ []
+        two = ap (λ (b : Bool). cond b (w ∷ []) (bare_word ∷ w ∷ [])) (not_zero (minute % 1440) (omega (arith, here, mark_before)))
+
+        first : (cut mark begun).words ≡ bare_word ∷ []
+        first = cut_first mark begun bare_word w date two refl (omega (arith, at, here, mark_before))
+
+        shorter : length (cut mark begun).words ≤ length begun.words
+        shorter = omega (arith, ap (λ (l : List ℕ). length l) first, count, some)
+
+        same_day : begun.date / 86400 ≡ (cut mark begun).date / 86400
+        same_day = ap (λ (k : ℕ). k / 86400) (sym (cut_date mark begun))
+
+        one_shorter : (ws : List WordDay) → Grows (ws ++ sizes (cut mark begun ∷ [])) (ws ++ sizes (begun ∷ []))
+        one_shorter [] = (same_day, shorter, tt)
+        one_shorter (v ∷ ws) = (refl, omega arith, one_shorter ws)
+
+    day_grows : (n : ℕ) → Sound mark r.top c.before older → Grows (owing n mark (trimmed mark (older ++ begun ∷ []))) (sizes (older ++ begun ∷ []))
+    day_grows n sound = by (nat_lt (mark / 1440) (minute / 1440)) refl
+      where
+        lt_of : (m k : ℕ) → nat_lt m k ≡ true → m < k
+        lt_of m k is = grind (arith, nat_tests)
+
+        le_of : (m k : ℕ) → nat_lt m k ≡ false → k ≤ m
+        le_of m k is = grind (arith, nat_tests)
+
+        by : (b : Bool) → nat_lt (mark / 1440) (minute / 1440) ≡ b → Grows (owing n mark (trimmed mark (older ++ begun ∷ []))) (sizes (older ++ begun ∷ []))
+        by true is = later_grows (lt_of (mark / 1440) (minute / 1440) is) n sound
+        by false is = same_grows (omega (arith, le_of (mark / 1440) (minute / 1440) is, mark_before)) n
+
   -- ---- whole
 
-  lives_of : (after : List Day) → AreDays 0 after → EndsAbsent after → Shows size slack next.days (sizes after) → ((n : ℕ) → Grows (owing n mark (trimmed mark after)) (sizes after)) → Lives size slack covered (suc minute) mark next after
+  lives_of : (after : List Day) → AreDays 0 after → EndsAbsent after → Shows size slack next.days (sizes after) → ((n : ℕ) → Grows (owing n mark (trimmed mark after)) (sizes after)) → Lives size slack covered to mark next after
   lives_of after ordered ends shows grows = record {
     rests = record {
       ordered = ordered;
       rising = next_rising;
       filled = next_filled;
-      top = minute;
-      words = omega (arith, r.words, r.next, later);
+      top = max r.top minute;
+      words = omega (arith, r.words);
       entry = λ p is. absurd (none p is);
-      low = next_low;
-      next = omega arith;
-      later = omega (arith, mark_before);
+      low = before_later (suc (minute / 1440)) (suc (max r.top minute / 1440)) (with_by_hand covered c minute).days (omega arith) next_low;
+      next = omega (arith, r.next, from_to, below);
+      later = omega (arith, mark_before, below);
       by_mark = r.by_mark;
       tells = λ p is top. absurd (none p is);
       shows = λ n le. subst (λ (o : Bool). Shows size slack next.days (cond (o && nat_lt (suc mark) n) (more (sizes after)) (sizes after))) (sym (absent_shut mark after ends)) shows;
@@ -264,11 +341,11 @@ module _ (size : ℕ) (slack : Bound) (covered from mark : ℕ) (c : Counted) (d
       none p is = cc
 
   -- WITH AN ENTRY BY HAND the days live on, its word counted
-  pub counted_lives : AreDays 0 (with_word_at size minute w days) → Lives size slack covered (suc minute) mark (with_by_hand covered c minute) (with_word_at size minute w days)
+  pub counted_lives : AreDays 0 (with_word_at size minute w days) → Lives size slack covered to mark (with_by_hand covered c minute) (with_word_at size minute w days)
   counted_lives ordered = by (is_newest (minute / 1440) (sizes days)) refl ordered
     where
       by : (n : Bool) → is_newest (minute / 1440) (sizes days) ≡ n → AreDays 0 (cond n (with_change size w days) (with_day_from size minute w days))
-          → Lives size slack covered (suc minute) mark (with_by_hand covered c minute) (cond n (with_change size w days) (with_day_from size minute w days))
+          → Lives size slack covered to mark (with_by_hand covered c minute) (cond n (with_change size w days) (with_day_from size minute w days))
       by true is are =
           lives_of (with_change size w days) are (on_ends is (fitting (size - 2) days) (behind is)) (on_shows is)
           (λ n. on_grows is n (sound_left mark r.top (size - 2) 0 c.before days (fitting (size - 2) days) (fits_sizes 0 (size - 2) days (omega (arith, long)) r.ordered).0 r.ordered (remain_fitting (size - 2) days) l.sound))

@@ -40,7 +40,7 @@ left_as a b c same is = subst (λ (l : List Manual). AreLeft a l) same is
 
 -- ---- lists of words and of days
 
-up_to_word : (mark w : ℕ) (ds : List Day) (l : List Manual) → OnNewest (λ d. one_more mark d.date w ≡ l) ds → by_hand_up_to mark (with_newest (with_word w) ds) ≡ by_hand_up_to mark ds ++ l
+pub up_to_word : (mark w : ℕ) (ds : List Day) (l : List Manual) → OnNewest (λ d. one_more mark d.date w ≡ l) ds → by_hand_up_to mark (with_newest (with_word w) ds) ≡ by_hand_up_to mark ds ++ l
 up_to_word mark w [] l on = absurd on
 up_to_word mark w (d ∷ []) l on =
     append-nil (words_by_hand mark d.date (d.words ++ w ∷ [])) ∙ words_append mark d.date d.words w ∙ ap (λ (m : List Manual). words_by_hand mark d.date d.words ++ m) on
@@ -58,7 +58,7 @@ up_to_drops mark room (d ∷ ds) kept left = ⊎_elim
     (λ same. subst (λ (l : List Day). AreLeft (by_hand_up_to mark (d ∷ ds)) (by_hand_up_to mark l)) (sym same) (left_all (by_hand_up_to mark (d ∷ ds))))
     (λ gone. left_then (by_hand_up_to mark (d ∷ ds)) (by_hand_up_to mark ds) (by_hand_up_to mark kept) (record { gone = words_by_hand mark d.date d.words; is = refl }) (up_to_drops mark room ds kept gone.1)) left
 
-up_to_km : (mark more : ℕ) (ds : List Day) → by_hand_up_to mark (travelled more ds) ≡ by_hand_up_to mark ds
+pub up_to_km : (mark more : ℕ) (ds : List Day) → by_hand_up_to mark (travelled more ds) ≡ by_hand_up_to mark ds
 up_to_km mark more [] = refl
 up_to_km mark more (d ∷ []) = refl
 up_to_km mark more (d ∷ e ∷ []) = refl
@@ -73,7 +73,7 @@ on_all P [] on is = absurd on
 on_all P (d ∷ []) on is = is d
 on_all P (d ∷ e ∷ ds) on is = on_all P (e ∷ ds) on is
 
-word_none : (mark w : ℕ) (ds : List Day) → is_by_hand w ≡ false → by_hand_up_to mark (with_newest (with_word w) ds) ≡ by_hand_up_to mark ds
+pub word_none : (mark w : ℕ) (ds : List Day) → is_by_hand w ≡ false → by_hand_up_to mark (with_newest (with_word w) ds) ≡ by_hand_up_to mark ds
 word_none mark w [] is = refl
 word_none mark w (d ∷ ds) is = up_to_word mark w (d ∷ ds) [] (on_all (λ e. one_more mark e.date w ≡ []) (d ∷ ds) (some d ds) (λ e. none_more mark e.date w is)) ∙ append-nil (by_hand_up_to mark (d ∷ ds))
   where
@@ -109,14 +109,14 @@ module _ (size : ℕ) (long : 5544 ≤ size) (days : List Day) (ordered : AreDay
   within : (minute : ℕ) → minute ≤ mark → nat_le minute mark ≡ true
   within minute le = grind (arith, nat_tests)
 
-  this_one : (date : ℕ) → date ≡ date_of e.minute → one_more mark date w ≡ e ∷ []
+  pub this_one : (date : ℕ) → date ≡ date_of e.minute → one_more mark date w ≡ e ∷ []
   this_one date is =
       ap (λ (n : ℕ). one_more mark n w) is
       ∙ ap (λ (b : Bool). cond (b && nat_le (date_of e.minute / 60 + word_minute w) mark) (tells_by_hand (date_of e.minute) w ∷ []) []) (by_hand_is e)
       ∙ ap (λ (b : Bool). cond b (tells_by_hand (date_of e.minute) w ∷ []) []) (within (date_of e.minute / 60 + word_minute w) (omega (arith, low, minute_is e)))
       ∙ ap (λ (m : Manual). m ∷ []) (tells_it e)
 
-  begun_one : words_by_hand mark (date_of e.minute) (words_from e.minute w) ≡ e ∷ []
+  pub begun_one : words_by_hand mark (date_of e.minute) (words_from e.minute w) ≡ e ∷ []
   begun_one = by (nat_eq (e.minute % 1440) 0)
     where
       by : (b : Bool) → words_by_hand mark (date_of e.minute) (cond b (w ∷ []) (bare_word ∷ w ∷ [])) ≡ e ∷ []
@@ -159,7 +159,7 @@ module _ (size : ℕ) (mark : ℕ) (b : Book) (e : Entry) where
           (up_to_drops mark (size - 2) b.days (fitting (size - 2) b.days) (remain_fitting (size - 2) b.days))
       by false = left_all (by_hand_up_to mark b.days)
 
-  day_none : words_by_hand mark (date_of e.minute) (day_words e) ≡ []
+  pub day_none : words_by_hand mark (date_of e.minute) (day_words e) ≡ []
   day_none = by (nat_eq (e.minute % 1440) 0)
     where
       by : (m : Bool) → words_by_hand mark (date_of e.minute) (cond m (entry_word e ∷ []) (bare_word ∷ entry_word e ∷ [])) ≡ []

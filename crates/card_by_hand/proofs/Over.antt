@@ -21,7 +21,7 @@ use Rattle.card_by_hand.proofs.Staying.{few_words}
 
 -- ---- drops
 
-remain_weaker : (room less : ℕ) (days kept : List Day) → less ≤ room → Remain room days kept → Remain less days kept
+pub remain_weaker : (room less : ℕ) (days kept : List Day) → less ≤ room → Remain room days kept → Remain less days kept
 remain_weaker room less [] kept le left = left
 remain_weaker room less (d ∷ ds) kept le left = ⊎_elim (λ same. inl same) (λ gone. inr (omega (arith, gone.0, le), remain_weaker room less ds kept le gone.1)) left
 
@@ -47,12 +47,12 @@ unworded room w (d ∷ e ∷ ds) kept le left = ⊎_elim
     (λ is. record { base = d ∷ e ∷ ds; is = is; left = inl refl })
     (λ gone. let u = unworded room w (e ∷ ds) kept le gone.1 in record { base = u.base; is = u.is; left = inr (omega (arith, gone.0, le, total_word w e ds), u.left) }) left
 
-record Undayed (room : ℕ) (d : Day) (ds kept : List Day) : Type 0 where
-  base : List Day
-  is : kept ≡ base ++ d ∷ []
-  left : Remain (room - len_of d) ds base
+pub record Undayed (room : ℕ) (d : Day) (ds kept : List Day) : Type 0 where
+  pub base : List Day
+  pub is : kept ≡ base ++ d ∷ []
+  pub left : Remain (room - len_of d) ds base
 
-undayed : (room : ℕ) (d : Day) (ds kept : List Day) → len_of d ≤ room → Remain room (ds ++ d ∷ []) kept → Undayed room d ds kept
+pub undayed : (room : ℕ) (d : Day) (ds kept : List Day) → len_of d ≤ room → Remain room (ds ++ d ∷ []) kept → Undayed room d ds kept
 undayed room d [] kept le left = ⊎_elim
     (λ same. record { base = []; is = same; left = refl })
     (λ gone. absurd (omega (arith, gone.0, le))) left

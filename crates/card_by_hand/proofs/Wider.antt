@@ -111,6 +111,12 @@ retains_wider length slack more marked expected wider all days shown le wide r =
       entries = r.entries;
     }
 
+-- with the same oldest day
+pub retains_oldest : (length slack more marked : ℕ) (expected wider : List WordDay) (all : List Entry) (days : List WordDay) (shown : List Entry) (le : slack ≤ more) (wide : Wider expected wider) (r : CardRetains length slack marked expected all days shown)
+    → (retains_wider length slack more marked expected wider all days shown le wide r).oldest ≡ r.oldest
+unfolding retains_wider
+retains_oldest length slack more marked expected wider all days shown le wide r = refl
+
 -- ---- entries by hand count as words of their day
 
 -- so many words more on the newest day
@@ -162,11 +168,11 @@ wider_more n day es (d ∷ e ∷ ds) newest le = subst (λ (l : List WordDay). W
     by_front (suc n) d e [] = by_front n d (record { day = e.day; words = e.words + 1 }) []
     by_front (suc n) d e (f ∷ ds) = by_front n d e (more (f ∷ ds))
 
-wider_same : (ws : List WordDay) → Wider ws ws
+pub wider_same : (ws : List WordDay) → Wider ws ws
 wider_same [] = tt
 wider_same (w ∷ ws) = (refl, omega arith, wider_same ws)
 
-wider_then : (ws vs us : List WordDay) → Wider ws vs → Wider vs us → Wider ws us
+pub wider_then : (ws vs us : List WordDay) → Wider ws vs → Wider vs us → Wider ws us
 wider_then [] [] us one two = two
 wider_then [] (v ∷ vs) us one two = absurd one
 wider_then (w ∷ ws) [] us one two = absurd one

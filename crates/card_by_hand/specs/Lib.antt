@@ -2,3 +2,4 @@ pub mod Clear
 pub mod Over
 pub mod Wider
 pub mod Listed
+pub mod First

@@ -1,9 +1,10 @@
 -- Days of a card over those of before: what a session's first keep has written behind the end mark, and a repair cuts
 -- again.
-use Rattle.std.specs.Prelude.{◌≡◌, ℕ, ◌+◌, ◌-◌, ◌%◌, ◌<◌, ◌≤◌, List, [], ◌∷◌, ◌++◌}
+use Rattle.std.specs.Prelude.{◌≡◌, ◌⊎◌, ℕ, ◌+◌, ◌-◌, ◌%◌, ◌<◌, ◌≤◌, List, [], ◌∷◌, ◌++◌}
 use Rattle.card_model.specs.Days.{Day, AreDays, len_of}
-use Rattle.card_model.specs.Changes.{Remain, OnNewest, date_of, with_newest, with_word}
+use Rattle.card_model.specs.Changes.{Remain, OnNewest, date_of, cut, with_newest, with_word}
 use Rattle.activity_codec.specs.Words.{word_minute}
+use Rattle.card_session.specs.Books.{bare_word}
 
 -- a word of a day stands behind the mark
 pub record IsBehind (mark w : ℕ) (d : Day) : Type 0 where
@@ -26,3 +27,18 @@ pub record IsOver (size mark bytes : ℕ) (days over : List Day) : Type 0 where
   pub more : ℕ
   pub few : more ≤ bytes
   pub above : Above mark base more over
+
+-- THE DAY OF A MARK is begun behind all others, and a cut to the mark leaves its first word alone: it stands behind
+-- what drops have left of the days of before, for which no more of the oldest are gone than must be for `bytes`
+pub record IsBegunOver (size mark bytes : ℕ) (days over : List Day) : Type 0 where
+  pub base : List Day
+  pub young : Day
+  pub is : over ≡ base ++ young ∷ []
+  pub left : Remain (size - bytes) days base
+  pub few : len_of young ≤ bytes
+  pub date : young.date ≡ date_of mark
+  pub first : (cut mark young).words ≡ bare_word ∷ []
+
+-- of the days of before no more of the oldest are gone than must be, or that day is begun behind them
+abbrev pub BeginsOver : (size mark bytes : ℕ) → (days over : List Day) → Type 0
+BeginsOver size mark bytes days over = Remain (size - bytes) days over ⊎ IsBegunOver size mark bytes days over

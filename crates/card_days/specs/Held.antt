@@ -1,5 +1,6 @@
 -- What is kept of a string between two calls on it, and when it is what an image tells.
-use Rattle.std.specs.Prelude.{◌≡◌, ℕ, ◌+◌, ◌-◌, ◌*◌, ◌%◌, ◌≤◌, List, [], ◌∷◌, Option, Some, None, if◌then◌else◌, ◌==◌}
+use Rattle.std.specs.Prelude.{◌≡◌, ℕ, ◌+◌, ◌-◌, ◌*◌, ◌%◌, ◌<◌, ◌≤◌, List, [], ◌∷◌, Option, Some, None, if◌then◌else◌}
+use Rattle.std.specs.Prelude.{◌==◌}
 use Rattle.card_model.specs.Days.{Day, total, last_word}
 use Rattle.card_model.specs.Image.{StringShape, IsStringShape, IsPointer, HoldsDays, newest_pointer, spot}
 use Rattle.card_days.specs.declared.head.DayHead.{DayHead}
@@ -36,6 +37,12 @@ abbrev pub IsNewestHead : DayHead → ℕ → List Day → Type 0
 IsNewestHead h w [] = Unit {0}
 IsNewestHead h w (d ∷ []) = (h ≡ day_head h.place d) × (w ≡ last_word d.words)
 IsNewestHead h w (d ∷ e ∷ ds) = IsNewestHead h w (e ∷ ds)
+
+-- By value: there is a newest day, of this date, and this is its latest word.
+pub record EndsWith (v : Held) (date word : ℕ) : Type 0 where
+  pub some : 0 < v.tail.used
+  pub date_is : v.tail.head.date.0 ≡ date
+  pub word_is : v.tail.latest ≡ word
 
 -- The image holds these days, and what is kept is what it tells of the newest of them.
 pub record Knows (v : Held) (x : List ℕ) (days : List Day) : Type 0 where

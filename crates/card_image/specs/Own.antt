@@ -1,10 +1,12 @@
 -- A card's image read by the sizes that it tells itself, and what the stated overwriting leaves of a card's entries.
 use Rattle.std.specs.Prelude.{◌≡◌, ℕ, ◌/◌, ◌≤◌, Option, None, List, ◌++◌, Contains}
 use Rattle.activity_codec.specs.declared.entries.Entry.{Entry}
+use Rattle.activity_codec.specs.declared.entries.Manual.{Manual}
 use Rattle.card_layout.specs.declared.files.Application.{Application}
 use Rattle.card_layout.specs.declared.files.Fid.{Fid}
 use Rattle.card_layout.specs.Application.{application_in, application_of}
 use Rattle.card_retention.specs.Expected.{WordDay, Counted, counted, expected_days}
+use Rattle.card_retention.specs.ByHand.{and_by_hand}
 use Rattle.card_retention.specs.Entries.{last_entry, newest_word}
 use Rattle.card_retention.specs.Shown.{InDays}
 use Rattle.card_retention.specs.Retains.{CardRetains}
@@ -52,18 +54,24 @@ abbrev pub StandsFrom : (start : List ℕ) → (oldest : ℕ) → List WordDay �
 StandsFrom start oldest days = (d : WordDay) → Contains (own_view start).held.days d →
     d.day ≤ (own_view start).mark / 1440 → oldest ≤ d.day → InDays d.day days
 
+-- how many bytes the days that count as there may lack of the string, at most: those of a new day of ten words, eight
+-- of them by hand, which the first keep of a session may write and a repair cuts again
+abbrev pub most_slack : ℕ
+most_slack = 32
+
 -- Of these entries, which begin with its own, a card whose image was this at the start keeps all but those of whole
 -- days at the old end, where the next one is not earlier than a minute; the newest of these days, those that are there
--- and 16 bytes together exceed its string. A day that was begun on that of its end mark, and has no entry yet, may be
--- there with its first word.
-pub record KeepsFrom (start : List ℕ) (from : ℕ) (all : List Entry) (held : Held) : Type 0 where
+-- and 32 bytes together exceed its string. Each entry by hand is a word more of its day, also one that is lost. A day
+-- that was begun on that of its end mark, and has no entry yet, may be there with its first word.
+pub record KeepsFrom (start : List ℕ) (hands : List Manual) (from : ℕ) (all : List Entry) (held : Held) : Type 0 where
   pub more : List Entry
   pub begins : all ≡ (own_view start).held.entries ++ more
   pub keeps : (next : ℕ) → from ≤ next →
-      (r : CardRetains (own_sizes start).activity 16 ((own_view start).mark / 1440) (expected_with start next more) all
+      (r : CardRetains (own_sizes start).activity most_slack ((own_view start).mark / 1440)
+      (and_by_hand hands (expected_with start next more)) all
       held.days held.entries)
       × StandsFrom start r.oldest held.days
 
 -- And where it is late enough, so that behind the last entry its closing word counts.
-abbrev pub KeepsOf : (start : List ℕ) → List Entry → Held → Type 0
-KeepsOf start all held = (from : ℕ) × KeepsFrom start from all held
+abbrev pub KeepsOf : (start : List ℕ) → (hands : List Manual) → List Entry → Held → Type 0
+KeepsOf start hands all held = (from : ℕ) × KeepsFrom start hands from all held

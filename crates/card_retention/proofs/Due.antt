@@ -1,11 +1,13 @@
--- Entries that come next, and are not on the card yet, count as there.
-use Rattle.std.proofs.Common.{◌≡◌, ◌⊎◌, inl, inr, ⊎_elim, ℕ, suc, ◌%◌, ◌/◌, ◌<◌, ◌≤◌, Bool, true, false, cond, ◌||◌, Option, Some, None, List, [], ◌∷◌, ◌++◌, All, refl, sym, ◌∙◌, ap, subst, arith, append_assoc}
+-- Entries that come next, and are not on the card yet, count as there; entries by hand are words more of their days.
+use Rattle.std.proofs.Common.{◌≡◌, ◌⊎◌, inl, inr, ⊎_elim, ℕ, suc, ◌+◌, ◌%◌, ◌/◌, ◌<◌, ◌≤◌, Bool, true, false, cond, ◌||◌, Option, Some, None, List, [], ◌∷◌, ◌++◌, All, refl, sym, ◌∙◌, ap, subst, arith, append_assoc}
 use Rattle.std.specs.Prelude.{nat_eq, nat_le}
 use Rattle.std.proofs.lemmas.Bool.Decides.{nat_tests}
 use Rattle.std.proofs.lemmas.Bool.{cases_lt, le-leb}
 use Rattle.std.proofs.lemmas.List.Elements.{All-head, All-tail, All-nil, All-cons}
 use Rattle.activity_codec.specs.declared.entries.Entry.{Entry}
+use Rattle.activity_codec.specs.declared.entries.Manual.{Manual}
 use Rattle.card_retention.specs.Expected.{WordDay, more, is_newest, goes_on, is_closed, closes, first_words, adds, Counted, with_entry, counted, expected_days}
+use Rattle.card_retention.specs.ByHand.{on_day, and_by_hand}
 use Rattle.card_retention.specs.Shown.{Covers, IsFull, AllBefore, AllFrom}
 use Rattle.card_retention.specs.Retains.{Rise, entries_from, is_day, entries_in, begun_on, HasBegun, CardRetains}
 use Rattle.card_retention.proofs.Core.{covers_more, full_more, grows_total}
@@ -13,6 +15,27 @@ use Rattle.card_retention.proofs.Growing.{more_some, append_some, more_back, mor
 use Rattle.card_retention.proofs.Entering.{before_more, before_later, before_back, before_append}
 use Rattle.card_retention.proofs.Retaining.{is_day_more}
 use Rattle.card_retention.proofs.Listing.{append_in}
+
+-- a word more, and a day more, with entries by hand
+hands_more : (given : List Manual) (ws : List WordDay) → and_by_hand given (more ws) ≡ more (and_by_hand given ws)
+hands_more given [] = refl
+hands_more given (w ∷ []) = ap (λ (n : ℕ). record { day = w.day; words = n } ∷ []) same
+  where
+    same : (w.words + 1) + on_day w.day given ≡ (w.words + on_day w.day given) + 1
+    same = omega arith
+hands_more given (w ∷ x ∷ ws) = ap (λ (l : List WordDay). record { day = w.day; words = w.words + on_day w.day given } ∷ l) (hands_more given (x ∷ ws))
+
+hands_append : (given : List Manual) (ws : List WordDay) (v : WordDay) → and_by_hand given (ws ++ v ∷ []) ≡ and_by_hand given ws ++ record { day = v.day; words = v.words + on_day v.day given } ∷ []
+hands_append given [] v = refl
+hands_append given (w ∷ ws) v = ap (λ (l : List WordDay). record { day = w.day; words = w.words + on_day w.day given } ∷ l) (hands_append given ws v)
+
+hands_day : (given : List Manual) (k : ℕ) (ws : List WordDay) → is_day k (and_by_hand given ws) ≡ is_day k ws
+hands_day given k [] = refl
+hands_day given k (w ∷ ws) = ap (λ (b : Bool). nat_eq w.day k || b) (hands_day given k ws)
+
+hands_before : (given : List Manual) (k : ℕ) (ws : List WordDay) → AllBefore k ws → AllBefore k (and_by_hand given ws)
+hands_before given k [] b = tt
+hands_before given k (w ∷ ws) b = (b.0, hands_before given k ws b.1)
 
 -- a string of so many bytes has these of the expected days, from this one on
 record Has (length bytes oldest : ℕ) (expected days : List WordDay) : Type 0 where
@@ -70,21 +93,32 @@ module _ (length bytes oldest : ℕ) (days : List WordDay) where
   }
 
   -- a closing word, and the words of an entry
-  has_closed : (covered : ℕ) (o : Option Entry) (next : ℕ) (ws : List WordDay) → Has length bytes oldest ws days → Has length bytes oldest (closes covered o next ws) days
-  has_closed covered None next ws h = h
-  has_closed covered (Some p) next ws h = by (is_closed covered p next)
+  abbrev HasWith : List Manual → List WordDay → Type 0
+  HasWith given ws = Has length bytes oldest (and_by_hand given ws) days
+
+  with_more : (given : List Manual) (ws : List WordDay) → HasWith given ws → HasWith given (more ws)
+  with_more given ws h = subst (λ (l : List WordDay). Has length bytes oldest l days) (sym (hands_more given ws)) (has_more (and_by_hand given ws) h)
+
+  has_closed : (given : List Manual) (covered : ℕ) (o : Option Entry) (next : ℕ) (ws : List WordDay) → HasWith given ws → HasWith given (closes covered o next ws)
+  has_closed given covered None next ws h = h
+  has_closed given covered (Some p) next ws h = by (is_closed covered p next)
     where
-      by : (b : Bool) → Has length bytes oldest (cond b (more ws) ws) days
-      by true = has_more ws h
+      by : (b : Bool) → HasWith given (cond b (more ws) ws)
+      by true = with_more given ws h
       by false = h
 
-  has_entry : (before : Option Entry) (e : Entry) (ws : List WordDay) → AllBefore (suc (e.minute / 1440)) ws → Has length bytes oldest ws days → Has length bytes oldest (adds before e ws) days
-  has_entry before e ws low h = by (is_newest (e.minute / 1440) ws) (goes_on before e)
+  has_entry : (given : List Manual) (before : Option Entry) (e : Entry) (ws : List WordDay) → AllBefore (suc (e.minute / 1440)) ws → HasWith given ws → HasWith given (adds before e ws)
+  has_entry given before e ws low h = by (is_newest (e.minute / 1440) ws) (goes_on before e)
     where
-      by : (a b : Bool) → Has length bytes oldest (cond a (cond b ws (more ws)) (ws ++ record { day = e.minute / 1440; words = first_words e.minute } ∷ [])) days
+      day : WordDay
+      day = record { day = e.minute / 1440; words = first_words e.minute }
+
+      by : (a b : Bool) → HasWith given (cond a (cond b ws (more ws)) (ws ++ record { day = e.minute / 1440; words = first_words e.minute } ∷ []))
       by true true = h
-      by true false = has_more ws h
-      by false b = has_day ws (record { day = e.minute / 1440; words = first_words e.minute }) low h
+      by true false = with_more given ws h
+      by false b = subst (λ (l : List WordDay). Has length bytes oldest l days) (sym (hands_append given ws day))
+          (has_day (and_by_hand given ws) (record { day = e.minute / 1440; words = first_words e.minute + on_day (e.minute / 1440) given })
+          (hands_before given (suc (e.minute / 1440)) ws low) h)
 
 -- no day is later than that of the entry that came last
 before_closed : (k covered : ℕ) (o : Option Entry) (next : ℕ) (ws : List WordDay) → AllBefore k ws → AllBefore k (closes covered o next ws)
@@ -129,24 +163,27 @@ counted_then covered c (e ∷ es) fs =
 same_or_later : (m n : ℕ) → m < n → suc (m / 1440) ≤ suc (n / 1440)
 same_or_later m n lt = omega (arith, lt)
 
-module _ (length bytes oldest covered n : ℕ) (days : List WordDay) where
-  has_with : (c : Counted) (e : Entry) → AllBefore (suc (e.minute / 1440)) c.days → Has length bytes oldest (closes covered c.before e.minute c.days) days → Has length bytes oldest (with_entry covered c e).days days
-  has_with c e low h = has_entry length bytes oldest days c.before e (closes covered c.before e.minute c.days) (before_closed (suc (e.minute / 1440)) covered c.before e.minute c.days low) h
+module _ (given : List Manual) (length bytes oldest covered n : ℕ) (days : List WordDay) where
+  abbrev HasAfter : List WordDay → Type 0
+  HasAfter ws = Has length bytes oldest (and_by_hand given ws) days
+
+  has_with : (c : Counted) (e : Entry) → AllBefore (suc (e.minute / 1440)) c.days → HasAfter (closes covered c.before e.minute c.days) → HasAfter (with_entry covered c e).days
+  has_with c e low h = has_entry length bytes oldest days given c.before e (closes covered c.before e.minute c.days) (before_closed (suc (e.minute / 1440)) covered c.before e.minute c.days low) h
 
   -- the same where the words of the first entry are counted already
-  has_after : (c : Counted) (e : Entry) (es : List Entry) → Rise (e ∷ es) → AllBefore (suc (e.minute / 1440)) c.days → Has length bytes oldest (with_entry covered c e).days days →
-      Has length bytes oldest (expected_days covered n (counted covered c (e ∷ es))) days
+  has_after : (c : Counted) (e : Entry) (es : List Entry) → Rise (e ∷ es) → AllBefore (suc (e.minute / 1440)) c.days → HasAfter (with_entry covered c e).days →
+      HasAfter (expected_days covered n (counted covered c (e ∷ es)))
   has_after c e [] rise low h =
-      subst (λ (d : Counted). Has length bytes oldest (expected_days covered n d) days) (sym (counted_next covered c e [] ∙ counted_none covered (with_entry covered c e)))
-      (has_closed length bytes oldest days covered (Some e) n (with_entry covered c e).days h)
+      subst (λ (d : Counted). HasAfter (expected_days covered n d)) (sym (counted_next covered c e [] ∙ counted_none covered (with_entry covered c e)))
+      (has_closed length bytes oldest days given covered (Some e) n (with_entry covered c e).days h)
   has_after c e (f ∷ fs) rise low h =
       let next : AllBefore (suc (f.minute / 1440)) (with_entry covered c e).days = before_later (suc (e.minute / 1440)) (suc (f.minute / 1440)) (with_entry covered c e).days (same_or_later e.minute f.minute rise.0)
       (before_with (suc (e.minute / 1440)) covered c e (omega arith) low) in
-      subst (λ (d : Counted). Has length bytes oldest (expected_days covered n d) days) (sym (counted_next covered c e (f ∷ fs)))
-      (has_after (with_entry covered c e) f fs rise.1 next (has_with (with_entry covered c e) f next (has_closed length bytes oldest days covered (Some e) f.minute (with_entry covered c e).days h)))
+      subst (λ (d : Counted). HasAfter (expected_days covered n d)) (sym (counted_next covered c e (f ∷ fs)))
+      (has_after (with_entry covered c e) f fs rise.1 next (has_with (with_entry covered c e) f next (has_closed length bytes oldest days given covered (Some e) f.minute (with_entry covered c e).days h)))
 
-  has_due : (c : Counted) (e : Entry) (es : List Entry) → Rise (e ∷ es) → AllBefore (suc (e.minute / 1440)) c.days → Has length bytes oldest (closes covered c.before e.minute c.days) days →
-      Has length bytes oldest (expected_days covered n (counted covered c (e ∷ es))) days
+  has_due : (c : Counted) (e : Entry) (es : List Entry) → Rise (e ∷ es) → AllBefore (suc (e.minute / 1440)) c.days → HasAfter (closes covered c.before e.minute c.days) →
+      HasAfter (expected_days covered n (counted covered c (e ∷ es)))
   has_due c e es rise low h = has_after c e es rise low (has_with c e low h)
 
 -- the entries from the oldest day on
@@ -230,35 +267,38 @@ some_first minute = by (nat_eq (minute % 1440) 0)
     by true = omega arith
     by false = omega arith
 
-has_begun : (length bytes oldest : ℕ) (older : List WordDay) (before : Option Entry) (e : Entry) (ws : List WordDay) → is_newest (e.minute / 1440) ws ≡ false → AllBefore (suc (e.minute / 1440)) ws → Has length bytes oldest ws older
-    → Has length bytes oldest (adds before e ws) (older ++ begun_on (e.minute / 1440) ∷ [])
-has_begun length bytes oldest older before e ws other low h = by (is_newest (e.minute / 1440) ws) (goes_on before e) other
+has_begun : (given : List Manual) (length bytes oldest : ℕ) (older : List WordDay) (before : Option Entry) (e : Entry) (ws : List WordDay) → is_newest (e.minute / 1440) ws ≡ false → AllBefore (suc (e.minute / 1440)) ws
+    → Has length bytes oldest (and_by_hand given ws) older → Has length bytes oldest (and_by_hand given (adds before e ws)) (older ++ begun_on (e.minute / 1440) ∷ [])
+has_begun given length bytes oldest older before e ws other low h = by (is_newest (e.minute / 1440) ws) (goes_on before e) other
   where
-    day : WordDay
-    day = record { day = e.minute / 1440; words = first_words e.minute }
+    plain : WordDay
+    plain = record { day = e.minute / 1440; words = first_words e.minute }
 
-    by : (a g : Bool) → a ≡ false → Has length bytes oldest (cond a (cond g ws (more ws)) (ws ++ record { day = e.minute / 1440; words = first_words e.minute } ∷ [])) (older ++ begun_on (e.minute / 1440) ∷ [])
+    day : WordDay
+    day = record { day = e.minute / 1440; words = first_words e.minute + on_day (e.minute / 1440) given }
+
+    by : (a g : Bool) → a ≡ false → Has length bytes oldest (and_by_hand given (cond a (cond g ws (more ws)) (ws ++ record { day = e.minute / 1440; words = first_words e.minute } ∷ []))) (older ++ begun_on (e.minute / 1440) ∷ [])
     by true g is = absurd (cc)
     by false g is = record {
       gone = h.gone;
       there = h.there ++ day ∷ [];
-      split = ap (λ (l : List WordDay). l ++ day ∷ []) h.split ∙ append_assoc h.gone h.there (day ∷ []);
-      covers = covers_day h.there older day (begun_on (e.minute / 1440)) (record { day = refl; words = some_first e.minute }) h.covers;
+      split = hands_append given ws plain ∙ ap (λ (l : List WordDay). l ++ day ∷ []) h.split ∙ append_assoc h.gone h.there (day ∷ []);
+      covers = covers_day h.there older day (begun_on (e.minute / 1440)) (record { day = refl; words = omega (arith, some_first e.minute) }) h.covers;
       full = full_more length bytes h.gone h.there (h.there ++ day ∷ []) (grows_total h.there (h.there ++ day ∷ []) (grows_longer h.there (day ∷ []))) h.full;
       some = λ none. absurd (append_some h.there day none);
       low = h.low;
-      high = from_append oldest h.there day h.high (from_oldest length bytes oldest older (e.minute / 1440) ws low h);
+      high = from_append oldest h.there day h.high (from_oldest length bytes oldest older (e.minute / 1440) (and_by_hand given ws) (hands_before given (suc (e.minute / 1440)) ws low) h);
       none = λ none. absurd (append_some h.there day none);
     }
 
 -- WHAT COMES NEXT COUNTS: where a string keeps the rule of these entries with the next one not earlier than the first of the others,
 -- which are later, of no earlier day, and of none before that of the start's end mark, it keeps that of all with these counted as there,
 -- from the same day on.
-module _ (size bytes marked covered n : ℕ) (c : Counted) (all : List Entry) (e : Entry) (es : List Entry) (days : List WordDay) (shown : List Entry) (later : Rise (e ∷ es)) (low : AllBefore (suc (e.minute / 1440)) c.days) (behind : marked ≤ e.minute / 1440)
-    (r : CardRetains size bytes marked (expected_days covered e.minute c) all days shown) where
+module _ (given : List Manual) (size bytes marked covered n : ℕ) (c : Counted) (all : List Entry) (e : Entry) (es : List Entry) (days : List WordDay) (shown : List Entry) (later : Rise (e ∷ es)) (low : AllBefore (suc (e.minute / 1440)) c.days) (behind : marked ≤ e.minute / 1440)
+    (r : CardRetains size bytes marked (and_by_hand given (expected_days covered e.minute c)) all days shown) where
   -- of days that it has, whatever they are
   abbrev HadOf : List WordDay → Type 0
-  HadOf ds = Has size bytes r.oldest (closes covered c.before e.minute c.days) ds
+  HadOf ds = Has size bytes r.oldest (and_by_hand given (closes covered c.before e.minute c.days)) ds
 
   had_of : (ds : List WordDay) → Covers r.there ds → HadOf ds
   had_of ds covers = record { gone = r.gone; there = r.there; split = r.split; covers = covers; full = r.full; some = r.some; low = r.low; high = r.high; none = r.none }
@@ -267,12 +307,12 @@ module _ (size bytes marked covered n : ℕ) (c : Counted) (all : List Entry) (e
   closed_low = before_closed (suc (e.minute / 1440)) covered c.before e.minute c.days low
 
   abbrev HasAll : List WordDay → Type 0
-  HasAll ds = Has size bytes r.oldest (expected_days covered n (counted covered c (e ∷ es))) ds
+  HasAll ds = Has size bytes r.oldest (and_by_hand given (expected_days covered n (counted covered c (e ∷ es)))) ds
 
   abbrev pub Retained : Type 0
-  Retained = (k : CardRetains size bytes marked (expected_days covered n (counted covered c (e ∷ es))) (all ++ e ∷ es) days (shown ++ e ∷ es)) × (k.oldest ≡ r.oldest)
+  Retained = (k : CardRetains size bytes marked (and_by_hand given (expected_days covered n (counted covered c (e ∷ es)))) (all ++ e ∷ es) days (shown ++ e ∷ es)) × (k.oldest ≡ r.oldest)
 
-  retained : r.oldest ≤ e.minute / 1440 → (ds : List WordDay) (has : HasAll ds) → Covers has.there days ⊎ HasBegun marked (expected_days covered n (counted covered c (e ∷ es))) has.there (all ++ e ∷ es) days → Retained
+  retained : r.oldest ≤ e.minute / 1440 → (ds : List WordDay) (has : HasAll ds) → Covers has.there days ⊎ HasBegun marked (and_by_hand given (expected_days covered n (counted covered c (e ∷ es)))) has.there (all ++ e ∷ es) days → Retained
   retained from ds has covers = (
     record {
       gone = has.gone;
@@ -291,34 +331,34 @@ module _ (size bytes marked covered n : ℕ) (c : Counted) (all : List Entry) (e
   )
 
   from : (ds : List WordDay) → HadOf ds → r.oldest ≤ e.minute / 1440
-  from ds had = from_oldest size bytes r.oldest ds (e.minute / 1440) (closes covered c.before e.minute c.days) closed_low had
+  from ds had = from_oldest size bytes r.oldest ds (e.minute / 1440) (and_by_hand given (closes covered c.before e.minute c.days)) (hands_before given (suc (e.minute / 1440)) (closes covered c.before e.minute c.days) closed_low) had
 
   -- a day that was begun stays so where the next entry is of a later day
-  on_later : HasBegun marked (expected_days covered e.minute c) r.there all days → marked < e.minute / 1440 → Retained
+  on_later : HasBegun marked (and_by_hand given (expected_days covered e.minute c)) r.there all days → marked < e.minute / 1440 → Retained
   on_later b lt =
       let each : All (λ (d : Entry). marked < d.minute / 1440) (e ∷ es) = each_later marked e es later lt in
-      let has : HasAll b.older = has_due size bytes r.oldest covered n b.older c e es later low (had_of b.older b.covers) in
+      let has : HasAll b.older = has_due given size bytes r.oldest covered n b.older c e es later low (had_of b.older b.covers) in
       retained (from b.older (had_of b.older b.covers)) b.older has
       (inr (record {
         older = b.older;
         newest = b.newest;
         before = b.before;
         covers = has.covers;
-        further = none_closed marked covered (counted covered c (e ∷ es)).before n (counted covered c (e ∷ es)).days ∙ none_counted marked covered c (e ∷ es) each ∙ sym (none_closed marked covered c.before e.minute c.days) ∙ b.further;
+        further = hands_day given marked (expected_days covered n (counted covered c (e ∷ es))) ∙ none_closed marked covered (counted covered c (e ∷ es)).before n (counted covered c (e ∷ es)).days ∙ none_counted marked covered c (e ∷ es) each ∙ sym (none_closed marked covered c.before e.minute c.days) ∙ sym (hands_day given marked (expected_days covered e.minute c)) ∙ b.further;
         empty = append_in (begun_on marked ∷ []) all (e ∷ es) ∙ ap (λ (l : List Entry). l ++ entries_in (begun_on marked ∷ []) (e ∷ es)) b.empty ∙ none_of marked (e ∷ es) each;
       }))
 
   -- and is the day of that entry where it lies on it
-  on_it : HasBegun marked (expected_days covered e.minute c) r.there all days → marked ≡ e.minute / 1440 → Retained
+  on_it : HasBegun marked (and_by_hand given (expected_days covered e.minute c)) r.there all days → marked ≡ e.minute / 1440 → Retained
   on_it b at =
-      let other : is_newest (e.minute / 1440) (closes covered c.before e.minute c.days) ≡ false = not_newest (e.minute / 1440) (closes covered c.before e.minute c.days) (subst (λ (k : ℕ). is_day k (closes covered c.before e.minute c.days) ≡ false) at b.further) in
+      let other : is_newest (e.minute / 1440) (closes covered c.before e.minute c.days) ≡ false = not_newest (e.minute / 1440) (closes covered c.before e.minute c.days) (subst (λ (k : ℕ). is_day k (closes covered c.before e.minute c.days) ≡ false) at (sym (hands_day given marked (closes covered c.before e.minute c.days)) ∙ b.further)) in
       let is : b.older ++ begun_on (e.minute / 1440) ∷ [] ≡ days = ap (λ (k : ℕ). b.older ++ begun_on k ∷ []) (sym at) ∙ sym b.newest in
-      let has : HasAll days = has_after size bytes r.oldest covered n days c e es later low (subst (λ (l : List WordDay). Has size bytes r.oldest (with_entry covered c e).days l) is
-      (has_begun size bytes r.oldest b.older c.before e (closes covered c.before e.minute c.days) other closed_low (had_of b.older b.covers))) in
+      let has : HasAll days = has_after given size bytes r.oldest covered n days c e es later low (subst (λ (l : List WordDay). Has size bytes r.oldest (and_by_hand given (with_entry covered c e).days) l) is
+      (has_begun given size bytes r.oldest b.older c.before e (closes covered c.before e.minute c.days) other closed_low (had_of b.older b.covers))) in
       retained (from b.older (had_of b.older b.covers)) days has (inl has.covers)
 
   pub retains_due : Retained
   retains_due = ⊎_elim
-      (λ covers. let has : HasAll days = has_due size bytes r.oldest covered n days c e es later low (had_of days covers) in retained (from days (had_of days covers)) days has (inl has.covers))
+      (λ covers. let has : HasAll days = has_due given size bytes r.oldest covered n days c e es later low (had_of days covers) in retained (from days (had_of days covers)) days has (inl has.covers))
       (λ b. ⊎_elim (λ lt. on_later b lt) (λ le. on_it b (omega (arith, le, behind))) (cases_lt marked (e.minute / 1440)))
       r.covers

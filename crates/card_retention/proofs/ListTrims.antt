@@ -49,7 +49,7 @@ cut_at mark d is t = by (nat_eq d.date (date_of mark)) refl
         go false _ = refl
         go true le = ap (λ (o : Option ℕ). told_by (d.date / 60 + t) o) (latest_early 0 (mark % 1440) t d.words (words_ascend d.words is.ordered) (omega (arith, leb-true (d.date / 60 + t) mark le, eqb-true d.date (date_of mark) here)))
 
-cut_entries : (mark : ℕ) (d : Day) → IsDay d → day_entries mark (cut mark d) ≡ day_entries mark d
+pub cut_entries : (mark : ℕ) (d : Day) → IsDay d → day_entries mark (cut mark d) ≡ day_entries mark d
 unfolding day_entries
 cut_entries mark d is = minutes_same (entry_at mark (cut mark d)) (entry_at mark d) (cut_at mark d is) 1440 0
 
@@ -91,16 +91,21 @@ same_test false true f g = absurd (no (g refl))
     no e = cc
 same_test false false f g = refl
 
+-- the days up to the mark's are there as before
+pub day_trimmed : (mark k : ℕ) (ds : List Day) → AreDays 0 ds → k ≤ mark / 1440 → is_day k (sizes (trimmed mark ds)) ≡ is_day k (sizes ds)
+day_trimmed mark k ds are le =
+    same_test (is_day k (sizes (trimmed mark ds))) (is_day k (sizes ds))
+    (λ a. day_in k (sizes ds) (trimmed_sub mark k ds (in_day k (sizes (trimmed mark ds)) a)))
+    (λ b. day_in k (sizes (trimmed mark ds)) (trimmed_in mark 0 k ds are le (in_day k (sizes ds) b)))
+
 pub lists_trimmed : (mark : ℕ) (all : List Entry) (ds : List Day) → AreDays 0 ds → AllUpTo mark all → Lists mark all ds → Lists mark all (trimmed mark ds)
 lists_trimmed mark all ds are up is = entries_trimmed mark 0 ds are ∙ is ∙ sym (by all up)
   where
     by : (es : List Entry) → AllUpTo mark es → entries_in (sizes (trimmed mark ds)) es ≡ entries_in (sizes ds) es
     by [] up = refl
     by (e ∷ es) up =
-        let same : is_day (e.minute / 1440) (sizes (trimmed mark ds)) ≡ is_day (e.minute / 1440) (sizes ds) = same_test (is_day (e.minute / 1440) (sizes (trimmed mark ds))) (is_day (e.minute / 1440) (sizes ds))
-        (λ a. day_in (e.minute / 1440) (sizes ds) (trimmed_sub mark (e.minute / 1440) ds (in_day (e.minute / 1440) (sizes (trimmed mark ds)) a)))
-        (λ b. day_in (e.minute / 1440) (sizes (trimmed mark ds)) (trimmed_in mark 0 (e.minute / 1440) ds are (omega (arith, up.0)) (in_day (e.minute / 1440) (sizes ds) b))) in
-        ap (λ (b : Bool). cond b (e ∷ entries_in (sizes (trimmed mark ds)) es) (entries_in (sizes (trimmed mark ds)) es)) same ∙ ap (λ (l : List Entry). cond (is_day (e.minute / 1440) (sizes ds)) (e ∷ l) l) (by es up.1)
+        ap (λ (b : Bool). cond b (e ∷ entries_in (sizes (trimmed mark ds)) es) (entries_in (sizes (trimmed mark ds)) es)) (day_trimmed mark (e.minute / 1440) ds are (omega (arith, up.0)))
+        ∙ ap (λ (l : List Entry). cond (is_day (e.minute / 1440) (sizes ds)) (e ∷ l) l) (by es up.1)
 
 -- A STRING WITH NOTHING BEHIND THE MARK ends by it
 pub ends_flat : (mark : ℕ) (ds : List Day) → AreDays 0 ds → trimmed mark ds ≡ ds → EndsBy mark ds

@@ -66,7 +66,7 @@ all_in : (ws : List WordDay) (es : List Entry) → AllIn 0 es ws → entries_in 
 all_in ws [] a = refl
 all_in ws (e ∷ es) a = ap (λ (b : Bool). cond b (e ∷ entries_in ws es) (entries_in ws es)) (day_in (e.minute / 1440) ws (a.0 (omega arith))) ∙ ap (λ (l : List Entry). e ∷ l) (all_in ws es a.1)
 
-day_not : (k date : ℕ) (ds : List Day) → AreDays date ds → k ≤ date / 86400 → date % 86400 ≡ 0 → is_day k (sizes ds) ≡ false
+pub day_not : (k date : ℕ) (ds : List Day) → AreDays date ds → k ≤ date / 86400 → date % 86400 ≡ 0 → is_day k (sizes ds) ≡ false
 day_not k date [] are le midnight = refl
 day_not k date (d ∷ ds) are le midnight = by (nat_eq (d.date / 86400) k) (apart (d.date / 86400) k (omega (arith, are.0, are.1.midnight, midnight, le))) (day_not k d.date ds are.2 (omega (arith, are.0, le)) are.1.midnight)
   where
@@ -128,7 +128,7 @@ entries_word mark w date [] are on = absurd on
 entries_word mark w date (d ∷ []) are on = ap (λ (l : List Entry). l ++ []) (day_same mark w d are.1.midnight on)
 entries_word mark w date (d ∷ e ∷ ds) are on = ap (λ (l : List Entry). day_entries mark d ++ l) (entries_word mark w d.date (e ∷ ds) are.2 on)
 
-days_word : (w k : ℕ) (ds : List Day) → is_day k (sizes (with_newest (with_word w) ds)) ≡ is_day k (sizes ds)
+pub days_word : (w k : ℕ) (ds : List Day) → is_day k (sizes (with_newest (with_word w) ds)) ≡ is_day k (sizes ds)
 days_word w k [] = refl
 days_word w k (d ∷ []) = refl
 days_word w k (d ∷ e ∷ ds) = ap (λ (b : Bool). nat_eq (d.date / 86400) k || b) (days_word w k (e ∷ ds))
@@ -149,7 +149,7 @@ pub entries_day : (mark : ℕ) (ds : List Day) (d : Day) → d.date % 86400 ≡ 
 entries_day mark [] d midnight lt = ap (λ (l : List Entry). l ++ []) (day_none mark d midnight lt)
 entries_day mark (e ∷ ds) d midnight lt = ap (λ (l : List Entry). day_entries mark e ++ l) (entries_day mark ds d midnight lt)
 
-is_day_append : (k : ℕ) (ds : List Day) (d : Day) → nat_eq (d.date / 86400) k ≡ false → is_day k (sizes (ds ++ d ∷ [])) ≡ is_day k (sizes ds)
+pub is_day_append : (k : ℕ) (ds : List Day) (d : Day) → nat_eq (d.date / 86400) k ≡ false → is_day k (sizes (ds ++ d ∷ [])) ≡ is_day k (sizes ds)
 is_day_append k [] d is = ap (λ (b : Bool). b || false) is
 is_day_append k (e ∷ ds) d is = ap (λ (b : Bool). nat_eq (e.date / 86400) k || b) (is_day_append k ds d is)
 

@@ -47,3 +47,4 @@ pub mod Renewing
 pub mod Ends
 pub mod Ended
 pub mod ByHand
+pub mod FewWrites

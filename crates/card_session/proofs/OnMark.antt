@@ -1,5 +1,5 @@
 -- A day that is begun on the day of the end mark, where each day before it is earlier: up to that mark it has its first word alone.
-use Rattle.std.proofs.Common.{◌≡◌, ⊎_elim, ℕ, suc, ◌+◌, ◌/◌, ◌%◌, ◌<◌, ◌≤◌, max, Bool, true, false, cond, ◌&&◌, not, List, [], ◌∷◌, ◌++◌, refl, sym, ◌∙◌, ap, subst, arith}
+use Rattle.std.proofs.Common.{◌≡◌, ⊎_elim, ℕ, suc, ◌+◌, ◌/◌, ◌%◌, ◌<◌, ◌≤◌, max, Bool, true, false, cond, ◌&&◌, ◌||◌, not, Option, Some, None, List, [], ◌∷◌, ◌++◌, refl, sym, ◌∙◌, ap, subst, arith}
 use Rattle.std.specs.Prelude.{nat_eq, nat_le}
 use Rattle.std.proofs.lemmas.Bool.Decides.{nat_tests}
 use Rattle.std.proofs.lemmas.Bool.{eqb-false}
@@ -8,9 +8,11 @@ use Rattle.activity_codec.specs.Words.{word_minute, word_absent}
 use Rattle.card_model.specs.Days.{Day, AreDays, last_word}
 use Rattle.card_model.specs.Changes.{OnNewest, Remain, AreStrict, with_early, early, cut, date_of, trimmed}
 use Rattle.card_model.proofs.Ascending.{words_below}
-use Rattle.card_retention.specs.Expected.{is_newest}
+use Rattle.card_retention.specs.Expected.{WordDay, is_newest}
 use Rattle.card_retention.specs.Shown.{AllBefore, sizes, is_open}
-use Rattle.card_retention.specs.Entries.{newest_word, newest_minute}
+use Rattle.card_retention.specs.Entries.{latest, told_by, entry_at, day_entries, entries_up_to, newest_word, newest_minute}
+use Rattle.card_retention.specs.Retains.{is_day, entries_in, begun_on}
+use Rattle.card_retention.proofs.Newest.{minutes_none}
 use Rattle.card_retention.proofs.Stub.{trimmed_before, trimmed_stub}
 use Rattle.card_session.specs.Books.{bare_word, entry_word, day_words}
 use Rattle.card_session.specs.Sessions.{EndsStrictly}
@@ -133,3 +135,52 @@ cut_first mark d w v at words first lt =
 pub cut_entry : (mark : ℕ) (d : Day) (e : Entry) → d.date ≡ date_of mark → d.words ≡ day_words e → mark % 1440 < e.minute % 1440 → (cut mark d).words ≡ bare_word ∷ []
 cut_entry mark d e at words lt =
     cut_first mark d bare_word (entry_word e) at (words ∙ ap (λ (c : Bool). cond c (entry_word e ∷ []) (bare_word ∷ entry_word e ∷ [])) (apart (e.minute % 1440) 0 (omega (arith, lt)))) refl (omega (arith, lt, entry_minute e))
+
+-- ---- a day of which no minute up to the mark tells an entry
+
+pub bare_tells : (m t : ℕ) → told_by m (latest (bare_word ∷ []) t) ≡ None
+bare_tells m t = by (nat_le (word_minute bare_word) t)
+  where
+    by : (b : Bool) → told_by m (cond b (Some bare_word) None) ≡ None
+    by true = refl
+    by false = refl
+
+pub none_day : (mark : ℕ) (d : Day) → ((t : ℕ) → d.date / 60 + t ≤ mark → told_by (d.date / 60 + t) (latest d.words t) ≡ None) → day_entries mark d ≡ []
+unfolding day_entries
+none_day mark d none = minutes_none (entry_at mark d) 1440 0 (λ s le. at s (nat_le (d.date / 60 + s) mark) refl)
+  where
+    le_of : (m n : ℕ) → nat_le m n ≡ true → m ≤ n
+    le_of m n is = grind (arith, nat_tests)
+
+    at : (s : ℕ) (b : Bool) → nat_le (d.date / 60 + s) mark ≡ b → entry_at mark d s ≡ None
+    at s true is = ap (λ (b : Bool). cond b (told_by (d.date / 60 + s) (latest d.words s)) None) is ∙ none s (le_of (d.date / 60 + s) mark is)
+    at s false is = ap (λ (b : Bool). cond b (told_by (d.date / 60 + s) (latest d.words s)) None) is
+
+pub entries_more : (mark : ℕ) (ds : List Day) (d : Day) → day_entries mark d ≡ [] → entries_up_to mark (ds ++ d ∷ []) ≡ entries_up_to mark ds
+entries_more mark [] d none = ap (λ (l : List Entry). l ++ []) none
+entries_more mark (e ∷ ds) d none = ap (λ (l : List Entry). day_entries mark e ++ l) (entries_more mark ds d none)
+
+-- ---- the entries of all, with a day on which none is
+
+head_not : (b : Bool) (x : Entry) (xs : List Entry) → cond (b || false) (x ∷ xs) xs ≡ [] → (b ≡ false) × (xs ≡ [])
+head_not false x xs is = (refl, is)
+head_not true x xs is = absurd (cc)
+
+day_more : (k : ℕ) (ws : List WordDay) (v : WordDay) → nat_eq v.day k ≡ false → is_day k (ws ++ v ∷ []) ≡ is_day k ws
+day_more k [] v is = ap (λ (b : Bool). b || false) is
+day_more k (w ∷ ws) v is = ap (λ (b : Bool). nat_eq w.day k || b) (day_more k ws v is)
+
+pub day_last : (k : ℕ) (ws : List WordDay) (v : WordDay) → nat_eq v.day k ≡ true → is_day k (ws ++ v ∷ []) ≡ true
+day_last k [] v is = ap (λ (b : Bool). b || false) is
+day_last k (w ∷ ws) v is = ap (λ (b : Bool). nat_eq w.day k || b) (day_last k ws v is) ∙ either (nat_eq w.day k)
+  where
+    either : (b : Bool) → b || true ≡ true
+    either true = refl
+    either false = refl
+
+pub entries_same : (k : ℕ) (ws : List WordDay) (v : WordDay) → v.day ≡ k → (es : List Entry) → entries_in (begun_on k ∷ []) es ≡ [] → entries_in (ws ++ v ∷ []) es ≡ entries_in ws es
+entries_same k ws v at [] none = refl
+entries_same k ws v at (x ∷ es) none =
+    let parts = head_not (nat_eq k (x.minute / 1440)) x (entries_in (begun_on k ∷ []) es) none in
+    ap (λ (b : Bool). cond b (x ∷ entries_in (ws ++ v ∷ []) es) (entries_in (ws ++ v ∷ []) es)) (day_more (x.minute / 1440) ws v (ap (λ (m : ℕ). nat_eq m (x.minute / 1440)) at ∙ parts.0))
+    ∙ ap (λ (l : List Entry). cond (is_day (x.minute / 1440) ws) (x ∷ l) l) (entries_same k ws v at es parts.1)

@@ -1,7 +1,8 @@
 -- What an entry by hand makes of a card, and what is left of it at each moment (profile): one word behind all words of
 -- the card.
-use Rattle.std.specs.Prelude.{◌≡◌, ◌⊎◌, ℕ, ◌+◌, ◌-◌, ◌*◌, ◌/◌, ◌%◌, ◌<◌, List, [], ◌∷◌, ◌++◌, length, nat_eq}
+use Rattle.std.specs.Prelude.{◌≡◌, ◌⊎◌, ℕ, ◌+◌, ◌-◌, ◌*◌, ◌/◌, ◌%◌, ◌<◌, true, List, [], ◌∷◌, ◌++◌, length, nat_eq}
 use Rattle.std.specs.Prelude.{if◌then◌else◌}
+use Rattle.activity_codec.specs.Words.{word_absent}
 use Rattle.card_model.specs.Days.{Day}
 use Rattle.card_model.specs.Changes.{Remain, IsNext, date_of, fitting, new_day}
 use Rattle.card_retention.specs.Expected.{is_newest}
@@ -52,6 +53,12 @@ pub record IsCardByHand (s next : Session) (e : Manual) (x y : List ℕ) : Type 
 -- a moment of it
 pub record IsCardEntering (s : Session) (e : Manual) (x c : List ℕ) : Type 0 where
   pub card : IsCard s.application (IsByHandMoment s.application.activity e (book_of s.application x)) x c
+
+-- BY VALUE: the newest day is that of a minute, and its latest word tells no card, as behind an entry by hand.
+pub record EndsByHand (s : Session) (minute : ℕ) : Type 0 where
+  pub some : 0 < s.days.tail.used
+  pub day : s.days.tail.head.date.0 ≡ date_of minute
+  pub absent : word_absent s.days.tail.latest ≡ true
 
 -- ---- parts of the call
 

@@ -2,12 +2,14 @@
 //! first keep.
 ghost use Rattle.std.specs.Prelude.{◌≡◌, ◌≤◌, ◌<◌, ◌+◌, OnOk, Some, IfSome, is_err};
 ghost use Rattle.tach_media.specs.Medium.{LeavesOnly, HasCause};
+ghost use Rattle.card_model.specs.Changes.{date_of};
+ghost use Rattle.card_days.specs.Held.{EndsWith};
 ghost use Rattle.hand_model.specs.Manual.{manual_word};
 ghost use Rattle.card_session.specs.declared.words.TheConstants.{LATEST_MINUTE};
 ghost use Rattle.card_session.specs.Sessions.{IsSession, IsValue, MayKeep};
 ghost use Rattle.card_session.specs.Parts.{DoesPart, IsPartDone, IsPartMoment, HasSame, TakesSome, with_some, IsAdding};
-ghost use Rattle.card_session.specs.ByHand.{IsCardByHand, IsCardEntering, IsByHandMoment, IsBeforeWordAt, BeginsFrom};
-ghost use Rattle.card_session.specs.ByHand.{with_day_in, IsBeforeDayFrom, by_hand};
+ghost use Rattle.card_session.specs.ByHand.{IsCardByHand, IsCardEntering, IsByHandMoment, EndsByHand, IsBeforeWordAt};
+ghost use Rattle.card_session.specs.ByHand.{BeginsFrom, with_day_in, IsBeforeDayFrom, by_hand};
 
 use crate::session::CardSession;
 use crate::words::{DAY_MINUTES, bare_word, is_newest_day};
@@ -34,7 +36,9 @@ impl CardSession {
         ensures moments { LeavesOnly (M.state port.old) (M.state port.new)
             (λ x c. IsSession self.old x → IsCardEntering self.old entry.now x c) }
         ensures cause { HasCause (M.state port.old) (M.state port.new) (is_err result) }
+        ensures ends { OnOk result (EndsByHand self.new entry.now.minute) }
         ensures most { (M.state port.new).clock ≤ (M.state port.old).clock + 9 }
+        ensures few { EndsByHand self.old entry.now.minute → (M.state port.new).clock ≤ (M.state port.old).clock + 4 }
     {
         self.write_by_hand(port, entry)?;
         self.minute = entry.minute;
@@ -54,7 +58,9 @@ impl CardSession {
             (IsPartMoment self.old (IsBeforeWordAt entry.now.minute)
             (IsByHandMoment self.old.application.activity entry.now)) }
         ensures called { HasCause (M.state port.old) (M.state port.new) (is_err result) }
+        ensures ends { OnOk result (EndsByHand self.new entry.now.minute) }
         ensures most { (M.state port.new).clock ≤ (M.state port.old).clock + 9 }
+        ensures few { EndsByHand self.old entry.now.minute → (M.state port.new).clock ≤ (M.state port.old).clock + 4 }
     {
         let tail = self.days.tail();
         if is_newest_day(tail, entry.minute) {
@@ -74,7 +80,8 @@ impl CardSession {
             (IsPartMoment self.old (TakesSome (Some (manual_word entry.now)))
             (IsAdding self.old.application.activity (Some (manual_word entry.now)))) }
         ensures called { HasCause (M.state port.old) (M.state port.new) (is_err result) }
-        ensures most { (M.state port.new).clock ≤ (M.state port.old).clock + 6 }
+        ensures ends { OnOk result (EndsWith self.new.days self.old.days.tail.head.date.0 (manual_word entry.now)) }
+        ensures most { (M.state port.new).clock ≤ (M.state port.old).clock + 4 }
     {
         self.days.add_change(port, manual_word(entry))
     }
@@ -90,6 +97,7 @@ impl CardSession {
             (IsPartMoment self.old (BeginsFrom entry.now.minute (manual_word entry.now))
             (IsBeforeDayFrom self.old.application.activity entry.now.minute (manual_word entry.now))) }
         ensures called { HasCause (M.state port.old) (M.state port.new) (is_err result) }
+        ensures ends { OnOk result (EndsWith self.new.days (date_of entry.now.minute) (manual_word entry.now)) }
         ensures most { (M.state port.new).clock ≤ (M.state port.old).clock + 9 }
     {
         let date = TimeReal(date_of(entry.minute));

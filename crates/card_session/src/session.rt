@@ -13,6 +13,7 @@ ghost use Rattle.card_session.specs.Telling.{minute_told};
 ghost use Rattle.activity_codec.specs.Activity.{activity_of};
 ghost use Rattle.card_layout.specs.Files.{place_of};
 ghost use Rattle.card_session.specs.Sessions.{IsSession, IsValue, IsOpenBook, KnowsCard, MayKeep, MayClose, book_of};
+ghost use Rattle.card_session.specs.ByHand.{EndsByHand};
 ghost use Rattle.card_session.specs.Moments.{IsBook, IsKeepMoment, IsCloseMoment};
 ghost use Rattle.card_session.specs.Cards.{IsCard, IsCardKept, IsCardKeeping, IsCardClosed, IsCardClosing, grown};
 ghost use Rattle.card_session.specs.Parts.{DoesPart, IsPartDone, IsPartMoment, HasSame, TakesSome, with_some, IsAdding};
@@ -162,8 +163,10 @@ impl CardSession {
         ensures part { DoesPart (M.state port.old) (M.state port.new) (is_err result)
             (IsPartDone self.old self.new (TakesSome word) (with_some self.old.application.activity word))
             (IsPartMoment self.old (TakesSome word) (IsAdding self.old.application.activity word)) }
+        ensures none { word ≡ None → (self.new ≡ self.old) × ((M.state port.new).clock ≡ (M.state port.old).clock) }
         ensures most { (M.state port.new).clock
             ≤ (M.state port.old).clock + (2 + 2 * most_drops self.old.days.shape.size self.old.days.tail.used 2) }
+        ensures few { (M.state port.new).clock ≤ (M.state port.old).clock + 4 }
         ensures room { OnOk result ((M.state port.new).clock
             + 2 * most_drops self.old.days.shape.size self.new.days.tail.used 16 ≤ (M.state port.old).clock + 6) }
     {
@@ -184,6 +187,8 @@ impl CardSession {
         ensures most { (M.state port.new).clock ≤ (M.state port.old).clock + 6 }
         ensures room { OnOk result ((M.state port.new).clock
             + 2 * most_drops self.old.days.shape.size self.new.days.tail.used 16 ≤ (M.state port.old).clock + 6) }
+        ensures shut { EndsByHand self.old minute
+            → (self.new ≡ self.old) × ((M.state port.new).clock ≡ (M.state port.old).clock) }
     {
         let word = gap_word(self.days.tail(), self.mark(), minute);
         self.add(port, word)
@@ -222,6 +227,7 @@ impl CardSession {
             (IsPartMoment self.old (IsBeforeEntry entry.now) (IsWriting self.old.application.activity entry.now)) }
         ensures most { (M.state port.new).clock
             ≤ (M.state port.old).clock + (5 + 2 * most_drops self.old.days.shape.size self.old.days.tail.used 16) }
+        ensures few { EndsByHand self.old entry.now.minute → (M.state port.new).clock ≤ (M.state port.old).clock + 4 }
     {
         let tail = self.days.tail();
         if is_newest_day(tail, entry.minute) {
@@ -415,6 +421,8 @@ impl CardSession {
         ensures settled { OnOk result ((M.state port.new).clock < last_count → IsSettled (M.state port.new)) }
         ensures called { HasCause (M.state port.old) (M.state port.new) (is_err result) }
         ensures most { (M.state port.new).clock ≤ (M.state port.old).clock + 17 }
+        ensures few { EndsByHand self.old kept.now.entry.minute
+            → (M.state port.new).clock ≤ (M.state port.old).clock + 10 }
     {
         self.close_gap(port, kept.entry.minute)?;
         self.write_words(port, &kept.entry)?;
@@ -501,6 +509,8 @@ impl CardSession {
         ensures settled { OnOk result ((M.state port.new).clock < last_count → IsSettled (M.state port.new)) }
         ensures cause { HasCause (M.state port.old) (M.state port.new) (is_err result) }
         ensures most { (M.state port.new).clock ≤ (M.state port.old).clock + 17 }
+        ensures few { EndsByHand self.old kept.now.entry.minute
+            → (M.state port.new).clock ≤ (M.state port.old).clock + 10 }
     {
         let km = grown(&self.odometer, kept.odometer);
         self.enter(port, kept, km)?;

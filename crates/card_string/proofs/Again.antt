@@ -24,8 +24,8 @@ use Rattle.card_session.proofs.Alike.{alike_km, are_bare, lives_alike}
 use Rattle.card_session.proofs.Following.{entry_minute, entry_top}
 use Rattle.card_session.proofs.Valid.{flat_of}
 use Rattle.card_string.specs.Carried.{BegunOf}
-use Rattle.card_session.proofs.OnMark.{shut_first}
-use Rattle.card_string.proofs.Begun.{same, none_day, bare_tells, entries_more, with_last, Stops, bare_stop, begun_stop, begun_lists}
+use Rattle.card_session.proofs.OnMark.{shut_first, none_day, bare_tells, entries_more}
+use Rattle.card_string.proofs.Begun.{same, with_last, Stops, bare_stop, begun_stop, begun_lists}
 
 -- of a string that ends with such a day the oldest go, but that one stays
 total_more : (ds : List Day) (y : Day) → total (ds ++ y ∷ []) ≡ total ds + len_of y
@@ -150,17 +150,17 @@ module _ (size : ℕ) (slack : Bound) (covered from : ℕ) (c : Counted) (all : 
 
   whole : Stopping b.days
   whole = subst Stopping (sym days_are)
-      (bare_stop size slack covered from c all (mark_of b) g.older lives g.until lists_older long least e behind later here g.before g.fresh g.empty 0 g.older (omega arith) (remain_all (size - 0) g.older) g.young g.date g.first)
+      (bare_stop size slack covered from c all (mark_of b) g.older lives g.until lists_older long least e behind later here g.before g.fresh g.empty 0 g.older (omega arith, omega arith) (remain_all (size - 0) g.older) g.young g.date g.first)
 
   some_gone : (kept : List Day) → Remain (size - 2) b.days kept → Stopping kept
   some_gone kept left =
       let rest : Left (size - 2) g.older g.young kept = left_day (size - 2) g.older g.young kept (omega (arith, long)) one (subst (λ (ds : List Day). Remain (size - 2) ds kept) days_are left) in
       let less : size - 2 - 14 ≡ size - 16 = omega arith in
       subst Stopping (sym rest.is)
-      (bare_stop size slack covered from c all (mark_of b) g.older lives g.until lists_older long least e behind later here g.before g.fresh g.empty 16 rest.front (omega arith) (subst (λ (n : ℕ). Remain n g.older rest.front) less rest.left) g.young g.date g.first)
+      (bare_stop size slack covered from c all (mark_of b) g.older lives g.until lists_older long least e behind later here g.before g.fresh g.empty 16 rest.front (omega arith, least) (subst (λ (n : ℕ). Remain n g.older rest.front) less rest.left) g.young g.date g.first)
 
   with_day : (d : Day) → d.date ≡ date_of e.minute → d.words ≡ bare_word ∷ entry_word e ∷ [] → Stopping (shorter.front ++ d ∷ [])
-  with_day d date words = begun_stop size slack covered from c all (mark_of b) g.older lives g.until lists_older long least e behind later here g.before g.fresh g.empty 16 shorter.front (omega arith) short_left d date words
+  with_day d date words = begun_stop size slack covered from c all (mark_of b) g.older lives g.until lists_older long least e behind later here g.before g.fresh g.empty 16 shorter.front (omega arith, least) short_left d date words
 
   pub again_newest : Stopping b.days
   again_newest = whole
@@ -209,4 +209,4 @@ module _ (size : ℕ) (slack : Bound) (covered from : ℕ) (c : Counted) (all : 
 
   pub again_shows : (more : ℕ) → Lists e.minute (all ++ e ∷ []) (travelled more (entered_days size e (gap_closed size (mark_of b) e.minute b.days)))
   again_shows more = subst (λ (ds : List Day). Lists e.minute (all ++ e ∷ []) ds) (sym (km_is more))
-      (begun_lists size slack covered from c all (mark_of b) g.older lives g.until lists_older long least e behind later here g.before g.fresh g.empty 16 shorter.front (omega arith) short_left (with_km (km_after more g.young.km) (with_word (entry_word e) g.young)) dated two)
+      (begun_lists size slack covered from c all (mark_of b) g.older lives g.until lists_older long least e behind later here g.before g.fresh g.empty 16 shorter.front (omega arith, least) short_left (with_km (km_after more g.young.km) (with_word (entry_word e) g.young)) dated two)

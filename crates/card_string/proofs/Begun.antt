@@ -5,7 +5,7 @@ use Rattle.std.proofs.lemmas.Bool.Decides.{nat_tests}
 use Rattle.activity_codec.specs.declared.entries.Entry.{Entry}
 use Rattle.activity_codec.specs.declared.values.Activity.TheVariants.{Rest}
 use Rattle.activity_codec.specs.Words.{word_minute}
-use Rattle.card_model.specs.Days.{Day, AreDays}
+use Rattle.card_model.specs.Days.{Day, AreDays, IsDay}
 use Rattle.card_model.specs.Changes.{Remain, fitting, with_newest, with_word, with_km, with_early, early, cut, new_day, date_of, trimmed}
 use Rattle.card_model.proofs.Retention.{remain_fitting}
 use Rattle.card_model.proofs.Trims.{cut_date}
@@ -17,6 +17,7 @@ use Rattle.card_retention.proofs.Closing.{kept_lives}
 use Rattle.card_retention.proofs.Committing.{Quiet, Olds, told_back, commits}
 use Rattle.card_retention.proofs.Growing.{sizes_append}
 use Rattle.card_retention.proofs.Listing.{Lists, append_in, lists_left}
+use Rattle.card_retention.proofs.ListTrims.{cut_entries}
 use Rattle.card_retention.proofs.Newest.{minutes_none}
 use Rattle.card_retention.proofs.Stops.{are_left, stop_none, stop_first}
 use Rattle.card_retention.proofs.Stub.{trimmed_before, trimmed_stub}
@@ -29,7 +30,7 @@ use Rattle.card_session.proofs.Following.{entry_minute, entry_top}
 use Rattle.card_session.proofs.Lasting.{entered_as}
 use Rattle.card_session.proofs.Preparing.{gap_are}
 use Rattle.card_session.proofs.Stopping.{closing_absent}
-use Rattle.card_session.proofs.OnMark.{all_before, before_left, shut_of, newest_of_before, cut_first, shut_first, word_first}
+use Rattle.card_session.proofs.OnMark.{all_before, before_left, shut_of, newest_of_before, cut_first, shut_first, word_first, bare_tells, none_day, entries_more, day_last, entries_same}
 use Rattle.card_session.proofs.Surviving.{few_bytes}
 use Rattle.tacho_types.specs.declared.texts.Registration.{Registration}
 use Rattle.card_string.specs.Carried.{BrokeOf, BegunOf}
@@ -68,28 +69,6 @@ entry_latest : (e : Entry) → latest (bare_word ∷ entry_word e ∷ []) (e.min
 entry_latest e = ap (λ (o : Option ℕ). elim o as (λ _. Option ℕ) [ Some x ↦ Some x | None ↦ cond (nat_le (word_minute bare_word) (e.minute % 1440)) (Some bare_word) None ])
     (ap (λ (b : Bool). cond b (Some (entry_word e)) None) (at_most (word_minute (entry_word e)) (e.minute % 1440) (omega (arith, entry_minute e))))
 
-pub bare_tells : (m t : ℕ) → told_by m (latest (bare_word ∷ []) t) ≡ None
-bare_tells m t = by (nat_le (word_minute bare_word) t)
-  where
-    by : (b : Bool) → told_by m (cond b (Some bare_word) None) ≡ None
-    by true = refl
-    by false = refl
-
-pub none_day : (mark : ℕ) (d : Day) → ((t : ℕ) → d.date / 60 + t ≤ mark → told_by (d.date / 60 + t) (latest d.words t) ≡ None) → day_entries mark d ≡ []
-unfolding day_entries
-none_day mark d none = minutes_none (entry_at mark d) 1440 0 (λ s le. at s (nat_le (d.date / 60 + s) mark) refl)
-  where
-    le_of : (m n : ℕ) → nat_le m n ≡ true → m ≤ n
-    le_of m n is = grind (arith, nat_tests)
-
-    at : (s : ℕ) (b : Bool) → nat_le (d.date / 60 + s) mark ≡ b → entry_at mark d s ≡ None
-    at s true is = ap (λ (b : Bool). cond b (told_by (d.date / 60 + s) (latest d.words s)) None) is ∙ none s (le_of (d.date / 60 + s) mark is)
-    at s false is = ap (λ (b : Bool). cond b (told_by (d.date / 60 + s) (latest d.words s)) None) is
-
-pub entries_more : (mark : ℕ) (ds : List Day) (d : Day) → day_entries mark d ≡ [] → entries_up_to mark (ds ++ d ∷ []) ≡ entries_up_to mark ds
-entries_more mark [] d none = ap (λ (l : List Entry). l ++ []) none
-entries_more mark (e ∷ ds) d none = ap (λ (l : List Entry). day_entries mark e ++ l) (entries_more mark ds d none)
-
 cut_bare : (mark : ℕ) (d : Day) → d.date ≡ date_of mark → d.words ≡ bare_word ∷ [] → (cut mark d).words ≡ bare_word ∷ []
 cut_bare mark d at one =
     ap (λ (c : Bool). (cond c (with_early (mark % 1440) d) d).words) (same d.date (date_of mark) at)
@@ -112,31 +91,6 @@ newest_first mark ds y at words =
     highest : (n : ℕ) → n ≤ mark → max mark n ≡ mark
     highest n le = omega (arith, le)
 
--- ---- the entries of all, with a day on which none is
-
-head_not : (b : Bool) (x : Entry) (xs : List Entry) → cond (b || false) (x ∷ xs) xs ≡ [] → (b ≡ false) × (xs ≡ [])
-head_not false x xs is = (refl, is)
-head_not true x xs is = absurd (cc)
-
-day_more : (k : ℕ) (ws : List WordDay) (v : WordDay) → nat_eq v.day k ≡ false → is_day k (ws ++ v ∷ []) ≡ is_day k ws
-day_more k [] v is = ap (λ (b : Bool). b || false) is
-day_more k (w ∷ ws) v is = ap (λ (b : Bool). nat_eq w.day k || b) (day_more k ws v is)
-
-day_last : (k : ℕ) (ws : List WordDay) (v : WordDay) → nat_eq v.day k ≡ true → is_day k (ws ++ v ∷ []) ≡ true
-day_last k [] v is = ap (λ (b : Bool). b || false) is
-day_last k (w ∷ ws) v is = ap (λ (b : Bool). nat_eq w.day k || b) (day_last k ws v is) ∙ either (nat_eq w.day k)
-  where
-    either : (b : Bool) → b || true ≡ true
-    either true = refl
-    either false = refl
-
-entries_same : (k : ℕ) (ws : List WordDay) (v : WordDay) → v.day ≡ k → (es : List Entry) → entries_in (begun_on k ∷ []) es ≡ [] → entries_in (ws ++ v ∷ []) es ≡ entries_in ws es
-entries_same k ws v at [] none = refl
-entries_same k ws v at (x ∷ es) none =
-    let parts = head_not (nat_eq k (x.minute / 1440)) x (entries_in (begun_on k ∷ []) es) none in
-    ap (λ (b : Bool). cond b (x ∷ entries_in (ws ++ v ∷ []) es) (entries_in (ws ++ v ∷ []) es)) (day_more (x.minute / 1440) ws v (ap (λ (m : ℕ). nat_eq m (x.minute / 1440)) at ∙ parts.0))
-    ∙ ap (λ (l : List Entry). cond (is_day (x.minute / 1440) ws) (x ∷ l) l) (entries_same k ws v at es parts.1)
-
 -- ---- days that are all before that of the mark, and the day of an entry behind them
 
 module _ (size : ℕ) (slack : Bound) (covered from : ℕ) (c : Counted) (all : List Entry) (mark : ℕ) (days : List Day) (l : Lives size slack covered from mark c days) (until : AllUpTo mark all) (lists : Lists mark all days) (long : 5544 ≤ size) (least : 16 ≤ slack.bytes)
@@ -150,7 +104,7 @@ module _ (size : ℕ) (slack : Bound) (covered from : ℕ) (c : Counted) (all : 
     pub newest : newest_minute mark (trimmed mark kept) ≡ mark
 
   -- some of the oldest days are gone
-  module _ (n : ℕ) (kept : List Day) (few : n ≤ 16) (left : Remain (size - n) days kept) where
+  module _ (n : ℕ) (kept : List Day) (few : (n ≤ 32) × (n ≤ slack.bytes)) (left : Remain (size - n) days kept) where
     are_kept : AreDays 0 kept
     are_kept = are_left (size - n) days kept left ordered
 
@@ -161,7 +115,7 @@ module _ (size : ℕ) (slack : Bound) (covered from : ℕ) (c : Counted) (all : 
     lists_kept = lists_left mark (size - n) 0 all days kept ordered left lists
 
     stopped_kept : Rests size slack covered e.minute mark c (trimmed mark kept)
-    stopped_kept = stop_first size slack covered from mark c days l e.minute later long least (size - n) kept (omega (arith, long, few)) (omega (arith, least, few)) left
+    stopped_kept = stop_first size slack covered from mark c days l e.minute later long least (size - n) kept (omega (arith, long, few.0)) (omega (arith, few.1)) left
 
     pub early_stop : Stops kept
     early_stop = record {
@@ -199,6 +153,16 @@ module _ (size : ℕ) (slack : Bound) (covered from : ℕ) (c : Counted) (all : 
         left_begun d (cut mark d) at (trimmed_stub mark kept d are_kept low_kept at) (cut_date mark d ∙ at)
         (cut_first mark d bare_word (entry_word e) at two refl (omega (arith, entry_minute e, here, behind)))
         (none_day mark d (λ t le. ap (λ (ws : List ℕ). told_by (d.date / 60 + t) (latest ws t)) two ∙ ap (λ (o : Option ℕ). told_by (d.date / 60 + t) o) (first_latest t e (omega (arith, le, at, here, behind))) ∙ bare_tells (d.date / 60 + t) t))
+
+    -- a day of which a cut leaves the first word
+    pub cut_stop : (d : Day) → AreDays 0 (kept ++ d ∷ []) → d.date ≡ date_of mark → (cut mark d).words ≡ bare_word ∷ [] → Stops (kept ++ d ∷ [])
+    cut_stop d are at one =
+        left_begun d (cut mark d) at (trimmed_stub mark kept d are_kept low_kept at) (cut_date mark d ∙ at) one
+        (sym (cut_entries mark d (last_is kept d 0 are)) ∙ none_day mark (cut mark d) (λ t le. ap (λ (ws : List ℕ). told_by ((cut mark d).date / 60 + t) (latest ws t)) one ∙ bare_tells ((cut mark d).date / 60 + t) t))
+      where
+        last_is : (ds : List Day) (d : Day) (date : ℕ) → AreDays date (ds ++ d ∷ []) → IsDay d
+        last_is [] d date are = are.1
+        last_is (f ∷ ds) d date are = last_is ds d f.date are.2
 
     -- its first word does
     pub bare_stop : (d : Day) → d.date ≡ date_of mark → d.words ≡ bare_word ∷ [] → Stops (kept ++ d ∷ [])
@@ -265,13 +229,13 @@ module _ (size : ℕ) (slack : Bound) (covered from : ℕ) (c : Counted) (all : 
   km_is more = ap (λ (ds : List Day). travelled more ds) entered ∙ with_last (λ d. with_km (km_after more d.km) d) fewer young
 
   oldest_gone : (n : ℕ) (kept : List Day) → n ≤ 16 → Remain (size - n) b.days kept → Stopping kept
-  oldest_gone n kept few left = early_stop size slack covered from c all (mark_of b) b.days l until lists long least e after_mark later here low_days fresh empty n kept few left
+  oldest_gone n kept few left = early_stop size slack covered from c all (mark_of b) b.days l until lists long least e after_mark later here low_days fresh empty n kept (omega (arith, few), omega (arith, few, least)) left
 
   whole : Stopping b.days
   whole = none_gone size slack covered from c all (mark_of b) b.days l until lists long least e after_mark later here low_days fresh empty
 
   with_day : (d : Day) → d.date ≡ date_of e.minute → d.words ≡ bare_word ∷ entry_word e ∷ [] → Stopping (fewer ++ d ∷ [])
-  with_day d date two = begun_stop size slack covered from c all (mark_of b) b.days l until lists long least e after_mark later here low_days fresh empty 16 fewer (omega arith) (remain_fitting (size - 16) b.days) d date two
+  with_day d date two = begun_stop size slack covered from c all (mark_of b) b.days l until lists long least e after_mark later here low_days fresh empty 16 fewer (omega arith, least) (remain_fitting (size - 16) b.days) d date two
 
   -- as it was before
   pub was_newest : newest_minute (mark_of b) (trimmed (mark_of b) b.days) ≡ mark_of b
@@ -300,4 +264,4 @@ module _ (size : ℕ) (slack : Bound) (covered from : ℕ) (c : Counted) (all : 
 
   pub begun_shows : (more : ℕ) → Lists e.minute (all ++ e ∷ []) (travelled more (entered_days size e (gap_closed size (mark_of b) e.minute b.days)))
   begun_shows more = subst (λ (ds : List Day). Lists e.minute (all ++ e ∷ []) ds) (sym (km_is more))
-      (begun_lists size slack covered from c all (mark_of b) b.days l until lists long least e after_mark later here low_days fresh empty 16 fewer (omega arith) (remain_fitting (size - 16) b.days) (with_km (km_after more 0) young) refl refl)
+      (begun_lists size slack covered from c all (mark_of b) b.days l until lists long least e after_mark later here low_days fresh empty 16 fewer (omega arith, least) (remain_fitting (size - 16) b.days) (with_km (km_after more 0) young) refl refl)

@@ -110,7 +110,7 @@ before_sizes n mark k ds = by (is_open mark ds && nat_lt (suc mark) n)
     by false b = b
 
 -- no entry is on a day behind all that count
-day_before : (k j : ℕ) (ws : List WordDay) → AllBefore k ws → InDays j ws → j < k
+pub day_before : (k j : ℕ) (ws : List WordDay) → AllBefore k ws → InDays j ws → j < k
 day_before k j [] b i = absurd i
 day_before k j (w ∷ ws) b i = ⊎_elim (λ at. omega (arith, at, b.0)) (λ later. day_before k j ws b.1 later) i
 
@@ -188,7 +188,7 @@ newest_same j k [] a b = absurd (cc)
 newest_same j k (w ∷ []) a b = omega (arith, eqb-true w.day j a, eqb-true w.day k b)
 newest_same j k (w ∷ v ∷ ws) a b = newest_same j k (v ∷ ws) a b
 
-in_last : (k : ℕ) (ws : List WordDay) (v : WordDay) → v.day ≡ k → InDays k (ws ++ v ∷ [])
+pub in_last : (k : ℕ) (ws : List WordDay) (v : WordDay) → v.day ≡ k → InDays k (ws ++ v ∷ [])
 in_last k [] v at = inl at
 in_last k (w ∷ ws) v at = inr (in_last k ws v at)
 
@@ -223,7 +223,7 @@ module _ (before : Option Entry) (e : Entry) (ws : List WordDay) where
       by true false here = in_more (e.minute / 1440) ws (newest_is (e.minute / 1440) ws here)
       by false g here = in_last (e.minute / 1440) ws fresh refl
 
-  adds_still : (k : ℕ) → InDays k ws → InDays k (adds before e ws)
+  pub adds_still : (k : ℕ) → InDays k ws → InDays k (adds before e ws)
   unfolding fresh
   adds_still k i = by (is_newest (e.minute / 1440) ws) (goes_on before e)
     where
@@ -232,16 +232,19 @@ module _ (before : Option Entry) (e : Entry) (ws : List WordDay) where
       by true false = in_more k ws i
       by false g = in_front k ws (fresh ∷ []) i
 
-pub told_more : (slack more_ : Bound) (mark now covered : ℕ) (c : Counted) (all : List Entry) (e : Entry) → more_.all ≡ slack.all ++ e ∷ [] → IsByEntries slack mark c all → IsByEntries more_ now (with_entry covered c e) (all ++ e ∷ [])
-told_more slack more_ mark now covered c all e is told = record {
+pub told_within : (slack more_ : Bound) (now covered : ℕ) (c : Counted) (all : List Entry) (e : Entry) → more_.all ≡ slack.all ++ e ∷ [] → AllIn 0 all c.days → IsByEntries more_ now (with_entry covered c e) (all ++ e ∷ [])
+told_within slack more_ now covered c all e is within = record {
   newest = λ k newest.
       let at = adds_newest c.before e (closes covered c.before e.minute c.days) k newest in
       inl (subst (λ (n : ℕ). HasOn n more_.all) at (subst (λ (l : List Entry). HasOn (e.minute / 1440) l) (sym is) (has_last slack.all e)));
   within = all_append 0 all e (adds c.before e (closes covered c.before e.minute c.days))
       (still_in c.days (adds c.before e (closes covered c.before e.minute c.days))
-      (λ k i. adds_still c.before e (closes covered c.before e.minute c.days) k (closes_is (InDays k) covered c.before e.minute c.days i (in_more k c.days i))) 0 all told.within)
+      (λ k i. adds_still c.before e (closes covered c.before e.minute c.days) k (closes_is (InDays k) covered c.before e.minute c.days i (in_more k c.days i))) 0 all within)
       (adds_in c.before e (closes covered c.before e.minute c.days));
 }
+
+pub told_more : (slack more_ : Bound) (mark now covered : ℕ) (c : Counted) (all : List Entry) (e : Entry) → more_.all ≡ slack.all ++ e ∷ [] → IsByEntries slack mark c all → IsByEntries more_ now (with_entry covered c e) (all ++ e ∷ [])
+told_more slack more_ mark now covered c all e is told = told_within slack more_ now covered c all e is told.within
 
 -- the end mark moves within its day
 pub told_still : (slack : Bound) (mark now : ℕ) (c : Counted) (all : List Entry) → now / 1440 ≡ mark / 1440 → IsByEntries slack mark c all → IsByEntries slack now c all

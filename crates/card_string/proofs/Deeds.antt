@@ -4,6 +4,7 @@ use Rattle.std.proofs.lemmas.List.{append-nil}
 use Rattle.activity_codec.specs.declared.values.Activity.{Activity}
 use Rattle.activity_codec.specs.declared.values.Activity.TheVariants.{Rest}
 use Rattle.activity_codec.specs.declared.entries.Entry.{Entry}
+use Rattle.activity_codec.specs.declared.entries.Manual.{Manual}
 use Rattle.tacho_types.specs.declared.texts.Registration.{Registration}
 use Rattle.card_layout.specs.declared.files.Application.{Application}
 use Rattle.card_layout.specs.Application.{IsApplication}
@@ -16,9 +17,11 @@ use Rattle.card_files.specs.declared.vehicle.Vehicle.{Vehicle}
 use Rattle.card_session.specs.Books.{Book, mark_of, with_entry, closed, closed_days, last_used, used}
 use Rattle.card_session.specs.Sessions.{Session, book_of}
 use Rattle.card_session.specs.Moments.{IsKeepMoment, IsCloseMoment}
+use Rattle.card_session.specs.ByHand.{by_hand, IsByHandMoment}
 use Rattle.card_session.specs.Cards.{IsCardKeeping, IsCardClosing, ended, grown}
 use Rattle.card_session.specs.Vehicles.{Vehicles, last_use_in}
 use Rattle.card_session.specs.Inserting.{Follow, lacked, with_cut, with_owed, IsReplaying, repaired, IsRepairMoment, IsStill, IsRepaired, IsRepairing, IsNoted, IsNoting, IsShut, IsShutting, InsertingClosed, InsertingOpen}
+use Rattle.card_by_hand.specs.First.{AreEntered, IsEntering, IsKeepingBehind, IsFirstKeeping}
 use Rattle.card_session.proofs.Composing.{book_is, told_book}
 use Rattle.card_session.proofs.InsertingBooks.{lacked_follow}
 use Rattle.card_session.proofs.InsertingCards.{noted_same, noting_same}
@@ -28,7 +31,7 @@ use Rattle.card_session.proofs.InsertingAgain.{noted_keeps}
 use Rattle.card_session.proofs.Marks.{mark_told}
 use Rattle.card_session.proofs.Preparing.{used_at}
 use Rattle.card_session.proofs.Stopping.{before_use, ended_same}
-use Rattle.card_string.specs.Deeds.{EntryKept, Keep, Close, Cut, Step, Done, Broken, Makes, MadeBy, kept_by, kept_in, AreNext, IsMadeOf, IsMade}
+use Rattle.card_string.specs.Deeds.{EntryKept, Keep, Enter, Close, Cut, Step, Done, Broken, Makes, MadeBy, kept_by, kept_in, AreNext, IsMadeOf, IsMade}
 use Rattle.card_string.proofs.Lists.{same_parts}
 use Rattle.card_string.proofs.SameBook.{same_book}
 
@@ -47,10 +50,12 @@ next_left : (ss : List Step) (all : List Entry) → AreNext ss all → (left : L
 next_left [] all h = (all, refl)
 next_left (Done (Keep k) ∷ ss) [] h = absurd h
 next_left (Done (Keep k) ∷ ss) (e ∷ all) h = let r = next_left ss all h.1 in (r.0, λ i. sym h.0 i ∷ r.1 i)
+next_left (Done (Enter hand) ∷ ss) all h = next_left ss all h
 next_left (Done (Close act) ∷ ss) all h = next_left ss all h
 next_left (Done Cut ∷ ss) all h = next_left ss all h
 next_left (Broken (Keep k) ∷ ss) [] h = absurd h
 next_left (Broken (Keep k) ∷ ss) (e ∷ all) h = next_left ss (e ∷ all) h.1
+next_left (Broken (Enter hand) ∷ ss) all h = next_left ss all h
 next_left (Broken (Close act) ∷ ss) all h = next_left ss all h
 next_left (Broken Cut ∷ ss) all h = next_left ss all h
 
@@ -59,10 +64,12 @@ next_then : (ss : List Step) (s : Step) (all left : List Entry) → all ≡ kept
 next_then [] s all left are h last = subst (λ (l : List Entry). AreNext (s ∷ []) l) (sym are) last
 next_then (Done (Keep k) ∷ ss) s [] left are h last = absurd h
 next_then (Done (Keep k) ∷ ss) s (e ∷ all) left are h last = let rest : all ≡ kept_in ss ++ left = cc in (h.0, next_then ss s all left rest h.1 last)
+next_then (Done (Enter hand) ∷ ss) s all left are h last = next_then ss s all left are h last
 next_then (Done (Close act) ∷ ss) s all left are h last = next_then ss s all left are h last
 next_then (Done Cut ∷ ss) s all left are h last = next_then ss s all left are h last
 next_then (Broken (Keep k) ∷ ss) s [] left are h last = absurd h
 next_then (Broken (Keep k) ∷ ss) s (e ∷ all) left are h last = (h.0, next_then ss s (e ∷ all) left are h.1 last)
+next_then (Broken (Enter hand) ∷ ss) s all left are h last = next_then ss s all left are h last
 next_then (Broken (Close act) ∷ ss) s all left are h last = next_then ss s all left are h last
 next_then (Broken Cut ∷ ss) s all left are h last = next_then ss s all left are h last
 
@@ -71,20 +78,22 @@ next_more : (ss : List Step) (all others : List Entry) → AreNext ss all → Ar
 next_more [] all others h = tt
 next_more (Done (Keep k) ∷ ss) [] others h = absurd h
 next_more (Done (Keep k) ∷ ss) (e ∷ all) others h = (h.0, next_more ss all others h.1)
+next_more (Done (Enter hand) ∷ ss) all others h = next_more ss all others h
 next_more (Done (Close act) ∷ ss) all others h = next_more ss all others h
 next_more (Done Cut ∷ ss) all others h = next_more ss all others h
 next_more (Broken (Keep k) ∷ ss) [] others h = absurd h
 next_more (Broken (Keep k) ∷ ss) (e ∷ all) others h = (h.0, next_more ss (e ∷ all) others h.1)
+next_more (Broken (Enter hand) ∷ ss) all others h = next_more ss all others h
 next_more (Broken (Close act) ∷ ss) all others h = next_more ss all others h
 next_more (Broken Cut ∷ ss) all others h = next_more ss all others h
 
 -- entries up to a mark are up to a later one
-up_later : (m n : ℕ) → m ≤ n → (es : List Entry) → AllUpTo m es → AllUpTo n es
+pub up_later : (m n : ℕ) → m ≤ n → (es : List Entry) → AllUpTo m es → AllUpTo n es
 up_later m n le [] up = tt
 up_later m n le (e ∷ es) up = (omega (arith, up.0, le), up_later m n le es up.1)
 
 -- a closing leaves the end mark or moves it on
-used_low : (v : Vehicles) → last_use_in v / 60 ≤ last_use_in (last_used (60 * suc (last_use_in v / 60)) v) / 60
+pub used_low : (v : Vehicles) → last_use_in v / 60 ≤ last_use_in (last_used (60 * suc (last_use_in v / 60)) v) / 60
 used_low v = by v.newest
   where
     by : (o : Option Vehicle) → last_use_of o / 60 ≤ last_use_of (option_map (used (60 * suc (last_use_of o / 60))) o) / 60
@@ -140,6 +149,14 @@ module _ (size : ℕ) (start : Book) where
         (λ unused. inl (before_use registration odometer e.minute b.vehicles c.vehicles unused))
         (λ used. inr (book_is (with_entry size registration odometer km b e) c.days c.vehicles new.0 used))
         new.1
+
+  -- ---- AN ENTRY BY HAND, which keeps no entry and begins none
+
+  entered_made : (hand : Manual) (b c : Book) (more all : List Entry) → c ≡ by_hand size hand b → IsMadeOf size start more all b → IsMadeOf size start more all c
+  entered_made hand b c more all is m = quiet_made more all (Done (Enter hand)) b c refl (λ left. tt) is m
+
+  entering_made : (hand : Manual) (b c : Book) (more all : List Entry) → IsByHandMoment size hand b c.days c.vehicles → IsMadeOf size start more all b → IsMadeOf size start more all c
+  entering_made hand b c more all moment m = quiet_made more all (Broken (Enter hand)) b c refl (λ left. tt) moment m
 
   -- ---- A CLOSING
 
@@ -279,6 +296,52 @@ module _ (s : Session) (image : List ℕ) (more all left : List Entry) (e : Entr
       (λ old. absurd (omega (arith, late, at, old, mark_told s.application x, mark_told s.application y)))
       (λ done. made_by s.application image (more ++ e ∷ []) all y (keep_done s.application.activity (book_of s.application image) s.registration odometer (grown s.odometer odometer) e (book_of s.application x) more all left are m.deeds (book_of s.application y) done))
       (keep_sides s.application.activity (book_of s.application image) s.registration odometer (grown s.odometer odometer) e (book_of s.application x) (book_of s.application y) keeping.card.told)
+
+-- entries by hand, all of them and at a moment of them
+entered_all : (hs : List Manual) (s next : Session) (image : List ℕ) (more all : List Entry) (x y : List ℕ) → IsMade s.application image more all x → AreEntered hs s next x y → IsMade s.application image more all y
+entered_all [] s next image more all x y m entered = subst (λ (l : List ℕ). IsMade s.application image more all l) (sym entered.1) m
+entered_all (h ∷ hs) s next image more all x y m entered =
+    subst (λ (a : Application). IsMade a image more all y) entered.2.application
+    (entered_all hs entered.0 next image more all entered.1 y (subst (λ (a : Application). IsMade a image more all entered.1) (sym entered.2.application) one) entered.4)
+  where
+    one : IsMade s.application image more all entered.1
+    one = record {
+      deeds = entered_made s.application.activity (book_of s.application image) h (book_of s.application x) (book_of s.application entered.1) more all
+          (book_is (by_hand s.application.activity h (book_of s.application x)) (book_of s.application entered.1).days (book_of s.application entered.1).vehicles entered.3.card.told.0 entered.3.card.told.1) m.deeds;
+    }
+
+entering_all : (hs : List Manual) (s : Session) (image : List ℕ) (more all : List Entry) (x c : List ℕ) → IsMade s.application image more all x → IsEntering hs s x c → IsMade s.application image more all c
+entering_all [] s image more all x c m entering = absurd entering
+entering_all (h ∷ hs) s image more all x c m (inl now) =
+    record { deeds = entering_made s.application.activity (book_of s.application image) h (book_of s.application x) (book_of s.application c) more all now.card.told m.deeds }
+entering_all (h ∷ hs) s image more all x c m (inr behind) =
+    subst (λ (a : Application). IsMade a image more all c) behind.2.application
+    (entering_all hs behind.0 image more all behind.1 c (subst (λ (a : Application). IsMade a image more all behind.1) (sym behind.2.application) (entered_all (h ∷ []) s behind.0 image more all x behind.1 m (behind.0, behind.1, behind.2, behind.3, (refl, refl)))) behind.4)
+
+-- the sizes stay with the sessions
+pub entered_app : (hs : List Manual) (s next : Session) (x y : List ℕ) → AreEntered hs s next x y → next.application ≡ s.application
+entered_app [] s next x y entered = ap (λ (t : Session). t.application) entered.0
+entered_app (h ∷ hs) s next x y entered = entered_app hs entered.0 next entered.1 y entered.4 ∙ entered.2.application
+
+-- a first keep
+module _ (s : Session) (image : List ℕ) (more all left : List Entry) (hs : List Manual) (e : Entry) (odometer : ℕ) (x y : List ℕ) (are : all ≡ more ++ e ∷ left) (m : IsMade s.application image more all x) where
+  module _ (behind : IsKeepingBehind s hs e odometer x y) where
+    same : behind.between.application ≡ s.application
+    same = entered_app hs s behind.between x behind.card behind.entered
+
+    there : IsMade behind.between.application image more all behind.card
+    there = subst (λ (a : Application). IsMade a image more all behind.card) (sym same) (entered_all hs s behind.between image more all x behind.card m behind.entered)
+
+  pub first_stopped : IsFirstKeeping s hs e odometer x y → IsMade s.application image more all y
+  first_stopped (inl entering) = entering_all hs s image more all x y m entering
+  first_stopped (inr behind) =
+      subst (λ (a : Application). IsMade a image more all y) (same behind) (keep_stopped behind.between image more all left e odometer behind.card y are (there behind) behind.keeping)
+
+  -- whose end mark has moved, from that of the card behind its entries by hand
+  pub first_made : (behind : IsKeepingBehind s hs e odometer x y) → end_mark behind.between.application behind.card < e.minute → end_mark s.application y ≡ e.minute → IsMade s.application image (more ++ e ∷ []) all y
+  first_made behind late at =
+      subst (λ (a : Application). IsMade a image (more ++ e ∷ []) all y) (same behind)
+      (keep_made behind.between image more all left e odometer behind.card y are (there behind) behind.keeping late (subst (λ (a : Application). end_mark a y ≡ e.minute) (sym (same behind)) at))
 
 -- a withdrawal
 pub close_made : (s : Session) (act : Activity) (image : List ℕ) (more all : List Entry) (x y : List ℕ) → IsApplication s.application → image_size_of s.application ≤ length x → IsMade s.application image more all x → IsCardClosing s act x y → IsMade s.application image more all y

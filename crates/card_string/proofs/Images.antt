@@ -1,10 +1,11 @@
 -- Each image of a card since the start of a run, over a call on it.
-use Rattle.std.proofs.Common.{◌≡◌, ◌≢◌, inl, inr, ⊎_elim, ℕ, ◌<◌, ◌≤◌, Bool, false, cond, filter, Some, List, [], ◌∷◌, ◌++◌, length, refl, sym, ◌∙◌, ap, subst, arith}
-use Rattle.std.specs.Prelude.{nat_le}
+use Rattle.std.proofs.Common.{◌≡◌, ◌≢◌, inl, inr, ⊎_elim, ℕ, ◌<◌, ◌≤◌, Bool, false, cond, filter, Some, List, [], ◌∷◌, ◌++◌, append_assoc, length, refl, sym, ◌∙◌, ap, subst, arith}
+use Rattle.std.specs.Prelude.{Contains, nat_le}
 use Rattle.std.proofs.lemmas.Bool.Decides.{nat_tests}
 use Rattle.std.proofs.lemmas.List.{append-nil}
-use Rattle.std.proofs.lemmas.List.Elements.{filter-append}
+use Rattle.std.proofs.lemmas.List.Elements.{filter-append, Contains-append_right}
 use Rattle.activity_codec.specs.declared.entries.Entry.{Entry}
+use Rattle.activity_codec.specs.declared.entries.Manual.{Manual}
 use Rattle.activity_codec.specs.declared.values.Activity.{Activity}
 use Rattle.tacho_types.specs.declared.texts.Registration.{Registration}
 use Rattle.tach_media.specs.Medium.{State, IsCoherent, LeavesOnly, Unchanged}
@@ -12,23 +13,31 @@ use Rattle.card_layout.specs.declared.files.Application.{Application}
 use Rattle.card_layout.specs.Application.{IsApplication, application_of}
 use Rattle.card_layout.specs.Files.{image_size_of, files_of}
 use Rattle.card_retention.specs.Entries.{newest_minute}
-use Rattle.card_retention.specs.Shown.{AllUpTo}
+use Rattle.card_retention.specs.Shown.{AllUpTo, sizes}
 use Rattle.card_image.specs.Beside.{HaveSameSizes}
 use Rattle.card_image.specs.Fields.{card_days, end_mark, session_time}
 use Rattle.card_image.specs.Judging.{IsValid}
 use Rattle.card_image.specs.Own.{own_sizes, own_view, KeepsOf}
+use Rattle.card_retention.specs.ByHand.{hands_in}
+use Rattle.hand_model.specs.AtStart.{HasDayOf, hands_at}
+use Rattle.hand_model.specs.ByHand.{by_hand_in, by_hand_up_to}
+use Rattle.hand_model.specs.Written.{Hands, IsPartOf, entries_of, hands_of, and_sure, and_given}
+use Rattle.hand_model.proofs.Contained.{part_contains, in_contains}
+use Rattle.hand_model.proofs.Cuts.{part_first}
+use Rattle.hand_model.proofs.Written.{part_both, part_in, part_self, part_then, part_wider}
 use Rattle.card_image.specs.View.{card_view}
 use Rattle.card_session.specs.Sessions.{Session, IsSession}
-use Rattle.card_session.specs.Cards.{IsCardKeeping, IsCardClosing, ended}
+use Rattle.card_by_hand.specs.First.{AreEntered, IsEntering, IsFirstKeeping}
+use Rattle.card_session.specs.Cards.{IsCardClosing, ended}
 use Rattle.card_session.specs.Inserting.{AreOwed, Follow, IsCardInserting}
 use Rattle.card_session.specs.Repairs.{first_minute, newest_behind, lacked_by}
 use Rattle.card_session.proofs.InsertingAgain.{ended_keeps, inserting_keeps}
 use Rattle.card_session.proofs.InsertingUse.{use_inside}
 use Rattle.card_session.proofs.Marks.{sizes_still}
-use Rattle.card_string.specs.Since.{all_since, GoesSince, HoldsSince}
+use Rattle.card_string.specs.Since.{all_since, TellsSince, HoldsSince, SitsSince, IsReadySince}
 use Rattle.card_string.specs.Each.{EachHolds, LeavesString}
-use Rattle.card_string.proofs.Since.{beside_holds, later_holds, brought_holds}
-use Rattle.card_string.proofs.Kept.{holds_kept}
+use Rattle.card_string.proofs.Since.{beside_holds, given_holds, later_holds, brought_holds}
+use Rattle.card_string.proofs.Kept.{holds_kept, keeps_more}
 use Rattle.card_string.proofs.OfCards.{card_keep_holds, card_close_holds, open_holds, shut_inserting}
 
 -- ---- the sizes stay
@@ -44,33 +53,74 @@ closing_sizes s act x y fits (inr done) =
     ∙ sizes_told s.application done.before (ended s.application done.before) (ended_keeps s.application done.before (ended s.application done.before) (omega (arith, fits, use_inside s.application, done.card.outside.same_length)) refl).0
     ∙ sizes_told s.application x done.before (sizes_still s.application _ x done.before done.card)
 
--- ---- A CALL, by what it leaves of the image that is told
+-- ---- WHAT A CARD TELLS of entries by hand
 
-module _ (app : Application) (sound : IsApplication app) (image : List ℕ) (start : own_sizes image ≡ app) (brought : List Entry) (n next began : ℕ) (le : n ≤ next) where
+hands_told : (app : Application) (x : List ℕ) → by_hand_in app x ≡ by_hand_up_to (end_mark app x) (card_days app x)
+unfolding by_hand_in
+hands_told app x = refl
+
+since_marked : (app : Application) (image : List ℕ) (h : Hands) (brought : List Entry) (next : ℕ) (x : List ℕ) (k : HoldsSince app image h brought next x) → TellsSince image k.written (end_mark app x) (card_days app x)
+since_marked app image h brought next x k = ⊎_elim (λ goes. goes.marked) (λ broke. broke.marked) k.stands
+
+-- some of those that it may tell, and of those that were given
+pub holds_part : (app : Application) (image : List ℕ) (h : Hands) (brought : List Entry) (next : ℕ) (x : List ℕ) → HoldsSince app image h brought next x → IsPartOf (by_hand_in app x) (hands_at image ++ h.given)
+holds_part app image h brought next x k =
+    let t = since_marked app image h brought next x k in
+    subst (λ (l : List Manual). IsPartOf l (hands_at image ++ h.given)) (sym (hands_told app x ∙ t.told))
+    (part_then (hands_in (sizes (card_days app x)) (t.first ++ hands_of k.written)) (t.first ++ hands_of k.written) (hands_at image ++ h.given) (part_in (sizes (card_days app x)) (t.first ++ hands_of k.written))
+    (part_both t.first (hands_at image) (hands_of k.written) h.given (part_first image t.first t.are) k.lie.only))
+
+-- and each that is sure, where its day is there
+pub holds_sure : (app : Application) (image : List ℕ) (h : Hands) (brought : List Entry) (next : ℕ) (x : List ℕ) (e : Manual) → HoldsSince app image h brought next x → Contains h.sure e → HasDayOf e.minute app x → Contains (by_hand_in app x) e
+holds_sure app image h brought next x e k sure day =
+    let t = since_marked app image h brought next x k in
+    subst (λ (l : List Manual). Contains l e) (sym (hands_told app x ∙ t.told))
+    (in_contains (sizes (card_days app x)) (t.first ++ hands_of k.written) e day (Contains-append_right t.first (hands_of k.written) e (part_contains h.sure (hands_of k.written) e k.lie.all sure)))
+
+-- ---- A CALL, by what it leaves of the image that is told; entries by hand may be given to it
+
+module _ (app : Application) (sound : IsApplication app) (image : List ℕ) (start : own_sizes image ≡ app) (h : Hands) (brought : List Entry) (n next began : ℕ) (le : n ≤ next) where
+  pub each_giving : (hands : List Manual) (R : List ℕ → List ℕ → Type 0) (old new : State) → began ≤ old.clock → LeavesOnly old new R
+      → ((x y : List ℕ) → old.image ≡ Some x → R x y → (own_sizes y ≡ app) × HoldsSince app image (and_given hands h) brought next y) → EachHolds app image h brought n began old → EachHolds app image (and_given hands h) brought next began new
+  each_giving hands R old new began_before leaves made each = record {
+    now = λ y may. ⊎_elim
+        (λ still. let is = each.now y still in (is.0, later_holds app image (and_given hands h) brought n next y le (given_holds app image h hands brought n y is.1)))
+        (λ one. made one.0 y one.1 one.2) (leaves.now y may);
+    since = λ y left. ⊎_elim
+        (λ still. let is = each.since y still in (is.0, keeps_more image h.given (h.given ++ hands) (part_wider h.given h.given hands (part_self h.given)) (all_since image (filter (λ e. nat_le e.minute (own_view y).mark) brought)) (own_view y).held is.1))
+        (λ one. let is = made one.0 y one.1 one.2 in (is.0, holds_kept app sound image y start is.0 (and_given hands h) brought next is.1)) (leaves.since began y began_before left);
+    told = λ y left. ⊎_elim
+        (λ still. subst (λ (l : List Manual). IsPartOf (by_hand_in app y) l) (append_assoc (hands_at image) h.given hands) (part_wider (by_hand_in app y) (hands_at image ++ h.given) hands (each.told y still)))
+        (λ one. holds_part app image (and_given hands h) brought next y (made one.0 y one.1 one.2).1) (leaves.since began y began_before left);
+  }
+
   pub each_on : (R : List ℕ → List ℕ → Type 0) (old new : State) → began ≤ old.clock → LeavesOnly old new R
-      → ((x y : List ℕ) → old.image ≡ Some x → R x y → (own_sizes y ≡ app) × HoldsSince app image brought next y) → EachHolds app image brought n began old → EachHolds app image brought next began new
+      → ((x y : List ℕ) → old.image ≡ Some x → R x y → (own_sizes y ≡ app) × HoldsSince app image h brought next y) → EachHolds app image h brought n began old → EachHolds app image h brought next began new
   each_on R old new began_before leaves made each = record {
     now = λ y may. ⊎_elim
-        (λ still. let is = each.now y still in (is.0, later_holds app image brought n next y le is.1))
+        (λ still. let is = each.now y still in (is.0, later_holds app image h brought n next y le is.1))
         (λ one. made one.0 y one.1 one.2) (leaves.now y may);
     since = λ y left. ⊎_elim
         (λ still. each.since y still)
-        (λ one. let is = made one.0 y one.1 one.2 in (is.0, holds_kept app sound image y start is.0 brought next is.1)) (leaves.since began y began_before left);
+        (λ one. let is = made one.0 y one.1 one.2 in (is.0, holds_kept app sound image y start is.0 h brought next is.1)) (leaves.since began y began_before left);
+    told = λ y left. ⊎_elim
+        (λ still. each.told y still)
+        (λ one. holds_part app image h brought next y (made one.0 y one.1 one.2).1) (leaves.since began y began_before left);
   }
 
-  module _ (old new : State) (whole : IsCoherent old) (began_before : began ≤ old.clock) (each : EachHolds app image brought n began old) where
-    told : (x : List ℕ) → old.image ≡ Some x → (own_sizes x ≡ app) × HoldsSince app image brought n x
+  module _ (old new : State) (whole : IsCoherent old) (began_before : began ≤ old.clock) (each : EachHolds app image h brought n began old) where
+    told : (x : List ℕ) → old.image ≡ Some x → (own_sizes x ≡ app) × HoldsSince app image h brought n x
     told x is = each.now x (whole.is_left x is)
 
     -- nothing is written
-    pub each_read : LeavesOnly old new Unchanged → EachHolds app image brought next began new
+    pub each_read : LeavesOnly old new Unchanged → EachHolds app image h brought next began new
     each_read leaves = each_on Unchanged old new began_before leaves (λ x y is none. absurd none) each
 
     -- beside them
-    pub each_beside : LeavesOnly old new (LeavesString app) → EachHolds app image brought next began new
+    pub each_beside : LeavesOnly old new (LeavesString app) → EachHolds app image h brought next began new
     each_beside leaves =
         each_on (LeavesString app) old new began_before leaves
-        (λ x y is same. let t = told x is in (same.sizes ∙ t.0, later_holds app image brought n next y le (beside_holds app image x y same.book brought n same.session t.1))) each
+        (λ x y is same. let t = told x is in (same.sizes ∙ t.0, later_holds app image h brought n next y le (beside_holds app image x y same.book h brought n same.session t.1))) each
 
     -- an insertion
     module _ (registration : Registration) (odometer now : ℕ) (owed : List Entry) (long : length registration.0 ≡ 15) (are : AreOwed now owed) where
@@ -79,10 +129,10 @@ module _ (app : Application) (sound : IsApplication app) (image : List ℕ) (sta
           × (0 < session_time app x → (newest_behind (card_view app x).newest (lacked_by app x owed) < next) × ((done : List Entry) × AllUpTo (end_mark app x) done × (brought ≡ done ++ lacked_by app x owed)))
           × (session_time app x ≡ 0 → AllUpTo (end_mark app x) brought × (newest_minute (end_mark app x) (card_days app x) < next))
 
-      inserted_one : (x y : List ℕ) → old.image ≡ Some x → MayInsert x → IsCardInserting app registration odometer owed now x y → HoldsSince app image brought next y
+      inserted_one : (x y : List ℕ) → old.image ≡ Some x → MayInsert x → IsCardInserting app registration odometer owed now x y → HoldsSince app image h brought next y
       inserted_one x y is may (inl closed) =
           let ready = may.3 closed.0 in
-          shut_inserting app registration now image brought n x sound may.0 long may.1 closed.0 ready.0 (told x is).1 next le ready.1 y closed.1
+          shut_inserting app registration now image h brought n x sound may.0 long may.1 closed.0 ready.0 (told x is).1 next le ready.1 y closed.1
       inserted_one x y is may (inr open_) = by (may.2 (some (session_time app x) open_.0))
         where
           some : (m : ℕ) → m ≢ 0 → 0 < m
@@ -91,12 +141,12 @@ module _ (app : Application) (sound : IsApplication app) (image : List ℕ) (sta
               nz : (m : ℕ) → (m ≡ 0 → ⊥) → 0 < m
               nz m apart = omega (arith, apart)
 
-          by : (newest_behind (card_view app x).newest (lacked_by app x owed) < next) × ((done : List Entry) × AllUpTo (end_mark app x) done × (brought ≡ done ++ lacked_by app x owed)) → HoldsSince app image brought next y
+          by : (newest_behind (card_view app x).newest (lacked_by app x owed) < next) × ((done : List Entry) × AllUpTo (end_mark app x) done × (brought ≡ done ++ lacked_by app x owed)) → HoldsSince app image h brought next y
           by (late, (done, up, split)) =
-              subst (λ (l : List Entry). HoldsSince app image l next y) (sym split)
-              (open_holds app registration odometer now owed image done n x sound may.0 long are may.1 (some (session_time app x) open_.0) up (subst (λ (l : List Entry). HoldsSince app image l n x) split (told x is).1) next le late y open_.1)
+              subst (λ (l : List Entry). HoldsSince app image h l next y) (sym split)
+              (open_holds app registration odometer now owed image h done n x sound may.0 long are may.1 (some (session_time app x) open_.0) up (subst (λ (l : List Entry). HoldsSince app image h l n x) split (told x is).1) next le late y open_.1)
 
-      pub each_inserting : ((x : List ℕ) → old.image ≡ Some x → MayInsert x) → LeavesOnly old new (IsCardInserting app registration odometer owed now) → EachHolds app image brought next began new
+      pub each_inserting : ((x : List ℕ) → old.image ≡ Some x → MayInsert x) → LeavesOnly old new (IsCardInserting app registration odometer owed now) → EachHolds app image h brought next began new
       each_inserting may leaves =
           each_on (IsCardInserting app registration odometer owed now) old new began_before leaves
           (λ x y is moment.
@@ -107,29 +157,55 @@ module _ (app : Application) (sound : IsApplication app) (image : List ℕ) (sta
 
 -- ---- a keep, and a withdrawal
 
-module _ (s : Session) (sound : IsApplication s.application) (image : List ℕ) (start : own_sizes image ≡ s.application) (began : ℕ) (old new : State) (whole : IsCoherent old) (began_before : began ≤ old.clock) where
-  pub each_keeping : (done es : List Entry) (e : Entry) (odometer n next : ℕ) → s.minute < e.minute → n ≤ e.minute → Follow e.minute es → e.minute < next
-      → ((x : List ℕ) → old.image ≡ Some x → IsSession s x × (0 < session_time s.application x) × GoesSince s.application image done n x) → LeavesOnly old new (IsCardKeeping s e odometer)
-      → EachHolds s.application image (done ++ e ∷ es) next began old → EachHolds s.application image (done ++ e ∷ es) next began new
-  each_keeping done es e odometer n next late before follow after may leaves each =
-      each_on s.application sound image start (done ++ e ∷ es) next next began (omega arith) (IsCardKeeping s e odometer) old new began_before leaves
-      (λ x y is moment.
-      let ready = may x is in (
-        sizes_told s.application x y (sizes_still s.application _ x y moment.card) ∙ (each.now x (whole.is_left x is)).0,
-        card_keep_holds s image done e odometer n x y sound ready.0 ready.1 late before ready.2 moment es next follow after,
-      )) each
+-- a moment of a first keep leaves the sizes
+entering_sizes : (hs : List Manual) (s : Session) (x c : List ℕ) → IsEntering hs s x c → own_sizes c ≡ own_sizes x
+entering_sizes [] s x c entering = absurd entering
+entering_sizes (h ∷ hs) s x c (inl now) = sizes_told s.application x c (sizes_still s.application _ x c now.card)
+entering_sizes (h ∷ hs) s x c (inr behind) = entering_sizes hs behind.0 behind.1 c behind.4 ∙ sizes_told s.application x behind.1 (sizes_still s.application _ x behind.1 behind.3.card)
 
-  pub each_closing : (act : Activity) (done : List Entry) (n m next : ℕ) → n ≤ next → m ≤ next
-      → ((x : List ℕ) → old.image ≡ Some x → (image_size_of s.application ≤ length x) × IsSession s x × (0 < session_time s.application x) × (newest_minute (end_mark s.application x) (card_days s.application x) < next) × GoesSince s.application image done n x)
-      → LeavesOnly old new (IsCardClosing s act) → EachHolds s.application image done m began old
-      → EachHolds s.application image done next began new
-  each_closing act done n m next le lower may leaves each =
-      each_on s.application sound image start done m next began lower (IsCardClosing s act) old new began_before leaves
+entered_sizes : (hs : List Manual) (s next : Session) (x y : List ℕ) → AreEntered hs s next x y → own_sizes y ≡ own_sizes x
+entered_sizes [] s next x y entered = ap own_sizes entered.1
+entered_sizes (h ∷ hs) s next x y entered = entered_sizes hs entered.0 next entered.1 y entered.4 ∙ sizes_told s.application x entered.1 (sizes_still s.application _ x entered.1 entered.3.card)
+
+first_sizes : (s : Session) (hs : List Manual) (e : Entry) (odometer : ℕ) (x y : List ℕ) → IsFirstKeeping s hs e odometer x y → own_sizes y ≡ own_sizes x
+first_sizes s hs e odometer x y (inl entering) = entering_sizes hs s x y entering
+first_sizes s hs e odometer x y (inr behind) =
+    sizes_told behind.between.application behind.card y (sizes_still behind.between.application _ behind.card y behind.keeping.card) ∙ entered_sizes hs s behind.between x behind.card behind.entered
+
+module _ (s : Session) (image : List ℕ) (start : own_sizes image ≡ s.application) (began : ℕ) (old new : State) (whole : IsCoherent old) (began_before : began ≤ old.clock) where
+  -- the sizes are sound where a card is ready
+  pub each_keeping : IsApplication s.application → (h : Hands) (done es : List Entry) (hands : List Manual) (e : Entry) (odometer n next : ℕ) → Follow e.minute es → e.minute < next
+      → ((x : List ℕ) → old.image ≡ Some x → IsReadySince s image h done n hands e x) → LeavesOnly old new (IsFirstKeeping s hands e odometer)
+      → EachHolds s.application image h (done ++ e ∷ es) next began old → EachHolds s.application image (and_given hands h) (done ++ e ∷ es) next began new
+  each_keeping sound h done es hands e odometer n next follow after may leaves each =
+      each_giving s.application sound image start h (done ++ e ∷ es) next next began (omega arith) hands (IsFirstKeeping s hands e odometer) old new began_before leaves
+      (λ x y is moment. (first_sizes s hands e odometer x y moment ∙ (each.now x (whole.is_left x is)).0, card_keep_holds s image h done n hands e odometer x y (may x is) moment es next follow after)) each
+
+  pub each_closing : IsApplication s.application → (act : Activity) (h : Hands) (done : List Entry) (n m next : ℕ) → n ≤ next → m ≤ next
+      → ((x : List ℕ) → old.image ≡ Some x → (image_size_of s.application ≤ length x) × IsSession s x × (0 < session_time s.application x) × (newest_minute (end_mark s.application x) (card_days s.application x) < next) × SitsSince s.application image h done n x)
+      → LeavesOnly old new (IsCardClosing s act) → EachHolds s.application image h done m began old
+      → EachHolds s.application image h done next began new
+  each_closing sound act h done n m next le lower may leaves each =
+      each_on s.application sound image start h done m next began lower (IsCardClosing s act) old new began_before leaves
       (λ x y is moment.
       let ready = may x is in (
         closing_sizes s act x y ready.0 moment ∙ (each.now x (whole.is_left x is)).0,
-        card_close_holds s act image done n next x y sound ready.0 ready.1 ready.2 le ready.3 ready.4 moment,
+        card_close_holds s act image h done n next x y sound ready.0 ready.1 ready.2 le ready.3 ready.4 moment,
       )) each
+
+-- ---- a keep that was acknowledged
+
+sits_holds : (app : Application) (image : List ℕ) (h : Hands) (brought : List Entry) (next : ℕ) (x : List ℕ) → SitsSince app image h brought next x → HoldsSince app image h brought next x
+sits_holds app image h brought next x sits =
+    record { written = sits.written; rest = []; split = sym sits.has_all ∙ sym (append-nil (entries_of sits.written)); lie = sits.lie; behind = tt; stands = inl sits.goes }
+
+pub each_sure : (app : Application) (image : List ℕ) (h : Hands) (hands : List Manual) (brought : List Entry) (next began : ℕ) (card : State) → EachHolds app image (and_given hands h) brought next began card
+    → ((x : List ℕ) → card.may_leave x → SitsSince app image (and_sure hands h) brought next x) → EachHolds app image (and_sure hands h) brought next began card
+each_sure app image h hands brought next began card each sits = record {
+  now = λ x may. ((each.now x may).0, sits_holds app image (and_sure hands h) brought next x (sits x may));
+  since = each.since;
+  told = each.told;
+}
 
 -- ---- further entries
 
@@ -143,12 +219,13 @@ module _ (app : Application) (image : List ℕ) (brought es : List Entry) (m n n
       ap (λ (b : Bool). cond b (e ∷ filter (λ (e : Entry). nat_le e.minute mark) es) (filter (λ (e : Entry). nat_le e.minute mark) es)) (above e.minute mark (omega (arith, le, follow.0)))
       ∙ none_up mark e.minute (omega (arith, le, follow.0)) es follow.1
 
-  pub each_brought : EachHolds app image brought n began card → EachHolds app image (brought ++ es) next began card
-  each_brought each = record {
-    now = λ x may. let is = each.now x may in (is.0, brought_holds app image brought es m n next x follow after is.1);
+  pub each_brought : (h : Hands) → EachHolds app image h brought n began card → EachHolds app image h (brought ++ es) next began card
+  each_brought h each = record {
+    now = λ x may. let is = each.now x may in (is.0, brought_holds app image h brought es m n next x follow after is.1);
     since = λ x left.
         let is = each.since x left in
         let same : filter (λ (e : Entry). nat_le e.minute (own_view x).mark) brought ≡ filter (λ (e : Entry). nat_le e.minute (own_view x).mark) (brought ++ es) =
         sym (filter-append (λ (e : Entry). nat_le e.minute (own_view x).mark) brought es ∙ ap (λ (l : List Entry). filter (λ (e : Entry). nat_le e.minute (own_view x).mark) brought ++ l) (none_up (own_view x).mark (own_view x).mark (omega arith) es (late x left)) ∙ append-nil _) in
-        (is.0, subst (λ (l : List Entry). KeepsOf image (all_since image l) (own_view x).held) same is.1);
+        (is.0, subst (λ (l : List Entry). KeepsOf image h.given (all_since image l) (own_view x).held) same is.1);
+    told = each.told;
   }

@@ -1,4 +1,5 @@
 pub mod Moments
+pub mod FirstShown
 pub mod Stated
 pub mod Begun
 pub mod Again
@@ -20,3 +21,4 @@ pub mod Images
 pub mod Small
 pub mod BehindMark
 pub mod Start
+pub mod Hands

@@ -4,20 +4,20 @@ use Rattle.std.specs.Prelude.{nat_le}
 use Rattle.std.proofs.lemmas.Bool.Decides.{nat_tests}
 use Rattle.std.proofs.lemmas.List.{append-nil}
 use Rattle.activity_codec.specs.declared.entries.Entry.{Entry}
-use Rattle.card_retention.specs.Expected.{Counted, counted, with_entry}
+use Rattle.activity_codec.specs.declared.entries.Manual.{Manual}
+use Rattle.card_retention.specs.Expected.{Counted, with_entry}
+use Rattle.card_retention.specs.ByHand.{with_by_hand}
 use Rattle.card_retention.specs.Shown.{Bound, AllUpTo}
-use Rattle.card_retention.proofs.Due.{counted_then}
 use Rattle.card_image.specs.Own.{own_view, own_covered, counted_view}
 use Rattle.card_session.specs.Inserting.{Follow}
+use Rattle.hand_model.specs.Written.{Written, entries_of, written_by, minutes_alone, counted_by}
+use Rattle.hand_model.proofs.Written.{entries_append, entries_alone, entries_then, counted_append}
+use Rattle.card_by_hand.specs.Wider.{with_hands}
+use Rattle.card_session.specs.Overwriting.{and_entry}
 use Rattle.card_session.specs.Repairs.{first_minute, mark_behind, and_entries, with_entries}
 use Rattle.card_string.specs.Since.{day_marks, all_since, bound_since, counted_since}
 
 -- ---- what is carried, with some entries more
-
-counted_list : (covered : ℕ) (c : Counted) (es : List Entry) → with_entries covered c es ≡ counted covered c es
-unfolding counted
-counted_list covered c [] = refl
-counted_list covered c (e ∷ es) = counted_list covered (with_entry covered c e) es
 
 bound_list : (slack : Bound) (es : List Entry) → and_entries slack es ≡ record { bytes = slack.bytes; all = slack.all ++ es }
 bound_list slack [] = ap (λ (l : List Entry). record slack { all = l }) (sym (append-nil slack.all))
@@ -33,8 +33,40 @@ bound_more image more es =
     (append_assoc (day_marks (own_view image).mark (own_view image).held.days) (all_since image more) es
     ∙ ap (λ (l : List Entry). day_marks (own_view image).mark (own_view image).held.days ++ l) (all_more image more es))
 
-pub counted_more : (image : List ℕ) (more es : List Entry) → with_entries (own_covered image) (counted_since image more) es ≡ counted_since image (more ++ es)
-counted_more image more es = counted_list (own_covered image) (counted_since image more) es ∙ sym (counted_then (own_covered image) (counted_view (own_view image)) more es)
+-- ---- what was written, with entries alone behind it
+
+pub alone_is : (ws : List Written) (es : List Entry) → entries_of (ws ++ minutes_alone es) ≡ entries_of ws ++ es
+alone_is ws es = entries_append ws (minutes_alone es) ∙ ap (λ (l : List Entry). entries_of ws ++ l) (entries_alone es)
+
+pub all_alone : (image : List ℕ) (ws : List Written) (es : List Entry) → all_since image (entries_of ws) ++ es ≡ all_since image (entries_of (ws ++ minutes_alone es))
+all_alone image ws es = all_more image (entries_of ws) es ∙ ap (all_since image) (sym (alone_is ws es))
+
+pub bound_alone : (image : List ℕ) (ws : List Written) (es : List Entry) → and_entries (bound_since image (entries_of ws)) es ≡ bound_since image (entries_of (ws ++ minutes_alone es))
+bound_alone image ws es = bound_more image (entries_of ws) es ∙ ap (bound_since image) (sym (alone_is ws es))
+
+counted_es : (covered : ℕ) (c : Counted) (es : List Entry) → with_entries covered c es ≡ counted_by covered c (minutes_alone es)
+unfolding counted_by
+counted_es covered c [] = refl
+counted_es covered c (e ∷ es) = counted_es covered (with_entry covered c e) es
+
+pub counted_alone : (image : List ℕ) (ws : List Written) (es : List Entry) → with_entries (own_covered image) (counted_since image ws) es ≡ counted_since image (ws ++ minutes_alone es)
+counted_alone image ws es = counted_es (own_covered image) (counted_since image ws) es ∙ sym (counted_append (own_covered image) (counted_view (own_view image)) ws (minutes_alone es))
+
+-- ---- and with a keep, the first one with its entries by hand
+
+pub all_by : (image : List ℕ) (ws : List Written) (hs : List Manual) (e : Entry) → all_since image (entries_of ws) ++ e ∷ [] ≡ all_since image (entries_of (ws ++ written_by hs e))
+all_by image ws hs e = all_more image (entries_of ws) (e ∷ []) ∙ ap (all_since image) (sym (entries_then ws hs e))
+
+pub bound_by : (image : List ℕ) (ws : List Written) (hs : List Manual) (e : Entry) → and_entry (bound_since image (entries_of ws)) e ≡ bound_since image (entries_of (ws ++ written_by hs e))
+bound_by image ws hs e = bound_more image (entries_of ws) (e ∷ []) ∙ ap (bound_since image) (sym (entries_then ws hs e))
+
+counted_keep : (covered : ℕ) (c : Counted) (hs : List Manual) (e : Entry) → with_entry covered (with_hands covered c hs) e ≡ counted_by covered c (written_by hs e)
+unfolding counted_by
+counted_keep covered c [] e = refl
+counted_keep covered c (h ∷ hs) e = counted_keep covered (with_by_hand covered c h.minute) hs e
+
+pub counted_then_keep : (image : List ℕ) (ws : List Written) (hs : List Manual) (e : Entry) → with_entry (own_covered image) (with_hands (own_covered image) (counted_since image ws) hs) e ≡ counted_since image (ws ++ written_by hs e)
+counted_then_keep image ws hs e = counted_keep (own_covered image) (counted_since image ws) hs e ∙ sym (counted_append (own_covered image) (counted_view (own_view image)) ws (written_by hs e))
 
 -- ---- entries up to a mark, and behind it
 

@@ -5,6 +5,7 @@ use Rattle.std.proofs.lemmas.Bool.{cases_lt}
 use Rattle.std.proofs.lemmas.Bool.Decides.{nat_tests}
 use Rattle.std.proofs.lemmas.List.{append-nil}
 use Rattle.activity_codec.specs.declared.entries.Entry.{Entry}
+use Rattle.activity_codec.specs.declared.entries.Manual.{Manual}
 use Rattle.activity_codec.specs.declared.values.Activity.TheVariants.{Rest}
 use Rattle.activity_codec.specs.declared.values.Slot.TheVariants.{Driver}
 use Rattle.activity_codec.specs.Words.{word_absent}
@@ -13,12 +14,13 @@ use Rattle.card_model.specs.Days.{Day, AreDays, last_word}
 use Rattle.card_model.specs.Changes.{OnNewest, trimmed}
 use Rattle.card_model.specs.Checks.{first_failing}
 use Rattle.card_model.specs.Image.{oldest_pointer}
+use Rattle.card_model.proofs.Ascending.{words_ascend}
 use Rattle.card_model.proofs.Judging.{both_pass}
 use Rattle.card_model.proofs.Trims.{are_trimmed, trimmed_twice}
-use Rattle.card_retention.specs.Expected.{WordDay, more, is_newest, Counted, counted}
+use Rattle.card_retention.specs.Expected.{WordDay, more, is_newest, Counted}
 use Rattle.card_retention.specs.Entries.{entries_up_to, last_entry, newest_word, EndsBy, IsChecked}
 use Rattle.card_retention.specs.Retains.{entries_in}
-use Rattle.card_retention.specs.Shown.{Bound, InDays, AllIn, AllUpTo, EndsAbsent, IsFull, Rests, sizes, is_open, owing}
+use Rattle.card_retention.specs.Shown.{Bound, InDays, AllIn, AllUpTo, EndsAbsent, IsFull, Rests, sizes, size_day, is_open, owing}
 use Rattle.card_retention.proofs.Checked.{closed_lives}
 use Rattle.card_retention.proofs.Growing.{in_more, still_in}
 use Rattle.card_retention.proofs.ListTrims.{entries_trimmed, ends_flat}
@@ -26,15 +28,20 @@ use Rattle.card_retention.proofs.Retaining.{day_in}
 use Rattle.card_retention.proofs.Starting.{start_of, start_bound, starts, entries_by, entries_there}
 use Rattle.card_image.specs.Fields.{day_string, card_days, end_mark, session_time}
 use Rattle.card_image.specs.Judging.{days_placed, words_behind_mark, IsValid}
-use Rattle.card_image.specs.Own.{own_sizes, own_view, own_covered}
+use Rattle.card_image.specs.Own.{own_sizes, own_view, own_covered, most_slack}
 use Rattle.card_image.specs.View.{card_view, counting}
+use Rattle.hand_model.specs.AtStart.{marked_at, all_at, AreFirst}
+use Rattle.hand_model.specs.ByHand.{words_by_hand, by_hand_up_to, TellsHands, HandsUpTo}
+use Rattle.hand_model.specs.Written.{no_hands, counted_by}
+use Rattle.hand_model.proofs.Cuts.{told_trimmed, tells_own, up_told}
+use Rattle.hand_model.proofs.Told.{AllDay, words_day}
 use Rattle.card_session.specs.Inserting.{Follow}
 use Rattle.card_session.specs.Overwriting.{IsSilentBehind}
 use Rattle.card_session.specs.Repairs.{first_minute}
 use Rattle.card_session.proofs.InsertingBooks.{trimmed_low}
 use Rattle.card_session.proofs.InsertingValid.{closed_by_words}
 use Rattle.card_session.proofs.Valid.{valid_words}
-use Rattle.card_string.specs.Since.{HasOn, day_marks, all_since, bound_since, counted_since, IsTied, HoldsSince}
+use Rattle.card_string.specs.Since.{HasOn, day_marks, all_since, bound_since, counted_since, last_of, AllOnDays, TellsSince, IsTied, HoldsSince}
 use Rattle.card_string.proofs.Deeds.{made_start}
 use Rattle.card_string.proofs.Since.{tied_wider}
 use Rattle.card_string.proofs.BehindMark.{quiet_all}
@@ -130,6 +137,27 @@ entries_all (e ∷ es) ws all =
     ap (λ (b : Bool). cond b (e ∷ entries_in ws es) (entries_in ws es)) (day_in (e.minute / 1440) ws (all.0 (omega arith)))
     ∙ ap (λ (l : List Entry). e ∷ l) (entries_all es ws all.1)
 
+-- ---- the entries by hand that days tell are of their days
+
+on_words : (ws : List WordDay) (k : ℕ) (es : List Manual) → InDays k ws → AllDay k es → AllOnDays ws es
+on_words ws k [] i all = tt
+on_words ws k (e ∷ es) i all = (subst (λ (n : ℕ). InDays n ws) (sym all.0) i, on_words ws k es i all.1)
+
+on_both : (ws : List WordDay) (es fs : List Manual) → AllOnDays ws es → AllOnDays ws fs → AllOnDays ws (es ++ fs)
+on_both ws [] fs a b = b
+on_both ws (e ∷ es) fs a b = (a.0, on_both ws es fs a.1 b)
+
+on_later : (w : WordDay) (ws : List WordDay) (es : List Manual) → AllOnDays ws es → AllOnDays (w ∷ ws) es
+on_later w ws [] all = tt
+on_later w ws (e ∷ es) all = (inr all.0, on_later w ws es all.1)
+
+own_on : (m date : ℕ) (ds : List Day) → AreDays date ds → AllOnDays (sizes ds) (by_hand_up_to m ds)
+own_on m date [] are = tt
+own_on m date (d ∷ ds) are =
+    on_both (sizes (d ∷ ds)) (words_by_hand m d.date d.words) (by_hand_up_to m ds)
+    (on_words (sizes (d ∷ ds)) (d.date / 86400) (words_by_hand m d.date d.words) (inl refl) (words_day m d.date 0 d.words are.1.midnight (words_ascend d.words are.1.ordered)))
+    (on_later (size_day d) (sizes ds) (by_hand_up_to m ds) (own_on m d.date ds are.2))
+
 -- ---- the days that count at the start
 
 module _ (image : List ℕ) where
@@ -160,7 +188,7 @@ module _ (image : List ℕ) where
     covered_is = ap newest_word is
 
     counted_is : counted_since image [] ≡ start_of (end_mark (own_sizes image) image) D
-    unfolding counted
+    unfolding counted_by
     counted_is = ap (λ (ws : List WordDay). let c : Counted = record { days = ws; before = last_entry (own_view image).held.entries } in c) days_is
         ∙ ap (λ (es : List Entry). let c : Counted = record { days = sizes D; before = last_entry es } in c) entries_is
 
@@ -182,14 +210,15 @@ module _ (image : List ℕ) where
     start_rests =
         subst (λ (n : ℕ). Rests (own_sizes image).activity (bound_since image []) n from (end_mark (own_sizes image) image) (counted_since image []) D) (sym covered_is)
         (subst (λ (c : Counted). Rests (own_sizes image).activity (bound_since image []) (newest_word D) from (end_mark (own_sizes image) image) c D) (sym counted_is)
-        (rests_all (own_sizes image).activity (start_bound 16 (end_mark (own_sizes image) image) D) (bound_since image []) (newest_word D) from (end_mark (own_sizes image) image) (start_of (end_mark (own_sizes image) image) D) D refl bound_up bound_in
-        (starts (own_sizes image).activity 16 from (end_mark (own_sizes image) image) D are ends small above behind)))
+        (rests_all (own_sizes image).activity (start_bound most_slack (end_mark (own_sizes image) image) D) (bound_since image []) (newest_word D) from (end_mark (own_sizes image) image) (start_of (end_mark (own_sizes image) image) D) D refl bound_up bound_in
+        (starts (own_sizes image).activity most_slack from (end_mark (own_sizes image) image) D are ends small above behind)))
 
     pub start_tied : IsTied (own_sizes image) image [] [] image
     start_tied = record {
       told = record { newest = λ k newest. by k newest; within = subst (λ (c : Counted). AllIn 0 (all_since image []) c.days) (sym counted_is) there };
       day = inl (ap (λ (n : ℕ). n / 1440) (sym mark_is));
       made = made_start (own_sizes image) image;
+      order = tt;
     }
       where
         by : (k : ℕ) → is_newest k (counted_since image []).days ≡ true → HasOn k (bound_since image []).all ⊎ (end_mark (own_sizes image) image / 1440 < k)
@@ -200,6 +229,18 @@ module _ (image : List ℕ) where
             (marks_on (own_view image).mark k (own_view image).held.days (omega (arith, le, mark_is))
             (subst (λ (ws : List WordDay). InDays k ws) (sym days_is) (newest_is k (sizes D) (sym (ap (λ (c : Counted). is_newest k c.days) counted_is) ∙ newest))))))
             (cases_lt (end_mark (own_sizes image) image / 1440) k)
+
+    -- what its days tell of entries by hand up to a mark
+    pub start_tells : (m : ℕ) (first : List Manual) → AreDays 0 (card_days (own_sizes image) image) → first ≡ by_hand_up_to m (card_days (own_sizes image) image) → AreFirst image first → first ≡ by_hand_up_to m D → TellsSince image [] m (card_days (own_sizes image) image)
+    start_tells m first whole is_so first_is on_d =
+        let none : first ++ [] ≡ first = append-nil first in
+        record {
+          first = first;
+          are = first_is;
+          told = subst (λ (l : List Manual). TellsHands m l (card_days (own_sizes image) image)) (sym (none ∙ is_so)) (tells_own m (card_days (own_sizes image) image) whole);
+          low = subst (λ (l : List Manual). HandsUpTo m l) (sym (none ∙ is_so)) (up_told m (card_days (own_sizes image) image));
+          within = subst (λ (c : Counted). AllOnDays c.days (first ++ [])) (sym counted_is) (subst (λ (l : List Manual). AllOnDays (sizes D) l) (sym (none ∙ on_d)) (own_on m 0 D are));
+        }
 
     start_lists : entries_up_to (end_mark (own_sizes image) image) (card_days (own_sizes image) image) ≡ entries_in (sizes D) (all_since image [])
     start_lists = sym same ∙ sym all_is ∙ sym (entries_all (all_since image []) (sizes D) there)
@@ -228,6 +269,18 @@ module _ (app : Application) (x : List ℕ) (are : AreDays 0 (card_days app x)) 
   pub ends_card : EndsBy (end_mark app x) (card_days app x)
   ends_card = (closed_by_words app x are (valid_words app x valid) (ap (λ (n : ℕ). nat_eq n 0) none)).0
 
+-- ---- the entries by hand of the start
+
+marked_is : (image : List ℕ) → marked_at image ≡ by_hand_up_to (end_mark (own_sizes image) image) (card_days (own_sizes image) image)
+marked_is image = ap (λ (m : ℕ). by_hand_up_to m (card_days (own_sizes image) image)) (mark_is image)
+
+all_is_so : (image : List ℕ) → all_at image ≡ by_hand_up_to (last_of (own_sizes image) image) (card_days (own_sizes image) image)
+all_is_so image = ap (λ (m : ℕ). by_hand_up_to (max m (newest_word (card_days (own_sizes image) image))) (card_days (own_sizes image) image)) (mark_is image)
+
+session_is : (image : List ℕ) → session_time (own_sizes image) image ≡ 0 → (own_view image).session ≡ 0
+unfolding own_view card_view
+session_is image none = none
+
 -- ---- with its session left open, and without one
 
 module _ (image : List ℕ) (brought : List Entry) (next : ℕ) (follow : Follow (end_mark (own_sizes image) image) brought) (are : AreDays 0 (card_days (own_sizes image) image)) where
@@ -242,7 +295,7 @@ module _ (image : List ℕ) (brought : List Entry) (next : ℕ) (follow : Follow
 
   pub starts_open : end_mark (own_sizes image) image < next → 0 < session_time (own_sizes image) image
       → ((d : Day) (es : List Day) → trimmed (end_mark (own_sizes image) image) (card_days (own_sizes image) image) ≡ d ∷ es → OnNewest (λ d. last_word d.words < 65536) (trimmed (end_mark (own_sizes image) image) (card_days (own_sizes image) image)))
-      → HoldsSince (own_sizes image) image brought next image
+      → HoldsSince (own_sizes image) image no_hands brought next image
   starts_open after session small =
       let m : ℕ = end_mark (own_sizes image) image in
       let cut : List Day = trimmed (end_mark (own_sizes image) image) (card_days (own_sizes image) image) in
@@ -251,9 +304,10 @@ module _ (image : List ℕ) (brought : List Entry) (next : ℕ) (follow : Follow
       let low : newest_word cut ≤ m = trimmed_low m (card_days (own_sizes image) image) are in
       let same : entries_up_to m cut ≡ entries_up_to m (card_days (own_sizes image) image) = entries_trimmed m 0 (card_days (own_sizes image) image) are in
       record {
-        more = [];
+        written = [];
         rest = brought;
         split = refl;
+        lie = record { all = tt; only = tt };
         behind = follow;
         stands = inr (record {
           session = session;
@@ -265,11 +319,12 @@ module _ (image : List ℕ) (brought : List Entry) (next : ℕ) (follow : Follow
             lists = start_lists image cut (open_is session) whole ends (suc m) (omega arith) (omega (arith, low)) small same;
           });
           tied = tied_wider (own_sizes image) image [] [] brought image (start_tied image cut (open_is session) whole ends (suc m) (omega arith) (omega (arith, low)) small same);
+          marked = start_tells image cut (open_is session) whole ends (suc m) (omega arith) (omega (arith, low)) small same m (marked_at image) are (marked_is image) (inl refl) (marked_is image ∙ sym (told_trimmed m 0 (card_days (own_sizes image) image) are));
         });
       }
 
   pub starts_shut : IsValid (own_sizes image) image → session_time (own_sizes image) image ≡ 0 → max (end_mark (own_sizes image) image) (newest_word (card_days (own_sizes image) image)) < first_minute next brought
-      → ((d : Day) (es : List Day) → card_days (own_sizes image) image ≡ d ∷ es → OnNewest (λ d. last_word d.words < 65536) (card_days (own_sizes image) image)) → HoldsSince (own_sizes image) image brought next image
+      → ((d : Day) (es : List Day) → card_days (own_sizes image) image ≡ d ∷ es → OnNewest (λ d. last_word d.words < 65536) (card_days (own_sizes image) image)) → HoldsSince (own_sizes image) image no_hands brought next image
   starts_shut valid none after small =
       let m : ℕ = end_mark (own_sizes image) image in
       let days : List Day = card_days (own_sizes image) image in
@@ -278,9 +333,10 @@ module _ (image : List ℕ) (brought : List Entry) (next : ℕ) (follow : Follow
       let silent = quiet_card (own_sizes image) image are valid none in
       let rests = start_rests image days (shut_is none) are ends from (omega arith) (omega arith) small refl in
       record {
-        more = [];
+        written = [];
         rest = brought;
         split = refl;
+        lie = record { all = tt; only = tt };
         behind = follow;
         stands = inl (record {
           from = from;
@@ -293,5 +349,7 @@ module _ (image : List ℕ) (brought : List Entry) (next : ℕ) (follow : Follow
             silent = silent.1;
           };
           tied = start_tied image days (shut_is none) are ends from (omega arith) (omega arith) small refl;
+          marked = start_tells image days (shut_is none) are ends from (omega arith) (omega arith) small refl m (marked_at image) are (marked_is image) (inl refl) (marked_is image);
+          hands = start_tells image days (shut_is none) are ends from (omega arith) (omega arith) small refl (last_of (own_sizes image) image) (all_at image) are (all_is_so image) (inr (session_is image none, refl)) (all_is_so image);
         });
       }

@@ -2,11 +2,13 @@
 use Rattle.std.specs.Prelude.{◌≡◌, ℕ, List, [], ◌∷◌, ◌++◌}
 use Rattle.activity_codec.specs.declared.values.Activity.{Activity}
 use Rattle.activity_codec.specs.declared.entries.Entry.{Entry}
+use Rattle.activity_codec.specs.declared.entries.Manual.{Manual}
 use Rattle.card_layout.specs.declared.files.Application.{Application}
 use Rattle.tacho_types.specs.declared.texts.Registration.{Registration}
 use Rattle.card_session.specs.Books.{Book, mark_of, with_entry, closed}
 use Rattle.card_session.specs.Sessions.{book_of}
 use Rattle.card_session.specs.Moments.{IsKeepMoment, IsCloseMoment}
+use Rattle.card_session.specs.ByHand.{by_hand, IsByHandMoment}
 use Rattle.card_session.specs.Inserting.{with_cut, IsCutting}
 
 -- an entry that is kept: in which vehicle, with which odometer value, and how many km behind the one before
@@ -16,23 +18,26 @@ pub record EntryKept : Type 0 where
   pub odometer : ℕ
   pub km : ℕ
 
--- WHAT A SESSION DOES: it keeps an entry; it closes the words of the last one with an activity, where its minute has
--- room for that, and moves the end mark there; or, where another session was left open, it cuts the days at the end
--- mark.
+-- WHAT A SESSION DOES: it keeps an entry; it writes an entry by hand; it closes the words of the last one with an
+-- activity, where its minute has room for that, and moves the end mark there; or, where another session was left open,
+-- it cuts the days at the end mark.
 pub data Deed : Type 0 where
   Keep : EntryKept → Deed
+  Enter : Manual → Deed
   Close : Activity → Deed
   Cut : Deed
 
 -- what that makes of the days, with their words and distances, and of the vehicle entries
 abbrev pub after : (size : ℕ) → Deed → Book → Book
 after size (Keep k) b = with_entry size k.registration k.odometer k.km b k.entry
+after size (Enter h) b = by_hand size h b
 after size (Close act) b = closed size act b
 after size Cut b = with_cut (mark_of b) b
 
 -- and a moment of it
 abbrev pub IsDuring : (size : ℕ) → Deed → (b c : Book) → Type 0
 IsDuring size (Keep k) b c = IsKeepMoment size k.registration k.odometer k.km k.entry b c.days c.vehicles
+IsDuring size (Enter h) b c = IsByHandMoment size h b c.days c.vehicles
 IsDuring size (Close act) b c = IsCloseMoment size act b c.days c.vehicles
 IsDuring size Cut b c = IsCutting (mark_of b) b c.days c.vehicles
 
@@ -53,6 +58,7 @@ MadeBy size (s ∷ ss) b c = (y : Book) × Makes size s b y × MadeBy size ss y 
 -- the entries of which the keep is done
 abbrev pub kept_by : Step → List Entry
 kept_by (Done (Keep k)) = k.entry ∷ []
+kept_by (Done (Enter h)) = []
 kept_by (Done (Close act)) = []
 kept_by (Done Cut) = []
 kept_by (Broken d) = []
@@ -66,15 +72,17 @@ abbrev pub AreNext : List Step → (all : List Entry) → Type 0
 AreNext [] all = Unit {0}
 AreNext (Done (Keep k) ∷ ss) [] = ⊥
 AreNext (Done (Keep k) ∷ ss) (e ∷ all) = (k.entry ≡ e) × AreNext ss all
+AreNext (Done (Enter h) ∷ ss) all = AreNext ss all
 AreNext (Done (Close act) ∷ ss) all = AreNext ss all
 AreNext (Done Cut ∷ ss) all = AreNext ss all
 AreNext (Broken (Keep k) ∷ ss) [] = ⊥
 AreNext (Broken (Keep k) ∷ ss) (e ∷ all) = (k.entry ≡ e) × AreNext ss (e ∷ all)
+AreNext (Broken (Enter h) ∷ ss) all = AreNext ss all
 AreNext (Broken (Close act) ∷ ss) all = AreNext ss all
 AreNext (Broken Cut ∷ ss) all = AreNext ss all
 
--- by keeps of exactly these entries, in their order, with closings and cuts between them; and of all these entries no
--- keep was begun but that of the next
+-- by keeps of exactly these entries, in their order, with entries by hand, closings and cuts between them; and of all
+-- these entries no keep was begun but that of the next
 pub record IsMadeOf (size : ℕ) (start : Book) (more all : List Entry) (b : Book) : Type 0 where
   pub steps : List Step
   pub kept : kept_in steps ≡ more

@@ -1,14 +1,20 @@
 -- What an image shows at a moment of a keep on its card (profile).
-use Rattle.std.specs.Prelude.{◌≡◌, ◌⊎◌, ℕ, suc, ◌/◌, ◌<◌, ◌≤◌, max, Some, List, [], ◌∷◌, ◌++◌}
+use Rattle.std.specs.Prelude.{◌≡◌, ◌⊎◌, ℕ, suc, ◌/◌, ◌<◌, ◌≤◌, max, Some, List, [], ◌∷◌, ◌++◌, length}
 use Rattle.activity_codec.specs.declared.entries.Entry.{Entry}
+use Rattle.activity_codec.specs.declared.entries.Manual.{Manual}
 use Rattle.card_layout.specs.declared.files.Application.{Application}
 use Rattle.card_retention.specs.Expected.{Counted, with_entry}
 use Rattle.card_retention.specs.Entries.{closed_at}
 use Rattle.card_retention.specs.Shown.{Bound}
+use Rattle.card_layout.specs.Application.{IsApplication}
 use Rattle.card_image.specs.Fields.{end_mark, session_time}
+use Rattle.card_image.specs.Own.{most_slack}
 use Rattle.card_image.specs.View.{card_view}
 use Rattle.card_session.specs.Overwriting.{BeginsBehind, and_entry}
-use Rattle.card_string.specs.Carried.{StringFollowsEntries, Broke, Begun}
+use Rattle.card_session.specs.Sessions.{Session, IsSession}
+use Rattle.card_by_hand.specs.First.{AreHandsOf, IsShutAt, ComeFrom}
+use Rattle.card_by_hand.specs.Wider.{with_hands}
+use Rattle.card_string.specs.Carried.{StringFollowsEntries, Broke, Begun, IsFresh}
 
 module _ (app : Application) (slack : Bound) (covered : ℕ) (c : Counted) (all : List Entry) (e : Entry)
     (x y : List ℕ) where
@@ -35,3 +41,29 @@ module _ (app : Application) (slack : Bound) (covered : ℕ) (c : Counted) (all 
     pub session : session_time app y ≡ session_time app x
     pub side : IsStopped ⊎ IsDone
     pub bound : (card_view app y).mark ≤ (card_view app y).newest
+
+-- A CARD IS READY FOR A KEEP with these entries by hand before its minute's entry, of which a session holds at most
+-- eight: a session knows it, its string is carried so, the minute is later than the newest one, they may come, and its
+-- day, where it is new, later than the end mark's, or none so far is as late. Where there is an entry by
+-- hand no entry is open at the end mark.
+pub record IsFirstReady (s : Session) (slack : Bound) (covered from : ℕ) (c : Counted) (all : List Entry)
+    (hands : List Manual) (e : Entry) (x : List ℕ) : Type 0 where
+  pub sizes : IsApplication s.application
+  pub session : IsSession s x
+  pub goes : StringFollowsEntries s.application slack covered from c all x
+  pub bytes : most_slack ≤ slack.bytes
+  pub later : s.minute < e.minute
+  pub before : ComeFrom (end_mark s.application x) covered from hands e
+  pub clear : BeginsBehind s.application e x ⊎ IsFresh s.application c all x
+  pub are : AreHandsOf s e.minute hands
+  pub few : length hands ≤ 8
+  pub shut : 0 < length hands → IsShutAt s.application x
+
+-- A SESSION'S FIRST KEEP with these entries by hand: with the old end mark what a repair leaves is that of before,
+-- which the repair cuts them from; with the new one each of them is a word of its day. Where there is none this is a
+-- keep.
+pub record IsFirstShown (app : Application) (slack : Bound) (covered : ℕ) (c : Counted) (all : List Entry)
+    (hands : List Manual) (e : Entry) (x y : List ℕ) : Type 0 where
+  pub session : session_time app y ≡ session_time app x
+  pub side : IsStopped app slack covered c all e x y ⊎ IsDone app slack covered (with_hands covered c hands) all e x y
+  pub bound : (card_view app y).mark ≤ (card_view app y).newest

@@ -1,15 +1,25 @@
 -- How a card's string stands since an image of it at the start: with its own entries, those that came since and are on
 -- it, and those that it lacks (profile).
-use Rattle.std.specs.Prelude.{◌≡◌, ◌⊎◌, ℕ, ◌*◌, ◌/◌, ◌<◌, ◌≤◌, true, false, List, [], ◌∷◌, ◌++◌, nat_le, if◌then◌else◌}
+use Rattle.std.specs.Prelude.{◌≡◌, ◌⊎◌, ℕ, ◌*◌, ◌/◌, ◌<◌, ◌≤◌, max, true, false, Option, Some, None, List, [], ◌∷◌}
+use Rattle.std.specs.Prelude.{◌++◌, length, nat_le, if◌then◌else◌}
 use Rattle.activity_codec.specs.declared.entries.Entry.{Entry}
+use Rattle.activity_codec.specs.declared.entries.Manual.{Manual}
 use Rattle.activity_codec.specs.declared.values.Activity.TheVariants.{Rest}
 use Rattle.activity_codec.specs.declared.values.Slot.TheVariants.{Driver}
 use Rattle.card_layout.specs.declared.files.Application.{Application}
-use Rattle.card_retention.specs.Expected.{WordDay, Counted, is_newest, counted}
+use Rattle.card_model.specs.Days.{Day}
+use Rattle.card_retention.specs.Expected.{WordDay, Counted, is_newest}
+use Rattle.card_retention.specs.Entries.{last_entry, newest_word}
 use Rattle.card_retention.specs.Shown.{Bound, InDays, AllIn}
-use Rattle.card_image.specs.Fields.{end_mark, session_time}
-use Rattle.card_image.specs.Own.{own_view, own_covered, counted_view}
+use Rattle.card_image.specs.Fields.{card_days, end_mark, session_time}
+use Rattle.card_image.specs.Own.{own_view, own_covered, counted_view, most_slack}
+use Rattle.hand_model.specs.ByHand.{TellsHands, HandsUpTo}
+use Rattle.hand_model.specs.AtStart.{AreFirst}
+use Rattle.hand_model.specs.Written.{Written, Hands, Lie, Rises, entries_of, hands_of, counted_by}
+use Rattle.card_layout.specs.Application.{IsApplication}
 use Rattle.card_session.specs.Inserting.{Follow}
+use Rattle.card_session.specs.Sessions.{Session, IsSession}
+use Rattle.card_by_hand.specs.First.{AreHandsOf, IsShutAt, ComeFrom}
 use Rattle.card_session.specs.Repairs.{first_minute}
 use Rattle.card_string.specs.Carried.{StringFollowsEntries, Broke, Begun}
 use Rattle.card_string.specs.Deeds.{IsMade}
@@ -33,54 +43,116 @@ day_marks mark (d ∷ ds) =
     ∷ day_marks mark ds
     else day_marks mark ds
 
--- of a card whose image was this at the start, with these entries more: all entries, those with its days of the start,
--- and the days
+-- of a card whose image was this at the start, with these entries more: all entries, and those with its days of the
+-- start
 abbrev pub all_since : (image : List ℕ) → (more : List Entry) → List Entry
 all_since image more = (own_view image).held.entries ++ more
 
 abbrev pub bound_since : (image : List ℕ) → (more : List Entry) → Bound
 bound_since image more = record {
-  bytes = 16;
+  bytes = most_slack;
   all = day_marks (own_view image).mark (own_view image).held.days
       ++ all_since image more;
 }
 
-abbrev pub counted_since : (image : List ℕ) → (more : List Entry) → Counted
-counted_since image more = counted (own_covered image) (counted_view (own_view image)) more
+-- the minute of its last entry at the start, 0 without one
+abbrev pub minute_of : Option Entry → ℕ
+minute_of None = 0
+minute_of (Some e) = e.minute
+
+abbrev pub last_at : (image : List ℕ) → ℕ
+last_at image = minute_of (last_entry (own_view image).held.entries)
+
+-- the newest minute of a card: the later of its end mark and of its newest word's
+abbrev pub last_of : Application → List ℕ → ℕ
+last_of app x = max (end_mark app x) (newest_word (card_days app x))
+
+-- and the days, with all that was written since: entries, and entries by hand
+abbrev pub counted_since : (image : List ℕ) → List Written → Counted
+counted_since image ws = counted_by (own_covered image) (counted_view (own_view image)) ws
+
+-- the day of each of these is one that counts
+abbrev pub AllOnDays : (days : List WordDay) → List Manual → Type 0
+AllOnDays days [] = Unit {0}
+AllOnDays days (e ∷ es) = InDays (e.minute / 1440) days × AllOnDays days es
+
+-- OF THE ENTRIES BY HAND, those of the start and those written since, none is later than a mark, each is of a day that
+-- counts, and up to the mark days tell those whose day is there
+pub record TellsSince (image : List ℕ) (ws : List Written) (mark : ℕ) (days : List Day) : Type 0 where
+  pub first : List Manual
+  pub are : AreFirst image first
+  pub told : TellsHands mark (first ++ hands_of ws) days
+  pub low : HandsUpTo mark (first ++ hands_of ws)
+  pub within : AllOnDays (counted_since image ws).days (first ++ hands_of ws)
 
 -- what ties them to the end mark, which lies on the start's day or on one that counts; and days and newest vehicle are
--- made of the start's by the keeps of these entries, and by those that were broken off, each of the next of all
-pub record IsTied (app : Application) (image : List ℕ) (more all : List Entry) (x : List ℕ) : Type 0 where
-  pub told : IsByEntries (bound_since image more) (end_mark app x) (counted_since image more) (all_since image more)
+-- made of the start's by the keeps of all that was written, and by those that were broken off, each of the next of all;
+-- and what was written rises
+pub record IsTied (app : Application) (image : List ℕ) (ws : List Written) (all : List Entry) (x : List ℕ) : Type
+    0 where
+  pub told : IsByEntries (bound_since image (entries_of ws)) (end_mark app x) (counted_since image ws)
+      (all_since image (entries_of ws))
   pub day : (end_mark app x / 1440 ≡ (own_view image).mark / 1440)
-      ⊎ InDays (end_mark app x / 1440) (counted_since image more).days
-  pub made : IsMade app image more all x
+      ⊎ InDays (end_mark app x / 1440) (counted_since image ws).days
+  pub made : IsMade app image (entries_of ws) all x
+  pub order : Rises (last_at image) ws
 
--- The days go on with them, where the next entry is not earlier than `next`.
-pub record GoesSince (app : Application) (image : List ℕ) (more : List Entry) (next : ℕ) (x : List ℕ) : Type 0 where
+-- The days go on with them, where the next entry is not earlier than `next`; and so they tell of entries by hand, up to
+-- the end mark and in all.
+pub record GoesSince (app : Application) (image : List ℕ) (ws : List Written) (next : ℕ) (x : List ℕ) : Type 0 where
   pub from : ℕ
   pub later : from ≤ next
-  pub goes : StringFollowsEntries app (bound_since image more) (own_covered image) from (counted_since image more)
-      (all_since image more) x
-  pub tied : IsTied app image more more x
+  pub goes : StringFollowsEntries app (bound_since image (entries_of ws)) (own_covered image) from
+      (counted_since image ws) (all_since image (entries_of ws)) x
+  pub tied : IsTied app image ws (entries_of ws) x
+  pub marked : TellsSince image ws (end_mark app x) (card_days app x)
+  pub hands : TellsSince image ws (last_of app x) (card_days app x)
 
--- A session was broken off, and these are the next entries.
-pub record BrokeSince (app : Application) (image : List ℕ) (more rest : List Entry) (next : ℕ) (x : List ℕ) : Type
-    0 where
+-- A session was broken off, and these are the next entries; so the days tell of entries by hand up to the end mark, to
+-- which a repair cuts them.
+pub record BrokeSince (app : Application) (image : List ℕ) (ws : List Written) (rest : List Entry) (next : ℕ)
+    (x : List ℕ) : Type 0 where
   pub session : 0 < session_time app x
   pub from : ℕ
   pub later : from ≤ first_minute next rest
-  pub left : Broke app (bound_since image more) (own_covered image) from (counted_since image more)
-      (all_since image more) x
-      ⊎ (Begun app (bound_since image more) (own_covered image) from (counted_since image more) (all_since image more) x
-      × IsOnDay (end_mark app x) rest)
-  pub tied : IsTied app image more (more ++ rest) x
+  pub left : Broke app (bound_since image (entries_of ws)) (own_covered image) from (counted_since image ws)
+      (all_since image (entries_of ws)) x
+      ⊎ (Begun app (bound_since image (entries_of ws)) (own_covered image) from (counted_since image ws)
+      (all_since image (entries_of ws)) x × IsOnDay (end_mark app x) rest)
+  pub tied : IsTied app image ws (entries_of ws ++ rest) x
+  pub marked : TellsSince image ws (end_mark app x) (card_days app x)
 
 -- IN ANY CASE: of the entries that came since the first are on the card, and the others, which it lacks, are later than
--- its end mark. No further one comes earlier than `next`.
-pub record HoldsSince (app : Application) (image : List ℕ) (brought : List Entry) (next : ℕ) (x : List ℕ) : Type 0 where
-  pub more : List Entry
+-- its end mark. No further one comes earlier than `next`. Of the entries by hand it has those of keeps that were
+-- acknowledged, and none that was not given to one.
+pub record HoldsSince (app : Application) (image : List ℕ) (hands : Hands) (brought : List Entry) (next : ℕ)
+    (x : List ℕ) : Type 0 where
+  pub written : List Written
   pub rest : List Entry
-  pub split : brought ≡ more ++ rest
+  pub split : brought ≡ entries_of written ++ rest
+  pub lie : Lie hands (hands_of written)
   pub behind : Follow (end_mark app x) rest
-  pub stands : GoesSince app image more (first_minute next rest) x ⊎ BrokeSince app image more rest next x
+  pub stands : GoesSince app image written (first_minute next rest) x ⊎ BrokeSince app image written rest next x
+
+-- IN A SESSION, with all of these entries: it goes on so, with some of the entries by hand that were given to keeps,
+-- and all that were acknowledged
+pub record SitsSince (app : Application) (image : List ℕ) (hands : Hands) (has : List Entry) (next : ℕ)
+    (x : List ℕ) : Type 0 where
+  pub written : List Written
+  pub has_all : entries_of written ≡ has
+  pub lie : Lie hands (hands_of written)
+  pub goes : GoesSince app image written next x
+
+-- and the next minute's entry may be kept, with these entries by hand before it: at most eight, and no entry is open
+-- where there is one
+pub record IsReadySince (s : Session) (image : List ℕ) (h : Hands) (has : List Entry) (next : ℕ) (hands : List Manual)
+    (e : Entry) (x : List ℕ) : Type 0 where
+  pub sizes : IsApplication s.application
+  pub knows : IsSession s x
+  pub session : 0 < session_time s.application x
+  pub later : s.minute < e.minute
+  pub before : ComeFrom (end_mark s.application x) (own_covered image) next hands e
+  pub sits : SitsSince s.application image h has next x
+  pub are : AreHandsOf s e.minute hands
+  pub few : length hands ≤ 8
+  pub shut : 0 < length hands → IsShutAt s.application x

@@ -1,3 +1,8 @@
 pub mod Words
 pub mod Lists
+pub mod OfDay
+pub mod Written
+pub mod Told
+pub mod Cuts
+pub mod Contained
 mod Rows

@@ -2,3 +2,5 @@ pub mod Manual
 pub mod ByHand
 pub mod Counted
 pub mod Holding
+pub mod Written
+pub mod AtStart

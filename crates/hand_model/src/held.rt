@@ -1,9 +1,9 @@
 //! The entries by hand that a session holds before its first keep (profile).
 ghost use Rattle.std.specs.Prelude.{◌≡◌, ◌≤◌, ◌<◌, ℕ, List, [], ◌∷◌, ◌++◌, length, None, Some};
 ghost use Rattle.std.specs.Result.{result_err};
-ghost use Rattle.hand_model.specs.Holding.{stopped_by, last_minute};
+ghost use Rattle.hand_model.specs.Holding.{stopped_by, last_minute, none_held, first_of, begun_by, of_day};
 
-use activity_codec::Manual;
+use activity_codec::{DAY_MINUTES, Manual};
 use arrayvec::ArrayVec;
 use std::marker::Model;
 
@@ -43,7 +43,7 @@ impl Model for Held {
 impl Held {
     /// Those of a session that was opened in a minute: none.
     pub fn new(inserted: u32) -> Self
-        ensures { result ≡ record { inserted = inserted; begun = None; entries = [] } }
+        ensures { result ≡ none_held inserted }
     {
         Held {
             inserted,
@@ -79,9 +79,9 @@ impl Held {
 
     /// The session has kept a minute: it takes none any more, and holds none.
     pub fn begin(&mut self, minute: u32)
-        ensures { self.new ≡ record { inserted = self.old.inserted; begun = Some minute; entries = [] } }
+        ensures { self.new ≡ begun_by minute self.old }
     {
-        self.begun = Some(minute);
+        self.begun = first_of(self.begun, minute);
         self.entries.clear();
     }
 
@@ -103,4 +103,26 @@ impl Held {
             Some(entry) => newest.max(entry.minute),
         }
     }
+}
+
+// The first minute that was kept, behind a keep of a minute.
+fn first_of(begun: Option<u32>, minute: u32) -> Option<u32>
+    ensures { result ≡ first_of minute begun }
+{
+    match begun {
+        None => Some(minute),
+        Some(first) => Some(first),
+    }
+}
+
+/// Of entries by hand those from the first one of a day on.
+pub fn of_day(entries: &[Manual], day: u32) -> &[Manual]
+    ensures { result.now ≡ of_day day entries.now }
+{
+    for index in 0..entries.len() {
+        if entries[index].minute / DAY_MINUTES as u32 == day {
+            return &entries[index..];
+        }
+    }
+    &entries[entries.len()..]
 }

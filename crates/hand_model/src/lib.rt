@@ -7,5 +7,7 @@ mod held;
 mod laws;
 
 pub use entry::{manual_word, told_by_hand};
-pub use held::{EnterFault, Held, MOST};
-pub use laws::{a_word_by_hand_is_no_entry, a_word_by_hand_tells_its_entry};
+pub use held::{EnterFault, Held, MOST, of_day};
+pub use laws::{
+    a_word_by_hand_is_no_entry, a_word_by_hand_tells_its_entry, days_tell_entries_by_hand_still,
+};

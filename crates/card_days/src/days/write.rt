@@ -3,10 +3,10 @@ ghost use Rattle.std.specs.Prelude.{IfSome, is_err};
 ghost use Rattle.card_model.specs.declared.lengths.TheConstants.{DAYS_MOST};
 ghost use Rattle.tach_media.specs.Medium.{LeavesOnly, Reads, HasCause, LiesInside, IsSettled, last_count};
 ghost use Rattle.tach_media.specs.Plan.{PutsAll, PutsBy};
-ghost use Rattle.card_model.specs.Days.{Day};
+ghost use Rattle.card_model.specs.Days.{Day, last_word};
 ghost use Rattle.card_model.specs.Changes.{fitting, until, date_of, trimmed};
 ghost use Rattle.card_model.specs.Image.{HoldsDays, IsPointer};
-ghost use Rattle.card_days.specs.Held.{IsInBounds, Knows};
+ghost use Rattle.card_days.specs.Held.{IsInBounds, Knows, EndsWith};
 ghost use Rattle.card_days.specs.Moments.{FileFitsIn, IfKnown, IsChanging, IsChanged, KnowsChanged, IsDayBeginning};
 ghost use Rattle.card_days.specs.Moments.{IsDayBegun, KnowsBegun, ClearsChanged, ClearsBegun, BeginsAgain};
 ghost use Rattle.card_days.specs.Plans.{left_in, most_drops, change_pieces, tail_more, beginning_pieces, tail_begun};
@@ -32,6 +32,7 @@ impl Days {
             (λ x. (M.state medium.new).clock ≤ (M.state medium.old).clock + length (change_pieces self.now word x)) }
         ensures used { IfOk result (λ n. IfSome (M.state medium.old).image (λ x. n ≡ left_in self.now 2 x
             self.now.tail.used + 2)) }
+        ensures some { IfOk result (λ n. 0 < n) }
         ensures most { IfOk result (λ n. n + 14 * most_drops self.now.shape.size self.now.tail.used 2
             ≤ self.now.tail.used + 2) }
         ensures within { IfOk result (λ n. n ≤ self.now.shape.size) }
@@ -56,6 +57,7 @@ impl Days {
         ensures exact { IfSome (M.state medium.old).image
             (λ x. (M.state medium.new).clock
             ≤ (M.state medium.old).clock + length (beginning_pieces self.now date words.now x)) }
+        ensures some { IfOk result (λ n. 0 < n) }
         ensures used { IfOk result (λ n. IfSome (M.state medium.old).image (λ x. n ≡ left_in self.now
             (12 + 2 * length words.now) x (left_in self.now (12 + 2 * length words.now) x self.now.tail.used)
             + (12 + 2 * length words.now))) }
@@ -107,6 +109,7 @@ impl Days {
         requires some { 1 ≤ length words.now }
         requires few { length words.now ≤ 2 }
         ensures shape { self.new.shape ≡ self.old.shape }
+        ensures ends { OnOk result (EndsWith self.new date.0 (last_word words.now)) }
         ensures puts { PutsBy (M.state medium.old) (M.state medium.new) (is_err result) 3
             (5 + 2 * most_drops self.old.shape.size self.old.tail.used (12 + 2 * length words.now))
             (beginning_pieces self.old date.0 words.now) }
@@ -156,6 +159,7 @@ impl Days {
         ensures cause { HasCause (M.state medium.old) (M.state medium.new) (is_err result) }
         ensures most { (M.state medium.new).clock
             ≤ (M.state medium.old).clock + (2 + 2 * most_drops self.old.shape.size self.old.tail.used 2) }
+        ensures ends { OnOk result (EndsWith self.new self.old.tail.head.date.0 word) }
         ensures used { OnOk result (self.new.tail.used + 14 * most_drops self.old.shape.size self.old.tail.used 2
             ≤ self.old.tail.used + 2) }
         ensures writes { IfSome (M.state medium.old).image (λ x. (days : List Day) → Knows self.old x days

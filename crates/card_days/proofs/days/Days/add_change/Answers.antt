@@ -1,4 +1,4 @@
-use Rattle.std.proofs.Common.{◌≡◌, ℕ, ◌+◌, List, arith, ap, sym, refl, ◌∙◌, subst}
+use Rattle.std.proofs.Common.{◌≡◌, ℕ, ◌+◌, ◌<◌, List, arith, ap, sym, refl, ◌∙◌, subst}
 use Rattle.tach_media.proofs.Runs.{weaken, at_image, where_told, turned_into}
 use Rattle.tach_media.specs.Plan.{put_all}
 use Rattle.card_model.specs.Image.{StringShape}
@@ -68,3 +68,12 @@ returns-clause-cleared g c =
     let y_is : y ≡ put_all (change_pieces v c.args.word x) x = turned_into (λ x. put_all (change_pieces v c.args.word x) x) (c.in_ok-used.ensures.puts.written refl) was now in
     subst (λ (l : List ℕ). ClearsChanged v c.args.word x l) (sym y_is)
     (changed_clears v is c.args.word x (omega (arith, c.requires.fits, (g.met.M.Medium.coherent c.args.medium.now).sized x was))))
+
+pub returns-clause-ends : goal.returns-clause-ends
+returns-clause-ends g c =
+    let told = c.with_word-self-inside.ensures.tail in
+    record {
+      some = subst (λ (n : ℕ). 0 < n) (sym (ap (λ (t : Tail). t.used) told)) c.in_ok-used.ensures.some;
+      date_is = ap (λ (t : Tail). t.head.date.0) told ∙ ap (λ (h : Held). h.tail.head.date.0) c.self.view_is;
+      word_is = ap (λ (t : Tail). t.latest) told;
+    }

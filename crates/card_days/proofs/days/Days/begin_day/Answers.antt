@@ -1,4 +1,4 @@
-use Rattle.std.proofs.Common.{◌≡◌, ℕ, ◌+◌, ◌*◌, List, length, arith, ap, sym, refl, ◌∙◌, subst}
+use Rattle.std.proofs.Common.{◌≡◌, ℕ, ◌+◌, ◌*◌, ◌<◌, List, length, arith, ap, sym, refl, ◌∙◌, subst}
 use Rattle.tach_media.proofs.Runs.{weaken, at_image, where_told, turned_into}
 use Rattle.tach_media.specs.Plan.{put_all}
 use Rattle.card_model.specs.Image.{StringShape}
@@ -77,3 +77,12 @@ returns-clause-again g c =
     let y_is : y ≡ put_all (beginning_pieces v c.args.date.0 c.args.words.now x) x = turned_into (λ x. put_all (beginning_pieces v c.args.date.0 c.args.words.now x) x) (c.in_ok-used.ensures.puts.written refl) was now in
     subst (λ (l : List ℕ). BeginsAgain v c.args.date.0 c.args.words.now x l) (sym y_is)
     (begins_again v is c.args.date.0 c.args.words.now c.requires.some c.requires.few x (omega (arith, c.requires.fits, (g.met.M.Medium.coherent c.args.medium.now).sized x was))))
+
+pub returns-clause-ends : goal.returns-clause-ends
+returns-clause-ends g c =
+    let told = c.new_tail-self-inside.ensures.tail in
+    record {
+      some = subst (λ (n : ℕ). 0 < n) (sym (ap (λ (t : Tail). t.used) told)) c.in_ok-used.ensures.some;
+      date_is = ap (λ (t : Tail). t.head.date.0) told;
+      word_is = ap (λ (t : Tail). t.latest) told;
+    }

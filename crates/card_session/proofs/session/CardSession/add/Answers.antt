@@ -1,8 +1,9 @@
-use Rattle.std.proofs.Common.{ℕ, false, Option, Some, None, refl, sym, ap, subst}
+use Rattle.std.proofs.Common.{ℕ, false, Option, Some, None, refl, sym, ◌∙◌, ap, subst, arith}
 use Rattle.std.specs.Prelude.{is_err}
 use Rattle.tach_media.proofs.Runs.{ok_gives}
 use Rattle.card_layout.specs.declared.files.Application.{Application}
 use Rattle.card_session.specs.Sessions.{Session, MayKeep}
+use Rattle.card_session.proofs.FewWrites.{none_some, one_drop}
 use Rattle.card_session.proofs.OnCard.{string_in}
 use Rattle.card_session.proofs.OnDays.{add_part}
 use Rattle.card_session.specs.Parts.{DoesPart, IsPartDone, IsPartMoment, TakesSome, with_some, IsAdding}
@@ -38,3 +39,12 @@ returns-in-None-clause-part g c =
     subst (λ (o : Option ℕ). DoesPart old old false (IsPartDone c.args.self.now c.args.self.now (TakesSome o) (with_some size o)) (IsPartMoment c.args.self.now (TakesSome o) (IsAdding size o))) (sym c.in-None.is)
     (subst (λ (u : Session). DoesPart old old false (IsPartDone u u (TakesSome None) (with_some u.application.activity None)) (IsPartMoment u (TakesSome None) (IsAdding u.application.activity None))) c.self.view_is
     (none_part s c.self.invariant s refl old))
+
+pub returns-in-Some-clause-none : goal.returns-in-Some-clause-none
+returns-in-Some-clause-none g c = λ none. absurd (none_some (sym none ∙ c.in-Some.is))
+
+pub returns-in-Some-clause-few : goal.returns-in-Some-clause-few
+returns-in-Some-clause-few g c = omega (arith, c.add_change.ensures.most, one_drop c.self.inside.days.shape.size c.self.inside.days.tail.used c.add_change.ensures.held.most)
+
+pub returns-in-None-clause-none : goal.returns-in-None-clause-none
+returns-in-None-clause-none g c = λ none. (refl, refl)

@@ -4,7 +4,9 @@ use Rattle.tach_media.proofs.Runs.{ok_gives}
 use Rattle.card_layout.specs.declared.files.Application.{Application}
 use Rattle.card_session.specs.Sessions.{Session, MayKeep}
 use Rattle.card_session.specs.Parts.{DoesPart, IsPartDone, IsPartMoment, TakesSome, with_some, IsAdding}
-use Rattle.card_session.proofs.ByHand.{few_drops}
+use Rattle.std.proofs.lemmas.Result.{on_ok_weaker}
+use Rattle.hand_model.specs.Manual.{manual_word}
+use Rattle.card_session.proofs.FewWrites.{one_drop, ends_as}
 use Rattle.card_session.proofs.OnCard.{string_in}
 use Rattle.card_session.proofs.OnDays.{add_part}
 use Rattle.card_session.proofs.Told.{session, days_else}
@@ -32,4 +34,9 @@ returns-clause-part g c =
     e.shape (λ fine. ok_gives r e.changed fine) (λ fine. ok_gives r e.knows fine) e.moments e.cause))
 
 pub returns-clause-most : goal.returns-clause-most
-returns-clause-most g c = omega (arith, c.add_change.ensures.most, few_drops c.self.inside.days.shape.size c.self.inside.days.tail.used 2)
+returns-clause-most g c = omega (arith, c.add_change.ensures.most, one_drop c.self.inside.days.shape.size c.self.inside.days.tail.used c.add_change.ensures.held.most)
+
+pub returns-clause-ends : goal.returns-clause-ends
+returns-clause-ends g c =
+    on_ok_weaker c.add_change.result (λ e. ends_as c.add_change.new.self c.self.inside.days.tail.head.date.0 c.args.self.now.days.tail.head.date.0 c.manual_word.result (manual_word c.args.entry.now) (ap (λ (s : Session). s.days.tail.head.date.0) c.self.view_is) c.manual_word.ensures e)
+    c.add_change.ensures.ends

@@ -2,7 +2,10 @@ use Rattle.std.proofs.Common.{[], ◌∷◌, refl, sym, ap, subst, arith}
 use Rattle.std.specs.Prelude.{is_err}
 use Rattle.tach_media.proofs.Runs.{ok_gives}
 use Rattle.card_layout.specs.declared.files.Application.{Application}
+use Rattle.std.proofs.lemmas.Result.{on_ok_weaker}
+use Rattle.card_model.specs.Changes.{date_of}
 use Rattle.hand_model.specs.Manual.{manual_word}
+use Rattle.card_session.proofs.FewWrites.{ends_as}
 use Rattle.hand_model.proofs.Words.{minute_is}
 use Rattle.card_session.specs.Sessions.{Session, MayKeep}
 use Rattle.card_session.specs.Parts.{DoesPart, IsPartDone, IsPartMoment}
@@ -57,3 +60,13 @@ returns-then-entry-eq0-clause-most g c = omega (arith, c.begin_day.ensures.most,
 
 pub returns-else-entry-eq0-clause-most : goal.returns-else-entry-eq0-clause-most
 returns-else-entry-eq0-clause-most g c = omega (arith, c.begin_day-else-entry-eq0.ensures.most, few_drops c.self.inside.days.shape.size c.self.inside.days.tail.used 16)
+
+pub returns-then-entry-eq0-clause-ends : goal.returns-then-entry-eq0-clause-ends
+returns-then-entry-eq0-clause-ends g c =
+    on_ok_weaker c.begin_day.result (λ e. ends_as c.begin_day.new.self c.date_of.result (date_of c.args.entry.now.minute) c.manual_word-word.result (manual_word c.args.entry.now) c.date_of.ensures c.manual_word-word.ensures e)
+    c.begin_day.ensures.ends
+
+pub returns-else-entry-eq0-clause-ends : goal.returns-else-entry-eq0-clause-ends
+returns-else-entry-eq0-clause-ends g c =
+    on_ok_weaker c.begin_day-else-entry-eq0.result (λ e. ends_as c.begin_day-else-entry-eq0.new.self c.date_of.result (date_of c.args.entry.now.minute) c.manual_word-word.result (manual_word c.args.entry.now) c.date_of.ensures c.manual_word-word.ensures e)
+    c.begin_day-else-entry-eq0.ensures.ends

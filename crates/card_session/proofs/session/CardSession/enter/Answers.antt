@@ -3,6 +3,8 @@ use Rattle.std.specs.Prelude.{is_err, ◌≤◌}
 use Rattle.card_model.specs.Image.{StringShape}
 use Rattle.card_days.specs.Plans.{most_drops}
 use Rattle.card_image.specs.Fields.{day_string}
+use Rattle.card_session.specs.Sessions.{Session}
+use Rattle.card_session.specs.ByHand.{EndsByHand}
 use Rattle.card_session.specs.Parts.{with_gap_closed, with_entry_words, with_more}
 use Rattle.card_session.proofs.Composing.{called_then, called_last}
 use Rattle.card_session.proofs.OnCard.{may_still}
@@ -72,3 +74,29 @@ returns-clause-most g c =
     let shape : c.close_gap.new.self.days.shape ≡ c.args.self.now.days.shape = words.value.days ∙ ap day_string gap.same.application ∙ sym gap.value.days in
     let most = subst (λ (q : StringShape). (g.M.Medium.state c.write_words.new.port).clock ≤ (g.M.Medium.state c.close_gap.new.port).clock + (5 + 2 * most_drops q.size c.close_gap.new.self.days.tail.used 16)) shape words.most in
     omega (arith, gap.room, most, c.in_ok-travel.ensures.most, c.note_vehicle.ensures.most)
+
+pub returns-in_err-close_gap-clause-few : goal.returns-in_err-close_gap-clause-few
+returns-in_err-close_gap-clause-few g c = λ ends.
+    let same = (c.in_err-close_gap.ensures.shut ends).1 in
+    omega (arith, same)
+
+pub returns-in_err-write_words-clause-few : goal.returns-in_err-write_words-clause-few
+returns-in_err-write_words-clause-few g c = λ ends.
+    let shut = c.in_ok-close_gap.ensures.shut ends in
+    let same = shut.1 in
+    let few = c.in_err-write_words.ensures.few (subst (λ (s : Session). EndsByHand s c.args.kept.now.entry.minute) (sym shut.0) ends) in
+    omega (arith, same, few)
+
+pub returns-in_err-travel-clause-few : goal.returns-in_err-travel-clause-few
+returns-in_err-travel-clause-few g c = λ ends.
+    let shut = c.in_ok-close_gap.ensures.shut ends in
+    let same = shut.1 in
+    let few = c.in_ok-write_words.ensures.few (subst (λ (s : Session). EndsByHand s c.args.kept.now.entry.minute) (sym shut.0) ends) in
+    omega (arith, same, few, c.in_err-travel.ensures.most)
+
+pub returns-clause-few : goal.returns-clause-few
+returns-clause-few g c = λ ends.
+    let shut = c.in_ok-close_gap.ensures.shut ends in
+    let same = shut.1 in
+    let few = c.in_ok-write_words.ensures.few (subst (λ (s : Session). EndsByHand s c.args.kept.now.entry.minute) (sym shut.0) ends) in
+    omega (arith, same, few, c.in_ok-travel.ensures.most, c.note_vehicle.ensures.most)

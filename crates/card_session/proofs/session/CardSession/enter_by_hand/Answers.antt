@@ -1,6 +1,7 @@
 use Rattle.std.proofs.Common.{refl, ap}
 use Rattle.tach_media.proofs.Runs.{weaken}
 use Rattle.card_session.specs.Sessions.{Session}
+use Rattle.card_session.proofs.FewWrites.{ends_days}
 use Rattle.card_session.proofs.Told.{session}
 use Rattle.card_session.proofs.ByHand.{entered_moment, entered_told}
 use Rattle.card_session.proofs.session.CardSession.enter_by_hand.Goals as goal
@@ -25,3 +26,16 @@ returns-clause-entered g c =
     let u : Session = session i.application i.days i.vehicles i.newest i.vehicle i.registration k.minute i.odometer in
     entered_told s e.value k c.write_by_hand.new.self u c.requires.later e.same.application e.part
     (ap (λ (t : Session). t.application) view) (ap (λ (t : Session). t.days) view) (ap (λ (t : Session). t.newest) view) (ap (λ (t : Session). t.vehicle) view) refl
+
+pub returns-clause-ends : goal.returns-clause-ends
+returns-clause-ends g c =
+    let k = c.args.entry.now in
+    let i = c.self.inside in
+    let u : Session = session i.application i.days i.vehicles i.newest i.vehicle i.registration k.minute i.odometer in
+    ends_days c.write_by_hand.new.self u k.minute (ap (λ (t : Session). t.days) c.self.view_is) c.in_ok-write_by_hand.ensures.ends
+
+pub returns-in_err-write_by_hand-clause-few : goal.returns-in_err-write_by_hand-clause-few
+returns-in_err-write_by_hand-clause-few g c = λ ends. c.in_err-write_by_hand.ensures.few ends
+
+pub returns-clause-few : goal.returns-clause-few
+returns-clause-few g c = λ ends. c.in_ok-write_by_hand.ensures.few ends

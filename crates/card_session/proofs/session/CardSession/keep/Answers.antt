@@ -33,3 +33,9 @@ returns-clause-kept g c =
     let u : Session = session i.application i.days i.vehicles i.newest i.vehicle i.registration k.entry.minute (Some k.odometer) in
     kept_told s e.value k.odometer.0 c.grown-km.result k.entry c.enter.new.self u c.requires.later more e.same.0 e.part
     (ap (λ (t : Session). t.application) view) (ap (λ (t : Session). t.days) view) (ap (λ (t : Session). t.newest) view) (ap (λ (t : Session). t.vehicle) view) refl
+
+pub returns-in_err-enter-clause-few : goal.returns-in_err-enter-clause-few
+returns-in_err-enter-clause-few g c = λ ends. c.in_err-enter.ensures.few ends
+
+pub returns-clause-few : goal.returns-clause-few
+returns-clause-few g c = λ ends. c.in_ok-enter.ensures.few ends

@@ -1,0 +1,30 @@
+-- The entries by hand of a card as a run finds it, and which of them an image may tell later (profile).
+use Rattle.std.specs.Prelude.{◌≡◌, ◌⊎◌, ℕ, ◌/◌, max, true, List, nat_eq, if◌then◌else◌}
+use Rattle.activity_codec.specs.declared.entries.Manual.{Manual}
+use Rattle.card_layout.specs.declared.files.Application.{Application}
+use Rattle.card_retention.specs.Entries.{newest_word}
+use Rattle.card_retention.specs.Shown.{sizes}
+use Rattle.card_retention.specs.Retains.{is_day}
+use Rattle.card_image.specs.Fields.{card_days}
+use Rattle.card_image.specs.Own.{own_sizes, own_view}
+use Rattle.hand_model.specs.ByHand.{by_hand_up_to}
+
+-- those up to its end mark, and all that its words tell
+abbrev pub marked_at : List ℕ → List Manual
+marked_at image = by_hand_up_to (own_view image).mark (card_days (own_sizes image) image)
+
+abbrev pub all_at : List ℕ → List Manual
+all_at image = by_hand_up_to (max (own_view image).mark (newest_word (card_days (own_sizes image) image)))
+    (card_days (own_sizes image) image)
+
+-- THOSE THAT MAY BE TOLD LATER: where no session was open also those behind the end mark, which no repair need cut
+abbrev pub hands_at : List ℕ → List Manual
+hands_at image = if nat_eq (own_view image).session 0 then all_at image else marked_at image
+
+-- the ones or the others
+abbrev pub AreFirst : (image : List ℕ) → List Manual → Type 0
+AreFirst image first = (first ≡ marked_at image) ⊎ (((own_view image).session ≡ 0) × (first ≡ all_at image))
+
+-- the days of an image have that of a minute
+abbrev pub HasDayOf : (minute : ℕ) → Application → List ℕ → Type 0
+HasDayOf minute app x = is_day (minute / 1440) (sizes (card_days app x)) ≡ true
