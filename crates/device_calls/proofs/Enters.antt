@@ -69,7 +69,7 @@ card-read r c b m U X Y whole run rule =
     look-card c (opened r c).start AnyString {U = unit_seen r U} {X = card_seen X} {Y = card_seen Y} (opened r c).began b m (seen-run own_view Unchanged Nothing X Y whole run (λ x y never. absurd never)) rule
 
 -- so the unit is one still, and its journal agrees with it
-pub unit-still : (U V : State) → LeavesOnly U V Unchanged → IsUnit U → IsUnit V
+pub unit-still : {R : List ℕ → List ℕ → Type 0} (U V : State) → LeavesOnly U V R → IsUnit U → IsUnit V
 unit-still U V run unit = record { sized = run.size ∙ unit.sized; behind = run.behind ∙ unit.behind; writable = subst (λ (ws : List (ℕ × ℕ)). LiesInside ws 0 IMAGE_SIZE) (sym run.writable) unit.writable }
 
 pub agrees-still : (j : Notes) (o p : Option (List ℕ)) → p ≡ o → IfSome o (Agrees j) → IfSome p (Agrees j)

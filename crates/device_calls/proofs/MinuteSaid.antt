@@ -1,12 +1,13 @@
 -- What a minute says on the cards, before it is kept and between two of them.
-use Rattle.std.proofs.Common.{◌≡◌, inl, inr, ℕ, suc, ◌<◌, ◌≤◌, Bool, true, false, Option, Some, None, is_some, IfSome, List, [], ◌∷◌, All, refl, subst, sym, arith}
+use Rattle.std.proofs.Common.{◌≡◌, inl, inr, ℕ, suc, ◌<◌, ◌≤◌, Bool, true, false, Option, Some, None, is_some, IfSome, List, [], ◌∷◌, length, All, refl, subst, sym, arith}
 use Rattle.std.specs.Prelude.{◌⊎◌, OnErr, is_err, Result, Ok, Err, option_to_list}
 use Rattle.std.proofs.lemmas.List.Elements.{All-head}
 use Rattle.activity_codec.specs.declared.entries.Entry.{Entry}
+use Rattle.activity_codec.specs.declared.entries.Manual.{Manual}
 use Rattle.trace_model.specs.declared.Card.{Card}
 use Rattle.trace_model.specs.declared.Card.TheVariants.{A, B}
 use Rattle.tach_media.specs.Medium.{State, HasCause}
-use Rattle.tach_media.proofs.Runs.{both_told}
+use Rattle.tach_media.proofs.Runs.{at_image, both_told}
 use Rattle.card_days.specs.Steps.{IsIdle}
 use Rattle.card_layout.specs.declared.files.Application.{Application}
 use Rattle.card_session.specs.Sessions.{Session}
@@ -22,7 +23,11 @@ use Rattle.device_rule.specs.Views.{other}
 use Rattle.unit_rule.specs.Marks.{UnitFollowsBook}
 use Rattle.device_calls.specs.Rule.{Both, CardHolds, CardRests, IsKeptUp}
 use Rattle.device_calls.specs.OnCard.{SessionKnowsCard, CardMayTake}
-use Rattle.device_calls.specs.Minute.{Known, AreCutOff, Carry, and_kept, IsClear, IsSitting, IsNotIn}
+use Rattle.hand_model.specs.Holding.{LieBetween}
+use Rattle.hand_model.proofs.OfDay.{spans}
+use Rattle.card_by_hand.specs.First.{IsShutAt, first_written}
+use Rattle.card_by_hand.specs.Wider.{with_hands}
+use Rattle.device_calls.specs.Minute.{Known, AreCutOff, Carry, and_kept, IsClear, IsSitting, MayWriteBefore, IsNotIn}
 
 -- an entry on a card has its minute
 pub said_minute : (c : Card) (i : HistoryMinute) (e : Entry) → e ∷ [] ≡ on_card c i → e.minute ≡ i.minute
@@ -79,32 +84,43 @@ module _ (c : Card) (i : HistoryMinute) where
 
 -- ---- a card that sits in its slot
 
--- it is ready for an entry that is later than its session's newest minute
-pub ready_sitting : (t : Session) (w : Carry) (e : Entry) (X : State) → IsSitting t w X → t.minute < e.minute → IfSome X.image (CardMayTake t w.slack w.covered w.from w.counted w.all e)
-ready_sitting t w e X a late = both_told X.image (CardMayTake t w.slack w.covered w.from w.counted w.all e) a.carried a.clear
-    (λ x told carried clear. record { carried = carried; clear = clear e late; later = omega (arith, a.from, late) })
+-- the first of them comes no earlier than behind the newest minute
+pub first_comes : (from newest : ℕ) (hands : List Manual) (e : Entry) → from ≤ suc newest → LieBetween newest e.minute hands → from ≤ first_written hands e
+first_comes from newest [] e le lie = omega (arith, le, lie)
+first_comes from newest (h ∷ hs) e le lie = omega (arith, le, lie.0)
+
+-- it is ready for an entry that is later than its session's newest minute, with these entries by hand before it
+pub ready_sitting : (t : Session) (w : Carry) (hands : List Manual) (e : Entry) (X : State) → IsSitting t w X → MayWriteBefore t hands e X → IfSome X.image (CardMayTake t w.slack w.covered w.from w.counted w.all hands e)
+ready_sitting t w hands e X a may = both_told X.image (CardMayTake t w.slack w.covered w.from w.counted w.all hands e) a.carried a.clear
+    (λ x told carried clear. record {
+      carried = carried;
+      clear = clear e (spans t.minute e.minute hands may.are.lie);
+      before = inl (first_comes w.from t.minute hands e a.from may.are.lie);
+      few = may.few;
+      shut = λ some. at_image (IsShutAt t.application) told (may.shut some);
+    })
 
 -- what a keep that did not fail leaves
-abbrev pub Did : (s t : Session) → Carry → Entry → List ℕ → List ℕ → Type 0
-Did s t w e x y = IsDone s.application w.slack w.covered w.counted w.all e x y × SessionKnowsCard t (and_kept w e).slack w.covered (suc e.minute) (and_kept w e).counted (and_kept w e).all y
+abbrev pub Did : (s t : Session) → Carry → List Manual → Entry → List ℕ → List ℕ → Type 0
+Did s t w hands e x y = IsDone s.application w.slack w.covered (with_hands w.covered w.counted hands) w.all e x y × SessionKnowsCard t (and_kept w hands e).slack w.covered (suc e.minute) (and_kept w hands e).counted (and_kept w hands e).all y
 
-did : (s t : Session) (w : Carry) (e : Entry) (o p : Option (List ℕ)) → is_some p ≡ is_some o → IfSome o (CardMayTake s w.slack w.covered w.from w.counted w.all e) → IfSome o (λ x. IfSome p (λ y. CardMayTake s w.slack w.covered w.from w.counted w.all e x → Did s t w e x y))
-    → IfSome p (λ y. (x : List ℕ) × Did s t w e x y)
-did s t w e (Some x) (Some y) same ready said = (x, said ready)
-did s t w e None (Some y) same ready said = absurd (cc)
-did s t w e o None same ready said = tt
+did : (s t : Session) (w : Carry) (hands : List Manual) (e : Entry) (o p : Option (List ℕ)) → is_some p ≡ is_some o → IfSome o (CardMayTake s w.slack w.covered w.from w.counted w.all hands e)
+    → IfSome o (λ x. IfSome p (λ y. CardMayTake s w.slack w.covered w.from w.counted w.all hands e x → Did s t w hands e x y)) → IfSome p (λ y. (x : List ℕ) × Did s t w hands e x y)
+did s t w hands e (Some x) (Some y) same ready said = (x, said ready)
+did s t w hands e None (Some y) same ready said = absurd (cc)
+did s t w hands e o None same ready said = tt
 
 -- what is carried of it goes on with an entry that it kept
-pub sitting_on : (s t : Session) (w : Carry) (e : Entry) (X Y : State) → is_some Y.image ≡ is_some X.image → t.application ≡ s.application → t.minute ≡ e.minute → IfSome X.image (CardMayTake s w.slack w.covered w.from w.counted w.all e)
-    → IfSome X.image (λ x. IfSome Y.image (λ y. CardMayTake s w.slack w.covered w.from w.counted w.all e x → Did s t w e x y)) → IsSitting t (and_kept w e) Y
-sitting_on s t w e X Y same sizes at ready said = record {
+pub sitting_on : (s t : Session) (w : Carry) (hands : List Manual) (e : Entry) (X Y : State) → is_some Y.image ≡ is_some X.image → t.application ≡ s.application → t.minute ≡ e.minute → IfSome X.image (CardMayTake s w.slack w.covered w.from w.counted w.all hands e)
+    → IfSome X.image (λ x. IfSome Y.image (λ y. CardMayTake s w.slack w.covered w.from w.counted w.all hands e x → Did s t w hands e x y)) → IsSitting t (and_kept w hands e) Y
+sitting_on s t w hands e X Y same sizes at ready said = record {
   from = omega (arith, at);
-  carried = both_told Y.image (SessionKnowsCard t (and_kept w e).slack w.covered (suc e.minute) (and_kept w e).counted (and_kept w e).all) now now (λ y told one two. one.1.1);
-  clear = both_told Y.image (IsClear t (and_kept w e)) now now (λ y told one two. λ f lt. inl (subst (λ (p : Application). BeginsBehind p f y) (sym sizes) (one.1.0.clear f (omega (arith, at, lt)))));
+  carried = both_told Y.image (SessionKnowsCard t (and_kept w hands e).slack w.covered (suc e.minute) (and_kept w hands e).counted (and_kept w hands e).all) now now (λ y told one two. one.1.1);
+  clear = both_told Y.image (IsClear t (and_kept w hands e)) now now (λ y told one two. λ f lt. inl (subst (λ (p : Application). BeginsBehind p f y) (sym sizes) (one.1.0.clear f (omega (arith, at, lt)))));
 }
   where
-    now : IfSome Y.image (λ y. (x : List ℕ) × Did s t w e x y)
-    now = did s t w e X.image Y.image same ready said
+    now : IfSome Y.image (λ y. (x : List ℕ) × Did s t w hands e x y)
+    now = did s t w hands e X.image Y.image same ready said
 
 -- ---- both cards
 
@@ -124,3 +140,8 @@ as_rests r c d b z U X is rests = subst (λ (e : Card). CardRests r e b z U X) i
 
 pub cause_twice : {old mid late new : State} {failed : Bool} → HasCause old mid false ⊎ ((false ≡ false) × IsIdle old mid) → HasCause mid late false ⊎ ((false ≡ false) × IsIdle mid late) → HasCause late new failed → HasCause old new failed
 cause_twice first next last = called_then first (called_then next last)
+
+-- and of one that failed
+pub cause_failed : {old new : State} (failed : Bool) → true ≡ failed → HasCause old new true ⊎ ((true ≡ false) × IsIdle old new) → HasCause old new failed
+cause_failed {old} {new} failed is (inl cause) = subst (λ (f : Bool). HasCause old new f) is cause
+cause_failed failed is (inr none) = absurd (let e : true ≡ false = none.0 in cc)

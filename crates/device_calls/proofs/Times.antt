@@ -3,6 +3,7 @@ use Rattle.std.proofs.Common.{◌≡◌, ◌⊎◌, inl, inr, ⊎_elim, ℕ, suc
 use Rattle.activity_codec.specs.declared.values.Activity.{Activity}
 use Rattle.activity_codec.specs.declared.values.Activity.TheVariants.{Rest}
 use Rattle.activity_codec.specs.declared.entries.Entry.{Entry}
+use Rattle.activity_codec.specs.declared.entries.Manual.{Manual}
 use Rattle.tacho_types.specs.declared.texts.Registration.{Registration}
 use Rattle.card_layout.specs.declared.files.Application.{Application}
 use Rattle.card_layout.specs.Application.{IsApplication}
@@ -18,6 +19,7 @@ use Rattle.card_session.specs.Vehicles.{Vehicles, last_use_in}
 use Rattle.card_session.specs.Books.{Book, mark_of, closed, closed_days, used, last_used, with_entry}
 use Rattle.card_session.specs.Sessions.{book_of}
 use Rattle.card_session.specs.Moments.{IsBook, IsKeepMoment, IsCloseMoment}
+use Rattle.card_session.specs.ByHand.{by_hand, IsByHandMoment}
 use Rattle.card_session.specs.Cards.{IsCard, ended}
 use Rattle.card_session.specs.Inserting.{lacked, with_cut, with_owed, IsReplaying, IsRepairMoment, IsStill, IsRepaired, IsShut, IsShutting, InsertingOpen, InsertingClosed, IsCardInserting}
 use Rattle.card_session.proofs.Preparing.{use_at}
@@ -100,6 +102,13 @@ module _ (app : Application) where
   -- a keep
   pub keeping-whole : (registration : Registration) (odometer more : ℕ) (e : Entry) (x y : List ℕ) → IsCard app (IsKeepMoment app.activity registration odometer more e (book_of app x)) x y → IsWhole (last_use app x) (last_use app y)
   keeping-whole registration odometer more e x y card = by-vehicle x y (keep-goes app.activity registration odometer more e (book_of app x) (book_of app y).days (book_of app y).vehicles card.told)
+
+  -- an entry by hand writes no vehicle entry
+  pub written-whole : (h : Manual) (x y : List ℕ) → IsCard app (IsBook (by_hand app.activity h (book_of app x))) x y → IsWhole (last_use app x) (last_use app y)
+  written-whole h x y card = by-vehicle x y (inl (ap last_use_in card.told.1))
+
+  pub writing-whole : (h : Manual) (x y : List ℕ) → IsCard app (IsByHandMoment app.activity h (book_of app x)) x y → IsWhole (last_use app x) (last_use app y)
+  writing-whole h x y card = by-vehicle x y (inl (ap last_use_in card.told.1))
 
   still-whole : (x y : List ℕ) → IsStill app x y → IsWhole (last_use app x) (last_use app y)
   still-whole x y card = by-vehicle x y (inl (ap last_use_in card.told.1))

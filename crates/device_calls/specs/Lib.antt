@@ -5,4 +5,5 @@ pub mod Entering
 pub mod CardNotes
 pub mod Travel
 pub mod Times
+pub mod Calls
 pub use Rattle.unit_notes.specs.Journal

@@ -1,7 +1,9 @@
 -- A minute is kept by the unit and both cards (profile): what is carried from one minute to the next, and what a minute
 -- says.
-use Rattle.std.specs.Prelude.{◌≡◌, ◌⊎◌, ℕ, suc, ◌<◌, ◌≤◌, Option, None, IfSome, List, [], ◌∷◌, ◌++◌, option_to_list}
+use Rattle.std.specs.Prelude.{◌≡◌, ◌⊎◌, ℕ, suc, ◌<◌, ◌≤◌, Option, None, IfSome, List, [], ◌∷◌, ◌++◌, length}
+use Rattle.std.specs.Prelude.{option_to_list}
 use Rattle.activity_codec.specs.declared.entries.Entry.{Entry}
+use Rattle.activity_codec.specs.declared.entries.Manual.{Manual}
 use Rattle.trace_model.specs.declared.Card.{Card}
 use Rattle.run_model.specs.declared.Device.TheVariants.{Unit as Recorder}
 use Rattle.tach_media.specs.Medium.{State}
@@ -9,6 +11,8 @@ use Rattle.card_retention.specs.Expected.{Counted, with_entry}
 use Rattle.card_retention.specs.Shown.{Bound}
 use Rattle.card_session.specs.Sessions.{Session}
 use Rattle.card_session.specs.Overwriting.{BeginsBehind, and_entry}
+use Rattle.card_by_hand.specs.First.{AreHandsOf, IsShutAt}
+use Rattle.card_by_hand.specs.Wider.{with_hands}
 use Rattle.card_string.specs.Carried.{IsFresh}
 use Rattle.unit_minutes.specs.declared.kept.KeptMinute.{KeptMinute}
 use Rattle.unit_minutes.specs.Kept.{kept_minute}
@@ -97,14 +101,14 @@ pub record Carry : Type 0 where
   pub counted : Counted
   pub all : List Entry
 
--- with one entry more
-abbrev pub and_kept : Carry → Entry → Carry
-and_kept w e =
+-- with one entry more, and these entries by hand before it
+abbrev pub and_kept : Carry → List Manual → Entry → Carry
+and_kept w hands e =
     record {
       slack = and_entry w.slack e;
       covered = w.covered;
       from = suc e.minute;
-      counted = with_entry w.covered w.counted e;
+      counted = with_entry w.covered (with_hands w.covered w.counted hands) e;
       all = w.all ++ e ∷ [];
     }
 
@@ -112,6 +116,13 @@ and_kept w e =
 abbrev pub IsClear : Session → Carry → List ℕ → Type 0
 IsClear t w x = (e : Entry) → t.minute < e.minute
     → BeginsBehind t.application e x ⊎ IsFresh t.application w.counted w.all x
+
+-- THE ENTRIES BY HAND of a keep: they are of its minute's day and lie before it, they are at most eight, and no entry
+-- is open where there is one
+pub record MayWriteBefore (t : Session) (hands : List Manual) (e : Entry) (card : State) : Type 0 where
+  pub are : AreHandsOf t e.minute hands
+  pub few : length hands ≤ 8
+  pub shut : 0 < length hands → IfSome card.image (IsShutAt t.application)
 
 -- The card is in its slot with this session, and its string is carried so.
 pub record IsSitting (t : Session) (w : Carry) (card : State) : Type 0 where

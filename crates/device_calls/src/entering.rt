@@ -1,7 +1,6 @@
 //! A card is put into a slot.
-ghost use Rattle.std.specs.Prelude.{◌≡◌, ◌<◌, ◌≤◌, ◌+◌, ◌/◌, ◌^◌, ℕ, length, true, false, None, List, [], IfOk, IfSome};
-ghost use Rattle.std.specs.Prelude.{is_some, option_map};
-ghost use Rattle.activity_codec.specs.declared.entries.Entry.{Entry};
+ghost use Rattle.std.specs.Prelude.{◌≡◌, ◌<◌, ◌≤◌, ◌+◌, ◌/◌, ◌^◌, length, true, None, IfOk, IfSome};
+ghost use Rattle.std.specs.Prelude.{option_map};
 ghost use Rattle.tach_media.specs.Medium.{LeavesOnly};
 ghost use Rattle.tacho_types.specs.CardNumber.{card_number_bytes};
 ghost use Rattle.card_commands.specs.Ports.{IsPort};
@@ -10,18 +9,11 @@ ghost use Rattle.card_model.specs.declared.lengths.TheConstants.{DAYS_MOST};
 ghost use Rattle.card_validity.specs.Judged.{TellsSizes, IsLook};
 ghost use Rattle.card_session.specs.declared.words.TheConstants.{LATEST_MINUTE};
 ghost use Rattle.card_session.specs.Inserting.{MayInsert, AreOwed};
-ghost use Rattle.unit_model.specs.Image.{IsUnit};
 ghost use Rattle.unit_owed.specs.Rows.{IsRowFor};
-ghost use Rattle.unit_minutes.specs.Image.{Agrees};
-ghost use Rattle.log_model.specs.declared.lines.Mark.{Mark};
-ghost use Rattle.history_model.specs.Book.{Book};
-ghost use Rattle.device_rule.specs.Rules.{Standing, Out, IsEntered};
-ghost use Rattle.device_rule.specs.Views.{other};
-ghost use Rattle.unit_rule.specs.Rule.{Started};
-ghost use Rattle.unit_rule.specs.Marks.{UnitFollowsBook};
-ghost use Rattle.device_calls.specs.Rule.{Both, opened, card_seen, CardHolds};
 ghost use Rattle.device_calls.specs.OnCard.{Anything};
-ghost use Rattle.device_calls.specs.Entering.{of_card, unit_failed, IsInTime, IsEntering, IsInsertedWith, IsAsked};
+ghost use Rattle.device_calls.specs.Entering.{of_card, IsInTime, IsEntering, IsInsertedWith};
+ghost use Rattle.device_calls.specs.Calls.{CardStandsPutIn, IsRowTold, MayEnter, RulesEntering, UnitIsReady};
+ghost use Rattle.device_calls.specs.Calls.{UnitStandsAsked};
 
 use activity_codec::Owed;
 use card_commands::Port;
@@ -118,16 +110,13 @@ fn enter_as<M: Medium, C: Medium>(
     look: CardLook,
     spared: Option<&FullCardNumber>,
 ) -> Result<Entered, NotEntered>
-    requires unit { IsUnit (M.state unit.old) }
-    requires agrees { IfSome (M.state unit.old).image (Agrees journal.now) }
-    requires late { journal.now.kept < now.0 / 60 }
+    requires ready { UnitIsReady journal.now (M.state unit.old) }
     requires sizes { IsApplication app.now }
     requires card { MayInsert app.now (C.state card.old) }
     requires told { IfSome (C.state card.old).image (TellsSizes app.now) }
     requires looked { IfSome (C.state card.old).image (λ x. IsLook app.now x look) }
     requires works { (C.state card.old).works ≡ true }
-    requires last { now.0 / 60 < LATEST_MINUTE }
-    requires fits { odometer.0 < 2 ^ 24 }
+    requires may { MayEnter now.0 odometer.0 journal.now }
     ensures enters { IsEntering app.now registration.now odometer.0 now.0 (M.state unit.old) (M.state unit.new)
         (C.state card.old) (C.state card.new) result }
     ensures row { IfOk result (λ e. IfSome (M.state unit.old).image (IsRowFor e.row (card_number_bytes e.look.number)
@@ -163,14 +152,11 @@ fn enter_by<M: Medium, C: Medium>(
     odometer: Odometer,
     spared: Option<&FullCardNumber>,
 ) -> Result<Entered, NotEntered>
-    requires unit { IsUnit (M.state unit.old) }
-    requires agrees { IfSome (M.state unit.old).image (Agrees journal.now) }
-    requires late { journal.now.kept < now.0 / 60 }
+    requires ready { UnitIsReady journal.now (M.state unit.old) }
     requires sizes { IsApplication app.now }
     requires card { MayInsert app.now (C.state card.old) }
     requires told { IfSome (C.state card.old).image (TellsSizes app.now) }
-    requires last { now.0 / 60 < LATEST_MINUTE }
-    requires fits { odometer.0 < 2 ^ 24 }
+    requires may { MayEnter now.0 odometer.0 journal.now }
     ensures enters { IsEntering app.now registration.now odometer.0 now.0 (M.state unit.old) (M.state unit.new)
         (C.state card.old) (C.state card.new) result }
     ensures row { IfOk result (λ e. IfSome (M.state unit.old).image (IsRowFor e.row (card_number_bytes e.look.number)
@@ -225,41 +211,17 @@ pub fn enter<M: Medium, C: Chip, D: Chip>(
     odometer: Odometer,
     spared: Option<&FullCardNumber>,
 ) -> Result<Entered, NotEntered>
-    requires unit { IsUnit (M.state unit.old) }
-    requires agrees { IfSome (M.state unit.old).image (Agrees journal.now) }
-    requires late { journal.now.kept < now.0 / 60 }
+    requires ready { UnitIsReady journal.now (M.state unit.old) }
     requires port { IsPort app None (C.card card.old) (C.state card.old) }
     requires told { IfSome (C.state card.old).image (TellsSizes app) }
-    requires last { now.0 / 60 < LATEST_MINUTE }
-    requires fits { odometer.0 < 2 ^ 24 }
+    requires may { MayEnter now.0 odometer.0 journal.now }
     ensures enters { IsEntering app registration.now odometer.0 now.0 (M.state unit.old) (M.state unit.new)
         (C.state card.old) (C.state card.new) result }
-    ensures row { IfOk result (λ e. IfSome (M.state unit.old).image (IsRowFor e.row (card_number_bytes e.look.number)
-        (option_map (λ s. card_number_bytes s.now) spared.entry))) }
-    ensures low { IfOk result (λ e. e.row < 8) }
-    ensures holds { (s : Started) (due : ℕ) (b : Book) (marks : List Mark)
-        → UnitFollowsBook s due b marks (M.state unit.old) → UnitFollowsBook s due b marks (M.state unit.new) }
-    ensures other { (r : Both) (b : Book) (z : Standing) (m d : List Entry)
-        → CardHolds r (other which) b z m d (M.state unit.old) (D.state others.now)
-        → CardHolds r (other which) b z m d (M.state unit.new) (D.state others.now) }
-    ensures mine { (r : Both) (s : Started) (due : ℕ) (b : Book) (marks : List Mark)
-        → UnitFollowsBook s due b marks (M.state unit.old) → b.maybe ≡ None → due ≤ now.0 / 60
-        → is_some (M.state unit.old).image ≡ true → is_some (C.state card.old).image ≡ true
-        → IfSome (C.state card.old).image (IsAsked r which app)
-        → CardHolds r which b Out [] [] (M.state unit.old) (C.state card.old)
-        → CardHolds r which b Out [] [] (M.state unit.new) (C.state card.new) }
-    ensures entered { (r : Both) (s : Started) (due : ℕ) (b : Book) (marks : List Mark)
-        → UnitFollowsBook s due b marks (M.state unit.old) → b.maybe ≡ None → due ≤ now.0 / 60
-        → is_some (M.state unit.old).image ≡ true → is_some (C.state card.old).image ≡ true
-        → IfSome (C.state card.old).image (IsAsked r which app)
-        → CardHolds r which b Out [] [] (M.state unit.old) (C.state card.old)
-        → IfOk result (λ e. IsEntered (opened r which).start (opened r which).began now.0 e.session.minute
-        (card_seen (C.state card.new))) }
-    ensures unit { IsUnit (M.state unit.new) }
-    ensures agrees { unit_failed result ≡ false → IfSome (M.state unit.new).image (Agrees journal.now) }
-    ensures leaves { LeavesOnly (C.state card.old) (C.state card.new) Anything }
-    ensures in_time { IsInTime app now.0 (C.state card.old) (C.state card.new) }
-    ensures port { IsPort app None (C.card card.new) (C.state card.new) }
+    ensures row { IsRowTold result (option_map (λ s. card_number_bytes s.now) spared.entry) (M.state unit.old) }
+    ensures rules { RulesEntering which app now.0 result (M.state unit.old) (M.state unit.new) (C.state card.old)
+        (C.state card.new) (D.state others.now) }
+    ensures stands { UnitStandsAsked journal.now result (M.state unit.new) }
+    ensures card { CardStandsPutIn app now.0 (C.state card.old) (C.state card.new) (C.card card.new) }
     ensures long { length registration.now.0 ≡ 15 }
     ensures most { (C.state card.new).clock ≤ (C.state card.old).clock + (DAYS_MOST + 84) }
 {

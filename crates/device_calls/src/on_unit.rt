@@ -1,23 +1,14 @@
 //! The unit keeps a minute, and owes its entries to the cards.
-ghost use Rattle.std.specs.Prelude.{◌≡◌, ◌⊎◌, ◌+◌, ◌≤◌, ◌<◌, ℕ, false, List, [], OnOk, OnErr, IfSome, is_some, is_err};
-ghost use Rattle.std.specs.Prelude.{option_to_list};
-ghost use Rattle.activity_codec.specs.declared.entries.Entry.{Entry};
+ghost use Rattle.std.specs.Prelude.{◌≡◌, ◌⊎◌, ◌+◌, ◌≤◌, ◌<◌, false, OnOk, OnErr, IfSome, is_some, is_err};
 ghost use Rattle.tach_media.specs.Medium.{HasCause, last_count};
 ghost use Rattle.tacho_types.specs.CardNumber.{card_number_bytes};
 ghost use Rattle.card_days.specs.Steps.{IsIdle};
-ghost use Rattle.unit_model.specs.declared.layout.TheConstants.{HIGHEST_ODOMETER, LAST_MINUTE};
-ghost use Rattle.unit_model.specs.Image.{IsUnit};
-ghost use Rattle.unit_minutes.specs.Image.{Agrees};
 ghost use Rattle.unit_owed.specs.Rows.{IsRowAt};
-ghost use Rattle.log_model.specs.declared.lines.Mark.{Mark};
 ghost use Rattle.history_model.specs.Minutes.{HistoryMinute};
-ghost use Rattle.history_model.specs.Book.{Book};
-ghost use Rattle.device_rule.specs.Rules.{Standing, IsPresent};
-ghost use Rattle.device_rule.specs.Views.{other};
-ghost use Rattle.unit_rule.specs.Rule.{Started, IsCards};
-ghost use Rattle.unit_rule.specs.Marks.{UnitFollowsBook};
-ghost use Rattle.device_calls.specs.Rule.{Both, opened, number_of, CardHolds, IsKeptUp};
+ghost use Rattle.device_rule.specs.Rules.{Standing};
 ghost use Rattle.device_calls.specs.Minute.{Known, known_after, AreBetween, SaysBoth, AreOwed, AreCutOff};
+ghost use Rattle.device_calls.specs.Calls.{MayBeCommitted, RulesOwingSome, UnitAnswers, UnitIsReady};
+ghost use Rattle.device_calls.specs.Calls.{UnitStandsCommitted, UnitStandsOwing};
 
 use crate::committing::commit;
 use crate::owing::owe;
@@ -38,29 +29,12 @@ fn owe_some<M: Medium, C: Chip, D: Chip>(
     row: u32,
     entry: Option<Entry>,
 ) -> Result<(), Failed>
-    requires unit { IsUnit (M.state unit.old) }
-    requires agrees { IfSome (M.state unit.old).image (Agrees journal.old) }
+    requires ready { UnitIsReady journal.old (M.state unit.old) }
     requires row { IfSome entry (λ e. (row < 8)
         × IfSome (M.state unit.old).image (IsRowAt row (card_number_bytes number.now))) }
-    ensures unit { IsUnit (M.state unit.new) }
-    ensures same { journal.new ≡ journal.old }
-    ensures agrees { OnOk result (IfSome (M.state unit.new).image (Agrees journal.old)) }
-    ensures holds { (s : Started) (due : ℕ) (b : Book) (marks : List Mark) → IsCards s (card_number_bytes number.now)
-        → UnitFollowsBook s due b marks (M.state unit.old) → UnitFollowsBook s due b marks (M.state unit.new) }
-    ensures mine { (r : Both) (s : Started) (due : ℕ) (b : Book) (marks : List Mark) (z : Standing)
-        → card_number_bytes number.now ≡ number_of r which → UnitFollowsBook s due b marks (M.state unit.old)
-        → IfSome entry (λ e. (due ≤ e.minute) × (1440 ≤ e.minute) × IsPresent (opened r which).start z e.minute)
-        → CardHolds r which b z [] [] (M.state unit.old) (C.state mine.now)
-        → IsKeptUp r which b z (option_to_list entry) [] (is_err result) (M.state unit.new) (C.state mine.now) }
-    ensures other { (r : Both) (s : Started) (due : ℕ) (b : Book) (marks : List Mark) (y z : Standing)
-        (m d : List Entry) → card_number_bytes number.now ≡ number_of r which
-        → UnitFollowsBook s due b marks (M.state unit.old)
-        → IfSome entry (λ e. (due ≤ e.minute) × (1440 ≤ e.minute))
-        → CardHolds r which b y [] [] (M.state unit.old) (C.state mine.now)
-        → CardHolds r (other which) b z m d (M.state unit.old) (D.state others.now)
-        → IsKeptUp r (other which) b z m d (is_err result) (M.state unit.new) (D.state others.now) }
-    ensures rows { (r : ℕ) (n : List ℕ) → IfSome (M.state unit.old).image (IsRowAt r n)
-        → OnOk result (IfSome (M.state unit.new).image (IsRowAt r n)) }
+    ensures stands { UnitStandsOwing result journal.old journal.new (M.state unit.old) (M.state unit.new) }
+    ensures rules { RulesOwingSome which result (card_number_bytes number.now) entry (M.state unit.old)
+        (M.state unit.new) (C.state mine.now) (D.state others.now) }
     ensures clock { (M.state unit.old).clock ≤ (M.state unit.new).clock }
     ensures most { (M.state unit.new).clock ≤ (M.state unit.old).clock + 3 }
     ensures tells { is_some (M.state unit.new).image ≡ is_some (M.state unit.old).image }
@@ -95,23 +69,14 @@ pub fn keep_on_unit<M: Medium, C: Chip, D: Chip>(
     two_entry: Option<Entry>,
     minute: &KeptMinute,
 ) -> Result<(), Failed>
-    requires unit { IsUnit (M.state unit.old) }
-    requires agrees { IfSome (M.state unit.old).image (Agrees journal.old) }
+    requires ready { UnitIsReady journal.old (M.state unit.old) }
     requires first_row { IfSome one_entry (λ e. (one_row < 8) × IfSome (M.state unit.old).image
         (IsRowAt one_row (card_number_bytes one_number.now))) }
     requires second_row { IfSome two_entry
         (λ e. (two_row < 8) × IfSome (M.state unit.old).image (IsRowAt two_row (card_number_bytes two_number.now))) }
-    requires low { 1440 ≤ minute.now.minute }
-    requires later { journal.old.kept < minute.now.minute }
-    requires small { minute.now.minute ≤ LAST_MINUTE }
-    requires odometer { minute.now.odometer.0 ≤ HIGHEST_ODOMETER }
-    ensures unit { IsUnit (M.state unit.new) }
-    ensures notes { OnOk result ((journal.new.kept ≡ minute.now.minute)
-        × (journal.new.odometer ≡ minute.now.odometer.0)) }
-    ensures same { OnErr result (journal.new ≡ journal.old) }
-    ensures agrees { OnOk result (IfSome (M.state unit.new).image (Agrees journal.new)) }
-    ensures rows { (r : ℕ) (n : List ℕ) → IfSome (M.state unit.old).image (IsRowAt r n)
-        → OnOk result (IfSome (M.state unit.new).image (IsRowAt r n)) }
+    requires may { MayBeCommitted minute.now journal.old }
+    ensures stands { UnitStandsCommitted minute.now result journal.old journal.new (M.state unit.old)
+        (M.state unit.new) }
     ensures kept { (k : Known) (y z : Standing) (i : HistoryMinute)
         → AreBetween k one two (card_number_bytes one_number.now) (card_number_bytes two_number.now) y z
         (M.state unit.old) (C.state first.now) (D.state second.now)
@@ -125,10 +90,8 @@ pub fn keep_on_unit<M: Medium, C: Chip, D: Chip>(
         → IfSome one_entry (λ e. 1440 ≤ e.minute) → IfSome two_entry (λ e. 1440 ≤ e.minute)
         → SaysBoth k one two i minute.now one_entry two_entry y z
         → OnErr result (AreCutOff k one two i y z (M.state unit.new) (C.state first.now) (D.state second.now)) }
-    ensures clock { (M.state unit.old).clock ≤ (M.state unit.new).clock }
+    ensures goes { UnitAnswers (is_err result) (M.state unit.old) (M.state unit.new) }
     ensures most { (M.state unit.new).clock ≤ (M.state unit.old).clock + 18 }
-    ensures tells { is_some (M.state unit.new).image ≡ is_some (M.state unit.old).image }
-    ensures cause { HasCause (M.state unit.old) (M.state unit.new) (is_err result) }
 {
     owe_some(
         unit, journal, first, second, one, one_number, one_row, one_entry,

@@ -1,6 +1,7 @@
 ghost use Rattle.std.specs.Prelude.{◌≡◌, ◌⊎◌, ◌↔◌, ℕ, suc, ◌/◌, ◌<◌, ◌≤◌, true, Some, None, IfSome, is_some, List, []};
 ghost use Rattle.std.specs.Prelude.{◌∷◌, ◌++◌, length, All};
 ghost use Rattle.activity_codec.specs.declared.entries.Entry.{Entry};
+ghost use Rattle.activity_codec.specs.declared.entries.Manual.{Manual};
 ghost use Rattle.trace_model.specs.declared.Card.{Card};
 ghost use Rattle.tach_media.specs.Medium.{LeavesOnly, Unchanged};
 ghost use Rattle.tacho_types.specs.declared.texts.Registration.{Registration};
@@ -26,12 +27,15 @@ ghost use Rattle.card_retention.specs.Expected.{with_entry};
 ghost use Rattle.card_session.specs.Sessions.{Session, IsSession};
 ghost use Rattle.card_session.specs.Overwriting.{and_entry};
 ghost use Rattle.card_string.specs.Shows.{IsDone};
-ghost use Rattle.card_string.specs.Since.{all_since, bound_since, counted_since, GoesSince};
+ghost use Rattle.card_string.specs.Since.{all_since, bound_since, counted_since};
 ghost use Rattle.device_calls.specs.Rule.{Both, opened, card_seen, CardHolds, CardRests};
 ghost use Rattle.device_calls.specs.CardNotes.{IsNote, IsSound};
 ghost use Rattle.device_calls.specs.Entering.{owed_on, IsEntering};
-ghost use Rattle.device_calls.specs.OnCard.{SessionKnowsCard, CardMayTake};
-ghost use Rattle.device_calls.specs.Minute.{Carry, and_kept, IsSitting, IsNotIn};
+ghost use Rattle.hand_model.specs.Written.{Written, Hands};
+ghost use Rattle.hand_model.specs.Holding.{LieBetween};
+ghost use Rattle.card_by_hand.specs.Wider.{with_hands};
+ghost use Rattle.device_calls.specs.OnCard.{SessionKnowsCard, CardMayTake, IsSittingSince};
+ghost use Rattle.device_calls.specs.Minute.{Carry, and_kept, IsSitting, MayWriteBefore, IsNotIn};
 
 use crate::entering::{Entered, NotEntered};
 use tach_media::{Chip, Medium};
@@ -77,28 +81,29 @@ pub fn a_card_out_of_its_slot_stands<M: Medium, C: Chip>(unit: &M, card: &C)
 
 /// A card in its slot that kept an entry may keep the next one: what is carried of its string goes on.
 pub fn a_card_sits_on<C: Chip, D: Chip>(before: &C, after: &D)
-    ensures ready { (t : Session) (w : Carry) (e : Entry) → IsSitting t w (C.state before.now) → t.minute < e.minute
-        → IfSome (C.state before.now).image (CardMayTake t w.slack w.covered w.from w.counted w.all e) }
-    ensures goes_on { (s t : Session) (w : Carry) (e : Entry)
+    ensures ready { (t : Session) (w : Carry) (hands : List Manual) (e : Entry) → IsSitting t w (C.state before.now)
+        → MayWriteBefore t hands e (C.state before.now)
+        → IfSome (C.state before.now).image (CardMayTake t w.slack w.covered w.from w.counted w.all hands e) }
+    ensures goes_on { (s t : Session) (w : Carry) (hands : List Manual) (e : Entry)
         → is_some (D.state after.now).image ≡ is_some (C.state before.now).image → t.application ≡ s.application
-        → t.minute ≡ e.minute → IsSitting s w (C.state before.now) → s.minute < e.minute
+        → t.minute ≡ e.minute → IsSitting s w (C.state before.now) → MayWriteBefore s hands e (C.state before.now)
         → IfSome (C.state before.now).image (λ x. IfSome (D.state after.now).image
-        (λ y. CardMayTake s w.slack w.covered w.from w.counted w.all e x
-        → IsDone s.application w.slack w.covered w.counted w.all e x y
-        × SessionKnowsCard t (and_entry w.slack e) w.covered (suc e.minute) (with_entry w.covered w.counted e)
-        (w.all ++ e ∷ []) y))
-        → IsSitting t (and_kept w e) (D.state after.now) }
+        (λ y. CardMayTake s w.slack w.covered w.from w.counted w.all hands e x
+        → IsDone s.application w.slack w.covered (with_hands w.covered w.counted hands) w.all e x y
+        × SessionKnowsCard t (and_entry w.slack e) w.covered (suc e.minute)
+        (with_entry w.covered (with_hands w.covered w.counted hands) e) (w.all ++ e ∷ []) y))
+        → IsSitting t (and_kept w hands e) (D.state after.now) }
 {}
 
-/// A card whose string goes on since the start of a run may keep an entry that comes no earlier than it may: what
-/// `keep_on_card` asks.
+/// A card whose string goes on since the start of a run may keep an entry, with entries by hand before it, that may
+/// come: what `keep_on_card` asks.
 pub fn a_string_that_goes_on_is_ready<C: Chip>(card: &C)
-    ensures { (t : Session) (image : List ℕ) (done : List Entry) (n : ℕ) (e : Entry) → IsApplication t.application
-        → n ≤ e.minute → IfSome (C.state card.now).image
-        (λ x. (own_sizes x ≡ t.application) × IsSession t x × GoesSince t.application image done n x)
-        → (from : ℕ) × IfSome (C.state card.now).image
-        (CardMayTake t (bound_since image done) (own_covered image) from (counted_since image done)
-        (all_since image done) e) }
+    ensures { (t : Session) (image : List ℕ) (h : Hands) (done : List Entry) (n : ℕ) (hands : List Manual) (e : Entry)
+        → IsApplication t.application → LieBetween t.minute e.minute hands → length hands ≤ 8
+        → IfSome (C.state card.now).image (IsSittingSince t image h done n hands e)
+        → (ws : List Written) × (from : ℕ)
+        × IfSome (C.state card.now).image (CardMayTake t (bound_since image done) (own_covered image) from
+        (counted_since image ws) (all_since image done) hands e) }
 {}
 
 /// An insertion only read the card; or that was valid, and each image that it leaves since is one of an insertion with

@@ -3,15 +3,17 @@ use Rattle.std.proofs.Common.{◌≡◌, ℕ, suc, ◌/◌, ◌<◌, ◌≤◌, 
 use Rattle.std.proofs.lemmas.List.{append-nil}
 use Rattle.std.proofs.lemmas.List.Elements.{All-head, All-weaker}
 use Rattle.activity_codec.specs.declared.entries.Entry.{Entry}
+use Rattle.activity_codec.specs.declared.entries.Manual.{Manual}
 use Rattle.card_model.specs.Days.{AreDays}
 use Rattle.card_retention.specs.Expected.{WordDay, Counted, counted, expected_days}
+use Rattle.card_retention.specs.ByHand.{and_by_hand}
 use Rattle.card_retention.specs.Shown.{AllBefore}
 use Rattle.card_retention.specs.Entries.{newest_word}
 use Rattle.card_retention.specs.Retains.{CardRetains}
 use Rattle.card_retention.proofs.Due.{before_counted, counted_then, retains_due}
 use Rattle.card_image.specs.Fields.{card_days, end_mark, session_time}
 use Rattle.card_image.specs.View.{card_view}
-use Rattle.card_image.specs.Own.{own_sizes, own_view, own_covered, counted_view, expected_with, StandsFrom, KeepsFrom, KeepsOf}
+use Rattle.card_image.specs.Own.{own_sizes, own_view, own_covered, counted_view, expected_with, most_slack, StandsFrom, KeepsFrom, KeepsOf}
 use Rattle.card_image.proofs.Newest.{counting_before}
 use Rattle.history_model.specs.Presence.{CardStart}
 use Rattle.history_model.proofs.Filters.{all-back}
@@ -29,15 +31,15 @@ module _ (image : List ℕ) where
   unfolding expected_with
   days-due next more = refl
 
-  module _ (start : CardStart) (are : AreDays 0 (card_days (own_sizes image) image)) (entries : start.entries ≡ (own_view image).held.entries) (mark : start.mark ≡ (own_view image).mark) (word : start.word ≡ beyond (own_view image)) where
-    pub owed-entries_count : OwedCounts start (KeepsFrom image) (KeepsOf image)
+  module _ (hands : List Manual) (start : CardStart) (are : AreDays 0 (card_days (own_sizes image) image)) (entries : start.entries ≡ (own_view image).held.entries) (mark : start.mark ≡ (own_view image).mark) (word : start.word ≡ beyond (own_view image)) where
+    pub owed-entries_count : OwedCounts start (KeepsFrom image hands) (KeepsOf image hands)
     owed-entries_count next marked more [] x low had above late rise kept = (
       next,
       record {
         more = kept.more;
         begins = ap (λ (zs : List Entry). start.entries ++ zs) (append-nil more) ∙ kept.begins;
-        keeps = λ n le. subst (λ (zs : List Entry). (r : CardRetains (own_sizes image).activity 16 ((own_view image).mark / 1440) (expected_with image n kept.more) (start.entries ++ zs) x.days (x.entries ++ [])) × StandsFrom image r.oldest x.days) (sym (append-nil more))
-            (subst (λ (zs : List Entry). (r : CardRetains (own_sizes image).activity 16 ((own_view image).mark / 1440) (expected_with image n kept.more) (start.entries ++ more) x.days zs) × StandsFrom image r.oldest x.days) (sym (append-nil x.entries)) (kept.keeps n le));
+        keeps = λ n le. subst (λ (zs : List Entry). (r : CardRetains (own_sizes image).activity most_slack ((own_view image).mark / 1440) (and_by_hand hands (expected_with image n kept.more)) (start.entries ++ zs) x.days (x.entries ++ [])) × StandsFrom image r.oldest x.days) (sym (append-nil more))
+            (subst (λ (zs : List Entry). (r : CardRetains (own_sizes image).activity most_slack ((own_view image).mark / 1440) (and_by_hand hands (expected_with image n kept.more)) (start.entries ++ more) x.days zs) × StandsFrom image r.oldest x.days) (sym (append-nil x.entries)) (kept.keeps n le));
       },
     )
     owed-entries_count next marked more (e ∷ es) x low had above late rise kept = (
@@ -45,8 +47,8 @@ module _ (image : List ℕ) where
       record {
         more = kept.more ++ e ∷ es;
         begins = whole ∙ ap (λ (zs : List Entry). zs ++ e ∷ es) kept.begins ∙ append_assoc (own_view image).held.entries kept.more (e ∷ es);
-        keeps = λ n le. subst (λ (zs : List Entry). (r : CardRetains (own_sizes image).activity 16 ((own_view image).mark / 1440) (expected_with image n (kept.more ++ e ∷ es)) zs x.days (x.entries ++ e ∷ es)) × StandsFrom image r.oldest x.days) (sym whole)
-            (subst (λ (days : List WordDay). (r : CardRetains (own_sizes image).activity 16 ((own_view image).mark / 1440) days ((start.entries ++ more) ++ e ∷ es) x.days (x.entries ++ e ∷ es)) × StandsFrom image r.oldest x.days)
+        keeps = λ n le. subst (λ (zs : List Entry). (r : CardRetains (own_sizes image).activity most_slack ((own_view image).mark / 1440) (and_by_hand hands (expected_with image n (kept.more ++ e ∷ es))) zs x.days (x.entries ++ e ∷ es)) × StandsFrom image r.oldest x.days) (sym whole)
+            (subst (λ (days : List WordDay). (r : CardRetains (own_sizes image).activity most_slack ((own_view image).mark / 1440) (and_by_hand hands days) ((start.entries ++ more) ++ e ∷ es) x.days (x.entries ++ e ∷ es)) × StandsFrom image r.oldest x.days)
             (sym (days-due n (kept.more ++ e ∷ es) ∙ ap (λ (c : Counted). expected_days (own_covered image) n c) (counted_then (own_covered image) (counted_view (own_view image)) kept.more (e ∷ es))))
             ((with-due n).0, subst (λ (o : ℕ). StandsFrom image o x.days) (sym (with-due n).1) first.1));
       },
@@ -69,9 +71,9 @@ module _ (image : List ℕ) where
         from_mark : (own_view image).mark / 1440 ≤ e.minute / 1440
         from_mark = omega (arith, mark, low, behind)
 
-        first : (r : CardRetains (own_sizes image).activity 16 ((own_view image).mark / 1440) (expected_days (own_covered image) e.minute (counted (own_covered image) (counted_view (own_view image)) kept.more)) (start.entries ++ more) x.days x.entries) × StandsFrom image r.oldest x.days
-        first = subst (λ (days : List WordDay). (r : CardRetains (own_sizes image).activity 16 ((own_view image).mark / 1440) days (start.entries ++ more) x.days x.entries) × StandsFrom image r.oldest x.days) (days-due e.minute kept.more) (kept.keeps e.minute (omega arith))
+        first : (r : CardRetains (own_sizes image).activity most_slack ((own_view image).mark / 1440) (and_by_hand hands (expected_days (own_covered image) e.minute (counted (own_covered image) (counted_view (own_view image)) kept.more))) (start.entries ++ more) x.days x.entries) × StandsFrom image r.oldest x.days
+        first = subst (λ (days : List WordDay). (r : CardRetains (own_sizes image).activity most_slack ((own_view image).mark / 1440) (and_by_hand hands days) (start.entries ++ more) x.days x.entries) × StandsFrom image r.oldest x.days) (days-due e.minute kept.more) (kept.keeps e.minute (omega arith))
 
-        with-due : (n : ℕ) → (k : CardRetains (own_sizes image).activity 16 ((own_view image).mark / 1440) (expected_days (own_covered image) n (counted (own_covered image) (counted (own_covered image) (counted_view (own_view image)) kept.more) (e ∷ es))) ((start.entries ++ more) ++ e ∷ es) x.days (x.entries ++ e ∷ es))
+        with-due : (n : ℕ) → (k : CardRetains (own_sizes image).activity most_slack ((own_view image).mark / 1440) (and_by_hand hands (expected_days (own_covered image) n (counted (own_covered image) (counted (own_covered image) (counted_view (own_view image)) kept.more) (e ∷ es)))) ((start.entries ++ more) ++ e ∷ es) x.days (x.entries ++ e ∷ es))
             × (k.oldest ≡ first.0.oldest)
-        with-due n = retains_due (own_sizes image).activity 16 ((own_view image).mark / 1440) (own_covered image) n (counted (own_covered image) (counted_view (own_view image)) kept.more) (start.entries ++ more) e es x.days x.entries rise before from_mark first.0
+        with-due n = retains_due hands (own_sizes image).activity most_slack ((own_view image).mark / 1440) (own_covered image) n (counted (own_covered image) (counted_view (own_view image)) kept.more) (start.entries ++ more) e es x.days x.entries rise before from_mark first.0

@@ -1,5 +1,6 @@
 ghost use Rattle.std.specs.Prelude.{◌≡◌, ℕ, ◌/◌, ◌<◌, ◌≤◌, ◌↔◌, max, ◌++◌, ◌∷◌, [], List, All, Contains};
 ghost use Rattle.activity_codec.specs.declared.entries.Entry.{Entry};
+ghost use Rattle.activity_codec.specs.declared.entries.Manual.{Manual};
 ghost use Rattle.trace_model.specs.declared.Card.{Card};
 ghost use Rattle.tach_media.specs.Medium.{IsSettled};
 ghost use Rattle.card_layout.specs.declared.files.Application.{Application};
@@ -57,11 +58,12 @@ pub fn a_card_brings_its_newest_minute()
 {}
 
 /// What is stated of a card's overwriting goes on with what is owed to it: its entries followed by the owed ones are
-/// all of them, but for whole days that were overwritten.
+/// all of them, but for whole days that were overwritten. So it is whatever entries by hand count as words.
 pub fn owed_entries_count()
-    ensures { (image : List ℕ) (start : CardStart) → AreDays 0 (card_days (own_sizes image) image) →
+    ensures { (image : List ℕ) (hands : List Manual) (start : CardStart) → AreDays 0 (card_days (own_sizes image) image)
+        →
         start.entries ≡ (own_view image).held.entries → start.mark ≡ (own_view image).mark →
-        start.word ≡ beyond (own_view image) → OwedCounts start (KeepsFrom image) (KeepsOf image) }
+        start.word ≡ beyond (own_view image) → OwedCounts start (KeepsFrom image hands) (KeepsOf image hands) }
 {}
 
 /// The entry that a card kept last, and each that an insertion brought, is acknowledged then.

@@ -23,7 +23,8 @@ use Rattle.card_session.proofs.Renewing.{newest_first, newest_again}
 use Rattle.card_session.proofs.Revalid.{again_valid}
 use Rattle.card_session.proofs.Unclosed.{none_valid}
 use Rattle.card_session.proofs.Valid.{above_zero}
-use Rattle.card_string.specs.Since.{GoesSince, HoldsSince}
+use Rattle.hand_model.specs.Written.{no_hands, entries_of}
+use Rattle.card_string.specs.Since.{SitsSince, HoldsSince}
 use Rattle.card_string.proofs.OfCards.{open_holds, open_sits, shut_inserting}
 use Rattle.card_string.proofs.Replayed.{mark_least}
 use Rattle.card_string.proofs.Shutting.{up_more}
@@ -78,13 +79,13 @@ up_behind m (e ∷ es) follow = let more = up_behind e.minute es follow.1 in ((m
 
 record Ends (app : Application) (image : List ℕ) (brought : List Entry) (y : List ℕ) : Type 0 where
   next : ℕ
-  holds : HoldsSince app image brought next y
+  holds : HoldsSince app image no_hands brought next y
   up : AllUpTo (end_mark app y) brought
 
-goes_ends : (app : Application) (image : List ℕ) (brought : List Entry) (next : ℕ) (y : List ℕ) → GoesSince app image brought next y → Ends app image brought y
+goes_ends : (app : Application) (image : List ℕ) (brought : List Entry) (next : ℕ) (y : List ℕ) → SitsSince app image no_hands brought next y → Ends app image brought y
 goes_ends app image brought next y goes =
-    let all : HoldsSince app image brought next y = record { more = brought; rest = []; split = sym (append-nil brought); behind = tt; stands = inl goes } in
-    record { next = next; holds = all; up = holds_up app image brought next y all }
+    let all : HoldsSince app image no_hands brought next y = record { written = goes.written; rest = []; split = sym goes.has_all ∙ sym (append-nil (entries_of goes.written)); lie = goes.lie; behind = tt; stands = inl goes.goes } in
+    record { next = next; holds = all; up = subst (AllUpTo (end_mark app y)) goes.has_all (holds_up app image no_hands brought next y all) }
 
 module _ (image : List ℕ) (ready : IsInsertable image) (owed : List Entry) (left : List ℕ) (off : IsBrokenOff image owed left) where
   abbrev app : Application
@@ -108,13 +109,13 @@ module _ (image : List ℕ) (ready : IsInsertable image) (owed : List Entry) (le
     abbrev bound : ℕ
     bound = suc (newest_behind (card_view app image).newest (lacked_by app image owed))
 
-    here : HoldsSince app image (lacked_by app image owed) bound left
+    here : HoldsSince app image no_hands (lacked_by app image owed) bound left
     here =
-        open_holds app off.registration off.odometer off.now owed image [] (suc (end_mark app image)) image ready.sizes ready.fits off.may.long off.may.are (own image ready) open_ tt (holds-open image ready owed off.now off.may.are some) bound
+        open_holds app off.registration off.odometer off.now owed image no_hands [] (suc (end_mark app image)) image ready.sizes ready.fits off.may.long off.may.are (own image ready) open_ tt (holds-open image ready owed off.now off.may.are some) bound
         (let low = mark-behind app image (lacked_by app image owed) follow in omega (arith, low)) (omega arith) left moment
 
-    up_here : AllUpTo (end_mark app left) here.more
-    up_here = holds_up app image (lacked_by app image owed) bound left here
+    up_here : AllUpTo (end_mark app left) (entries_of here.written)
+    up_here = holds_up app image no_hands (lacked_by app image owed) bound left here
 
     rises : end_mark app image ≤ end_mark app left
     rises = omega (
@@ -124,8 +125,8 @@ module _ (image : List ℕ) (ready : IsInsertable image) (owed : List Entry) (le
       mark-is app left,
     )
 
-    parts : here.more ++ lacked_by app left owed ≡ lacked_by app image owed
-    parts = ap (λ (l : List Entry). here.more ++ l) (lacked_later (end_mark app image) (end_mark app left) owed here.more here.rest rises here.split up_here here.behind) ∙ sym here.split
+    parts : entries_of here.written ++ lacked_by app left owed ≡ lacked_by app image owed
+    parts = ap (λ (l : List Entry). entries_of here.written ++ l) (lacked_later (end_mark app image) (end_mark app left) owed (entries_of here.written) here.rest rises here.split up_here here.behind) ∙ sym here.split
 
     first : (so_far : NewestSoFar (end_mark app image) (card_view app image).newest (lacked_by app image owed) (end_mark app left) (card_view app left).newest) × ((session_time app left ≡ session_time app image) ⊎ (so_far.rest ≡ []))
     first = newest_first app ready.sizes image ready.fits off.registration off.may.long off.odometer off.now owed off.may.are (own image ready) (above_zero (session_time app image) open_) left moment
@@ -149,9 +150,9 @@ module _ (image : List ℕ) (ready : IsInsertable image) (owed : List Entry) (le
       open_again : session_time app left ≢ 0 → InsertsOpen app again.registration again.odometer owed again.now left ended → Ends app image (lacked_by app image owed) ended
       open_again some_left inserts =
           goes_ends app image (lacked_by app image owed) (suc again.session.minute) ended
-          (subst (λ (l : List Entry). GoesSince app image l (suc again.session.minute) ended) parts
-          (open_sits app again.registration again.odometer again.now owed image here.more bound left ready.sizes fits again.may.long again.may.are so.valid (above (session_time app left) some_left) up_here
-          (subst (λ (l : List Entry). HoldsSince app image l bound left) (sym parts) here)
+          (subst (λ (l : List Entry). SitsSince app image no_hands l (suc again.session.minute) ended) parts
+          (open_sits app again.registration again.odometer again.now owed image no_hands (entries_of here.written) bound left ready.sizes fits again.may.long again.may.are so.valid (above (session_time app left) some_left) up_here
+          (subst (λ (l : List Entry). HoldsSince app image no_hands l bound left) (sym parts) here)
           (let same = newest_again app ready.sizes image ready.fits off.registration off.may.long off.odometer off.now owed off.may.are (own image ready) (above_zero (session_time app image) open_) left moment in omega (arith, same))
           ended again.session inserts again.same again.knows).0)
 
@@ -161,7 +162,7 @@ module _ (image : List ℕ) (ready : IsInsertable image) (owed : List Entry) (le
           let closed = closed_end app again.registration again.odometer again.now owed left ended inserts in
           record {
             next = next;
-            holds = shut_inserting app again.registration again.now image (lacked_by app image owed) bound left ready.sizes fits again.may.long so.valid none (all_up none) here next (omega arith) (omega arith) ended closed;
+            holds = shut_inserting app again.registration again.now image no_hands (lacked_by app image owed) bound left ready.sizes fits again.may.long so.valid none (all_up none) here next (omega arith) (omega arith) ended closed;
             up = up_more (end_mark app left) (end_mark app ended) (lacked_by app image owed)
                 (omega (
                   arith,
@@ -177,9 +178,9 @@ module _ (image : List ℕ) (ready : IsInsertable image) (owed : List Entry) (le
     abbrev bound_shut : ℕ
     bound_shut = max (shut_bound image ready) (suc (newest_minute (end_mark app image) (card_days app image)))
 
-    here_shut : HoldsSince app image [] bound_shut left
+    here_shut : HoldsSince app image no_hands [] bound_shut left
     here_shut =
-        shut_inserting app off.registration off.now image [] (shut_bound image ready) image ready.sizes ready.fits off.may.long (own image ready) none tt (holds-shut image ready none) bound_shut (omega arith) (omega arith) left moment
+        shut_inserting app off.registration off.now image no_hands [] (shut_bound image ready) image ready.sizes ready.fits off.may.long (own image ready) none tt (holds-shut image ready none) bound_shut (omega arith) (omega arith) left moment
 
     rises_shut : end_mark app image ≤ end_mark app left
     rises_shut = omega (
@@ -198,9 +199,9 @@ module _ (image : List ℕ) (ready : IsInsertable image) (owed : List Entry) (le
           let next = max bound_shut (suc (newest_behind (card_view app left).newest (lacked_by app left owed))) in
           record {
             next = next;
-            holds = subst (λ (l : List Entry). HoldsSince app image l next ended) nothing_left
-                (open_holds app again.registration again.odometer again.now owed image [] bound_shut left ready.sizes fits again.may.long again.may.are so.valid (above (session_time app left) some) tt
-                (subst (λ (l : List Entry). HoldsSince app image l bound_shut left) (sym nothing_left) here_shut) next (omega arith) (omega arith) ended (open_end app again.registration again.odometer again.now owed left ended inserts));
+            holds = subst (λ (l : List Entry). HoldsSince app image no_hands l next ended) nothing_left
+                (open_holds app again.registration again.odometer again.now owed image no_hands [] bound_shut left ready.sizes fits again.may.long again.may.are so.valid (above (session_time app left) some) tt
+                (subst (λ (l : List Entry). HoldsSince app image no_hands l bound_shut left) (sym nothing_left) here_shut) next (omega arith) (omega arith) ended (open_end app again.registration again.odometer again.now owed left ended inserts));
             up = tt;
           }
 
@@ -209,7 +210,7 @@ module _ (image : List ℕ) (ready : IsInsertable image) (owed : List Entry) (le
           let next = max bound_shut (suc (newest_minute (end_mark app left) (card_days app left))) in
           record {
             next = next;
-            holds = shut_inserting app again.registration again.now image [] bound_shut left ready.sizes fits again.may.long so.valid none_left tt here_shut next (omega arith) (omega arith) ended
+            holds = shut_inserting app again.registration again.now image no_hands [] bound_shut left ready.sizes fits again.may.long so.valid none_left tt here_shut next (omega arith) (omega arith) ended
                 (closed_end app again.registration again.odometer again.now owed left ended inserts);
             up = tt;
           }

@@ -25,12 +25,13 @@ use Rattle.card_session.proofs.Revalid.{again_valid}
 use Rattle.card_session.proofs.Stopping.{asked_at, days_there}
 use Rattle.card_session.proofs.Unclosed.{none_valid}
 use Rattle.card_session.proofs.Valid.{above_zero, keep_valid, close_valid}
+use Rattle.hand_model.specs.Written.{no_hands, entries_of}
 use Rattle.card_string.specs.Since.{HoldsSince}
 use Rattle.card_string.proofs.Kept.{holds_kept}
 use Rattle.card_string.proofs.OfCards.{open_holds, shut_inserting, card_keep_holds, card_close_holds}
 use Rattle.card_string.proofs.Since.{holds_up}
 use Rattle.safety_laws.specs.Whole.{IsInsertable, MayBegin, brought_in, IsSitting, IsMoment, inserting, keeping, closing, IsShown}
-use Rattle.safety_laws.proofs.Sitting.{sizes-told, own-valid, above, brought-open, brought-shut, Sits, own, holds-open, shut_bound, holds-shut, sits-of}
+use Rattle.safety_laws.proofs.Sitting.{sizes-told, own-valid, above, brought-open, brought-shut, Sits, none-ready, as-first, own, holds-open, shut_bound, holds-shut, sits-of}
 
 -- a card that holds its string
 pub record Stays (app : Application) (image : List ℕ) (brought : List Entry) (x : List ℕ) : Type 0 where
@@ -38,18 +39,18 @@ pub record Stays (app : Application) (image : List ℕ) (brought : List Entry) (
   pub long : length x ≡ length image
   pub valid : IsValid app x
   pub next : ℕ
-  pub holds : HoldsSince app image brought next x
+  pub holds : HoldsSince app image no_hands brought next x
 
 pub shown : (image : List ℕ) → IsInsertable image → (brought : List Entry) (x : List ℕ) → Stays (own_sizes image) image brought x → IsShown image brought x
 shown image ready brought x so = record {
   sizes = so.sizes;
   long = so.long;
   valid = own-valid (own_sizes image) x so.sizes so.valid;
-  keeps = holds_kept (own_sizes image) ready.sizes image x refl so.sizes brought so.next so.holds;
-  first = so.holds.more;
+  keeps = holds_kept (own_sizes image) ready.sizes image x refl so.sizes no_hands brought so.next so.holds;
+  first = entries_of so.holds.written;
   rest = so.holds.rest;
   split = so.holds.split;
-  there = holds_up (own_sizes image) image brought so.next x so.holds;
+  there = holds_up (own_sizes image) image no_hands brought so.next x so.holds;
   lacked = so.holds.behind;
 }
 
@@ -62,7 +63,7 @@ module _ (s : Session) (sound : IsApplication s.application) (image : List ℕ) 
     long = omega (arith, moment.card.outside.same_length, sits.long);
     valid = keep_valid s.application sound x sits.fits sits.valid sits.session (days_there s x sits.knows) s.registration odometer (grown s.odometer odometer) e y (asked_at s x e.minute late sits.knows) moment.card;
     next = suc e.minute;
-    holds = card_keep_holds s image brought e odometer (suc s.minute) x y sound sits.knows sits.session late (omega (arith, late)) sits.goes moment [] (suc e.minute) tt (omega arith);
+    holds = card_keep_holds s image no_hands brought (suc s.minute) [] e odometer x y (none-ready s image brought e x sound sits.knows sits.session late sits.goes) (as-first s e odometer x y moment) [] (suc e.minute) tt (omega arith);
   }
 
   closing_sizes : (act : Activity) (y : List ℕ) → IsCardClosing s act x y → own_sizes y ≡ own_sizes x
@@ -92,7 +93,7 @@ module _ (s : Session) (sound : IsApplication s.application) (image : List ℕ) 
         long = closing_long act y moment;
         valid = close_valid_at act y moment;
         next = bound;
-        holds = card_close_holds s act image brought (suc s.minute) bound x y sound sits.fits sits.knows sits.session (omega arith) (omega arith) sits.goes moment;
+        holds = card_close_holds s act image no_hands brought (suc s.minute) bound x y sound sits.fits sits.knows sits.session (omega arith) (omega arith) sits.goes moment;
       }
 
 -- ---- an insertion
@@ -117,8 +118,8 @@ module _ (image : List ℕ) (ready : IsInsertable image) where
           long = same_long;
           valid = none_valid app ready.sizes image ready.fits registration may.long odometer now owed (own image ready) none.0 x none.1;
           next = bound;
-          holds = subst (λ (l : List Entry). HoldsSince app image l bound x) (sym (brought-shut image owed none.0))
-              (shut_inserting app registration now image [] (shut_bound image ready) image ready.sizes ready.fits may.long (own image ready) none.0 tt (holds-shut image ready none.0) bound (omega arith) (omega arith) x none.1);
+          holds = subst (λ (l : List Entry). HoldsSince app image no_hands l bound x) (sym (brought-shut image owed none.0))
+              (shut_inserting app registration now image no_hands [] (shut_bound image ready) image ready.sizes ready.fits may.long (own image ready) none.0 tt (holds-shut image ready none.0) bound (omega arith) (omega arith) x none.1);
         })
         (λ some.
         let bound = max (suc (end_mark app image)) (suc (newest_behind (card_view app image).newest (lacked_by app image owed))) in
@@ -128,8 +129,8 @@ module _ (image : List ℕ) (ready : IsInsertable image) where
           long = same_long;
           valid = again_valid app ready.sizes image ready.fits registration may.long odometer now owed may.are.0 (own image ready) (above_zero (session_time app image) open_) x some.0 some.1;
           next = bound;
-          holds = subst (λ (l : List Entry). HoldsSince app image l bound x) (sym (brought-open image owed some.0))
-              (open_holds app registration odometer now owed image [] (suc (end_mark app image)) image ready.sizes ready.fits may.long may.are (own image ready) open_ tt (holds-open image ready owed now may.are some.0) bound (omega arith) (omega arith) x some.1);
+          holds = subst (λ (l : List Entry). HoldsSince app image no_hands l bound x) (sym (brought-open image owed some.0))
+              (open_holds app registration odometer now owed image no_hands [] (suc (end_mark app image)) image ready.sizes ready.fits may.long may.are (own image ready) open_ tt (holds-open image ready owed now may.are some.0) bound (omega arith) (omega arith) x some.1);
         }) moment
 
 -- ---- EACH MOMENT
@@ -151,14 +152,14 @@ module _ (image : List ℕ) (ready : IsInsertable image) (brought : List Entry) 
   close_shown : (act : Activity) (y : List ℕ) → IsCardClosing s act x y → IsShown image brought y
   close_shown act y moment = shown image ready brought y (subst (λ (a : Application). Stays a image brought y) so.same (close_stays s sound image brought x here act y moment))
 
-  all_here : HoldsSince (own_sizes image) image brought (suc s.minute) x
-  all_here = record { more = brought; rest = []; split = sym (append-nil brought); behind = tt; stands = inl so.goes }
+  all_here : HoldsSince (own_sizes image) image no_hands brought (suc s.minute) x
+  all_here = record { written = so.goes.written; rest = []; split = sym so.goes.has_all ∙ sym (append-nil (entries_of so.goes.written)); lie = so.goes.lie; behind = tt; stands = inl so.goes.goes }
 
   pub between-shown : IsShown image brought x × AllUpTo (end_mark (own_sizes image) x) brought
   unfolding all_here
   between-shown = (
     shown image ready brought x (record { sizes = so.sizes; long = so.long; valid = so.valid; next = suc s.minute; holds = all_here }),
-    holds_up (own_sizes image) image brought (suc s.minute) x all_here,
+    subst (AllUpTo (end_mark (own_sizes image) x)) so.goes.has_all (holds_up (own_sizes image) image no_hands brought (suc s.minute) x all_here),
   )
 
 pub moment-shown : (image : List ℕ) → IsInsertable image → {brought : List Entry} {x : List ℕ} → IsMoment image brought x → IsShown image brought x

@@ -1,5 +1,5 @@
 -- What is known of a card between two calls of its session.
-use Rattle.std.proofs.Common.{◌≡◌, ◌≢◌, inr, ⊎_elim, ℕ, suc, ◌<◌, ◌≤◌, max, Bool, true, false, cond, List, [], ◌∷◌, ◌++◌, length, refl, sym, ◌∙◌, ap, subst, arith}
+use Rattle.std.proofs.Common.{◌≡◌, ◌≢◌, inl, inr, ⊎_elim, ℕ, suc, ◌<◌, ◌≤◌, max, Bool, true, false, cond, List, [], ◌∷◌, ◌++◌, length, refl, sym, ◌∙◌, ap, subst, arith}
 use Rattle.std.specs.Prelude.{nat_eq}
 use Rattle.activity_codec.specs.declared.entries.Entry.{Entry}
 use Rattle.tacho_types.specs.declared.texts.Registration.{Registration}
@@ -34,7 +34,9 @@ use Rattle.card_session.proofs.Revalid.{again_valid}
 use Rattle.card_session.proofs.Stopping.{asked_at, days_there, mark_at}
 use Rattle.card_session.proofs.Unclosed.{none_valid}
 use Rattle.card_session.proofs.Valid.{above_zero, keep_valid}
-use Rattle.card_string.specs.Since.{GoesSince, HoldsSince}
+use Rattle.hand_model.specs.Written.{no_hands}
+use Rattle.card_by_hand.specs.First.{IsFirstKeeping}
+use Rattle.card_string.specs.Since.{IsReadySince, SitsSince, HoldsSince}
 use Rattle.card_string.proofs.OfCards.{open_sits, shut_sits, card_kept}
 use Rattle.card_string.proofs.Replayed.{mark_least}
 use Rattle.card_string.proofs.Small.{card_small, trimmed_small, last_of_small}
@@ -101,9 +103,27 @@ pub record Sits (app : Application) (image : List ℕ) (brought : List Entry) (s
   pub session : 0 < session_time app x
   pub valid : IsValid app x
   pub may_end : MayEnd app x
-  pub goes : GoesSince app image brought (suc s.minute) x
+  pub goes : SitsSince app image no_hands brought (suc s.minute) x
   pub knows : IsSession s x
   pub same : s.application ≡ app
+
+-- a keep without an entry by hand
+pub none-ready : (s : Session) (image : List ℕ) (brought : List Entry) (e : Entry) (x : List ℕ) → IsApplication s.application → IsSession s x → 0 < session_time s.application x → s.minute < e.minute → SitsSince s.application image no_hands brought (suc s.minute) x
+    → IsReadySince s image no_hands brought (suc s.minute) [] e x
+none-ready s image brought e x sound knows session late sits = record {
+  sizes = sound;
+  knows = knows;
+  session = session;
+  later = late;
+  before = inl (omega (arith, late));
+  sits = sits;
+  are = record { lie = late; day = tt };
+  few = omega arith;
+  shut = λ some. absurd (omega (arith, some));
+}
+
+pub as-first : (s : Session) (e : Entry) (odometer : ℕ) (x y : List ℕ) → IsCardKeeping s e odometer x y → IsFirstKeeping s [] e odometer x y
+as-first s e odometer x y keeping = inr (record { between = s; card = x; entered = (refl, refl); keeping = keeping })
 
 -- a keep
 module _ (s : Session) (sound : IsApplication s.application) (image : List ℕ) (brought : List Entry) (x : List ℕ) (sits : Sits s.application image brought s x) (e : Entry) (odometer : ℕ) (late : s.minute < e.minute) where
@@ -115,8 +135,8 @@ module _ (s : Session) (sound : IsApplication s.application) (image : List ℕ) 
     session = omega (arith, session_same s.application _ x y moment.card, sits.session);
     valid = keep_valid s.application sound x sits.fits sits.valid sits.session (days_there s x sits.knows) s.registration odometer (grown s.odometer odometer) e y (asked_at s x e.minute late sits.knows) moment.card;
     may_end = keep_ends s.application sound x sits.fits sits.valid (above_zero (session_time s.application x) sits.session) (days_there s x sits.knows) s.registration odometer (grown s.odometer odometer) e y (asked_at s x e.minute late sits.knows) moment.card at;
-    goes = subst (λ (m : ℕ). GoesSince s.application image (brought ++ e ∷ []) (suc m) y) (sym minute)
-        (card_kept s t image brought e odometer (suc s.minute) x y sound sits.knows sits.session late (omega (arith, late)) sits.goes now);
+    goes = subst (λ (m : ℕ). SitsSince s.application image no_hands (brought ++ e ∷ []) (suc m) y) (sym minute)
+        (card_kept s image no_hands brought (suc s.minute) [] e odometer x y (none-ready s image brought e x sound sits.knows sits.session late sits.goes) (as-first s e odometer x y moment) at);
     knows = now.knows;
     same = same;
   }
@@ -146,7 +166,7 @@ module _ (image : List ℕ) (ready : IsInsertable image) where
   are = valid-days app ready.sizes image ready.fits own
 
   -- a session was left open
-  pub holds-open : (owed : List Entry) (now : ℕ) → AreOwed now owed → session_time app image ≢ 0 → HoldsSince app image (lacked_by app image owed) (suc (end_mark app image)) image
+  pub holds-open : (owed : List Entry) (now : ℕ) → AreOwed now owed → session_time app image ≢ 0 → HoldsSince app image no_hands (lacked_by app image owed) (suc (end_mark app image)) image
   holds-open owed now owes some =
       starts_open image (lacked_by app image owed) (suc (end_mark app image)) (lacked_follow 1439 (end_mark app image) owed owes.0) are (omega arith) (above (session_time app image) some)
       (last_of_small (trimmed (end_mark app image) (card_days app image)) (trimmed_small (end_mark app image) (card_days app image) (card_small app image ready.bytes)))
@@ -154,7 +174,7 @@ module _ (image : List ℕ) (ready : IsInsertable image) where
   abbrev pub shut_bound : ℕ
   shut_bound = suc (max (end_mark app image) (newest_word (card_days app image)))
 
-  pub holds-shut : session_time app image ≡ 0 → HoldsSince app image [] shut_bound image
+  pub holds-shut : session_time app image ≡ 0 → HoldsSince app image no_hands [] shut_bound image
   holds-shut none = starts_shut image [] shut_bound tt are own none (omega arith) (last_of_small (card_days app image) (card_small app image ready.bytes))
 
   module _ (registration : Registration) (odometer now : ℕ) (owed : List Entry) (may : MayBegin registration now owed) (s : Session) (x : List ℕ) (done : IsCardInserted app registration odometer owed now image x)
@@ -171,8 +191,8 @@ module _ (image : List ℕ) (ready : IsInsertable image) where
           session = omega (arith, may.some, closed_begun app image ready.fits registration may.long now may.few odometer owed x none.1);
           valid = none_valid app ready.sizes image ready.fits registration may.long odometer now owed own none.0 x (closed_end app registration odometer now owed image x none.1);
           may_end = none_ends app ready.sizes image ready.fits registration may.long odometer now owed own none.0 x none.1;
-          goes = subst (λ (l : List Entry). GoesSince app image l (suc s.minute) x) (sym (brought-shut image owed none.0))
-              (shut_sits app registration now image [] shut_bound image ready.sizes ready.fits may.long own none.0 tt (holds-shut none.0) x s none.1 same knows
+          goes = subst (λ (l : List Entry). SitsSince app image no_hands l (suc s.minute) x) (sym (brought-shut image owed none.0))
+              (shut_sits app registration now image no_hands [] shut_bound image ready.sizes ready.fits may.long own none.0 tt (holds-shut none.0) x s none.1 same knows
               (omega (arith, knows.minute, ap (λ (a : Application). newest_in (book_of a x)) same, closed_answered app ready.sizes image ready.fits registration may.long now own none.0 x none.1, mark-first app image, view_word app image)));
           knows = knows;
           same = same;
@@ -185,8 +205,8 @@ module _ (image : List ℕ) (ready : IsInsertable image) where
           valid = again_valid app ready.sizes image ready.fits registration may.long odometer now owed may.are.0 own (above_zero (session_time app image) (above (session_time app image) some.0)) x some.0
               (open_end app registration odometer now owed image x some.1);
           may_end = open_ends app ready.sizes image ready.fits registration may.long odometer now owed own may.are (above_zero (session_time app image) (above (session_time app image) some.0)) some.0 x some.1;
-          goes = subst (λ (l : List Entry). GoesSince app image l (suc s.minute) x) (sym (brought-open image owed some.0))
-              (open_sits app registration odometer now owed image [] (suc (end_mark app image)) image ready.sizes ready.fits may.long may.are own (above (session_time app image) some.0) tt (holds-open owed now may.are some.0)
+          goes = subst (λ (l : List Entry). SitsSince app image no_hands l (suc s.minute) x) (sym (brought-open image owed some.0))
+              (open_sits app registration odometer now owed image no_hands [] (suc (end_mark app image)) image ready.sizes ready.fits may.long may.are own (above (session_time app image) some.0) tt (holds-open owed now may.are some.0)
               (let low = mark-behind app image (lacked_by app image owed) follow in omega (arith, low)) x s some.1 same knows).0;
           knows = knows;
           same = same;

@@ -33,8 +33,8 @@ pub record MayBegin (registration : Registration) (now : ℕ) (owed : List Entry
   pub few : now < 2 ^ 32
   pub are : AreOwed now owed
 
--- A SESSION SO FAR, of a card that had this image: it was inserted, and then entries were kept, each later than the
--- newest minute. These entries were brought; the session knows this, and the card is so.
+-- A SESSION SO FAR without an entry by hand, of a card that had this image: it was inserted, and then entries were
+-- kept, each later than the newest minute. These entries were brought; the session knows this, and the card is so.
 pub data IsSitting (image : List ℕ) : List Entry → Session → List ℕ → Type 0 where
   inserted : (registration : Registration) (odometer now : ℕ) (owed : List Entry) (s : Session) (x : List ℕ)
       → MayBegin registration now owed →
@@ -64,7 +64,7 @@ pub record IsShown (image : List ℕ) (brought : List Entry) (x : List ℕ) : Ty
   pub sizes : own_sizes x ≡ own_sizes image
   pub long : length x ≡ length image
   pub valid : IsOwnValid x
-  pub keeps : KeepsSince image brought x
+  pub keeps : KeepsSince image [] brought x
   pub first : List Entry
   pub rest : List Entry
   pub split : brought ≡ first ++ rest

@@ -24,6 +24,7 @@ use Rattle.history_model.proofs.Books.{history-append}
 use Rattle.device_rule.proofs.Holding.{agree, unit-holds, card-holds}
 use Rattle.device_rule.proofs.Overwriting.{owed-entries_count}
 use Rattle.safety_model.specs.Recording.{Recording, card_image, brought, start_of, history_of, lost_of, unit_seen, IsPassed, MayCome}
+use Rattle.safety_model.specs.Hands.{hands_done}
 use Rattle.safety_model.specs.Cards.{CardShows}
 use Rattle.safety_model.specs.Unit.{UnitShows}
 
@@ -66,7 +67,7 @@ module _ (start : List ShownDay) (past : List HistoryMinute) (lost : List (List 
       (k.0, subst (λ (is : List HistoryMinute). Contains is i) (sym k.1) held.1)
 
 -- what is carried of a card gives what is stated of it
-module _ (r : Recording) (c : Card) (Keeps : ℕ → List Entry → Held → Type 0) (gives : (next : ℕ) (all : List Entry) (held : Held) → Keeps next all held → KeepsFrom (card_image r c) next all held) where
+module _ (r : Recording) (c : Card) (Keeps : ℕ → List Entry → Held → Type 0) (gives : (next : ℕ) (all : List Entry) (held : Held) → Keeps next all held → KeepsFrom (card_image r c) (hands_done r c) next all held) where
   started : (c : Card) → card_start (start_of r) c ≡ brought r c
   started A = refl
   started B = refl
@@ -108,13 +109,13 @@ module _ (r : Recording) (c : Card) (Keeps : ℕ → List Entry → Held → Typ
 
 -- at the end a card's entries followed by those owed to it are the expected ones up to the unit's mark, where what is carried of a
 -- card gives the stated rule, and the further entries rise and are later than the words at the start
-pub agrees : (r : Recording) (c : Card) (Keeps : ℕ → List Entry → Held → Type 0) → ((next : ℕ) (all : List Entry) (held : Held) → Keeps next all held → KeepsFrom (card_image r c) next all held) →
+pub agrees : (r : Recording) (c : Card) (Keeps : ℕ → List Entry → Held → Type 0) → ((next : ℕ) (all : List Entry) (held : Held) → Keeps next all held → KeepsFrom (card_image r c) (hands_done r c) next all held) →
     AreDays 0 (card_days (own_sizes (card_image r c)) (card_image r c)) → (s : Standing) (u x : List ℕ) → Rise ((brought r c).owed ++ card_history c (up_to (unit_seen r u).last (history_of r))) →
     All (λ e. (brought r c).word < e.minute) ((brought r c).owed ++ card_history c (up_to (unit_seen r u).last (history_of r))) → Meets c (brought r c) Keeps (history_of r) s (unit_seen r u) (own_view x) →
-    KeepsOf (card_image r c) ((brought r c).entries ++ ((brought r c).owed ++ card_history c (up_to (unit_seen r u).last (history_of r)))) (record (own_view x).held { entries = (own_view x).held.entries ++ owed c (unit_seen r u) (own_view x) })
+    KeepsOf (card_image r c) (hands_done r c) ((brought r c).entries ++ ((brought r c).owed ++ card_history c (up_to (unit_seen r u).last (history_of r)))) (record (own_view x).held { entries = (own_view x).held.entries ++ owed c (unit_seen r u) (own_view x) })
 agrees r c Keeps gives are s u x rise late m =
-    agree c (brought r c) Keeps (KeepsOf (card_image r c))
-    (λ next mark more due held low had above after rises kept. owed-entries_count (card_image r c) (brought r c) are refl refl refl next mark more due held low had above after rises (gives (next_of next due) ((brought r c).entries ++ more) held kept))
+    agree c (brought r c) Keeps (KeepsOf (card_image r c) (hands_done r c))
+    (λ next mark more due held low had above after rises kept. owed-entries_count (card_image r c) (hands_done r c) (brought r c) are refl refl refl next mark more due held low had above after rises (gives (next_of next due) ((brought r c).entries ++ more) held kept))
     (history_of r) s (unit_seen r u) (own_view x) rise late m
 
 -- a card that was not written stays as it was, all bytes of it

@@ -2,3 +2,4 @@ pub mod Giving
 pub mod Verdicts
 pub mod Whole
 pub mod Issued
+pub mod StopRows

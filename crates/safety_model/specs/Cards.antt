@@ -23,6 +23,7 @@ use Rattle.device_rule.specs.Own.{own_view, own_number, IsOwnValid, KeepsOf}
 use Rattle.device_rule.specs.Views.{owed}
 use Rattle.safety_model.specs.Recording.{Recording, card_image, told_of, brought, history_of, expected_of, unit_seen}
 use Rattle.safety_model.specs.Unit.{marks_of, Increase}
+use Rattle.safety_model.specs.Hands.{hands_done}
 
 -- a cut before a second, after which the unit was found not to have kept this minute
 abbrev pub shows_lost : (second minute : ℕ) → Break → Bool
@@ -37,7 +38,7 @@ module _ (r : Recording) (c : Card) where
     pub more : List Entry
     pub rest : List Entry
     pub whole : expected_of r c ≡ (brought r c).entries ++ (more ++ rest)
-    pub kept : KeepsOf (card_image r c) ((brought r c).entries ++ more) (own_view x).held
+    pub kept : KeepsOf (card_image r c) (hands_done r c) ((brought r c).entries ++ more) (own_view x).held
 
   -- it was found to tell of a later time
   abbrev pub is_overlap : Verdict → Bool
@@ -123,6 +124,6 @@ module _ (r : Recording) (c : Card) where
   pub record Agree (u x : List ℕ) : Type 0 where
     pub behind : (e : Entry) → Contains (card_history c (history_of r)) e → Contains (own_view x).held.entries e →
         HasDay (recorded u) (e.minute / 1440) → StandsInUnit (unit_minutes u) e
-    pub rest : KeepsOf (card_image r c)
+    pub rest : KeepsOf (card_image r c) (hands_done r c)
         (expected_to (last_kept u))
         (record (own_view x).held { entries = (own_view x).held.entries ++ owed c (unit_seen r u) (own_view x) })

@@ -5,6 +5,7 @@ use Rattle.trace_model.specs.declared.Card.{Card}
 use Rattle.trace_model.specs.declared.Card.TheVariants.{A, B}
 use Rattle.trace_model.specs.Trace.{TraceSecond}
 use Rattle.minute_model.specs.declared.Rule.{Rule}
+use Rattle.log_model.specs.declared.lines.Refused.{Refused}
 use Rattle.log_model.specs.Log.{RunLog}
 use Rattle.log_model.specs.Course.{ToldSecond, went}
 use Rattle.history_model.specs.Minutes.{HistoryMinute}
@@ -13,8 +14,8 @@ use Rattle.history_model.specs.History.{unit_history, with_lost}
 use Rattle.device_rule.specs.Own.{own_view, own_number}
 use Rattle.device_rule.specs.Views.{UnitView, unit_view, owed, beyond}
 
--- a run: the rule of minutes, the images that a read gives at the end of the opening, the seconds of the trace, and the
--- log
+-- a run: the rule of minutes, the images that a read gives at the end of the opening, the seconds of the trace, the
+-- log, and the refusals of sessions, which stand beside it
 pub record Recording : Type 0 where
   pub rule : Rule
   pub unit : List ℕ
@@ -22,6 +23,7 @@ pub record Recording : Type 0 where
   pub card_b : List ℕ
   pub trace : List TraceSecond
   pub log : RunLog
+  pub stops : List Refused
 
 -- the image of a card at the start
 abbrev pub card_image : Recording → Card → List ℕ

@@ -22,6 +22,8 @@ use Rattle.device_rule.specs.Views.{owed}
 use Rattle.safety_model.specs.Recording.{Recording, card_image, told_of, start_of, history_of, lost_of, unit_seen}
 use Rattle.safety_model.specs.Unit.{UnitSafe, issued_bytes}
 use Rattle.safety_model.specs.Cards.{acceptances, CardSafe, Agree}
+use Rattle.safety_model.specs.ByHand.{HandsSafe, StopsHands}
+use Rattle.safety_model.specs.Stops.{TellsEachStop}
 
 -- the three devices of a run at one moment
 pub record Devices : Type 1 where
@@ -92,6 +94,7 @@ module _ (r : Recording) where
     pub card : (c : Card) → CardSafe r c marks (card_of began c).clock (card_of now c)
     pub both : (c : Card) (u x : List ℕ) → IsOwnValid (card_image r c) → now.unit.may_leave u →
         (card_of now c).may_leave x → Agree r c u x
+    pub hands : (c : Card) → HandsSafe r c marks (card_of began c).clock (card_of now c)
 
   -- CAUSES: each line of the log has its cause, and what happened has its line
   pub record IsCaused (marks : List Mark) (began now : Devices) : Type 0 where
@@ -104,6 +107,9 @@ module _ (r : Recording) where
         ⊎ (IsUnfound b × ((c : Card) (u : ℕ) → IsOwnValid (card_image r c) → Contains (acceptances r c) u
         → u ≤ second_of b))
     pub complete : IsComplete r.rule (start_of r) r.log (told_of r) marks
+    -- and so has each refusal of an entry by hand by a session
+    pub stops : (c : Card) → IsOwnValid (card_image r c) → StopsHands r c marks
+    pub each_stop : TellsEachStop r
 
   -- a run begins where the unit's image decodes, the trace's first second lies in a later minute than the last-kept
   -- one, and the cards that are valid have two numbers

@@ -1,3 +1,4 @@
+use Rattle.std.proofs.lemmas.Grind.{common_steps}
 use Rattle.std.proofs.Common.{rules, ◌≡◌, subst, arith}
 use Rattle.card_layout.proofs.Sizes.{largest_image}
 use Rattle.device_rule.specs.Views.{other}
@@ -29,48 +30,59 @@ returns-clause-enters g c =
     let moved = subst (λ (k : State). IsEntering c.args.app c.args.registration.now c.args.odometer.0 c.args.now.0 (g.M.Medium.state c.args.unit.now) (g.M.Medium.state c.enter_by.new.unit) k (g.C.Chip.state c.enter_by.new.card.chip.now) c.enter_by.result) was enters in
     search (rules, moved)
 
-pub returns-clause-leaves : goal.returns-clause-leaves
-returns-clause-leaves g c =
-    let name = c.resume-port.result.chip.ghost_name in
-    let after = c.enter_by.new.card.chip.ghost_name in
-    let X = g.C.Chip.state c.resume-port.result.chip.now in
-    let Y = g.C.Chip.state c.enter_by.new.card.chip.now in
-    let was : g.C.Chip.state c.resume-port.result.chip.now ≡ g.C.Chip.state c.args.card.now = search rules in
-    let same = port_same c.resume-port.result.application c.enter_by.new.card.application name after X Y c.enter_by.ensures.leaves in
-    let run = port_leaves c.resume-port.result.application c.enter_by.new.card.application name after X Y same c.enter_by.ensures.leaves in
-    let leaves = subst (λ (s : State). LeavesOnly s (g.C.Chip.state c.enter_by.new.card.chip.now) Anything) was run in
-    search (rules, leaves)
+pub returns-clause-row : goal.returns-clause-row
+returns-clause-row g c = record {
+  own = c.enter_by.ensures.row;
+  low = c.enter_by.ensures.low;
+}
 
-pub returns-clause-holds : goal.returns-clause-holds
-returns-clause-holds g c = λ s due b marks h. holds-read s due b marks h (g.met.M.Medium.coherent c.args.unit.now) c.enter_by.ensures.enters.unit.leaves
+pub returns-clause-rules : goal.returns-clause-rules
+returns-clause-rules g c = record {
+  holds = λ s due b marks h. holds-read s due b marks h (g.met.M.Medium.coherent c.args.unit.now) c.enter_by.ensures.enters.unit.leaves;
+  others = λ r b z m d rule. unit-read r (other c.args.which) b z m d (g.M.Medium.state c.args.unit.now) (g.M.Medium.state c.enter_by.new.unit) (g.D.Chip.state c.args.others.now) (g.met.M.Medium.coherent c.args.unit.now) c.enter_by.ensures.enters.unit.leaves rule;
+  mine =
+      λ r s due b marks h none late tells tells_card asked rule.
+      entering-rule r c.args.which s due b marks c.args.app c.requires.port.good c.args.registration.now c.length_of-bytes.ensures c.args.odometer.0 c.args.now.0 (omega (arith, c.requires.may.last)) h none late (g.met.M.Medium.coherent c.args.unit.now) (g.met.M.Medium.coherent c.enter_by.new.unit)
+      (g.met.C.Chip.coherent c.args.card.now) (omega (arith, largest_image c.args.app c.requires.port.good, c.requires.port.size)) tells tells_card asked rule c.enter_by.result (returns-clause-enters g c);
+  entered =
+      λ r s due b marks h none late tells tells_card asked rule.
+      entered-answer r c.args.which s due b marks c.args.app c.requires.port.good c.args.registration.now c.length_of-bytes.ensures c.args.odometer.0 c.args.now.0 (omega (arith, c.requires.may.last)) h none late (g.met.M.Medium.coherent c.args.unit.now) (g.met.M.Medium.coherent c.enter_by.new.unit)
+      (g.met.C.Chip.coherent c.args.card.now) (g.met.C.Chip.coherent _) (omega (arith, largest_image c.args.app c.requires.port.good, c.requires.port.size)) tells tells_card asked rule c.enter_by.result (returns-clause-enters g c);
+}
 
-pub returns-clause-other : goal.returns-clause-other
-returns-clause-other g c = λ r b z m d rule. unit-read r (other c.args.which) b z m d (g.M.Medium.state c.args.unit.now) (g.M.Medium.state c.enter_by.new.unit) (g.D.Chip.state c.args.others.now) (g.met.M.Medium.coherent c.args.unit.now) c.enter_by.ensures.enters.unit.leaves rule
+pub returns-clause-stands : goal.returns-clause-stands
+returns-clause-stands g c = record {
+  unit = unit-still (g.M.Medium.state c.args.unit.now) (g.M.Medium.state c.enter_by.new.unit) c.enter_by.ensures.enters.unit.leaves c.requires.ready.unit;
+  agrees = λ well. agrees-still c.args.journal.now _ _ (c.enter_by.ensures.enters.unit.same well) c.requires.ready.agrees;
+}
 
-pub returns-clause-mine : goal.returns-clause-mine
-returns-clause-mine g c = λ r s due b marks h none late tells tells_card asked rule.
-    entering-rule r c.args.which s due b marks c.args.app c.requires.port.good c.args.registration.now c.length_of-bytes.ensures c.args.odometer.0 c.args.now.0 (omega (arith, c.requires.last)) h none late (g.met.M.Medium.coherent c.args.unit.now) (g.met.M.Medium.coherent c.enter_by.new.unit)
-    (g.met.C.Chip.coherent c.args.card.now) (omega (arith, largest_image c.args.app c.requires.port.good, c.requires.port.size)) tells tells_card asked rule c.enter_by.result (returns-clause-enters g c)
+pub returns-clause-card : goal.returns-clause-card
+returns-clause-card g c = record {
+  leaves =
+      let name = c.resume-port.result.chip.ghost_name in
+      let after = c.enter_by.new.card.chip.ghost_name in
+      let X = g.C.Chip.state c.resume-port.result.chip.now in
+      let Y = g.C.Chip.state c.enter_by.new.card.chip.now in
+      let was : g.C.Chip.state c.resume-port.result.chip.now ≡ g.C.Chip.state c.args.card.now = search rules in
+      let same = port_same c.resume-port.result.application c.enter_by.new.card.application name after X Y c.enter_by.ensures.leaves in
+      let run = port_leaves c.resume-port.result.application c.enter_by.new.card.application name after X Y same c.enter_by.ensures.leaves in
+      let leaves = subst (λ (s : State). LeavesOnly s (g.C.Chip.state c.enter_by.new.card.chip.now) Anything) was run in
+      search (rules, leaves);
+  in_time =
+      let name = c.resume-port.result.chip.ghost_name in
+      let after = c.enter_by.new.card.chip.ghost_name in
+      let X = g.C.Chip.state c.resume-port.result.chip.now in
+      let Y = g.C.Chip.state c.enter_by.new.card.chip.now in
+      let was : g.C.Chip.state c.resume-port.result.chip.now ≡ g.C.Chip.state c.args.card.now = search rules in
+      let same = port_same c.resume-port.result.application c.enter_by.new.card.application name after X Y c.enter_by.ensures.leaves in
+      let in_time = port_in_time c.resume-port.result.application c.enter_by.new.card.application name after X Y c.args.app c.args.registration.now c.args.odometer.0 c.args.now.0 (g.M.Medium.state c.args.unit.now) (g.M.Medium.state c.enter_by.new.unit) same c.enter_by.ensures.in_time in
+      let moved = subst (λ (s : State). IsInTime c.args.app c.args.now.0 s (g.C.Chip.state c.enter_by.new.card.chip.now)) was in_time in
+      search (rules, moved);
+  port = first_of (search rules, grind (arith, common_steps));
+}
 
-pub returns-clause-entered : goal.returns-clause-entered
-returns-clause-entered g c = λ r s due b marks h none late tells tells_card asked rule.
-    entered-answer r c.args.which s due b marks c.args.app c.requires.port.good c.args.registration.now c.length_of-bytes.ensures c.args.odometer.0 c.args.now.0 (omega (arith, c.requires.last)) h none late (g.met.M.Medium.coherent c.args.unit.now) (g.met.M.Medium.coherent c.enter_by.new.unit)
-    (g.met.C.Chip.coherent c.args.card.now) (g.met.C.Chip.coherent _) (omega (arith, largest_image c.args.app c.requires.port.good, c.requires.port.size)) tells tells_card asked rule c.enter_by.result (returns-clause-enters g c)
+pub enter_by-requires-clause-ready : goal.enter_by-requires-clause-ready
+enter_by-requires-clause-ready g c = c.requires.ready
 
-pub returns-clause-unit : goal.returns-clause-unit
-returns-clause-unit g c = unit-still (g.M.Medium.state c.args.unit.now) (g.M.Medium.state c.enter_by.new.unit) c.enter_by.ensures.enters.unit.leaves c.requires.unit
-
-pub returns-clause-agrees : goal.returns-clause-agrees
-returns-clause-agrees g c = λ well. agrees-still c.args.journal.now _ _ (c.enter_by.ensures.enters.unit.same well) c.requires.agrees
-
-pub returns-clause-in_time : goal.returns-clause-in_time
-returns-clause-in_time g c =
-    let name = c.resume-port.result.chip.ghost_name in
-    let after = c.enter_by.new.card.chip.ghost_name in
-    let X = g.C.Chip.state c.resume-port.result.chip.now in
-    let Y = g.C.Chip.state c.enter_by.new.card.chip.now in
-    let was : g.C.Chip.state c.resume-port.result.chip.now ≡ g.C.Chip.state c.args.card.now = search rules in
-    let same = port_same c.resume-port.result.application c.enter_by.new.card.application name after X Y c.enter_by.ensures.leaves in
-    let in_time = port_in_time c.resume-port.result.application c.enter_by.new.card.application name after X Y c.args.app c.args.registration.now c.args.odometer.0 c.args.now.0 (g.M.Medium.state c.args.unit.now) (g.M.Medium.state c.enter_by.new.unit) same c.enter_by.ensures.in_time in
-    let moved = subst (λ (s : State). IsInTime c.args.app c.args.now.0 s (g.C.Chip.state c.enter_by.new.card.chip.now)) was in_time in
-    search (rules, moved)
+pub enter_by-requires-clause-may : goal.enter_by-requires-clause-may
+enter_by-requires-clause-may g c = c.requires.may

@@ -7,16 +7,16 @@ use Rattle.device_calls.specs.OnCard.{Anything}
 use Rattle.device_calls.proofs.entering.enter_as.Goals as goal
 
 pub insert_by-requires-clause-some : goal.insert_by-requires-clause-some
-insert_by-requires-clause-some g c = omega (arith, c.requires.late)
+insert_by-requires-clause-some g c = omega (arith, c.requires.may.late)
 
 pub insert_by-requires-clause-owed : goal.insert_by-requires-clause-owed
-insert_by-requires-clause-owed g c = owed_fit _ _ c.args.now.0 c.in-Ok.asked.owed.items c.requires.late c.in-Ok.ensures.sane
+insert_by-requires-clause-owed g c = owed_fit _ _ c.args.now.0 c.in-Ok.asked.owed.items c.requires.may.late c.in-Ok.ensures.sane
 
 pub returns-in-Ok-clause-enters : goal.returns-in-Ok-clause-enters
 returns-in-Ok-clause-enters g c =
     enters_inserted c.args.app.now c.args.registration.now c.args.odometer.0 c.args.now.0 (g.M.Medium.state c.args.unit.now) (g.M.Medium.state c.ask.new.unit) (g.C.Medium.state c.args.card.now) (g.C.Medium.state c.insert_by.new.card)
     c.args.look c.in-Ok.asked.owed.items c.insert_by.result c.requires.sizes (g.met.C.Medium.coherent c.args.card.now) c.requires.works c.requires.card.keep.fits c.in-Ok.ensures.reads c.requires.looked c.in-Ok.ensures.owed
-    (owed_fit _ _ c.args.now.0 c.in-Ok.asked.owed.items c.requires.late c.in-Ok.ensures.sane) c.insert_by.ensures.inserted
+    (owed_fit _ _ c.args.now.0 c.in-Ok.asked.owed.items c.requires.may.late c.in-Ok.ensures.sane) c.insert_by.ensures.inserted
 
 pub returns-in-Err-clause-enters : goal.returns-in-Err-clause-enters
 returns-in-Err-clause-enters g c =

@@ -45,3 +45,9 @@ returns-in-Ok-clause-in_time g c = in_time_after c.args.app.now c.args.registrat
 
 pub returns-in-Err-clause-in_time : goal.returns-in-Err-clause-in_time
 returns-in-Err-clause-in_time g c = inl c.in-Err.ensures.reads.leaves
+
+pub enter_as-requires-clause-ready : goal.enter_as-requires-clause-ready
+enter_as-requires-clause-ready g c = c.requires.ready
+
+pub enter_as-requires-clause-may : goal.enter_as-requires-clause-may
+enter_as-requires-clause-may g c = c.requires.may

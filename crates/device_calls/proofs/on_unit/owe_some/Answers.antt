@@ -10,36 +10,46 @@ use Rattle.device_calls.specs.Rule.{opened, IsKeptUp}
 use Rattle.device_calls.proofs.MinuteSaid.{held_up}
 use Rattle.device_calls.proofs.on_unit.owe_some.Goals as goal
 
-pub returns-in-None-clause-holds : goal.returns-in-None-clause-holds
-returns-in-None-clause-holds g c = λ s due b marks whose h. h
+pub returns-in-None-clause-stands : goal.returns-in-None-clause-stands
+returns-in-None-clause-stands g c = record {
+  unit = c.requires.ready.unit;
+  same = refl;
+  agrees = c.requires.ready.agrees;
+  rows = λ r n has. has;
+}
 
-pub returns-in-Some-clause-holds : goal.returns-in-Some-clause-holds
-returns-in-Some-clause-holds g c = c.owe.ensures.holds
-
-pub returns-in-None-clause-mine : goal.returns-in-None-clause-mine
-returns-in-None-clause-mine g c = λ r s due b marks z named h says rule.
-    subst (λ (o : Option Entry). IsKeptUp r c.args.which b z (option_to_list o) [] false (g.M.Medium.state c.args.unit.now) (g.C.Chip.state c.args.mine.now)) (sym c.in-None.is)
-    (held_up r c.args.which b z [] [] (g.M.Medium.state c.args.unit.now) (g.C.Chip.state c.args.mine.now) rule)
-
-pub returns-in-None-clause-other : goal.returns-in-None-clause-other
-returns-in-None-clause-other g c = λ r s due b marks y z m d named h says mine others. held_up r (other c.args.which) b z m d (g.M.Medium.state c.args.unit.now) (g.D.Chip.state c.args.others.now) others
+pub returns-in-None-clause-rules : goal.returns-in-None-clause-rules
+returns-in-None-clause-rules g c = record {
+  holds = λ s due b marks whose h. h;
+  mine =
+      λ r s due b marks z named h says rule.
+      subst (λ (o : Option Entry). IsKeptUp r c.args.which b z (option_to_list o) [] false (g.M.Medium.state c.args.unit.now) (g.C.Chip.state c.args.mine.now)) (sym c.in-None.is)
+      (held_up r c.args.which b z [] [] (g.M.Medium.state c.args.unit.now) (g.C.Chip.state c.args.mine.now) rule);
+  others = λ r s due b marks y z m d named h says mine others. held_up r (other c.args.which) b z m d (g.M.Medium.state c.args.unit.now) (g.D.Chip.state c.args.others.now) others;
+}
 
 pub returns-in-None-clause-cause : goal.returns-in-None-clause-cause
 returns-in-None-clause-cause g c = inr (refl, idle (g.M.Medium.state c.args.unit.now))
 
-pub returns-in-Some-clause-mine : goal.returns-in-Some-clause-mine
-returns-in-Some-clause-mine g c = λ r s due b marks z named h says rule.
-    let here = subst (λ (o : Option Entry). IfSome o (λ e. (due ≤ e.minute) × (1440 ≤ e.minute) × IsPresent (opened r c.args.which).start z e.minute)) c.in-Some.is says in
-    subst (λ (o : Option Entry). IsKeptUp r c.args.which b z (option_to_list o) [] (is_err c.owe.result) (g.M.Medium.state c.owe.new.unit) (g.C.Chip.state c.args.mine.now)) (sym c.in-Some.is)
-    (c.owe.ensures.mine r s due b marks z named h here.0 here.1 here.2 rule)
+pub returns-in-Some-clause-stands : goal.returns-in-Some-clause-stands
+returns-in-Some-clause-stands g c = c.owe.ensures.stands
 
-pub returns-in-Some-clause-other : goal.returns-in-Some-clause-other
-returns-in-Some-clause-other g c = λ r s due b marks y z m d named h says mine others.
-    let here = subst (λ (o : Option Entry). IfSome o (λ e. (due ≤ e.minute) × (1440 ≤ e.minute))) c.in-Some.is says in
-    c.owe.ensures.other r s due b marks y z m d named h here.0 here.1 mine others
+pub returns-in-Some-clause-rules : goal.returns-in-Some-clause-rules
+returns-in-Some-clause-rules g c = record {
+  holds = c.owe.ensures.rules.holds;
+  mine =
+      λ r s due b marks z named h says rule.
+      let here = subst (λ (o : Option Entry). IfSome o (λ e. (due ≤ e.minute) × (1440 ≤ e.minute) × IsPresent (opened r c.args.which).start z e.minute)) c.in-Some.is says in
+      subst (λ (o : Option Entry). IsKeptUp r c.args.which b z (option_to_list o) [] (is_err c.owe.result) (g.M.Medium.state c.owe.new.unit) (g.C.Chip.state c.args.mine.now)) (sym c.in-Some.is)
+      (c.owe.ensures.rules.mine r s due b marks z named h here.0 here.1 here.2 rule);
+  others =
+      λ r s due b marks y z m d named h says mine others.
+      let here = subst (λ (o : Option Entry). IfSome o (λ e. (due ≤ e.minute) × (1440 ≤ e.minute))) c.in-Some.is says in
+      c.owe.ensures.rules.others r s due b marks y z m d named h here.0 here.1 mine others;
+}
 
 pub returns-in-Some-clause-cause : goal.returns-in-Some-clause-cause
-returns-in-Some-clause-cause g c = inl c.owe.ensures.cause
+returns-in-Some-clause-cause g c = inl c.owe.ensures.goes.cause
 
 pub owe-requires-clause-low : goal.owe-requires-clause-low
 owe-requires-clause-low g c =
@@ -56,3 +66,6 @@ returns-in-None-clause-most g c = omega arith
 
 pub returns-in-Some-clause-most : goal.returns-in-Some-clause-most
 returns-in-Some-clause-most g c = c.owe.ensures.most
+
+pub owe-requires-clause-ready : goal.owe-requires-clause-ready
+owe-requires-clause-ready g c = c.requires.ready

@@ -4,36 +4,46 @@ use Rattle.tacho_types.specs.CardNumber.{card_number_bytes}
 use Rattle.unit_owed.specs.Rows.{cell_pieces, entry_word}
 use Rattle.device_calls.proofs.EntryOwed.{owed-holds, puts, owed-mine, owed-other, put, worked, row-there, row-still}
 use Rattle.device_calls.proofs.Travel.{put-travelled}
+use Rattle.device_calls.proofs.Enters.{unit-still}
 use Rattle.device_calls.proofs.owing.owe.Goals as goal
 
-pub returns-clause-holds : goal.returns-clause-holds
-returns-clause-holds g c = λ s due b marks whose h. owed-holds s due b marks _ _ whose (g.met.M.Medium.coherent c.args.unit.now) (c.put_owed_at.ensures.moments (card_number_bytes c.args.number.now) c.requires.row) h
+pub returns-clause-stands : goal.returns-clause-stands
+returns-clause-stands g c = record {
+  unit = unit-still _ _ (c.put_owed_at.ensures.moments (card_number_bytes c.args.number.now) c.requires.row) c.requires.ready.unit;
+  same = c.put_owed_at.ensures.same;
+  agrees = c.put_owed_at.ensures.agrees;
+  rows = row-still c.put_owed_at.result _ _ _ c.args.entry.now c.put_owed_at.ensures.puts.leaves.tells (c.put_owed_at.ensures.put (card_number_bytes c.args.number.now) c.requires.row);
+}
 
-pub returns-clause-mine : goal.returns-clause-mine
-returns-clause-mine g c = λ r s due b marks z named h late some present rule.
-    owed-mine r c.args.which _ named c.args.entry.now some (g.met.M.Medium.coherent c.args.unit.now) _ c.requires.agrees s due b marks h late (c.put_owed_at.ensures.moments (card_number_bytes c.args.number.now) c.requires.row) (g.C.Chip.state c.args.mine.now) z rule _ present
-    (λ well. put r c.args.which _ named c.args.entry.now some (g.met.M.Medium.coherent c.args.unit.now) _ c.requires.agrees s due b marks h late (c.put_owed_at.ensures.moments (card_number_bytes c.args.number.now) c.requires.row) (g.C.Chip.state c.args.mine.now) z rule
-    (g.met.M.Medium.coherent c.put_owed_at.new.unit) (worked well c.put_owed_at.ensures.cause).0 (row-there (g.M.Medium.state c.args.unit.now).image c.args.row (card_number_bytes c.args.number.now) c.requires.row) (ok_gives _ (c.put_owed_at.ensures.put (card_number_bytes c.args.number.now) c.requires.row) well) (worked well c.put_owed_at.ensures.cause).1)
+pub returns-clause-rules : goal.returns-clause-rules
+returns-clause-rules g c = record {
+  holds = λ s due b marks whose h. owed-holds s due b marks _ _ whose (g.met.M.Medium.coherent c.args.unit.now) (c.put_owed_at.ensures.moments (card_number_bytes c.args.number.now) c.requires.row) h;
+  mine =
+      λ r s due b marks z named h late some present rule.
+      owed-mine r c.args.which _ named c.args.entry.now some (g.met.M.Medium.coherent c.args.unit.now) _ c.requires.ready.agrees s due b marks h late (c.put_owed_at.ensures.moments (card_number_bytes c.args.number.now) c.requires.row) (g.C.Chip.state c.args.mine.now) z rule _ present
+      (λ well. put r c.args.which _ named c.args.entry.now some (g.met.M.Medium.coherent c.args.unit.now) _ c.requires.ready.agrees s due b marks h late (c.put_owed_at.ensures.moments (card_number_bytes c.args.number.now) c.requires.row) (g.C.Chip.state c.args.mine.now) z rule
+      (g.met.M.Medium.coherent c.put_owed_at.new.unit) (worked well c.put_owed_at.ensures.cause).0 (row-there (g.M.Medium.state c.args.unit.now).image c.args.row (card_number_bytes c.args.number.now) c.requires.row) (ok_gives _ (c.put_owed_at.ensures.put (card_number_bytes c.args.number.now) c.requires.row) well) (worked well c.put_owed_at.ensures.cause).1);
+  others =
+      λ r s due b marks y z m d named h late some rule others.
+      owed-other r c.args.which _ named c.args.entry.now some (g.met.M.Medium.coherent c.args.unit.now) _ c.requires.ready.agrees s due b marks h late (c.put_owed_at.ensures.moments (card_number_bytes c.args.number.now) c.requires.row) (g.C.Chip.state c.args.mine.now) y rule (g.D.Chip.state c.args.others.now) _ z m d others;
+}
 
-pub returns-clause-other : goal.returns-clause-other
-returns-clause-other g c = λ r s due b marks y z m d named h late some rule others.
-    owed-other r c.args.which _ named c.args.entry.now some (g.met.M.Medium.coherent c.args.unit.now) _ c.requires.agrees s due b marks h late (c.put_owed_at.ensures.moments (card_number_bytes c.args.number.now) c.requires.row) (g.C.Chip.state c.args.mine.now) y rule (g.D.Chip.state c.args.others.now) _ z m d others
+pub returns-clause-leaves : goal.returns-clause-leaves
+returns-clause-leaves g c = record {
+  views =
+      λ r s due b marks z named h late some rule.
+      puts r c.args.which _ named c.args.entry.now some (g.met.M.Medium.coherent c.args.unit.now) _ c.requires.ready.agrees s due b marks h late (c.put_owed_at.ensures.moments (card_number_bytes c.args.number.now) c.requires.row) (g.C.Chip.state c.args.mine.now) z rule;
+  travelled = λ start b t h. put-travelled start b t h (g.met.M.Medium.coherent c.args.unit.now) _ c.args.entry.now (c.put_owed_at.ensures.moments (card_number_bytes c.args.number.now) c.requires.row);
+  moments = c.put_owed_at.ensures.moments (card_number_bytes c.args.number.now) c.requires.row;
+  keeps = c.put_owed_at.ensures.puts.leaves.keeps;
+}
 
-pub returns-clause-rows : goal.returns-clause-rows
-returns-clause-rows g c = row-still c.put_owed_at.result _ _ _ c.args.entry.now c.put_owed_at.ensures.puts.leaves.tells (c.put_owed_at.ensures.put (card_number_bytes c.args.number.now) c.requires.row)
-
-pub returns-clause-views : goal.returns-clause-views
-returns-clause-views g c = λ r s due b marks z named h late some rule.
-    puts r c.args.which _ named c.args.entry.now some (g.met.M.Medium.coherent c.args.unit.now) _ c.requires.agrees s due b marks h late (c.put_owed_at.ensures.moments (card_number_bytes c.args.number.now) c.requires.row) (g.C.Chip.state c.args.mine.now) z rule
-
-pub returns-clause-travelled : goal.returns-clause-travelled
-returns-clause-travelled g c = λ start b t h. put-travelled start b t h (g.met.M.Medium.coherent c.args.unit.now) _ c.args.entry.now (c.put_owed_at.ensures.moments (card_number_bytes c.args.number.now) c.requires.row)
-
-pub returns-clause-keeps : goal.returns-clause-keeps
-returns-clause-keeps g c = c.put_owed_at.ensures.puts.leaves.keeps
-
-pub returns-clause-moments : goal.returns-clause-moments
-returns-clause-moments g c = c.put_owed_at.ensures.moments (card_number_bytes c.args.number.now) c.requires.row
+pub returns-clause-goes : goal.returns-clause-goes
+returns-clause-goes g c = record {
+  clock = c.put_owed_at.ensures.puts.leaves.later;
+  tells = c.put_owed_at.ensures.puts.leaves.tells;
+  cause = c.put_owed_at.ensures.cause;
+}
 
 pub put_owed_at-requires-clause-own : goal.put_owed_at-requires-clause-own
 put_owed_at-requires-clause-own g c = (card_number_bytes c.args.number.now, c.requires.row)

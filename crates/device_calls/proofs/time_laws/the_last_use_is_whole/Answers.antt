@@ -2,7 +2,7 @@ use Rattle.device_calls.proofs.TimedCalls.{keeping-timed, closing-timed, inserti
 use Rattle.device_calls.proofs.time_laws.the_last_use_is_whole.Goals as goal
 
 pub returns-clause-kept : goal.returns-clause-kept
-returns-clause-kept g c = λ first n s e odometer low timed sized session run. keeping-timed first n (g.C.Chip.state c.args.before.now) (g.D.Chip.state c.args.after.now) low (g.met.C.Chip.coherent c.args.before.now) timed s e odometer sized session run
+returns-clause-kept g c = λ first n s hands e odometer low timed sized session run. keeping-timed first n (g.C.Chip.state c.args.before.now) (g.D.Chip.state c.args.after.now) low (g.met.C.Chip.coherent c.args.before.now) timed s hands e odometer sized session run
 
 pub returns-clause-closed : goal.returns-clause-closed
 returns-clause-closed g c = λ first n s act low timed sound size sized run. closing-timed first n (g.C.Chip.state c.args.before.now) (g.D.Chip.state c.args.after.now) low (g.met.C.Chip.coherent c.args.before.now) timed s act sound size sized run

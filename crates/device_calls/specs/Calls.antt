@@ -1,0 +1,295 @@
+-- What the calls on one device each leave: the unit, its rules, its images, and a card, each in a record (profile).
+use Rattle.std.specs.Prelude.{ℕ, ◌++◌, ◌/◌, ◌<◌, ◌^◌, ◌∷◌, ◌≡◌, ◌≤◌, Bool, IfOk, IfSome, List, None, OnErr, OnOk}
+use Rattle.std.specs.Prelude.{Option, Result, Some, [], false, is_err, is_some, option_to_list, suc, true}
+use Rattle.activity_codec.specs.declared.entries.Entry.{Entry}
+use Rattle.card_by_hand.specs.First.{IsFirstKeeping, IsFirstKept}
+use Rattle.card_by_hand.specs.Wider.{with_hands}
+use Rattle.card_commands.specs.Ports.{IsPort}
+use Rattle.card_layout.specs.declared.command.CardState.{CardState}
+use Rattle.card_layout.specs.declared.files.Application.{Application}
+use Rattle.card_retention.specs.Expected.{Counted, with_entry}
+use Rattle.card_retention.specs.Shown.{Bound}
+use Rattle.card_session.specs.Overwriting.{and_entry}
+use Rattle.card_session.specs.Sessions.{IsSession, Session}
+use Rattle.card_session.specs.declared.session.Kept.{Kept}
+use Rattle.card_session.specs.declared.words.TheConstants.{LATEST_MINUTE}
+use Rattle.card_string.specs.Shows.{IsDone, IsFirstShown}
+use Rattle.device_rule.specs.Device.{LeavesViews}
+use Rattle.device_rule.specs.Filling.{GivesUpDay, KeepsMinute, seen_by_unit}
+use Rattle.device_rule.specs.Marked.{of_unit}
+use Rattle.device_rule.specs.Rules.{Fits, IsEntered, IsPresent, Out, Standing}
+use Rattle.device_rule.specs.Steps.{IsBeginning, IsKeeping, IsMending, IsPutting}
+use Rattle.device_rule.specs.Views.{other}
+use Rattle.hand_model.specs.Holding.{Holding, LieBetween, begun_by}
+use Rattle.history_model.specs.Book.{Book}
+use Rattle.history_model.specs.Minutes.{HistoryMinute, on_card}
+use Rattle.log_model.specs.declared.lines.Mark.{Mark}
+use Rattle.run_unit_course.specs.Legs.{Travel}
+use Rattle.tach_media.specs.Medium.{HasCause, IsSettled, LeavesOnly, State, last_count}
+use Rattle.tach_media.specs.declared.fault.Failed.{Failed}
+use Rattle.tacho_types.specs.CardNumber.{card_number_bytes}
+use Rattle.trace_model.specs.declared.Card.{Card}
+use Rattle.unit_minutes.specs.Image.{Agrees, IsKeeping as IsKeepingImage}
+use Rattle.unit_minutes.specs.Kept.{kept_minute}
+use Rattle.unit_minutes.specs.Mends.{IsMending as IsMendingImage, notes_mended}
+use Rattle.unit_minutes.specs.declared.kept.KeptMinute.{KeptMinute}
+use Rattle.unit_minutes.specs.declared.notes.Notes.{Notes}
+use Rattle.unit_model.specs.Image.{IsUnit}
+use Rattle.unit_model.specs.declared.layout.TheConstants.{HIGHEST_ODOMETER, LAST_MINUTE}
+use Rattle.unit_owed.specs.Rows.{IsPutting as IsPuttingRow, IsRowAt, IsRowBeginning, IsRowBegun, IsRowFor}
+use Rattle.unit_rule.specs.Marks.{UnitFollowsBook}
+use Rattle.unit_rule.specs.Odometer.{HasTravelled, odometer_after, odometer_by}
+use Rattle.unit_rule.specs.Rule.{IsCards, Started, once_mended}
+use Rattle.device_calls.specs.Entering.{IsAsked, IsInTime, unit_failed}
+use Rattle.device_calls.specs.OnCard.{Anything, CardMayTake, SessionKnowsCard, hands_for}
+use Rattle.device_calls.specs.Rule.{Both, CardHolds, CardRests, IsCommitted, IsHeldMended, IsHeldUp, IsKeptUp}
+use Rattle.device_calls.specs.Rule.{IsRowTaken, IsTakenUp, card_seen, number_of, opened, unit_seen}
+use Rattle.device_calls.specs.Travel.{HasGone}
+use Rattle.device_calls.specs.declared.entering.Entered.{Entered}
+use Rattle.device_calls.specs.declared.entering.NotEntered.{NotEntered}
+
+-- THE UNIT STANDS behind a row that was begun: it is a unit still, with the journal as it was; where it did not fail
+-- they agree, the row is the number's, and that of the number that is spared is where it was
+pub record UnitStandsBegun (result : Result (Unit {0}) Failed) (number : List ℕ) (index : ℕ) (spared : Option (List ℕ))
+    (old new : Notes) (U V : State) : Type 0 where
+  pub unit : IsUnit V
+  pub same : new ≡ old
+  pub agrees : OnOk result (IfSome V.image (Agrees old))
+  pub row : OnOk result (IfSome V.image (IsRowAt index number))
+  pub spares : (r : ℕ) (n : List ℕ) → spared ≡ Some n → IfSome U.image (IsRowAt r n)
+      → OnOk result (IfSome V.image (IsRowAt r n))
+
+-- THE RULES behind it: the unit follows its book where the number is one of its cards; the card is accepted, with
+-- nothing owed to it; and the other card, whose number is spared, stands as it did
+pub record RulesBegun (which : Card) (result : Result (Unit {0}) Failed) (number : List ℕ) (session : ℕ)
+    (spared : Option (List ℕ)) (U V X Z : State) : Type 0 where
+  pub holds : (s : Started) (due : ℕ) (b : Book) (marks : List Mark) → IsCards s number
+      → UnitFollowsBook s due b marks U → UnitFollowsBook s due b marks V
+  pub mine : (r : Both) (s : Started) (due : ℕ) (b : Book) (marks : List Mark) (newest : ℕ) → number ≡ number_of r which
+      → UnitFollowsBook s due b marks U → due ≤ session / 60 → CardHolds r which b Out [] [] U X
+      → IsEntered (opened r which).start (opened r which).began session newest (card_seen X)
+      → IsRowTaken r which b session newest (is_err result) V X
+  pub others : (r : Both) (s : Started) (due : ℕ) (b : Book) (marks : List Mark) (z : Standing) (m d : List Entry)
+      → number ≡ number_of r which → spared ≡ Some (number_of r (other which)) → CardHolds r (other which) b z m d U Z
+      → IsKeptUp r (other which) b z m d (is_err result) V Z
+
+-- WHAT IT LEAVES: each image that a stop may leave has the row as it was, or as it is begun
+pub record LeavesBegun (which : Card) (result : Result (Unit {0}) Failed) (number : List ℕ) (session : ℕ)
+    (spared : Option (List ℕ)) (U V : State) : Type 0 where
+  pub views : (r : Both) → number ≡ number_of r which → spared ≡ Some (number_of r (other which))
+      → LeavesViews (unit_seen r U) (unit_seen r V) (IsBeginning which)
+  pub begun : OnOk result (IfSome U.image (λ x. IfSome V.image (IsRowBegun number session spared x)))
+  pub moments : LeavesOnly U V (IsRowBeginning number session spared)
+
+-- THE UNIT ANSWERS: its clock does not fall, and it tells its image where it did; it failed exactly where that was
+-- answered
+pub record UnitAnswers (failed : Bool) (U V : State) : Type 0 where
+  pub clock : U.clock ≤ V.clock
+  pub tells : is_some V.image ≡ is_some U.image
+  pub cause : HasCause U V failed
+
+-- THE UNIT STANDS behind an entry that was put: it is a unit still, with the journal as it was; where it did not fail
+-- they agree, and each row is whose it was
+pub record UnitStandsOwing (result : Result (Unit {0}) Failed) (old new : Notes) (U V : State) : Type 0 where
+  pub unit : IsUnit V
+  pub same : new ≡ old
+  pub agrees : OnOk result (IfSome V.image (Agrees old))
+  pub rows : (r : ℕ) (n : List ℕ) → IfSome U.image (IsRowAt r n) → OnOk result (IfSome V.image (IsRowAt r n))
+
+-- THE RULES behind it: the unit follows its book where the number is one of its cards; the entry is put for the card,
+-- for the minute that comes; and the other card stands as it did
+pub record RulesOwing (which : Card) (result : Result (Unit {0}) Failed) (number : List ℕ) (entry : Entry)
+    (U V X Z : State) : Type 0 where
+  pub holds : (s : Started) (due : ℕ) (b : Book) (marks : List Mark) → IsCards s number
+      → UnitFollowsBook s due b marks U → UnitFollowsBook s due b marks V
+  pub mine : (r : Both) (s : Started) (due : ℕ) (b : Book) (marks : List Mark) (z : Standing)
+      → number ≡ number_of r which → UnitFollowsBook s due b marks U → due ≤ entry.minute → 1440 ≤ entry.minute
+      → IsPresent (opened r which).start z entry.minute → CardHolds r which b z [] [] U X
+      → IsKeptUp r which b z (entry ∷ []) [] (is_err result) V X
+  pub others : (r : Both) (s : Started) (due : ℕ) (b : Book) (marks : List Mark) (y z : Standing) (m d : List Entry)
+      → number ≡ number_of r which → UnitFollowsBook s due b marks U → due ≤ entry.minute → 1440 ≤ entry.minute
+      → CardHolds r which b y [] [] U X → CardHolds r (other which) b z m d U Z
+      → IsKeptUp r (other which) b z m d (is_err result) V Z
+
+-- WHAT IT LEAVES: each image that a stop may leave has the entry or has it not, and what was travelled stays; what
+-- might have been left might still
+pub record LeavesOwing (which : Card) (number : List ℕ) (entry : Entry) (U V X : State) : Type 0 where
+  pub views : (r : Both) (s : Started) (due : ℕ) (b : Book) (marks : List Mark) (z : Standing)
+      → number ≡ number_of r which → UnitFollowsBook s due b marks U → due ≤ entry.minute → 1440 ≤ entry.minute
+      → CardHolds r which b z [] [] U X → LeavesViews (unit_seen r U) (unit_seen r V) (IsPutting which entry)
+  pub travelled : (start : ℕ) (b : Book) (g : Travel) → HasTravelled start b g U → HasTravelled start b g V
+  pub moments : LeavesOnly U V (IsPuttingRow number entry)
+  pub keeps : (t : ℕ) (x : List ℕ) → t ≤ U.clock → U.left_since t x → V.left_since t x
+
+-- THE RULES behind an entry that was put, if the minute that comes says one on the card
+pub record RulesOwingSome (which : Card) (result : Result (Unit {0}) Failed) (number : List ℕ) (entry : Option Entry)
+    (U V X Z : State) : Type 0 where
+  pub holds : (s : Started) (due : ℕ) (b : Book) (marks : List Mark) → IsCards s number
+      → UnitFollowsBook s due b marks U → UnitFollowsBook s due b marks V
+  pub mine : (r : Both) (s : Started) (due : ℕ) (b : Book) (marks : List Mark) (z : Standing)
+      → number ≡ number_of r which → UnitFollowsBook s due b marks U
+      → IfSome entry (λ e. (due ≤ e.minute) × (1440 ≤ e.minute) × IsPresent (opened r which).start z e.minute)
+      → CardHolds r which b z [] [] U X → IsKeptUp r which b z (option_to_list entry) [] (is_err result) V X
+  pub others : (r : Both) (s : Started) (due : ℕ) (b : Book) (marks : List Mark) (y z : Standing) (m d : List Entry)
+      → number ≡ number_of r which → UnitFollowsBook s due b marks U
+      → IfSome entry (λ e. (due ≤ e.minute) × (1440 ≤ e.minute)) → CardHolds r which b y [] [] U X
+      → CardHolds r (other which) b z m d U Z → IsKeptUp r (other which) b z m d (is_err result) V Z
+
+-- THE UNIT STANDS behind a minute: it is a unit still; where it did not fail its journal has the minute and its
+-- odometer, they agree, and each row is whose it was; where it failed the journal is as it was
+pub record UnitStandsCommitted (kept : KeptMinute) (result : Result (Unit {0}) Failed) (old new : Notes)
+    (U V : State) : Type 0 where
+  pub unit : IsUnit V
+  pub notes : OnOk result ((new.kept ≡ kept.minute) × (new.odometer ≡ kept.odometer.0))
+  pub same : OnErr result (new ≡ old)
+  pub agrees : OnOk result (IfSome V.image (Agrees new))
+  pub rows : (r : ℕ) (n : List ℕ) → IfSome U.image (IsRowAt r n) → OnOk result (IfSome V.image (IsRowAt r n))
+
+-- THE RULES behind it: the unit follows the book with that minute, and what it says on each card is owed to that; where
+-- the unit failed the minute may be there or not
+pub record RulesCommitted (kept : KeptMinute) (result : Result (Unit {0}) Failed) (U V X Z : State) : Type 0 where
+  pub holds : (s : Started) (due : ℕ) (b : Book) (marks : List Mark) (i : HistoryMinute)
+      → kept_minute kept ≡ seen_by_unit i → UnitFollowsBook (once_mended s) due b marks U → b.maybe ≡ None
+      → due ≤ i.minute → IsHeldUp s b marks i (is_err result) V
+  pub first : (r : Both) (c : Card) (s : Started) (due : ℕ) (b : Book) (marks : List Mark) (i : HistoryMinute)
+      (z : Standing) → kept_minute kept ≡ seen_by_unit i → UnitFollowsBook s due b marks U → b.maybe ≡ None
+      → due ≤ i.minute → CardHolds r c b z (on_card c i) [] U X → Fits c (opened r c).start z i
+      → IsCommitted r c b i z (is_err result) V X
+  pub second : (r : Both) (c : Card) (s : Started) (due : ℕ) (b : Book) (marks : List Mark) (i : HistoryMinute)
+      (z : Standing) → kept_minute kept ≡ seen_by_unit i → UnitFollowsBook s due b marks U → b.maybe ≡ None
+      → due ≤ i.minute → CardHolds r c b z (on_card c i) [] U Z → Fits c (opened r c).start z i
+      → IsCommitted r c b i z (is_err result) V Z
+
+-- WHAT IT LEAVES: each image that a stop may leave has the minute or has it not, and the odometer that belongs to that;
+-- what might have been left might still
+pub record LeavesCommitted (kept : KeptMinute) (result : Result (Unit {0}) Failed) (U V : State) : Type 0 where
+  pub views : (a b : List ℕ) (i : HistoryMinute) → kept_minute kept ≡ seen_by_unit i
+      → LeavesViews (of_unit a b U) (of_unit a b V) (IsKeeping KeepsMinute GivesUpDay i)
+  pub travelled : (start : ℕ) (g : Travel) (leg : ℕ) (s : Started) (due : ℕ) (b : Book) (marks : List Mark)
+      (i : HistoryMinute) → kept_minute kept ≡ seen_by_unit i → UnitFollowsBook s due b marks U → b.maybe ≡ None
+      → due ≤ i.minute → HasTravelled start b g U → kept.odometer.0 ≡ odometer_by (odometer_after start g.before) leg
+      → HasGone start b g i leg (is_err result) V
+  pub moments : LeavesOnly U V (IsKeepingImage (kept_minute kept) kept.odometer.0)
+  pub keeps : (t : ℕ) (x : List ℕ) → t ≤ U.clock → U.left_since t x → V.left_since t x
+
+-- THE UNIT STANDS behind its mending: it is a unit still; where it did not fail its journal is mended and they agree;
+-- where it failed the journal is as it was
+pub record UnitStandsMended (result : Result (Unit {0}) Failed) (old new : Notes) (V : State) : Type 0 where
+  pub unit : IsUnit V
+  pub notes : OnOk result (new ≡ notes_mended old)
+  pub same : OnErr result (new ≡ old)
+  pub agrees : OnOk result (IfSome V.image (Agrees new))
+
+-- THE RULES behind it: the unit follows its book, as one that was mended where it works, and no card is accepted any
+-- more; where the unit failed each card stands as it did
+pub record RulesMended (result : Result (Unit {0}) Failed) (U V X Z : State) : Type 0 where
+  pub holds : (s : Started) (due : ℕ) (b : Book) (marks : List Mark) → UnitFollowsBook s due b marks U
+      → IsHeldMended s due b marks V
+  pub first : (r : Both) (c : Card) (b : Book) (z : Standing) → CardRests r c b z U X
+      → IsTakenUp r c b z (is_err result) V X
+  pub second : (r : Both) (c : Card) (b : Book) (z : Standing) → CardRests r c b z U Z
+      → IsTakenUp r c b z (is_err result) V Z
+
+-- WHAT IT LEAVES: each image that a stop may leave is that of before, or one of its mending
+pub record LeavesMended (old : Notes) (U V : State) : Type 0 where
+  pub views : (a b : List ℕ) → LeavesViews (of_unit a b U) (of_unit a b V) IsMending
+  pub moments : LeavesOnly U V (IsMendingImage old)
+
+-- WHICH ROW of the unit is to be the card's, while the row of the number that is spared is another's
+pub record IsRowTold (result : Result Entered NotEntered) (spared : Option (List ℕ)) (U : State) : Type 0 where
+  pub own : IfOk result (λ e. IfSome U.image (IsRowFor e.row (card_number_bytes e.look.number) spared))
+  pub low : IfOk result (λ e. e.row < 8)
+
+-- THE RULES behind a card that was put in: the unit follows its book, the other card stands as it did, and so does this
+-- one, whose row is not begun yet; where it is accepted it has entered so that it may be begun
+pub record RulesEntering (which : Card) (app : Application) (now : ℕ) (result : Result Entered NotEntered)
+    (U V X Y Z : State) : Type 0 where
+  pub holds : (s : Started) (due : ℕ) (b : Book) (marks : List Mark) → UnitFollowsBook s due b marks U
+      → UnitFollowsBook s due b marks V
+  pub others : (r : Both) (b : Book) (z : Standing) (m d : List Entry) → CardHolds r (other which) b z m d U Z
+      → CardHolds r (other which) b z m d V Z
+  pub mine : (r : Both) (s : Started) (due : ℕ) (b : Book) (marks : List Mark) → UnitFollowsBook s due b marks U
+      → b.maybe ≡ None → due ≤ now / 60 → is_some U.image ≡ true → is_some X.image ≡ true
+      → IfSome X.image (IsAsked r which app) → CardHolds r which b Out [] [] U X → CardHolds r which b Out [] [] V Y
+  pub entered : (r : Both) (s : Started) (due : ℕ) (b : Book) (marks : List Mark) → UnitFollowsBook s due b marks U
+      → b.maybe ≡ None → due ≤ now / 60 → is_some U.image ≡ true → is_some X.image ≡ true
+      → IfSome X.image (IsAsked r which app) → CardHolds r which b Out [] [] U X
+      → IfOk result (λ e. IsEntered (opened r which).start (opened r which).began now e.session.minute (card_seen Y))
+
+-- THE UNIT STANDS, which was only read: it is a unit still, and agrees with the journal where no call on it failed
+pub record UnitStandsAsked (journal : Notes) (result : Result Entered NotEntered) (V : State) : Type 0 where
+  pub unit : IsUnit V
+  pub agrees : unit_failed result ≡ false → IfSome V.image (Agrees journal)
+
+-- THE CARD STANDS behind it: a port may be made over it again, and it was written only where it told of no later time
+pub record CardStandsPutIn (app : Application) (now : ℕ) (X Y : State) (chip : CardState) : Type 0 where
+  pub leaves : LeavesOnly X Y Anything
+  pub in_time : IsInTime app now X Y
+  pub port : IsPort app None chip Y
+
+-- THE SESSION GOES ON: it is of the same card and vehicle; where the card did not fail its newest minute and its
+-- odometer are the entry's, and its entries by hand of that day are written
+pub record SessionKeeps (result : Result (Unit {0}) Failed) (kept : Kept) (old new : Session)
+    (hands hands_after : Holding) : Type 0 where
+  pub same : (new.application ≡ old.application) × (new.registration ≡ old.registration)
+  pub last : OnOk result ((new.minute ≡ kept.entry.minute) × (new.odometer ≡ Some kept.odometer))
+  pub held : OnOk result (hands_after ≡ begun_by kept.entry.minute hands)
+
+-- THE CARD KEEPS THE ENTRY, by the session that knows it: so it is where the card did not fail, and each image that a
+-- stop may leave is one of that keep
+pub record KeepsOnCard (result : Result (Unit {0}) Failed) (kept : Kept) (old new : Session) (hands : Holding)
+    (X Y : State) : Type 0 where
+  pub is : OnOk result (IfSome X.image (λ x. IfSome Y.image
+      (λ y. IsSession old x → IsFirstKept old new (hands_for hands kept.entry.minute) kept.entry kept.odometer.0 x y)))
+  pub moments : LeavesOnly X Y (λ x c. IsSession old x
+      → IsFirstKeeping old (hands_for hands kept.entry.minute) kept.entry kept.odometer.0 x c)
+
+-- WHAT IS CARRIED OF ITS STRING goes on: each image that a stop may leave shows what it must, and where the card did
+-- not fail the next entry may come
+pub record StringGoesOn (result : Result (Unit {0}) Failed) (kept : Kept) (old new : Session) (hands : Holding)
+    (X Y : State) : Type 0 where
+  pub shown : (slack : Bound) (covered from : ℕ) (c : Counted) (all : List Entry)
+      → LeavesOnly X Y (λ x y. CardMayTake old slack covered from c all (hands_for hands kept.entry.minute) kept.entry x
+      → IsFirstShown old.application slack covered c all (hands_for hands kept.entry.minute) kept.entry x y)
+  pub done : (slack : Bound) (covered from : ℕ) (c : Counted) (all : List Entry)
+      → OnOk result (IfSome X.image (λ x. IfSome Y.image
+      (λ y. CardMayTake old slack covered from c all (hands_for hands kept.entry.minute) kept.entry x
+      → IsDone old.application slack covered (with_hands covered c (hands_for hands kept.entry.minute)) all kept.entry x
+      y × SessionKnowsCard new (and_entry slack kept.entry) covered (suc kept.entry.minute)
+      (with_entry covered (with_hands covered c (hands_for hands kept.entry.minute)) kept.entry)
+      (all ++ kept.entry ∷ []) y)))
+
+-- THE CARD STANDS behind it: a port may be made over it again, and a stop leaves it as it is; it failed exactly where
+-- that was answered
+pub record CardStandsKept (result : Result (Unit {0}) Failed) (app : Application) (X Y : State)
+    (chip : CardState) : Type 0 where
+  pub port : IsPort app None chip Y
+  pub settled : OnOk result (Y.clock < last_count → IsSettled Y)
+  pub cause : HasCause X Y (is_err result)
+
+-- THE UNIT IS READY for a call: it is a unit, and agrees with the journal
+pub record UnitIsReady (journal : Notes) (U : State) : Type 0 where
+  pub unit : IsUnit U
+  pub agrees : IfSome U.image (Agrees journal)
+
+-- A MINUTE MAY BE KEPT by the unit: it is later than the last-kept one, and it and its odometer are within their bounds
+pub record MayBeCommitted (kept : KeptMinute) (journal : Notes) : Type 0 where
+  pub low : 1440 ≤ kept.minute
+  pub later : journal.kept < kept.minute
+  pub small : kept.minute ≤ LAST_MINUTE
+  pub odometer : kept.odometer.0 ≤ HIGHEST_ODOMETER
+
+-- A CARD MAY BE PUT IN at this second: its minute is later than the last-kept one, and it and the odometer are within
+-- their bounds
+pub record MayEnter (now odometer : ℕ) (journal : Notes) : Type 0 where
+  pub late : journal.kept < now / 60
+  pub last : now / 60 < LATEST_MINUTE
+  pub fits : odometer < 2 ^ 24
+
+-- AN ENTRY MAY BE KEPT by a card: it is later than the newest one of the session and its entries by hand, and it and
+-- the odometer are within their bounds
+pub record MayKeepEntry (session : Session) (kept : Kept) (hands : Holding) : Type 0 where
+  pub later : LieBetween session.minute kept.entry.minute hands.entries
+  pub first : 1440 ≤ kept.entry.minute
+  pub last : kept.entry.minute ≤ LATEST_MINUTE
+  pub fits : kept.odometer.0 < 2 ^ 24
