@@ -1,5 +1,5 @@
 -- What an action of a second leaves of the events that the cards show.
-use Rattle.std.proofs.Common.{◌≡◌, ◌∙◌, inl, inr, ℕ, suc, ◌+◌, ◌<◌, ◌≤◌, true, false, Option, Some, None, List, [], ◌∷◌, ◌++◌, length, take, refl, ap, sym, subst, append-nil, append_assoc}
+use Rattle.std.proofs.Common.{◌≡◌, ◌∙◌, inl, inr, ℕ, suc, ◌+◌, ◌<◌, ◌≤◌, true, false, Option, Some, None, List, [], ◌∷◌, ◌++◌, length, take, refl, ap, sym, subst, append-nil, append_assoc, ⊎_elim}
 use Rattle.activity_codec.specs.declared.values.Slot.{Slot}
 use Rattle.activity_codec.specs.declared.values.Pick.{Pick}
 use Rattle.trace_model.specs.declared.Card.{Card}
@@ -42,17 +42,19 @@ use Rattle.run_acts.proofs.CardShown.{FindsStill}
 use Rattle.run_acts.proofs.CardUses.{FoundTo, still-found}
 use Rattle.run_acts.proofs.CardStays.{shows-self}
 use Rattle.run_acts.proofs.CardActs.{quiet-goes}
+use Rattle.run_acts.specs.ByHand.{stop_by, stopped_in}
 use Rattle.recorder_with_cards.proofs.ActsRecorded.{refuses}
 use Rattle.recorder_with_cards.proofs.RingsHeld.{behind-at, goes-refused, goes-torn}
 use Rattle.recorder_with_cards.proofs.CardsHeld.{to-began, to-log, first-are}
 use Rattle.recorder_with_cards.proofs.HereDone.{TellsMoreOf}
+use Rattle.recorder_with_cards.proofs.SlotLines.{whose, stops-hand, stop-by-session, refusal-by-slots, log-one, log-stop}
 
 -- an activity is selected
 pub selected-cards : (d : Devices) (slot : Slot) (pick : Pick) (begun speed : ℕ) (run : Run) (out : Outcome) → CardsAction (Select slot pick) begun speed false run out out d d
 selected-cards d slot pick begun speed run out o done s now front rest are is allowed vehicle w cards time =
     quiet-goes o done s front rest (Select slot pick) are run out d d w tt [] (log_of out) (ap (λ (bs : List Break). record (log_of out) { breaks = bs }) (sym (append-nil (log_of out).breaks))) tt (left-itself o d) (shows-self o d) cards false
 
--- or an entry by hand is let pass
+-- or an entry by hand passes the slots
 pub hand-cards : (d : Devices) (slot : Slot) (pick : Pick) (minute begun speed : ℕ) (run : Run) (out : Outcome) → CardsAction (Manual slot pick minute) begun speed false run out out d d
 hand-cards d slot pick minute begun speed run out o done s now front rest are is allowed vehicle w cards time =
     quiet-goes o done s front rest (Manual slot pick minute) are run out d d w tt [] (log_of out) (ap (λ (bs : List Break). record (log_of out) { breaks = bs }) (sym (append-nil (log_of out).breaks))) tt (left-itself o d) (shows-self o d) cards false
@@ -95,7 +97,7 @@ unfolding is_torn_in found_in cut_in
 course-refused log was s front line = refl
 
 pub refused-cards : (o : Origin) (done : List TraceSecond) (s : TraceSecond) (speed : ℕ) (run : Run) (before : Outcome) (d : Devices) → IsNow s speed run → (front : List Action) (a : Action) (rest : List Action) → s.actions ≡ front ++ a ∷ rest →
-    (w : RunWithin o done s (In (length front)) [] [] run before d) → CardsIn o done s w.within.b.run.log front (log_of before) d → (fault : SlotFault) → refusal (logged run.keeper.cabin.slots.seats) speed a ≡ Some fault → (after : Outcome) →
+    (w : RunWithin o done s (In (length front)) [] [] run before d) → CardsIn o done s w.within.b.run.log front (log_of before) d → (fault : SlotFault) → stopped_in run speed a ≡ Some fault → (after : Outcome) →
     after ≡ record before { refused = with_lines (record { second = run.next; fault = fault; begun = suc (length front) } ∷ []) before.refused } → CardsIn o done s w.within.b.run.log (front ++ a ∷ []) (log_of after) d
 refused-cards o done s speed run before d now front a rest are w cards fault is after told =
     let log : RunLog = log_of before in
@@ -106,14 +108,24 @@ refused-cards o done s speed run before d now front a rest are w cards fault is 
     let goes = goes-refused log later.refused s front uncut in
     let few : length front ≤ length s.actions = w.within.moment.is in
     let same : course_behind log was s front ≡ course_at log was s (In (length front)) = behind-at log was s front (a ∷ rest) are uncut few in
-    let faults : refusal (course_behind log was s front).slots s.speed a ≡ Some fault = ap (λ (c : Course). refusal c.slots s.speed a) same ∙ refuses o done s speed run before d now front a rest are w (Some fault) is in
-    let on = quiet-shown o done s w.within.b.run.log front (front ++ a ∷ []) log later d d cards
+    let on : CardsIn o done s w.within.b.run.log (front ++ a ∷ []) (log_of (record before { refused = with_lines (line ∷ []) before.refused })) d =
+    ⊎_elim
+    (λ (slots : refusal (logged run.keeper.cabin.slots.seats) speed a ≡ Some fault).
+    let faults : refusal (course_behind log was s front).slots s.speed a ≡ Some fault = ap (λ (c : Course). refusal c.slots s.speed a) same ∙ refuses o done s speed run before d now front a rest are w (Some fault) slots in
+    subst (λ (l : RunLog). CardsIn o done s w.within.b.run.log (front ++ a ∷ []) l d) (sym (log-one before line (refusal-by-slots (logged run.keeper.cabin.slots.seats) speed a fault slots)))
+    (quiet-shown o done s w.within.b.run.log front (front ++ a ∷ []) log later d d cards
     (λ c none. (
       none,
       still-found o w.within.b.run.log done s (power-here o done s (In (length front)) [] None [] (values_of run before) d w.within) c log later front (a ∷ rest) are goes.same (λ k x lt. w.within.moment.up_to.found (In k) x lt)
           (λ k x lt. (refusal-more log later.refused s.number).found (In k) x ∙ w.within.moment.up_to.found (In k) x lt),
     )) (failed-more log later goes.lines)
-    (quiet-action o done s w.within.b.run.log front a log later goes.same (inr (inl (fault, ap (λ (c : Course). refusal c.slots s.speed a) (course-refused log was s front line) ∙ faults)))) (left-itself o d) (shows-self o d) in
+    (quiet-action o done s w.within.b.run.log front a log later goes.same (inr (inl (fault, ap (λ (c : Course). refusal c.slots s.speed a) (course-refused log was s front line) ∙ faults)))) (left-itself o d) (shows-self o d)))
+    (λ (session : (refusal (logged run.keeper.cabin.slots.seats) speed a ≡ None) × (stop_by a run ≡ Some fault)).
+    let hand = stops-hand a run fault session.1 in
+    subst (λ (l : RunLog). CardsIn o done s w.within.b.run.log (front ++ a ∷ []) l d) (sym (log-stop before line (stop-by-session a run fault session.1)))
+    (subst (λ (x : Action). CardsIn o done s w.within.b.run.log (front ++ x ∷ []) log d) (sym hand.3)
+    (quiet-goes o done s front rest (Manual hand.0 hand.1 hand.2) (subst (λ (x : Action). s.actions ≡ front ++ x ∷ rest) hand.3 are) run before d d w tt [] log (ap (λ (bs : List Break). record log { breaks = bs }) (sym (append-nil log.breaks))) tt (left-itself o d) (shows-self o d) cards false)))
+    (whose run speed a fault is) in
     subst (λ (q : Outcome). CardsIn o done s w.within.b.run.log (front ++ a ∷ []) (log_of q) d) (sym told) on
 
 -- ---- the second goes on, by the log of now

@@ -1,5 +1,5 @@
 -- What an action of a second leaves of the events that are noted so far.
-use Rattle.std.proofs.Common.{◌≡◌, ◌∙◌, ℕ, suc, ◌+◌, Bool, true, false, Option, Some, None, List, [], ◌∷◌, ◌++◌, length, map, refl, ap, sym, subst, arith}
+use Rattle.std.proofs.Common.{◌≡◌, ◌∙◌, ℕ, suc, ◌+◌, Bool, true, false, Option, Some, None, List, [], ◌∷◌, ◌++◌, length, map, refl, ap, sym, subst, arith, ⊎_elim}
 use Rattle.activity_codec.specs.declared.values.Slot.{Slot}
 use Rattle.activity_codec.specs.declared.values.Slot.TheVariants.{Driver, CoDriver}
 use Rattle.trace_model.specs.declared.Card.{Card}
@@ -47,8 +47,10 @@ use Rattle.run_acts.proofs.Asked.{pulls-one}
 use Rattle.run_acts.proofs.CardUses.{still-found}
 use Rattle.run_acts.proofs.NotesThen.{torn-same}
 use Rattle.run_acts.proofs.RingedSecond.{power-here}
+use Rattle.run_acts.specs.ByHand.{stopped_in}
 use Rattle.recorder_with_cards.proofs.ActsRecorded.{refuses, refused}
 use Rattle.recorder_with_cards.proofs.Staying.{StaysWatched}
+use Rattle.recorder_with_cards.proofs.SlotLines.{whose, stop-by-session, refusal-by-slots, log-one, log-stop}
 
 -- ---- with power, or cut
 
@@ -94,7 +96,7 @@ notes-none o d = λ c there. (c, there, λ log now. nothing-more (number_in o) l
 
 -- it is refused
 pub refused-now : (o : Origin) (done : List TraceSecond) (s : TraceSecond) (speed : ℕ) (run : Run) (before : Outcome) (d : Devices) → IsNow s speed run → (front : List Action) (a : Action) (rest : List Action) → s.actions ≡ front ++ a ∷ rest →
-    (h : WithinEvented o done s (In (length front)) [] [] Acting run before d) → (fault : SlotFault) → refusal (logged run.keeper.cabin.slots.seats) speed a ≡ Some fault → (after : Outcome) → after ≡ record before { refused = with_lines (record { second = run.next; fault = fault; begun = suc (length front) } ∷ []) before.refused } →
+    (h : WithinEvented o done s (In (length front)) [] [] Acting run before d) → (fault : SlotFault) → stopped_in run speed a ≡ Some fault → (after : Outcome) → after ≡ record before { refused = with_lines (record { second = run.next; fault = fault; begun = suc (length front) } ∷ []) before.refused } →
     EventedNow o done s h.within.within.b.run Acting (log_of after) d
 refused-now o done s speed run before d now front a rest are h fault is after told =
     let w = h.within in
@@ -103,7 +105,11 @@ refused-now o done s speed run before d now front a rest are h fault is after to
     let adds = refusal-adds d o done p w.within.b.span s (begins-now o w.origin done s (In (length front)) (values_of run before) d w.within) (In (length front)) (log_of before)
     (reaches-of p (went p.log done).before s (In (length front)) (log_of before) [] w.within.b.broken (breakdowns_of d) w.within.moment) line in
     let then_ = call-notes d d o done s p Acting Acting (log_of before) (and_refused (log_of before) line) [] h.evented adds (notes-none o d) (still-images o d) in
-    subst (λ (q : Outcome). EventedNow o done s p Acting (log_of q) d) (sym told) then_
+    subst (λ (q : Outcome). EventedNow o done s p Acting (log_of q) d) (sym told)
+    (⊎_elim
+    (λ slots. subst (λ (l : RunLog). EventedNow o done s p Acting l d) (sym (log-one before line (refusal-by-slots (logged run.keeper.cabin.slots.seats) speed a fault slots))) then_)
+    (λ session. subst (λ (l : RunLog). EventedNow o done s p Acting l d) (sym (log-stop before line (stop-by-session a run fault session.1))) h.evented)
+    (whose run speed a fault is))
 
 -- ---- a card is pulled out
 

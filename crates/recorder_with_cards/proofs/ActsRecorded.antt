@@ -1,14 +1,16 @@
 -- What an action of a second leaves of the record.
-use Rattle.std.proofs.Common.{◌≡◌, ◌∙◌, ℕ, suc, ◌+◌, ◌-◌, Bool, true, Option, Some, None, List, [], ◌∷◌, ◌++◌, length, refl, ap, sym, subst, arith, append_assoc, length-append}
+use Rattle.std.proofs.Common.{◌≡◌, ◌∙◌, ℕ, suc, ◌+◌, ◌-◌, Bool, true, Option, Some, None, List, [], ◌∷◌, ◌++◌, length, refl, ap, sym, subst, arith, append_assoc, length-append, ⊎_elim, false}
 use Rattle.activity_codec.specs.declared.values.Slot.{Slot}
 use Rattle.activity_codec.specs.declared.values.Pick.{Pick}
+use Rattle.activity_codec.specs.declared.entries.Manual.{Manual as HandEntry}
 use Rattle.trace_model.specs.declared.Action.{Action}
 use Rattle.trace_model.specs.declared.Action.TheVariants.{Select, Manual}
 use Rattle.trace_model.specs.Trace.{TraceSecond}
+use Rattle.trace_model.specs.declared.Card.{Card}
 use Rattle.log_model.specs.declared.lines.SlotFault.{SlotFault}
-use Rattle.log_model.specs.Log.{In}
-use Rattle.log_model.specs.Slots.{refusal}
-use Rattle.card_slots.specs.Calls.{logged}
+use Rattle.log_model.specs.Log.{In, RunLog}
+use Rattle.log_model.specs.Slots.{refusal, same_card}
+use Rattle.card_slots.specs.Calls.{logged, seat_in, card_in}
 use Rattle.card_slots.proofs.Refusing.{refuse-alike}
 use Rattle.run_unit_course.specs.Followed.{Lost as IsLost}
 use Rattle.unit_model.specs.Image.{odometer_at}
@@ -18,32 +20,52 @@ use Rattle.run_course.proofs.Presence.{slots-agree}
 use Rattle.run_crew.specs.declared.cabin.Cabin.{Cabin}
 use Rattle.run_course.specs.Telling.{IsLeft}
 use Rattle.run_outcome.specs.declared.outcome.Outcome.{Outcome}
-use Rattle.run_outcome.specs.Lines.{cut_at}
+use Rattle.run_outcome.specs.Lines.{cut_at, Listed}
 use Rattle.run_promise.specs.Origin.{Origin, start_at}
 use Rattle.run_minutes.specs.Books.{HaveTime}
 use Rattle.run_minutes.specs.Keeping.{with_lines}
 use Rattle.run_record.specs.Recorded.{Values, RecordBetweenSeconds}
-use Rattle.run_record.specs.Within.{Beginning, course_in, told_before, cut_values, passed_values}
-use Rattle.run_record.proofs.Acting.{refusal-recorded, selection-recorded, hand-recorded}
+use Rattle.run_record.specs.Within.{Beginning, course_in, told_before, cut_values, passed_values, SecondGoesOn, AreAlike, IsAnswered, AnswersSo, stop_of as stop_of_session}
+use Rattle.run_record.proofs.Acting.{refusal-recorded, selection-recorded}
+use Rattle.run_record.proofs.ByHand.{hand-recorded}
 use Rattle.run_record.proofs.Cutting.{cut-recorded, recounted}
 use Rattle.run_acts.specs.declared.run.Run.{Run}
-use Rattle.run_acts.specs.Power.{is_lit, cut_run}
+use Rattle.run_acts.specs.Power.{is_lit, cut_run, with_cabin}
 use Rattle.run_acts.specs.Recording.{log_of, values_of, IsOrigin, RunWithin, RunCut, InSecondBy, InSecond, RunFails, RunGoesOn, IsNow}
 use Rattle.recorder_with_cards.specs.Acting.{IsSelected}
 use Rattle.recorder_with_cards.specs.Recorded.{Inside, ActsBy}
+use Rattle.recorder_with_cards.proofs.SlotLines.{whose, none-of-both, stops-hand, stop-by-session, refusal-by-slots, log-one, log-stop, values-slots, stops-one}
 use Rattle.log_model.specs.declared.lines.Refused.{Refused}
+use Rattle.log_model.specs.declared.lines.Mark.{Mark}
+use Rattle.log_model.specs.ByHand.{minute_on, stops, is_stop}
 use Rattle.run_course.specs.Moments.{and_refused}
 use Rattle.run_acts.specs.Closings.{notes_within}
 use Rattle.run_acts.specs.Truths.{truths_within, marked}
 use Rattle.run_acts.specs.Stays.{AllStay}
 use Rattle.run_acts.proofs.AllStay.{all-noted, log-self, no-cut}
 use Rattle.run_acts.proofs.NotesThen.{select-now, hand-now, refuse-now}
+use Rattle.run_acts.specs.ByHand.{entry_from, session_at, cabin_holding, entered_run, stop_of, stop_by, stopped_in, stop_in, holding}
+use Rattle.run_acts.proofs.ByHand.{holding-slots, holding-alike, cards-same, taken-there}
+use Rattle.run_acts.proofs.HeldStays.{all-holding}
+use Rattle.std.specs.Prelude.{option_map}
+use Rattle.trace_model.specs.declared.Card.TheVariants.{A, B}
+use Rattle.run_crew.specs.declared.cards.Accepted.{Accepted}
+use Rattle.run_crew.specs.declared.cards.Cards.{Cards}
+use Rattle.run_crew.specs.Cards.{session_of}
+use Rattle.run_crew.proofs.Sessions.{session_set, session_apart}
 
 -- ---- with power, or cut
 
 module _ (o : Origin) (done : List TraceSecond) (s : TraceSecond) (run : Run) (out : Outcome) (d : Devices) where
   pub cut-in : (n : ℕ) → RunCut o done s run out d → InSecond o done s n run out d
   cut-in n h = subst (λ (b : Bool). InSecondBy b o done s n run out d) (sym (ap is_lit h.lost)) h
+
+-- two cards are apart either way
+turned : (c d : Card) → same_card c d ≡ false → same_card d c ≡ false
+turned A A is = is
+turned A B is = refl
+turned B A is = refl
+turned B B is = is
 
 -- ---- one action
 
@@ -61,12 +83,16 @@ module _ (o : Origin) (done : List TraceSecond) (s : TraceSecond) (speed : ℕ) 
   same-odometer : (b : Beginning) → b ≡ h.within.b → run.keeper.odometer ≡ odometer_after (odometer_at o.recording.unit) b.travel.before
   same-odometer b is = h.odometer ∙ ap (λ (x : Beginning). odometer_after (odometer_at o.recording.unit) x.travel.before) (sym is)
 
-  -- it is refused
-  pub refused : (fault : SlotFault) → refusal (logged run.keeper.cabin.slots.seats) speed a ≡ Some fault → (after : Outcome) → after ≡ record before { refused = with_lines (record { second = run.next; fault = fault; begun = suc (length front) } ∷ []) before.refused }
+  -- slots or speed refuse it
+  refused-slots : (fault : SlotFault) → refusal (logged run.keeper.cabin.slots.seats) speed a ≡ Some fault → (after : Outcome) → after ≡ record before { refused = with_lines (record { second = run.next; fault = fault; begun = suc (length front) } ∷ []) before.refused }
       → RunGoesOn o done s (In (suc (length front))) [] run after d h.within.b
-  refused fault is after told =
-      let g = refusal-recorded d o done s (values_of run before) front a rest are h.within fault (refuses (Some fault) is) in
+  refused-slots fault is after told =
       let line : Refused = record { second = s.number; fault = fault; begun = suc (length front) } in
+      let pre : Outcome = record before { refused = with_lines (line ∷ []) before.refused } in
+      let same : log_of pre ≡ and_refused (log_of before) line = log-one before line (refusal-by-slots (logged run.keeper.cabin.slots.seats) speed a fault is) in
+      let g : SecondGoesOn o done s (In (suc (length front))) [] None [] (values_of run pre) d h.within.b h.within.from =
+      subst (λ (v : Values). SecondGoesOn o done s (In (suc (length front))) [] None [] v d h.within.b h.within.from) (sym (values-slots run before line (refusal-by-slots (logged run.keeper.cabin.slots.seats) speed a fault is)))
+      (refusal-recorded d o done s (values_of run before) front a rest are h.within fault (refuses (Some fault) is)) in
       subst (λ (x : Outcome). RunGoesOn o done s (In (suc (length front))) [] run x d h.within.b) (sym told)
       (subst (λ (u : ℕ). RunGoesOn o done s (In (suc (length front))) [] run (record before { refused = with_lines (record { second = u; fault = fault; begun = suc (length front) } ∷ []) before.refused }) d h.within.b) now.number
       (record {
@@ -76,10 +102,11 @@ module _ (o : Origin) (done : List TraceSecond) (s : TraceSecond) (speed : ℕ) 
           lit = h.lit;
           within = g.within;
           odometer = same-odometer g.within.b g.began;
-          stay = subst (λ (b : Beginning). AllStay o (marked before.marks.items (truths_within o b.run.log done s)) s.number (and_refused (log_of before) line) (notes_within b done s (In (suc (length front))) (and_refused (log_of before) line)) run.keeper.memory.registration run.keeper.cabin d) (sym g.began)
+          stay = subst (λ (b : Beginning). AllStay o (marked before.marks.items (truths_within o b.run.log done s)) s.number (log_of pre) (notes_within b done s (In (suc (length front))) (log_of pre)) run.keeper.memory.registration run.keeper.cabin d) (sym g.began)
+              (subst (λ (l : RunLog). AllStay o (marked before.marks.items (truths_within o h.within.b.run.log done s)) s.number l (notes_within h.within.b done s (In (suc (length front))) l) run.keeper.memory.registration run.keeper.cabin d) (sym same)
               (all-noted o (marked before.marks.items (truths_within o h.within.b.run.log done s)) s.number (log_of before) (and_refused (log_of before) line) (notes_within h.within.b done s (In (length front)) (log_of before)) (notes_within h.within.b done s (In (suc (length front))) (and_refused (log_of before) line))
               run.keeper.memory.registration run.keeper.cabin d (λ none. record { none = none; finds = refl; judged = refl })
-              (λ none c. refuse-now o done s front rest a are (values_of run before) d h.within fault (refuses (Some fault) is) line c) h.stay);
+              (λ none c. refuse-now o done s front rest a are (values_of run before) d h.within fault (refuses (Some fault) is) line c) h.stay));
         };
         began = g.began;
       }))
@@ -107,11 +134,18 @@ module _ (o : Origin) (done : List TraceSecond) (s : TraceSecond) (speed : ℕ) 
         began = g.began;
       })
 
-  -- an entry by hand is let pass
-  pub passed-by : (slot : Slot) (pick : Pick) (minute : ℕ) → a ≡ Manual slot pick minute → refusal (logged run.keeper.cabin.slots.seats) speed a ≡ None → RunGoesOn o done s (In (suc (length front))) [] run before d h.within.b
-  passed-by slot pick minute is allowed =
+  -- an entry by hand passes the slots: it is held, or a session stops it; the log is the same
+  passed-by : (slot : Slot) (pick : Pick) (minute : ℕ) → a ≡ Manual slot pick minute → refusal (logged run.keeper.cabin.slots.seats) speed a ≡ None → (cabin : Cabin) → cabin.slots ≡ run.keeper.cabin.slots → AreAlike run.keeper.cabin.cards cabin.cards → (after : Outcome) → log_of after ≡ log_of before
+      → after.marks ≡ before.marks → ((card : Card) → card_in (seat_in run.keeper.cabin.slots.seats slot) ≡ Some card → IsAnswered run.next (suc (length front)) (entry_from slot pick (minute_on run.next minute)) card run.keeper.cabin.cards cabin.cards (stops before.refused.items) (stops after.refused.items))
+      → AllStay o (marked before.marks.items (truths_within o h.within.b.run.log done s)) s.number (log_of before) (notes_within h.within.b done s (In (length front)) (log_of before)) run.keeper.memory.registration cabin d
+      → RunGoesOn o done s (In (suc (length front))) [] (with_cabin cabin run) after d h.within.b
+  passed-by slot pick minute is allowed cabin slots alike after log marks answers stays =
       let here : s.actions ≡ front ++ Manual slot pick minute ∷ rest = subst (λ (x : Action). s.actions ≡ front ++ x ∷ rest) is are in
-      let g = hand-recorded d o done s (values_of run before) front slot pick minute rest here h.within (subst (λ (x : Action). refusal (course_in h.within.b done s (In (length front)) (values_of run before).log).slots s.speed x ≡ None) is (refuses None allowed)) in
+      let first = hand-recorded d o done s (values_of run before) front slot pick minute rest here h.within (subst (λ (x : Action). refusal (course_in h.within.b done s (In (length front)) (values_of run before).log).slots s.speed x ≡ None) is (refuses None allowed)) cabin slots alike (stops after.refused.items)
+      (λ card there. subst (λ (u : ℕ). IsAnswered u (suc (length front)) (entry_from slot pick (minute_on u minute)) card run.keeper.cabin.cards cabin.cards (stops before.refused.items) (stops after.refused.items)) (sym now.number) (answers card there)) in
+      let g : SecondGoesOn o done s (In (suc (length front))) [] None [] (values_of (with_cabin cabin run) after) d h.within.b h.within.from =
+      subst (λ (l : RunLog). SecondGoesOn o done s (In (suc (length front))) [] None [] (record (values_of (with_cabin cabin run) after) { log = l }) d h.within.b h.within.from) (sym log)
+      (subst (λ (ms : List Mark). SecondGoesOn o done s (In (suc (length front))) [] None [] (record (values_of (with_cabin cabin run) before) { marks = ms; stops = stops after.refused.items }) d h.within.b h.within.from) (sym (ap (λ (l : Listed Mark). l.items) marks)) first) in
       record {
         goes = record {
           origin = h.origin;
@@ -119,12 +153,73 @@ module _ (o : Origin) (done : List TraceSecond) (s : TraceSecond) (speed : ℕ) 
           lit = h.lit;
           within = g.within;
           odometer = same-odometer g.within.b g.began;
-          stay = subst (λ (b : Beginning). AllStay o (marked before.marks.items (truths_within o b.run.log done s)) s.number (log_of before) (notes_within b done s (In (suc (length front))) (log_of before)) run.keeper.memory.registration run.keeper.cabin d) (sym g.began)
-              (all-noted o (marked before.marks.items (truths_within o h.within.b.run.log done s)) s.number (log_of before) (log_of before) (notes_within h.within.b done s (In (length front)) (log_of before)) (notes_within h.within.b done s (In (suc (length front))) (log_of before)) run.keeper.memory.registration run.keeper.cabin d
-              (log-self (log_of before)) (λ none c. hand-now o done s front rest slot pick minute here (values_of run before) d h.within c) h.stay);
+          stay = subst (λ (b : Beginning). AllStay o (marked after.marks.items (truths_within o b.run.log done s)) s.number (log_of after) (notes_within b done s (In (suc (length front))) (log_of after)) run.keeper.memory.registration cabin d) (sym g.began)
+              (subst (λ (ms : List Mark). AllStay o (marked ms (truths_within o h.within.b.run.log done s)) s.number (log_of after) (notes_within h.within.b done s (In (suc (length front))) (log_of after)) run.keeper.memory.registration cabin d) (sym (ap (λ (l : Listed Mark). l.items) marks))
+              (subst (λ (l : RunLog). AllStay o (marked before.marks.items (truths_within o h.within.b.run.log done s)) s.number l (notes_within h.within.b done s (In (suc (length front))) l) run.keeper.memory.registration cabin d) (sym log)
+              (all-noted o (marked before.marks.items (truths_within o h.within.b.run.log done s)) s.number (log_of before) (log_of before) (notes_within h.within.b done s (In (length front)) (log_of before)) (notes_within h.within.b done s (In (suc (length front))) (log_of before)) run.keeper.memory.registration cabin d
+              (log-self (log_of before)) (λ none c. hand-now o done s front rest slot pick minute here (values_of run before) d h.within c) stays)));
         };
         began = g.began;
       }
+
+  -- why the session of a card stops it, if it does
+  stop-is : (slot : Slot) (minute : ℕ) (why : Option SlotFault) → stop_of slot minute run ≡ why → (card : Card) → card_in (seat_in run.keeper.cabin.slots.seats slot) ≡ Some card → (x : Accepted) → session_of run.keeper.cabin.cards card ≡ Some x → stop_of_session x (minute_on run.next minute) ≡ why
+  stop-is slot minute why is card there x some =
+      sym (ap (λ (q : Option Card). stop_in (session_at q run.keeper.cabin.cards) (minute_on run.next minute)) there ∙ ap (λ (q : Option Accepted). stop_in q (minute_on run.next minute)) some) ∙ is
+
+  -- that holds it
+  held-answers : (slot : Slot) (pick : Pick) (minute : ℕ) → stop_of slot minute run ≡ None → (card : Card) → card_in (seat_in run.keeper.cabin.slots.seats slot) ≡ Some card
+      → IsAnswered run.next (suc (length front)) (entry_from slot pick (minute_on run.next minute)) card run.keeper.cabin.cards (cabin_holding (entry_from slot pick (minute_on run.next minute)) (card_in (seat_in run.keeper.cabin.slots.seats slot)) run.keeper.cabin).cards (stops before.refused.items) (stops before.refused.items)
+  held-answers slot pick minute takes card there x some =
+      let e : HandEntry = entry_from slot pick (minute_on run.next minute) in
+      let cards : Cards = run.keeper.cabin.cards in
+      let lines : List Refused = stops before.refused.items in
+      subst (λ (why : Option SlotFault). AnswersSo why run.next (suc (length front)) e card cards (cabin_holding e (card_in (seat_in run.keeper.cabin.slots.seats slot)) run.keeper.cabin).cards lines lines) (sym (stop-is slot minute None takes card there x some))
+      (subst (λ (q : Option Card). AnswersSo None run.next (suc (length front)) e card cards (cabin_holding e q run.keeper.cabin).cards lines lines) (sym there) (
+        refl,
+        λ c apart. session_apart card c (option_map (holding e) (session_of cards card)) cards (turned card c apart),
+        λ y has. session_set card (option_map (holding e) (session_of cards card)) cards ∙ ap (option_map (holding e)) has,
+      ))
+
+  -- or a line tells it
+  stopped-answers : (slot : Slot) (pick : Pick) (minute : ℕ) (fault : SlotFault) → stop_of slot minute run ≡ Some fault → is_stop fault ≡ true → (card : Card) → card_in (seat_in run.keeper.cabin.slots.seats slot) ≡ Some card → (after : Outcome)
+      → after ≡ record before { refused = with_lines (record { second = run.next; fault = fault; begun = suc (length front) } ∷ []) before.refused }
+      → IsAnswered run.next (suc (length front)) (entry_from slot pick (minute_on run.next minute)) card run.keeper.cabin.cards run.keeper.cabin.cards (stops before.refused.items) (stops after.refused.items)
+  stopped-answers slot pick minute fault why stop card there after told x some =
+      let e : HandEntry = entry_from slot pick (minute_on run.next minute) in
+      let cards : Cards = run.keeper.cabin.cards in
+      let line : Refused = record { second = run.next; fault = fault; begun = suc (length front) } in
+      subst (λ (w : Option SlotFault). AnswersSo w run.next (suc (length front)) e card cards cards (stops before.refused.items) (stops after.refused.items)) (sym (stop-is slot minute (Some fault) why card there x some))
+      (ap (λ (y : Outcome). stops y.refused.items) told ∙ stops-one before.refused.items line stop, λ c. refl)
+
+  -- nothing stops it
+  pub entered : (slot : Slot) (pick : Pick) (minute : ℕ) → a ≡ Manual slot pick minute → stopped_in run speed a ≡ None → RunGoesOn o done s (In (suc (length front))) [] (entered_run slot pick minute run) before d h.within.b
+  entered slot pick minute is unstopped =
+      let none = none-of-both run speed a unstopped in
+      let cabin = run.keeper.cabin in
+      let card : Option Card = card_in (seat_in cabin.slots.seats slot) in
+      let e : HandEntry = entry_from slot pick (minute_on run.next minute) in
+      let takes : stop_of slot minute run ≡ None = subst (λ (x : Action). stop_by x run ≡ None) is none.1 in
+      passed-by slot pick minute is none.0 (cabin_holding e card cabin) (holding-slots e card cabin) (holding-alike e card cabin) before refl refl (held-answers slot pick minute takes)
+      (all-holding o (marked before.marks.items (truths_within o h.within.b.run.log done s)) s.number (log_of before) (notes_within h.within.b done s (In (length front)) (log_of before)) run.keeper.memory.registration cabin card e d (taken-there (session_at card cabin.cards) (minute_on run.next minute) takes) h.stay)
+
+  alike-self : AreAlike run.keeper.cabin.cards run.keeper.cabin.cards
+  alike-self = cards-same run.keeper.cabin.cards
+
+  -- a session stops it
+  stopped-by : (fault : SlotFault) → refusal (logged run.keeper.cabin.slots.seats) speed a ≡ None → stop_by a run ≡ Some fault → (after : Outcome) → after ≡ record before { refused = with_lines (record { second = run.next; fault = fault; begun = suc (length front) } ∷ []) before.refused }
+      → RunGoesOn o done s (In (suc (length front))) [] run after d h.within.b
+  stopped-by fault passes stop after told =
+      let hand = stops-hand a run fault stop in
+      let line : Refused = record { second = run.next; fault = fault; begun = suc (length front) } in
+      passed-by hand.0 hand.1 hand.2 hand.3 passes run.keeper.cabin refl alike-self after (ap log_of told ∙ log-stop before line (stop-by-session a run fault stop)) (ap (λ (x : Outcome). x.marks) told)
+      (λ card there. stopped-answers hand.0 hand.1 hand.2 fault (subst (λ (x : Action). stop_by x run ≡ Some fault) hand.3 stop) (stop-by-session a run fault stop) card there after told) h.stay
+
+  -- IT IS REFUSED, by slots and speed, or by a session
+  pub refused : (fault : SlotFault) → stopped_in run speed a ≡ Some fault → (after : Outcome) → after ≡ record before { refused = with_lines (record { second = run.next; fault = fault; begun = suc (length front) } ∷ []) before.refused }
+      → RunGoesOn o done s (In (suc (length front))) [] run after d h.within.b
+  refused fault is after told =
+      ⊎_elim (λ slots. refused-slots fault slots after told) (λ session. stopped-by fault session.0 session.1 after told) (whose run speed a fault is)
 
 -- ---- the unit has failed: power is cut
 

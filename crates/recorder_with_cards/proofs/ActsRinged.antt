@@ -1,5 +1,5 @@
 -- What an action of a second leaves of the rings.
-use Rattle.std.proofs.Common.{◌≡◌, ◌∙◌, ◌⊎◌, inl, inr, ℕ, suc, ◌+◌, ◌≤◌, true, false, Option, Some, None, List, [], ◌∷◌, ◌++◌, length, refl, ap, sym, subst, arith, append_assoc, length-append}
+use Rattle.std.proofs.Common.{◌≡◌, ◌∙◌, ◌⊎◌, inl, inr, ℕ, suc, ◌+◌, ◌≤◌, true, false, Option, Some, None, List, [], ◌∷◌, ◌++◌, length, refl, ap, sym, subst, arith, append_assoc, length-append, ⊎_elim}
 use Rattle.activity_codec.specs.declared.values.Slot.{Slot}
 use Rattle.activity_codec.specs.declared.values.Pick.{Pick}
 use Rattle.trace_model.specs.declared.Card.{Card}
@@ -16,6 +16,7 @@ use Rattle.log_model.specs.declared.lines.SlotFault.{SlotFault}
 use Rattle.log_model.specs.Log.{RunLog, In}
 use Rattle.log_model.specs.Slots.{refusal}
 use Rattle.log_model.specs.Course.{Before, Course, ToldSecond, went}
+use Rattle.log_model.specs.ByHand.{minute_on}
 use Rattle.card_slots.specs.Calls.{seat_in, card_in, logged}
 use Rattle.run_unit_course.specs.Lines.{cut_at}
 use Rattle.note_model.specs.Odometer.{SpanFrom}
@@ -40,7 +41,7 @@ use Rattle.run_note_record.specs.EventsSoFar.{EventedNow}
 use Rattle.run_note_record.specs.RingsSoFar.{RingedBehind, RingedIn}
 use Rattle.run_note_record.specs.Steps.{GoesOnTo, nobody, spans_cut}
 use Rattle.run_note_record.specs.Stored.{StoresOn, StoresOff}
-use Rattle.run_note_record.proofs.OnCards.{places-itself}
+use Rattle.run_note_record.proofs.OnCards.{stay-itself}
 use Rattle.run_note_record.proofs.SoFar.{left-itself}
 use Rattle.run_note_record.proofs.RingSteps.{passes}
 use Rattle.run_acts.specs.declared.run.Run.{Run}
@@ -52,10 +53,13 @@ use Rattle.run_acts.specs.Evented.{CutEvented, RunWatches, span_seen}
 use Rattle.run_acts.specs.RunRinged.{seats_of, IsLastFrom, RingsWithin, WithinRinged, CutRinged, with_cut, RingsGoOn, RingsAction}
 use Rattle.run_acts.proofs.Asked.{pulls-one}
 use Rattle.run_acts.proofs.StoredRun.{run-cut}
+use Rattle.run_acts.specs.ByHand.{entry_from, entered_run, stop_by, stopped_in}
+use Rattle.run_acts.proofs.ByHand.{holding-seats}
 use Rattle.recorder_with_cards.proofs.ActsRecorded.{refuses, refused}
 use Rattle.recorder_with_cards.proofs.ActsEvented.{watches-on, refused-now}
 use Rattle.recorder_with_cards.proofs.Staying.{StaysWatched}
 use Rattle.recorder_with_cards.proofs.RingsHeld.{at-front, behind-at, goes-still, goes-refused, goes-torn}
+use Rattle.recorder_with_cards.proofs.SlotLines.{whose, stops-hand, stop-by-session, refusal-by-slots, log-one, log-stop}
 
 -- ---- the second goes on, or power is cut
 
@@ -115,7 +119,7 @@ passes-by : (d : Devices) (o : Origin) (done : List TraceSecond) (s : TraceSecon
     GoesOnTo log later s front → NotesMore later (went began done).before s front a [] → new.keeper.odometer ≡ run.keeper.odometer → ((c : Card) → (seats_of new c ≡ seats_of run c) ⊎ (seats_of new c ≡ None)) →
     new.noted ≡ run.noted → later.finds ≡ log.finds → RingsWithin o done s began (front ++ a ∷ []) new later spans t d
 passes-by d o done s began log later front a spans t run new rings goes none same fewer noted finds =
-    let on = passes d d o done s began log later front a spans run.keeper.odometer t (seats_of run) (seats_of new) rings.ringed goes none (rings-left d.unit) (left-itself o d) (places-itself o d) fewer in
+    let on = passes d d o done s began log later front a spans run.keeper.odometer t (seats_of run) (seats_of new) rings.ringed goes none (rings-left d.unit) (left-itself o d) (stay-itself o (with_second spans run.keeper.odometer t) d) fewer in
     record {
       base = subst (λ (n : ℕ). IsLastFrom n (with_second spans n t)) (sym same) rings.base;
       counted = let was = rings.counted in let many = ap (λ (fs : List Find). length fs) finds in omega (arith, was, noted, many);
@@ -128,11 +132,11 @@ selected-ringed d slot pick begun speed run minutes out o done s now front rest 
     passes-by d o done s w.within.b.run.log (log_of out) (log_of out) front (Select slot pick) spans t run (record run { minutes = minutes }) rings (goes-still (log_of out) s front w.within.moment.up_to.uncut)
     (selections (log_of out) (went w.within.b.run.log done).before s front slot pick) refl (λ c. inl refl) refl refl
 
--- or an entry by hand is let pass
-pub hand-ringed : (d : Devices) (slot : Slot) (pick : Pick) (minute begun speed : ℕ) (run : Run) (out : Outcome) → RingsAction (Manual slot pick minute) begun speed false run run out out d d
+-- or a session takes an entry by hand
+pub hand-ringed : (d : Devices) (slot : Slot) (pick : Pick) (minute begun speed : ℕ) (run : Run) (out : Outcome) → RingsAction (Manual slot pick minute) begun speed false run (entered_run slot pick minute run) out out d d
 hand-ringed d slot pick minute begun speed run out o done s now front rest are is allowed w spans t rings time =
-    passes-by d o done s w.within.b.run.log (log_of out) (log_of out) front (Manual slot pick minute) spans t run run rings (goes-still (log_of out) s front w.within.moment.up_to.uncut)
-    (entries (log_of out) (went w.within.b.run.log done).before s front slot pick minute) refl (λ c. inl refl) refl refl
+    passes-by d o done s w.within.b.run.log (log_of out) (log_of out) front (Manual slot pick minute) spans t run (entered_run slot pick minute run) rings (goes-still (log_of out) s front w.within.moment.up_to.uncut)
+    (entries (log_of out) (went w.within.b.run.log done).before s front slot pick minute) refl (λ c. inl (holding-seats (entry_from slot pick (minute_on run.next minute)) (card_in (seat_in run.keeper.cabin.slots.seats slot)) run c)) refl refl
 
 -- a card is pulled out
 pulled-seats : (card : Card) (second : ℕ) (run : Run) (c : Card) → (seats_of (with_cabin (torn_out card second run.keeper.cabin) run) c ≡ seats_of run c) ⊎ (seats_of (with_cabin (torn_out card second run.keeper.cabin) run) c ≡ None)
@@ -163,7 +167,7 @@ pulled-ringed d slot begun speed run out o done s now front rest are is allowed 
 
 -- or it is refused
 pub refused-ringed : (o : Origin) (done : List TraceSecond) (s : TraceSecond) (speed : ℕ) (run : Run) (before : Outcome) (d : Devices) → IsNow s speed run → (front : List Action) (a : Action) (rest : List Action) → s.actions ≡ front ++ a ∷ rest →
-    WithinRinged o done s (length front) run before d → (fault : SlotFault) → refusal (logged run.keeper.cabin.slots.seats) speed a ≡ Some fault → (after : Outcome) → after ≡ record before { refused = with_lines (record { second = run.next; fault = fault; begun = suc (length front) } ∷ []) before.refused } →
+    WithinRinged o done s (length front) run before d → (fault : SlotFault) → stopped_in run speed a ≡ Some fault → (after : Outcome) → after ≡ record before { refused = with_lines (record { second = run.next; fault = fault; begun = suc (length front) } ∷ []) before.refused } →
     WithinRinged o done s (suc (length front)) run after d
 refused-ringed o done s speed run before d now front a rest are h fault is after told =
     let w = h.evented.within in
@@ -175,9 +179,21 @@ refused-ringed o done s speed run before d now front a rest are h fault is after
     let goes = goes-refused log later.refused s front uncut in
     let few : length front ≤ length s.actions = w.within.moment.is in
     let same : course_behind log was s front ≡ course_at log was s (In (length front)) = behind-at log was s front (a ∷ rest) are uncut few in
-    let faults : refusal (course_behind log was s front).slots s.speed a ≡ Some fault = ap (λ (c : Course). refusal c.slots s.speed a) same ∙ refuses o done s speed run before d now front a rest are w (Some fault) is in
+    let pre : Outcome = record before { refused = with_lines (line ∷ []) before.refused } in
+    let here = at-front o done s run before d front (a ∷ rest) are h in
+    let rings : RingsWithin o done s w.within.b.run.log (front ++ a ∷ []) run (log_of pre) h.spans h.told d =
+    ⊎_elim
+    (λ (slots : refusal (logged run.keeper.cabin.slots.seats) speed a ≡ Some fault).
+    let faults : refusal (course_behind log was s front).slots s.speed a ≡ Some fault = ap (λ (c : Course). refusal c.slots s.speed a) same ∙ refuses o done s speed run before d now front a rest are w (Some fault) slots in
     let none : NotesMore later was s front a [] = refusals later was s front a fault (ap (λ (c : Course). refusal c.slots s.speed a) (behind-refused log was s front line) ∙ faults) in
-    let rings = passes-by d o done s w.within.b.run.log log later front a h.spans h.told run run (at-front o done s run before d front (a ∷ rest) are h) goes none refl (λ c. inl refl) refl refl in
+    subst (λ (l : RunLog). RingsWithin o done s w.within.b.run.log (front ++ a ∷ []) run l h.spans h.told d) (sym (log-one before line (refusal-by-slots (logged run.keeper.cabin.slots.seats) speed a fault slots)))
+    (passes-by d o done s w.within.b.run.log log later front a h.spans h.told run run here goes none refl (λ c. inl refl) refl refl))
+    (λ (session : (refusal (logged run.keeper.cabin.slots.seats) speed a ≡ None) × (stop_by a run ≡ Some fault)).
+    let hand = stops-hand a run fault session.1 in
+    subst (λ (l : RunLog). RingsWithin o done s w.within.b.run.log (front ++ a ∷ []) run l h.spans h.told d) (sym (log-stop before line (stop-by-session a run fault session.1)))
+    (subst (λ (x : Action). RingsWithin o done s w.within.b.run.log (front ++ x ∷ []) run log h.spans h.told d) (sym hand.3)
+    (passes-by d o done s w.within.b.run.log log log front (Manual hand.0 hand.1 hand.2) h.spans h.told run run here (goes-still log s front uncut) (entries log was s front hand.0 hand.1 hand.2) refl (λ c. inl refl) refl refl)))
+    (whose run speed a fault is) in
     let all : s.actions ≡ (front ++ a ∷ []) ++ rest = are ∙ sym (append_assoc front (a ∷ []) rest) in
     let number : length (front ++ a ∷ []) ≡ suc (length front) = let long = length-append front (a ∷ []) in omega (arith, long) in
     ringed-on o done s (length front) (suc (length front)) run run before after d d h (front ++ a ∷ []) rest all number (refused o done s speed run before d now front a rest are w fault is after told)

@@ -1,4 +1,4 @@
--- What an action finds that slots and speed do not refuse.
+-- What an action finds that nothing refuses.
 use Rattle.std.proofs.Common.{◌≡◌, ℕ, Bool, true, false, cond, Option, Some, None, is_some, refl}
 use Rattle.activity_codec.specs.declared.values.Slot.{Slot}
 use Rattle.activity_codec.specs.declared.values.Slot.TheVariants.{Driver, CoDriver}
@@ -8,6 +8,7 @@ use Rattle.trace_model.specs.declared.Action.TheVariants.{Select, Insert, Withdr
 use Rattle.trace_model.specs.declared.Item.TheVariants.{Act}
 use Rattle.run_outcome.specs.Room.{insertion_count}
 use Rattle.run_acts.specs.declared.run.Run.{Run}
+use Rattle.run_acts.specs.ByHand.{stopped_in}
 use Rattle.recorder_with_cards.specs.Acting.{put_count, refused_by, IsSelected, IsFine}
 use Rattle.log_model.specs.declared.lines.SlotFault.{SlotFault}
 use Rattle.log_model.specs.declared.lines.SlotFault.TheVariants.{Occupied, Elsewhere}
@@ -41,10 +42,10 @@ insert-elsewhere seats Driver card speed is = not-there seats.codriver card (beh
 insert-elsewhere seats CoDriver card speed is = not-there seats.driver card (behind seats.codriver CoDriver (cond (holds (sitting_of seats.driver) card) (Some (Elsewhere card)) None) is)
 
 -- what nothing refuses with power is not refused
-pub lit-refused : (has lit : Bool) (seats : Seats) (speed : ℕ) (action : Action) → has ≡ true → lit ≡ true → refusal (logged seats) speed action ≡ None → refused_by has lit seats speed action ≡ None
-lit-refused true true seats speed action h l is = is
-lit-refused true false seats speed action h l is = absurd (cc)
-lit-refused false lit seats speed action h l is = absurd (cc)
+pub lit-refused : (has lit : Bool) (run : Run) (speed : ℕ) (action : Action) → has ≡ true → lit ≡ true → stopped_in run speed action ≡ None → refused_by has lit run speed action ≡ None
+lit-refused true true run speed action h l is = is
+lit-refused true false run speed action h l is = absurd (cc)
+lit-refused false lit run speed action h l is = absurd (cc)
 
 -- a selection does not fail
 pub fine-selected : (action : Action) (failed : Bool) (old new : Run) → failed ≡ true → IsFine action failed → IsSelected action old new
@@ -56,13 +57,13 @@ fine-selected (Place slot ending country region) failed old new so fine = tt
 fine-selected (Manual slot pick minute) failed old new so fine = tt
 
 -- nor is it refused
-pub refused-selected : (slots : Slots) (speed : ℕ) (action : Action) (fault : SlotFault) (run : Run) → refusal slots speed action ≡ Some fault → IsSelected action run run
-refused-selected slots speed (Select slot pick) fault run is = absurd (cc)
-refused-selected slots speed (Insert slot card) fault run is = tt
-refused-selected slots speed (Withdraw slot) fault run is = tt
-refused-selected slots speed (Tear slot) fault run is = tt
-refused-selected slots speed (Place slot ending country region) fault run is = tt
-refused-selected slots speed (Manual slot pick minute) fault run is = tt
+pub refused-selected : (run : Run) (speed : ℕ) (action : Action) (fault : SlotFault) → stopped_in run speed action ≡ Some fault → IsSelected action run run
+refused-selected run speed (Select slot pick) fault is = absurd (cc)
+refused-selected run speed (Insert slot card) fault is = tt
+refused-selected run speed (Withdraw slot) fault is = tt
+refused-selected run speed (Tear slot) fault is = tt
+refused-selected run speed (Place slot ending country region) fault is = tt
+refused-selected run speed (Manual slot pick minute) fault is = tt
 
 -- an insertion counts as one
 pub count-is : (action : Action) → insertion_count (Act action) ≡ put_count action

@@ -57,7 +57,7 @@ module _ (o : Origin) (done : List TraceSecond) (run : Run) (out : Outcome) (d :
 
   pub sits-at-end : is_some (session_of run.keeper.cabin.cards c) ≡ true → sits_in run.keeper.cabin.slots.seats c ≡ true
   sits-at-end some =
-      by-supply h.supply (carried (values_of run out) h.recorded.due h.recorded.book h.recorded.standing h.recorded.brought) h.powers h.recorded.held some
+      by-supply h.supply (carried (values_of run out) h.recorded.due h.recorded.book h.recorded.standing h.recorded.brought h.recorded.hands h.recorded.firsts) h.powers h.recorded.held some
 
 -- ---- what is true of the stays of a run
 

@@ -18,6 +18,7 @@ use Rattle.run_insertion.specs.declared.lines.Entering.{Entering}
 use Rattle.run_insertion.specs.Entering.{Ending, Unfit, Ahead, Fell, Unasked, Unnoted, Seated, Lost, Way, Unread, Unsized, Judged, breaks_by, cabin_by, noted_by, and_one, ending_of, measured}
 use Rattle.run_insertion.specs.Entered.{IsEnding, IsWay, IsLeft}
 use Rattle.run_insertion.specs.declared.waking.TheConstants.{UNTOLD}
+use Rattle.hand_model.specs.Holding.{none_held}
 use Rattle.run_crew.specs.declared.cards.Accepted.{Accepted}
 use Rattle.run_crew.specs.declared.cabin.Cabin.{Cabin}
 use Rattle.run_crew.specs.Cards.{known_of, session_of}
@@ -242,10 +243,10 @@ module _ (e : Entering) (k v : Keeper) (noted after : ℕ) (o p : Outcome) (regi
   by-ending sizes app (Unnoted entered clock) is = comes-still e.slot e.which e.at.second noted (with_sizes_of e.which sizes k.cabin) (told-session e.slot e.at.second noted after sizes k.cabin e.which ∙ bare)
   by-ending sizes app Fell is = comes-torn e.slot e.which e.at.second noted (with_sizes_of e.which sizes k.cabin) (told-fell e.slot e.at.second noted after sizes k.cabin e.which fell) sits
   by-ending sizes app (Seated entered clock entry) is =
-      comes-seated e.slot e.which e.at.second noted (with_sizes_of e.which sizes k.cabin) entered.look.number entered.row (record { session = entered.session; entry = entry; noted = and_one noted }) (and_one noted) (is.0.0, omega arith) (omega arith)
+      comes-seated e.slot e.which e.at.second noted (with_sizes_of e.which sizes k.cabin) entered.look.number entered.row (record { session = entered.session; held = none_held (e.at.second / 60); entry = entry; noted = and_one noted }) (and_one noted) (is.0.0, omega arith) (omega arith)
       (told-session e.slot e.at.second noted after sizes k.cabin e.which ∙ bare) (seats-now sizes)
   by-ending sizes app (Lost entered clock entry) is =
-      comes-lost e.slot e.which e.at.second noted (with_sizes_of e.which sizes k.cabin) entered.look.number entered.row (record { session = entered.session; entry = entry; noted = and_one noted }) (and_one noted) (is.0.0, omega arith) (omega arith)
+      comes-lost e.slot e.which e.at.second noted (with_sizes_of e.which sizes k.cabin) entered.look.number entered.row (record { session = entered.session; held = none_held (e.at.second / 60); entry = entry; noted = and_one noted }) (and_one noted) (is.0.0, omega arith) (omega arith)
       (told-session e.slot e.at.second noted after sizes k.cabin e.which ∙ bare) (seats-now sizes) sits.1
 
   by-way : (way : Way) → IsWay way registration e failed unit card card_after → Comes e.slot e.which e.at.second noted (noted_by (ending_of way) noted) k.cabin (cabin_by (ending_of way) e noted (measured way e k).cabin) (lines_of (ending_of way))

@@ -1,5 +1,5 @@
 -- The numbers of the cards as a card is judged: before it, with it, and without it; and so which events its notes tell.
-use Rattle.std.proofs.Common.{◌≡◌, ◌∙◌, ℕ, ◌^◌, ◌<◌, Bool, true, false, cond, Option, Some, None, List, refl, ap, sym, subst}
+use Rattle.std.proofs.Common.{◌≡◌, ◌/◌, ◌∙◌, ℕ, ◌^◌, ◌<◌, Bool, true, false, cond, Option, Some, None, List, refl, ap, sym, subst}
 use Rattle.activity_codec.specs.declared.values.Slot.{Slot}
 use Rattle.activity_codec.specs.declared.values.Slot.TheVariants.{Driver, CoDriver}
 use Rattle.trace_model.specs.declared.Card.{Card}
@@ -10,6 +10,7 @@ use Rattle.log_model.specs.Slots.{same_card, other_slot}
 use Rattle.event_model.specs.Events as events
 use Rattle.card_slots.specs.declared.seats.Seat.{Seat}
 use Rattle.card_slots.specs.Calls.{seat_in, is_card}
+use Rattle.hand_model.specs.Holding.{none_held}
 use Rattle.run_crew.specs.declared.cabin.Cabin.{Cabin}
 use Rattle.run_crew.specs.declared.cards.Accepted.{Accepted}
 use Rattle.run_crew.specs.declared.cards.Cards.{Cards}
@@ -149,6 +150,6 @@ module _ (number : Card → List ℕ) (second : ℕ) (low : second < 2 ^ 32) (e 
   ending-tells Unasked small named = ending-told number second low e at Unasked noted cabin bare bare bare small (still Unasked refl)
   ending-tells (Unnoted entered clock) small named = ending-told number second low e at (Unnoted entered clock) noted cabin bare bare bare small (still (Unnoted entered clock) refl)
   ending-tells (Seated entered clock entry) small named =
-      ending-told number second low e at (Seated entered clock entry) noted cabin bare with_it bare small (accepted-so (Seated entered clock entry) entered.look.number entered.row (record { session = entered.session; entry = entry; noted = and_one noted }) refl named)
+      ending-told number second low e at (Seated entered clock entry) noted cabin bare with_it bare small (accepted-so (Seated entered clock entry) entered.look.number entered.row (record { session = entered.session; held = none_held (e.at.second / 60); entry = entry; noted = and_one noted }) refl named)
   ending-tells (Lost entered clock entry) small named =
-      ending-told number second low e at (Lost entered clock entry) noted cabin bare with_it bare small (accepted-so (Lost entered clock entry) entered.look.number entered.row (record { session = entered.session; entry = entry; noted = and_one noted }) refl named)
+      ending-told number second low e at (Lost entered clock entry) noted cabin bare with_it bare small (accepted-so (Lost entered clock entry) entered.look.number entered.row (record { session = entered.session; held = none_held (e.at.second / 60); entry = entry; noted = and_one noted }) refl named)

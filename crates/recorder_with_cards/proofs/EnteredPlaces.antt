@@ -1,4 +1,4 @@
--- A card is judged: the places of each card stay as they are, whatever becomes of it.
+-- A card is judged: the places of each card stay as they are, whatever becomes of it, and its vehicle entries are measured.
 use Rattle.std.proofs.Common.{◌≡◌, ◌∙◌, ◌⊎◌, inl, inr, ⊎_elim, ℕ, ◌+◌, ◌≤◌, Bool, None, List, [], ◌∷◌, ◌++◌, length, take, drop, refl, sym, ap, subst, arith}
 use Rattle.std.proofs.lemmas.List.{take-take, drop-take, take_at, length-take-le, length-append}
 use Rattle.card_layout.proofs.Images.{part_before}
@@ -13,7 +13,7 @@ use Rattle.minute_rules.specs.Kept.{Kept}
 use Rattle.card_layout.specs.declared.files.Application.{Application}
 use Rattle.card_layout.specs.declared.files.TheConstants.{LARGEST_IMAGE}
 use Rattle.card_layout.specs.Application.{IsApplication}
-use Rattle.card_layout.specs.Files.{files_of, place_of}
+use Rattle.card_layout.specs.Files.{files_of, place_of, image_size_of}
 use Rattle.card_layout.proofs.Sizes.{largest_image}
 use Rattle.gated_ring.specs.Ring.{size_of as ring_size}
 use Rattle.card_files.specs.Rings.{file, place_ring}
@@ -27,16 +27,21 @@ use Rattle.card_session.specs.Moments.{IsBook, IsCloseMoment}
 use Rattle.card_session.specs.Inserting.{repaired, IsRepairMoment, During, IsStill, IsRepaired, IsRepairing, IsNoted, IsNoting, IsShut, IsShutting, IsEnded, IsEnding, IsOpening, IsCardInserting, timed, registered}
 use Rattle.card_session.proofs.Ends.{inserted_moment}
 use Rattle.card_session.proofs.InsertingUse.{use_inside}
+use Rattle.card_session.proofs.InsertingAgain.{inserting_keeps}
 use Rattle.device_calls.specs.Entering.{owed_on}
+use Rattle.device_rule.specs.Views.{other}
 use Rattle.log_model.specs.Log.{In}
 use Rattle.log_model.specs.Course.{Visit}
+use Rattle.note_model.specs.Odometer.{SpanFrom}
 use Rattle.safety_model.specs.Recording.{card_image}
 use Rattle.run_promise.specs.Found.{found_of}
 use Rattle.run_devices.specs.Told.{arranged}
+use Rattle.run_devices.specs.Measured.{GoesMeasured}
 use Rattle.run_devices.proofs.Holders.{event-places, noted-places, card-places}
+use Rattle.run_devices.proofs.Measured.{goes-itself, goes-then, bytes-go, inserting-goes, event-vehicles, noted-vehicles}
 use Rattle.run_outcome.specs.declared.outcome.Outcome.{Outcome}
 use Rattle.run_promise.specs.Origin.{Origin}
-use Rattle.run_note_record.specs.OnCards.{HasSamePlaces, LeavesPlaces, PlacesStay}
+use Rattle.run_note_record.specs.OnCards.{HasSamePlaces, LeavesPlaces, PlacesStay, IsReading, GoesByReadings, VehiclesGo, CardsStay}
 use Rattle.run_minutes.specs.declared.keeper.Keeper.{Keeper}
 use Rattle.run_insertion.specs.declared.lines.Entering.{Entering}
 use Rattle.run_insertion.specs.Entering.{Way, Unread, Unsized, Judged}
@@ -188,10 +193,29 @@ module _ (app : Application) where
         let same = done.entry.outside.same_length in
         coming notes z c (omega (arith, room, same)) rest ∙ file-ring app x z (noted-places app x z event done)
 
+-- ---- and its vehicle entries
+
+module _ (app : Application) (good : IsApplication app) (Is : ℕ → Type 0) (registration : Registration) (named : length registration.0 ≡ 15) (e : Entering) (here : Is e.odometer.0) (unit : List ℕ) where
+  put-goes : (x z : List ℕ) → image_size_of app ≤ length x → IsCardInserting app registration e.odometer.0 (owed_on app unit x) e.at.second x z → GoesMeasured app Is x z
+  put-goes x z fits moment = inserting-goes app Is good registration named e.odometer.0 here (owed_on app unit x) e.at.second x z fits moment
+
+  coming-goes : (notes : List CardNote) (x c : List ℕ) → image_size_of app ≤ length x → AreBeingDone (IsOnCard app registration e unit) (IsComingOnCard app registration e unit) notes x c → GoesMeasured app Is x c
+  coming-goes [] x c fits h = absurd h
+  coming-goes (PutIn ∷ notes) x c fits (inl moment) = put-goes x c fits moment
+  coming-goes (Shows event ∷ notes) x c fits (inl moment) = bytes-go app Is good x c (event-vehicles app x c event moment)
+  coming-goes (PutIn ∷ notes) x c fits (inr (z, done, rest)) =
+      let moment = inserted_moment app registration e.odometer.0 e.at.second (owed_on app unit x) x z done in
+      let same = (inserting_keeps app registration e.odometer.0 e.at.second (owed_on app unit x) named x z (omega (arith, fits, use_inside app)) moment).1 in
+      goes-then app Is x z c (put-goes x z fits moment) (coming-goes notes z c (omega (arith, fits, same)) rest)
+  coming-goes (Shows event ∷ notes) x c fits (inr (z, done, rest)) =
+      let same = done.entry.outside.same_length in
+      goes-then app Is x z c (bytes-go app Is good x z (noted-vehicles app x z event done)) (coming-goes notes z c (omega (arith, fits, same)) rest)
+
 -- ---- IT IS JUDGED
 
 module _ (o : Origin) (done : List TraceSecond) (s : TraceSecond) (n : ℕ) (waits fewer : List Visit) (e : Entering) (k : Keeper) (out : Outcome) (unfound next_ begun : ℕ) (minutes : Kept) (U X Z : State) (w : RecordInSecond o done s (In n) waits None [] (values_with k out unfound next_ begun minutes) (arranged e.which U X Z)) (m : MayJudge o done s n waits fewer e k out unfound next_ begun minutes U X Z w)
-    (origin : IsOrigin o) (failed : Bool) (k' : Keeper) (noted noted' : ℕ) (out' : Outcome) (W Y : State) (way : Way) (g : HasGone e failed k k' noted noted' out out' U W X Y Z way) (sound : AreSound U W X Y) (fits : LARGEST_IMAGE ≤ X.size) where
+    (origin : IsOrigin o) (failed : Bool) (k' : Keeper) (noted noted' : ℕ) (out' : Outcome) (W Y : State) (way : Way) (g : HasGone e failed k k' noted noted' out out' U W X Y Z way) (sound : AreSound U W X Y) (fits : LARGEST_IMAGE ≤ X.size)
+    (spans : List SpanFrom) (reads : IsReading spans e.odometer.0) where
   -- of this card, where it was valid
   module _ (valid : IsOwnValid (card_image o.recording e.which)) where
     there : IsOwnValid (found_of o.found e.which).image
@@ -200,12 +224,20 @@ module _ (o : Origin) (done : List TraceSecond) (s : TraceSecond) (n : ℕ) (wai
     sizes-are : (x : List ℕ) → X.may_leave x → own_sizes x ≡ sizes_in o e.which
     sizes-are x at = ((w.powered.go.held e.which there).now x (mine-back e.which U X Z (λ (q : State). q.may_leave x) at)).0 ∙ ap own_sizes (origin.image e.which)
 
-    room : (x : List ℕ) → X.may_leave x → place_of (sizes_in o e.which) (file 0x0507) + 4 ≤ length x
-    room x at =
-        let good : IsApplication (sizes_in o e.which) = subst (λ (l : List ℕ). IsApplication (own_sizes l)) (origin.image e.which) (w.found.sizes e.which there) in
+    good : IsApplication (sizes_in o e.which)
+    good = subst (λ (l : List ℕ). IsApplication (own_sizes l)) (origin.image e.which) (w.found.sizes e.which there)
+
+    all : (x : List ℕ) → X.may_leave x → image_size_of (sizes_in o e.which) ≤ length x
+    all x at =
         let most = largest_image (sizes_in o e.which) good in
         let long = sound.card_before.left_sized x at in
-        omega (arith, fits, most, long, use_inside (sizes_in o e.which))
+        omega (arith, fits, most, long)
+
+    room : (x : List ℕ) → X.may_leave x → place_of (sizes_in o e.which) (file 0x0507) + 4 ≤ length x
+    room x at = let whole = all x at in omega (arith, whole, use_inside (sizes_in o e.which))
+
+    named : length k.memory.registration.0 ≡ 15
+    named = subst (λ (r : Registration). length r.0 ≡ 15) (sym (m.vehicle ∙ origin.vehicle e.which)) origin.named
 
     was : (x : List ℕ) × X.may_leave x × IsFoundIn e.at.second U.image way x
     was = found-in o done s n waits fewer e k out unfound next_ begun minutes U X Z w m failed k' noted noted' out' W Y way g sound
@@ -223,7 +255,31 @@ module _ (o : Origin) (done : List TraceSecond) (s : TraceSecond) (n : ℕ) (wai
         let run = card-run o done s n waits fewer e k out unfound next_ begun minutes U X Z w m failed k' noted noted' out' W Y way g sound in
         ⊎_elim (λ before. (y, before, refl)) (λ here. (here.2.0, here.2.1, by-way way run.0 here.2.0 y here.2.1 was.2 here.2.2)) (run.1.now y left)
 
-  -- SO THE PLACES of both cards stay
-  pub judged-places : PlacesStay o (arranged e.which U X Z) (arranged e.which W Y Z)
-  judged-places c valid =
+    by-way-goes : (v : Way) (u x y : List ℕ) → X.may_leave x → IsFoundIn e.at.second U.image v was.0 → AreComingOnCard v k.memory.registration e u x y → GoesByReadings spans (card_image o.recording e.which) x y
+    by-way-goes Unread u x y at found comes = absurd comes
+    by-way-goes (Unsized field) u x y at found comes = absurd comes
+    by-way-goes (Judged app ending) u x y at found comes =
+        let same : app ≡ sizes_in o e.which = sym found.0 ∙ sizes-are was.0 was.1 in
+        coming-goes (sizes_in o e.which) good (IsReading spans) k.memory.registration named e reads u (card_notes_by ending k.memory.registration e) x y (all x at)
+        (subst (λ (a : Application). AreBeingDone (IsOnCard a k.memory.registration e u) (IsComingOnCard a k.memory.registration e u) (card_notes_by ending k.memory.registration e) x y) same comes)
+
+    own-goes : (y : List ℕ) → Y.may_leave y → (x : List ℕ) × X.may_leave x × GoesByReadings spans (card_image o.recording e.which) x y
+    own-goes y left =
+        let run = card-run o done s n waits fewer e k out unfound next_ begun minutes U X Z w m failed k' noted noted' out' W Y way g sound in
+        ⊎_elim
+        (λ before. (y, before, goes-itself (sizes_in o e.which) (IsReading spans) y))
+        (λ late. (late.2.0, late.2.1, by-way-goes way run.0 late.2.0 y late.2.1 was.2 late.2.2))
+        (run.1.now y left)
+
+  stays : PlacesStay o (arranged e.which U X Z) (arranged e.which W Y Z)
+  stays c valid =
       each e.which U W X Y Z (λ (q : Card) (a b : State). IsOwnValid (card_image o.recording q) → LeavesPlaces (card_image o.recording q) a b) (λ v. own v) (λ v y left. (y, left, refl)) c valid
+
+  goes : VehiclesGo o spans (arranged e.which U X Z) (arranged e.which W Y Z)
+  goes c valid =
+      each e.which U W X Y Z (λ (q : Card) (a b : State). IsOwnValid (card_image o.recording q) → (y : List ℕ) → b.may_leave y → (x : List ℕ) × a.may_leave x × GoesByReadings spans (card_image o.recording q) x y)
+      (λ v. own-goes v) (λ v y left. (y, left, goes-itself (sizes_in o (other e.which)) (IsReading spans) y)) c valid
+
+  -- SO THE PLACES of both cards stay, and their vehicle entries are measured
+  pub judged-places : CardsStay o spans (arranged e.which U X Z) (arranged e.which W Y Z)
+  judged-places = record { places = stays; vehicles = goes }

@@ -1,5 +1,5 @@
 -- A card is judged: its insertion in the rings of a run with cards.
-use Rattle.std.proofs.Common.{◌≡◌, ◌∙◌, ◌⊎◌, inl, inr, ℕ, suc, ◌+◌, ◌-◌, ◌^◌, ◌<◌, ◌≤◌, Result, Bool, true, false, Option, Some, None, IfSome, is_some, option_map, List, [], ◌∷◌, ◌++◌, length, refl, ap, sym, subst, arith, length-append, ⊎_elim}
+use Rattle.std.proofs.Common.{◌≡◌, ◌∙◌, ◌⊎◌, inl, inr, ℕ, suc, ◌+◌, ◌-◌, ◌^◌, ◌<◌, ◌≤◌, Result, Bool, true, false, Option, Some, None, IfSome, is_some, option_map, List, [], ◌∷◌, ◌++◌, length, refl, ap, sym, subst, arith, length-append, ⊎_elim, ◌/◌}
 use Rattle.activity_codec.specs.declared.values.Slot.{Slot}
 use Rattle.trace_model.specs.declared.Card.{Card}
 use Rattle.trace_model.specs.declared.Card.TheVariants.{A, B}
@@ -21,10 +21,11 @@ use Rattle.log_model.specs.Log.{RunLog, In, cut_in, found_in}
 use Rattle.log_model.specs.Slots.{other_slot}
 use Rattle.log_model.specs.Course.{Visit, went}
 use Rattle.unit_notes.specs.Entries.{insertion_bytes}
-use Rattle.note_model.specs.Odometer.{SpanFrom, odometer_at}
+use Rattle.note_model.specs.Odometer.{SpanFrom}
 use Rattle.note_model.specs.Noted.{Acceptance}
 use Rattle.safety_model.specs.Recording.{card_image}
 use Rattle.safety_model.specs.Safe.{Devices}
+use Rattle.hand_model.specs.Holding.{none_held}
 use Rattle.run_crew.specs.declared.cards.Accepted.{Accepted}
 use Rattle.run_crew.specs.declared.cards.Cards.{Cards}
 use Rattle.run_crew.specs.declared.cabin.Cabin.{Cabin}
@@ -41,7 +42,7 @@ use Rattle.run_outcome.specs.declared.outcome.Outcome.{Outcome}
 use Rattle.run_promise.specs.Origin.{Origin}
 use Rattle.run_promise.specs.Beside.{HaveLeftMore}
 use Rattle.run_note_record.specs.Ringed.{Seating, one_behind, Since, since_in}
-use Rattle.run_note_record.specs.OnCards.{PlacesStay}
+use Rattle.run_note_record.specs.OnCards.{CardsStay}
 use Rattle.run_note_record.specs.RingsSoFar.{AreFewer}
 use Rattle.run_minutes.specs.declared.keeper.Keeper.{Keeper}
 use Rattle.run_minutes.specs.declared.keeper.Moment.{Moment as KeepingAt}
@@ -56,7 +57,7 @@ use Rattle.run_acts.specs.Ringing.{seating_of}
 use Rattle.run_acts.proofs.EnteredFacts.{before, mine-back, units, now-is, card-began, unit-told, known as known-behind, left}
 use Rattle.run_acts.proofs.EnteredWhole.{found-in}
 use Rattle.recorder_with_cards.specs.EnteredRings.{WritesBy}
-use Rattle.recorder_with_cards.specs.JudgedRings.{IsInsertionNow, AreSeatedWith, JudgedInRings, TellsHere}
+use Rattle.recorder_with_cards.specs.JudgedRings.{IsInsertionNow, AreSeatedWith, JudgedInRings, TellsHere, IsOdometerOf}
 use Rattle.recorder_with_cards.proofs.EnteredAdds.{log_with}
 use Rattle.recorder_with_cards.proofs.EnteredHolder.{insertion-now}
 use Rattle.recorder_with_cards.proofs.EnteredLines.{TellsOf, verdicts_of, ending-tells, ending-here, tells-same}
@@ -155,7 +156,7 @@ module _ (o : Since) (d later : Devices) (e : Entering) (u : ℕ) (spans : List 
     inserts = told.1;
     writes = writes;
     now = seats_in (and_one noted) (cabin_by (Seated entered clock entry) e noted (with_sizes_of e.which sizes cabin)).cards;
-    seated = seated-seats e.which e.slot entered.look.number entered.row (record { session = entered.session; entry = entry; noted = and_one noted }) sizes cabin noted refl told.0 others;
+    seated = seated-seats e.which e.slot entered.look.number entered.row (record { session = entered.session; held = none_held (e.at.second / 60); entry = entry; noted = and_one noted }) sizes cabin noted refl told.0 others;
     fewer_sit = λ c. inl refl;
   })
   ending-rings true (Seated entered clock entry) told writes =
@@ -169,7 +170,7 @@ module _ (o : Since) (d later : Devices) (e : Entering) (u : ℕ) (spans : List 
     inserts = told.1;
     writes = writes;
     now = seats_in (and_one noted) (cabin_by (Seated entered clock entry) e noted (with_sizes_of e.which sizes cabin)).cards;
-    seated = seated-seats e.which e.slot entered.look.number entered.row (record { session = entered.session; entry = entry; noted = and_one noted }) sizes cabin noted refl told.0 others;
+    seated = seated-seats e.which e.slot entered.look.number entered.row (record { session = entered.session; held = none_held (e.at.second / 60); entry = entry; noted = and_one noted }) sizes cabin noted refl told.0 others;
     fewer_sit = torn-seats (and_one noted) e.which e.at.second (cabin_by (Seated entered clock entry) e noted (with_sizes_of e.which sizes cabin));
   })
   ending-rings true (Lost entered clock entry) told writes =
@@ -197,11 +198,11 @@ pub record IsRinged (o : Since) (s : TraceSecond) (n : ℕ) (e : Entering) (span
   pub cut : cut_in (log_of out') s.number ≡ cut_in (log_of out) s.number
   pub same : (x : ℕ) → n ≡ suc x → TellSameTo (log_of out) (log_of out') s.number x
   pub left : HaveLeftMore o.origin d later
-  pub places : PlacesStay o.origin d later
+  pub places : CardsStay o.origin spans d later
   pub counted : noted' ≤ length (log_of out').finds
 
 module _ (o : Origin) (done : List TraceSecond) (s : TraceSecond) (n : ℕ) (waits fewer : List Visit) (e : Entering) (k : Keeper) (out : Outcome) (unfound next_ begun : ℕ) (minutes : Kept) (U X Z : State) (w : RecordInSecond o done s (In n) waits None [] (values_with k out unfound next_ begun minutes) (arranged e.which U X Z)) (m : MayJudge o done s n waits fewer e k out unfound next_ begun minutes U X Z w)
-    (origin : IsOrigin o) (small : s.number < 2 ^ 32) (few : e.odometer.0 < 2 ^ 24) (spans : List SpanFrom) (odometer : e.odometer.0 ≡ odometer_at s.number spans) (noted : ℕ) (counted : noted ≤ length (log_of out).finds) (others : (c : Card) → IfSome (session_of k.cabin.cards c) (λ b. b.noted ≤ noted))
+    (origin : IsOrigin o) (small : s.number < 2 ^ 32) (few : e.odometer.0 < 2 ^ 24) (spans : List SpanFrom) (odometer : IsOdometerOf spans s.number e.odometer.0) (noted : ℕ) (counted : noted ≤ length (log_of out).finds) (others : (c : Card) → IfSome (session_of k.cabin.cards c) (λ b. b.noted ≤ noted))
     (failed : Bool) (k' : Keeper) (noted' : ℕ) (out' : Outcome) (W Y : State) (way : Way) (g : HasGone e failed k k' noted noted' out out' U W X Y Z way) (sound : AreSound U W X Y) (told_few : length (log_of out').finds < 2 ^ 64) (sized : LARGEST_IMAGE ≤ X.size) where
   second : e.at.second ≡ s.number
   second = now-is o done s n waits fewer e k out unfound next_ begun minutes U X Z w m
@@ -270,7 +271,7 @@ module _ (o : Origin) (done : List TraceSecond) (s : TraceSecond) (n : ℕ) (wai
 
     inserts : IsInsertionNow (since_in o w.b.run.log done s) (record { second = s.number; slot = e.slot; card = e.which }) spans (arranged e.which W Y Z) (insertion_bytes (insertion_of look e))
     inserts = insertion-now o origin e look app y.0 sizes is fits (subst IsOwnValid (origin.image e.which) valid) of-holder named (went w.b.run.log done).told (done ++ s ∷ []) s.number first-or (arranged e.which W Y Z)
-        (more.card e.which y.0 (mine-back e.which U X Z (λ (q : State). q.left_since (found_of o.found e.which).began y.0) y-left)) second small spans odometer few
+        (more.card e.which y.0 (mine-back e.which U X Z (λ (q : State). q.left_since (found_of o.found e.which).began y.0) y-left)) second small spans odometer.at few
 
   room : (x : Find) → length (log_of out').finds ≡ length ((log_of out).finds ++ x ∷ []) → noted + 1 ≤ 2 ^ 64 - 1
   room x is = omega (arith, is, told_few, counted, length-append (log_of out).finds (x ∷ []))
@@ -307,4 +308,4 @@ module _ (o : Origin) (done : List TraceSecond) (s : TraceSecond) (n : ℕ) (wai
 
   -- all of it
   pub judged-ringed : IsRinged (since_in o w.b.run.log done s) s n e spans noted noted' k k' out out' failed (arranged e.which U X Z) (arranged e.which W Y Z)
-  judged-ringed = record { rings = judged-rings; others = others-found; here = tells-here; cut = tells.cut; same = same-before; left = more; places = judged-places o done s n waits fewer e k out unfound next_ begun minutes U X Z w m origin failed k' noted noted' out' W Y way g sound sized; counted = counted-then }
+  judged-ringed = record { rings = judged-rings; others = others-found; here = tells-here; cut = tells.cut; same = same-before; left = more; places = judged-places o done s n waits fewer e k out unfound next_ begun minutes U X Z w m origin failed k' noted noted' out' W Y way g sound sized spans odometer.reads; counted = counted-then }

@@ -14,16 +14,18 @@ use Rattle.log_model.specs.declared.lines.Break.{Break}
 use Rattle.activity_codec.specs.Activity.{same_slot}
 use Rattle.log_model.specs.Log.{In, found_in}
 use Rattle.log_model.specs.Slots.{refusal, other_slot, same_card}
-use Rattle.log_model.specs.Course.{Visit}
+use Rattle.log_model.specs.Course.{Visit, ToldSecond}
+use Rattle.log_model.specs.ByHand.{by_slots}
 use Rattle.unit_model.specs.Image.{odometer_at}
 use Rattle.unit_rule.specs.Odometer.{odometer_by, odometer_after}
 use Rattle.note_model.specs.Odometer.{SpanFrom}
-use Rattle.note_model.specs.Odometer as side
 use Rattle.safety_model.specs.Safe.{Devices}
 use Rattle.card_slots.specs.Calls.{Seats, seat_in, is_card, logged}
 use Rattle.run_course.specs.Moment.{entering_by}
 use Rattle.run_outcome.specs.declared.outcome.Outcome.{Outcome}
+use Rattle.run_rings.specs.Spans.{with_second}
 use Rattle.run_note_record.specs.Ringed.{since_in}
+use Rattle.run_note_record.specs.OnCards.{CardsStay}
 use Rattle.run_promise.specs.Origin.{Origin}
 use Rattle.run_minutes.specs.declared.keeper.Moment.{Moment}
 use Rattle.run_minutes.specs.Books.{HaveTime}
@@ -53,9 +55,10 @@ use Rattle.run_acts.specs.Recording.{log_of, values_of, RunWithin, RunFails, Goe
 use Rattle.run_acts.specs.Settling.{settled_run, RecordsSettling, SettlesTo, IsSettledIn}
 use Rattle.recorder_with_cards.specs.Accepting.{put_run}
 use Rattle.recorder_with_cards.specs.Judged.{moment_in, RunNext, JudgesSo, IsInTurn, EventsJudged}
-use Rattle.recorder_with_cards.specs.JudgedRings.{RingsJudged, IsJudgedInRings}
+use Rattle.recorder_with_cards.specs.JudgedRings.{RingsJudged, IsJudgedInRings, IsOdometerOf}
 use Rattle.recorder_with_cards.specs.JudgedCards.{CardsJudged, IsJudgedOnCards}
-use Rattle.run_acts.specs.RunCards.{vehicle_in}
+use Rattle.run_acts.specs.RunCards.{vehicle_in, PlacesSettling}
+use Rattle.run_acts.specs.RunRinged.{AreSpansNow}
 use Rattle.unit_memory.specs.declared.memory.UnitFacts.{UnitFacts}
 use Rattle.recorder_with_cards.proofs.Staying.{settled-watched}
 use Rattle.recorder_with_cards.proofs.ActsRecorded.{refuses}
@@ -197,6 +200,10 @@ module _ (slot : Slot) (card : Card) (at : Moment) (speed : ℕ) (old : Run) (be
       stay = subst (λ (b : Beginning). AllStay o (marked before.marks.items (truths_within o b.run.log done s)) s.number (log_of before) (notes_within b done s (In (suc (length front))) (log_of before)) old.keeper.memory.registration (with_card_in slot card old.keeper.cabin) d) (sym put.goes.began) stays-put;
     }
 
+    -- the places stay in them, and the vehicle entries are measured
+    pub settled-places : (e : Devices) → PlacesSettling decided at (put_run slot card old) mid before d e → HaveTime e → (spans : List SpanFrom) (t : ToldSecond) → AreSpansNow done s h.within.b.run.log spans old.keeper.odometer t → CardsStay o (with_second spans old.keeper.odometer t) d e
+    settled-places e stay time spans t now_ = stay o done s n waits at-is waiting time spans t (subst (λ (b : Beginning). AreSpansNow done s b.run.log spans old.keeper.odometer t) (sym put.goes.began) now_)
+
     module _ (e : Devices) (records : RecordsSettling decided at failed (put_run slot card old) mid before told d e) (time : HaveTime e) where
       kept : SettlesTo failed o done s (In (suc n)) waits waiting.within.b waiting.within.from (waiting.within.from + length decided) (put_run slot card old) mid before told e
       kept = records o done s (suc n) waits (omega arith) at-is waiting time
@@ -219,7 +226,7 @@ module _ (slot : Slot) (card : Card) (at : Moment) (speed : ℕ) (old : Run) (be
 
         log-is : log_of told ≡ record (log_of before) { breaks = before.breaks.items ++ lines.0 }
         log-is =
-            ap (λ (q : Outcome). record (log_of told) { refused = q.refused.items; finds = q.finds.items }) settles.outcome
+            ap (λ (q : Outcome). record (log_of told) { refused = by_slots q.refused.items; finds = q.finds.items }) settles.outcome
             ∙ ap (λ (xs : List Break). record (log_of before) { breaks = xs }) lines.1
 
         judged : MayBeJudged o done s (In (suc n)) waits (values_of mid told) e on.goes.within slot card
@@ -235,7 +242,7 @@ module _ (slot : Slot) (card : Card) (at : Moment) (speed : ℕ) (old : Run) (be
             (judged-as judged_failed o done s (suc n) waits mid new told after e later on.goes (judges o done s (suc n) waits [] at-is next end)))
 
         -- its insertion in the rings, where the odometer of then is that of these spans
-        pub next-judged : (spans : List SpanFrom) → ((w : RunWithin o done s (In (suc (length front))) (entering_by (length front) (Insert slot card)) [] mid told e) → w.within.b ≡ h.within.b → odometer_by mid.keeper.odometer (travelled_of w.within.sp) ≡ side.odometer_at s.number spans) →
+        pub next-judged : (spans : List SpanFrom) → ((w : RunWithin o done s (In (suc (length front))) (entering_by (length front) (Insert slot card)) [] mid told e) → w.within.b ≡ h.within.b → IsOdometerOf spans s.number (odometer_by mid.keeper.odometer (travelled_of w.within.sp))) →
             mid.noted ≤ length (log_of told).finds → (judged_failed : Bool) (new : Run) (after : Outcome) (later : Devices) → RingsJudged slot card at judged_failed mid new told after e later → HaveTime later →
             IsJudgedInRings judged_failed (since_in o h.within.b.run.log done s) s (suc (length front)) slot card spans mid new told after e later
         next-judged spans odometer counted judged_failed new after later judges end =

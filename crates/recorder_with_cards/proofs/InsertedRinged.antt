@@ -12,7 +12,7 @@ use Rattle.log_model.specs.declared.lines.Verdict.{Verdict}
 use Rattle.log_model.specs.Log.{RunLog, In, cut_in, found_in, is_accepting}
 use Rattle.log_model.specs.Slots.{refusal}
 use Rattle.log_model.specs.Course.{ToldSecond, Before, Visit, begins, went}
-use Rattle.note_model.specs.Odometer.{SpanFrom, odometer_at}
+use Rattle.note_model.specs.Odometer.{SpanFrom}
 use Rattle.note_model.specs.Noted.{Note, Accepts}
 use Rattle.safety_model.specs.Safe.{Devices}
 use Rattle.unit_rule.specs.Odometer.{odometer_by}
@@ -23,7 +23,7 @@ use Rattle.run_rings.specs.Notes.{TellSameTo, NotesMore, accepts_by, course_behi
 use Rattle.run_rings.specs.Spans.{with_second}
 use Rattle.run_rings.proofs.Actions.{insertions}
 use Rattle.run_note_record.specs.Ringed.{StaysInRings, since_in}
-use Rattle.run_note_record.specs.OnCards.{PlacesStay}
+use Rattle.run_note_record.specs.OnCards.{CardsStay}
 use Rattle.run_note_record.specs.RingsSoFar.{RingedBehind, RingedIn, AreFewer, HasMoreBreaks}
 use Rattle.run_note_record.specs.Steps.{GoesOnTo, IsCutIn, nobody, spans_cut}
 use Rattle.run_note_record.proofs.SoFar.{go-on-in}
@@ -31,10 +31,11 @@ use Rattle.run_note_record.proofs.RingSteps.{passes, action-cut, card-accepted, 
 use Rattle.run_record.specs.Within.{Beginning, course_in}
 use Rattle.run_acts.specs.declared.run.Run.{Run}
 use Rattle.run_acts.specs.Recording.{log_of, values_of, RunWithin}
-use Rattle.run_acts.specs.RunRinged.{seats_of, IsLastFrom, RingsWithin, with_cut, RingsGoOn}
+use Rattle.run_acts.specs.RunRinged.{seats_of, IsLastFrom, AreSpansNow, RingsWithin, with_cut, RingsGoOn}
+use Rattle.run_acts.proofs.Readings.{spans-here, insertion-reads}
 use Rattle.run_acts.proofs.RingedLines.{AreTears}
 use Rattle.run_acts.proofs.RingedSecond.{odometer-here, cut-found, since-begun}
-use Rattle.recorder_with_cards.specs.JudgedRings.{JudgedInRings, IsJudgedInRings}
+use Rattle.recorder_with_cards.specs.JudgedRings.{JudgedInRings, IsJudgedInRings, IsOdometerOf}
 use Rattle.recorder_with_cards.proofs.SettledLines.{TellsOn, tears-on}
 use Rattle.recorder_with_cards.proofs.RingsHere.{here-then, here-more, goes-to, course-then, course-cut, is-cut}
 
@@ -45,7 +46,7 @@ none-noted u slot card vs none = ap (λ (l : List Verdict). map (λ (v : Verdict
 module _ (o : Origin) (done : List TraceSecond) (s : TraceSecond) (front rest : List Action) (slot : Slot) (card : Card) (are : s.actions ≡ front ++ Insert slot card ∷ rest) (old : Run) (before : Outcome) (d : Devices) (w : RunWithin o done s (In (length front)) [] [] old before d)
     (spans : List SpanFrom) (t : ToldSecond) (rings : RingsWithin o done s w.within.b.run.log front old (log_of before) spans t d) (allowed : refusal (course_in w.within.b done s (In (length front)) (log_of before)).slots s.speed (Insert slot card) ≡ None)
     (mid : Run) (told : Outcome) (e : Devices) (lines : List Break) (log_is : log_of told ≡ record (log_of before) { breaks = before.breaks.items ++ lines }) (tears : AreTears (record { second = s.number; begun = suc (length front); late = false }) lines)
-    (leaves : StaysInRings d e) (left : HaveLeftMore o d e) (places : PlacesStay o d e) (fewer : AreFewer (seats_of old) (seats_of mid)) (same_odometer : mid.keeper.odometer ≡ old.keeper.odometer) (same_noted : mid.noted ≡ old.noted) where
+    (leaves : StaysInRings d e) (left : HaveLeftMore o d e) (places : CardsStay o (with_second spans old.keeper.odometer t) d e) (fewer : AreFewer (seats_of old) (seats_of mid)) (same_odometer : mid.keeper.odometer ≡ old.keeper.odometer) (same_noted : mid.noted ≡ old.noted) where
   abbrev was : Before
   was = (went w.within.b.run.log done).before
 
@@ -67,11 +68,16 @@ module _ (o : Origin) (done : List TraceSecond) (s : TraceSecond) (front rest : 
   settled-in = go-on-in d e o done s w.within.b.run.log front (log_of before) (log_of told) spans old.keeper.odometer t (seats_of old) (seats_of mid) rings.ringed told-on.more told-on.same leaves left places fewer
 
   -- and so it is as the card is judged
-  pub odometer-mid : (waits : List Visit) (x : RunWithin o done s (In (suc (length front))) waits [] mid told e) → x.within.b ≡ w.within.b → odometer_by mid.keeper.odometer (travelled_of x.within.sp) ≡ odometer_at s.number (with_second spans old.keeper.odometer t)
-  odometer-mid waits x same =
-      ap (λ (b : ℕ). odometer_by b (travelled_of x.within.sp)) same_odometer
-      ∙ sym (odometer-here o done s (In (suc (length front))) waits [] (values_of mid told) e x.within front (log_of told) spans old.keeper.odometer t (seats_of mid)
-      (subst (λ (b : Beginning). RingedIn o done s b.run.log front (log_of told) spans old.keeper.odometer t (seats_of mid) e) (sym same) settled-in) rings.base)
+  pub odometer-mid : (waits : List Visit) (x : RunWithin o done s (In (suc (length front))) waits [] mid told e) → x.within.b ≡ w.within.b →
+      IsOdometerOf (with_second spans old.keeper.odometer t) s.number (odometer_by mid.keeper.odometer (travelled_of x.within.sp))
+  odometer-mid waits x same = record {
+    at = ap (λ (b : ℕ). odometer_by b (travelled_of x.within.sp)) same_odometer
+        ∙ sym (odometer-here o done s (In (suc (length front))) waits [] (values_of mid told) e x.within front (log_of told) spans old.keeper.odometer t (seats_of mid)
+        (subst (λ (b : Beginning). RingedIn o done s b.run.log front (log_of told) spans old.keeper.odometer t (seats_of mid) e) (sym same) settled-in) rings.base);
+    reads = insertion-reads o done s (In (suc (length front))) waits [] (values_of mid told) e x.within spans old.keeper.odometer t
+        (subst (λ (b : Beginning). AreSpansNow done s b.run.log spans old.keeper.odometer t) (sym same) (spans-here o done s w.within.b.run.log front old (log_of before) spans t d rings))
+        (odometer_by mid.keeper.odometer (travelled_of x.within.sp)) (ap (λ (b : ℕ). odometer_by b (travelled_of x.within.sp)) same_odometer);
+  }
 
   -- no card was found in it yet
   none-told : found_in (log_of told) s.number (In (suc (length front))) slot ≡ []

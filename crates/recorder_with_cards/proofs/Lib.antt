@@ -83,5 +83,7 @@ pub mod OffCards
 pub mod SpeedsSoFar
 pub mod SpeedsUnlit
 pub mod SecondsCards
+pub mod SlotLines
 pub mod Time
 pub mod Writes
+pub mod NewestGrows

@@ -1,6 +1,6 @@
--- The last second turns out to be a cut's, as an `off` line says: it has noted the same, and all odometers are the same.
+-- The last second turns out to be a cut's, as an `off` line says: it has noted the same, all odometers are the same, and all readings of them.
 use Rattle.std.proofs.Common.{◌≡◌, ◌∙◌, ℕ, ◌+◌, ◌-◌, ◌/◌, ◌<◌, min, Bool, true, false, cond, not, ◌&&◌, ◌||◌, nat_eq, Option, Some, None, is_some, List, [], ◌∷◌, ◌++◌, All, length, map, filter, sum, refl, ap, sym, subst, arith, append-nil, length-append}
-use Rattle.std.specs.Prelude.{nat_lt}
+use Rattle.std.specs.Prelude.{nat_lt, sum_by}
 use Rattle.std.specs.List.{list_any}
 use Rattle.std.proofs.lemmas.Bool.Decides.{nat_tests}
 use Rattle.std.proofs.lemmas.List.Elements.{All-nil, All-cons}
@@ -19,6 +19,7 @@ use Rattle.log_model.proofs.Growth.{went-more}
 use Rattle.log_model.proofs.Spanning.{order-parts}
 use Rattle.note_model.specs.Odometer.{SpanFrom, odometer_before, has_second, odometer_at}
 use Rattle.note_model.specs.Noted.{Note}
+use Rattle.unit_rule.specs.Odometer.{odometer_by}
 use Rattle.run_unit_course.specs.Lines.{cut_at}
 use Rattle.run_unit_course.specs.Followed.{Lit}
 use Rattle.run_unit_course.specs.Turn.{cut_last}
@@ -40,9 +41,10 @@ use Rattle.run_rings.proofs.Notes.{later-lines, second-noted}
 use Rattle.run_rings.proofs.Same.{rings-left}
 use Rattle.run_promise.specs.Origin.{Origin}
 use Rattle.run_note_record.specs.Ringed.{Seating, Ringed, notes_in, noted_next, since_behind}
+use Rattle.run_note_record.specs.OnCards.{IsReading}
 use Rattle.run_note_record.specs.RingsSoFar.{AreEarlier, RingedBehind, AreFewer}
 use Rattle.run_note_record.proofs.Noted.{second-notes}
-use Rattle.run_note_record.proofs.OnCards.{call-failed-more, places-itself}
+use Rattle.run_note_record.proofs.OnCards.{call-failed-more, stay-itself}
 use Rattle.run_note_record.proofs.Rings.{fewer-sit, rings-stay, come-before}
 use Rattle.run_note_record.proofs.SoFar.{failed-more, goes-alike, left-itself}
 use Rattle.run_acts.specs.Truths.{Grow, truths_of}
@@ -86,6 +88,55 @@ cut-odometer (s ∷ []) u =
     ap (λ (b : Bool). cond b (odometer_before u (record { base = s.base; span = cut_last s.span })) 0) (cut-has u s.span)
     ∙ ap (λ (n : ℕ). cond (list_any (λ (t : ToldSecond). nat_eq t.second.number u) s.span) n 0) (cut-travelled u s.base s.span)
 cut-odometer (s ∷ next ∷ spans) u = ap (λ (n : ℕ). cond (has_second u s) (odometer_before u s) n) (cut-odometer (next ∷ spans) u)
+
+-- the same readings
+cut-front : (front behind : List ToldSecond) → (x : List ToldSecond) × (y : List ToldSecond) × (cut_last (front ++ behind) ≡ x ++ y) × (seconds_in x ≡ seconds_in front)
+cut-front [] behind = ([], cut_last behind, refl, refl)
+cut-front (t ∷ []) [] = (cut_last (t ∷ []), [], sym (append-nil (cut_last (t ∷ []))), cut-seconds (t ∷ []))
+cut-front (t ∷ []) (u ∷ behind) = (t ∷ [], cut_last (u ∷ behind), refl, refl)
+cut-front (t ∷ u ∷ front) behind =
+    let rest = cut-front (u ∷ front) behind in
+    (t ∷ rest.0, rest.1, ap (λ (l : List ToldSecond). t ∷ l) rest.2, ap (λ (l : List Second). t.second ∷ l) rest.3)
+
+abbrev cut_one : SpanFrom → SpanFrom
+cut_one s = record { base = s.base; span = cut_last s.span }
+
+off-last : (earlier : List SpanFrom) (s : SpanFrom) → cut_off (earlier ++ s ∷ []) ≡ earlier ++ cut_one s ∷ []
+off-last [] s = refl
+off-last (x ∷ []) s = refl
+off-last (x ∷ y ∷ earlier) s = ap (λ (l : List SpanFrom). x ∷ l) (off-last (y ∷ earlier) s)
+
+off-earlier : (earlier : List SpanFrom) (s next : SpanFrom) (later : List SpanFrom) → cut_off (earlier ++ s ∷ next ∷ later) ≡ earlier ++ s ∷ cut_off (next ∷ later)
+off-earlier [] s next later = refl
+off-earlier (x ∷ []) s next later = refl
+off-earlier (x ∷ y ∷ earlier) s next later = ap (λ (l : List SpanFrom). x ∷ l) (off-earlier (y ∷ earlier) s next later)
+
+reads-cut : (spans : List SpanFrom) (n : ℕ) → IsReading spans n → IsReading (cut_off spans) n
+reads-cut spans n r = by r.later refl
+  where
+    by : (later : List SpanFrom) → r.later ≡ later → IsReading (cut_off spans) n
+    by [] is =
+        let cuts = cut-front r.front r.behind in
+        record {
+          earlier = r.earlier;
+          s = cut_one r.s;
+          later = [];
+          are = ap cut_off (r.are ∙ ap (λ (l : List SpanFrom). r.earlier ++ r.s ∷ l) is) ∙ off-last r.earlier r.s;
+          front = cuts.0;
+          behind = cuts.1;
+          parts = ap cut_last r.parts ∙ cuts.2;
+          is = r.is ∙ ap (λ (l : List Second). odometer_by r.s.base (sum_by (λ (x : Second). x.speed) l)) (sym cuts.3);
+        }
+    by (next ∷ later) is = record {
+      earlier = r.earlier;
+      s = r.s;
+      later = cut_off (next ∷ later);
+      are = ap cut_off (r.are ∙ ap (λ (l : List SpanFrom). r.earlier ++ r.s ∷ l) is) ∙ off-earlier r.earlier r.s next later;
+      front = r.front;
+      behind = r.behind;
+      parts = r.parts;
+      is = r.is;
+    }
 
 -- ---- the notes
 
@@ -186,8 +237,8 @@ module _ (rule : Rule) (start : Start) (from first : ℕ) (p : Progress) (t : To
     off-behind =
         let done : List TraceSecond = front ++ r ∷ [] in
         let ringed : Ringed (since_behind o p.log done) later (cut_off spans) (notes_in p.log done) seats d =
-        rings-stay d d (since_behind o p.log done) p.log later spans (cut_off spans) (notes_in p.log done) seats v.ringed (rings-left d.unit) (left-itself o d) (places-itself o d)
-        (goes-alike p.log later spans (cut_off spans) (notes_in p.log done) (failed-more p.log later (cut ∷ [], refl)) (call-failed-more p.log later (cut ∷ [], refl)) (cut-odometer spans)) in
+        rings-stay d d (since_behind o p.log done) p.log later spans (cut_off spans) (notes_in p.log done) seats v.ringed (rings-left d.unit) (left-itself o d) (stay-itself o (cut_off spans) d)
+        (goes-alike p.log later spans (cut_off spans) (notes_in p.log done) (failed-more p.log later (cut ∷ [], refl)) (call-failed-more p.log later (cut ∷ [], refl)) (cut-odometer spans) (reads-cut spans)) in
         let now : Ringed (since_behind o later done) later (cut_off spans) (notes_in p.log done) seats d =
         come-before d o (went p.log done).told (went later done).told done done (come-as p.log later front r front-same entered-same done) later (cut_off spans) (notes_in p.log done) seats ringed in
         record {

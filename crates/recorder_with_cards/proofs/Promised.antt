@@ -9,8 +9,8 @@ use Rattle.tach_media.specs.Medium.{State, IsCoherent}
 use Rattle.card_layout.specs.Application.{IsApplication}
 use Rattle.card_layout.proofs.Sizes.{largest_image}
 use Rattle.card_model.specs.Days.{AreDays}
-use Rattle.card_image.specs.Fields.{card_days}
-use Rattle.card_image.specs.Own.{own_view, own_sizes, own_number, own_bad_file, IsOwnValid}
+use Rattle.card_image.specs.Fields.{card_days, vehicle_ring}
+use Rattle.card_image.specs.Own.{own_view, own_sizes, own_number, own_covered, own_bad_file, IsOwnValid}
 use Rattle.card_validity.proofs.Copies.{place_shape}
 use Rattle.gated_ring.specs.Ring.{PointsInside}
 use Rattle.device_calls.proofs.Passed.{valid-passes, pointer-passes}
@@ -25,12 +25,16 @@ use Rattle.note_model.specs.Done.{done_of}
 use Rattle.note_model.specs.Noted.{Note, notes_of}
 use Rattle.note_model.specs.Odometer.{MayStore, HaveBases}
 use Rattle.history_model.specs.Book.{not_begun}
+use Rattle.run_record.proofs.Stopped.{stopped-weaker}
+use Rattle.run_record.specs.HeldHands.{IsKnown}
+use Rattle.recorder_with_cards.proofs.NewestGrows.{known-grows}
 use Rattle.device_rule.specs.Rules.{Out}
 use Rattle.run_unit_course.specs.Followed.{UnitPower, Lit as IsLit, Due as IsDue, Lost as IsLost}
 use Rattle.run_unit_course.specs.Legs.{not_travelled}
 use Rattle.unit_model.specs.declared.layout.TheConstants.{HIGHEST_ODOMETER}
-use Rattle.unit_model.specs.Image.{recorded, last_kept, odometer_at}
+use Rattle.unit_model.specs.Image.{IsUnit, recorded, last_kept, odometer_at}
 use Rattle.unit_model.specs.Decoding.{Decodes}
+use Rattle.unit_model.proofs.Sized.{unit_sized}
 use Rattle.unit_rule.specs.Odometer.{HasTravelled}
 use Rattle.unit_rule.specs.Rule.{started, IsCards}
 use Rattle.unit_rule.specs.OtherRows.{valid_number}
@@ -39,7 +43,7 @@ use Rattle.unit_rule.proofs.Travelling.{travelled-opened}
 use Rattle.unit_minutes.proofs.Beside.{passes_beside}
 use Rattle.unit_memory.specs.declared.memory.UnitFacts.{UnitFacts}
 use Rattle.safety_model.specs.Recording.{Recording, card_image, brought, history_of, lost_of, start_of}
-use Rattle.safety_model.specs.Unit.{UnitSafe}
+use Rattle.safety_model.specs.Unit.{UnitSafe, marks_of}
 use Rattle.safety_model.specs.Safe.{Devices, card_of, breakdowns_of}
 use Rattle.card_slots.specs.Kept.{nothing_yet}
 use Rattle.run_crew.specs.declared.cards.Accepted.{Accepted}
@@ -53,16 +57,17 @@ use Rattle.run_promise.proofs.End.{lit-carried}
 use Rattle.run_promise.specs.Accounts.{so_far}
 use Rattle.run_course.specs.Telling.{IsMore}
 use Rattle.run_devices.specs.Told.{AreFoundCards, CardHoldsStringUnpowered, DevicesUnpowered}
+use Rattle.run_devices.proofs.Known.{word-covered}
 use Rattle.run_devices.proofs.Opened.{opened-wait, opened-powerless}
 use Rattle.run_promise.specs.Origin.{Origin, rule_of, start_at}
-use Rattle.run_promise.specs.Ends.{EndsRun}
+use Rattle.run_promise.specs.Ends.{HandsBeside, EndsRun}
 use Rattle.run_promise.specs.Seconds.{empty_log}
 use Rattle.run_promise.proofs.RecordEnds.{ends-run}
 use Rattle.event_model.specs.Events.{Seen, seen_of}
 use Rattle.run_note_record.specs.Evented.{images_in, Evented}
 use Rattle.run_note_record.specs.Uses.{uses_from, use_behind, vehicle_of, use_in, insertions_on, uses_in}
 use Rattle.run_note_record.proofs.Ends.{nothing-noted, events-shown}
-use Rattle.run_note_record.specs.OnCards.{places_in, HasPlaces}
+use Rattle.run_note_record.specs.OnCards.{places_in, HasPlaces, GoesByReadings}
 use Rattle.run_note_record.specs.Ringed.{Seating, Ringed, notes_in, since_behind}
 use Rattle.run_note_record.specs.RingsSoFar.{AreEarlier, RingedBehind}
 use Rattle.run_note_record.specs.Stored.{StoresOff, Stores}
@@ -94,7 +99,7 @@ use Rattle.run_acts.specs.OnCards.{accepted_on, ShowsOn, AreUses}
 use Rattle.run_acts.specs.RunCards.{vehicle_in, sizes_in}
 use Rattle.run_acts.proofs.StayUses.{shown-use}
 use Rattle.run_acts.proofs.OnCards.{start-shown}
-use Rattle.run_acts.proofs.Numbers.{own-long}
+use Rattle.run_acts.proofs.Numbers.{own-long, vehicle-long}
 use Rattle.recorder_with_cards.specs.Carded.{RunCarded}
 use Rattle.recorder_with_cards.specs.Ends.{BeginAs, recorded_with, recording_of, opened_with, origin_of, MayRecord, EndsTrace}
 use Rattle.recorder_with_cards.specs.Side.{ShowTheSide}
@@ -102,6 +107,7 @@ use Rattle.recorder_with_cards.proofs.Again.{begins-anew}
 use Rattle.recorder_with_cards.proofs.SideShown.{insertions-inside, places-inside, side-shown}
 use Rattle.recorder_with_cards.proofs.Written.{are-written, keep-holders, keep-vehicles}
 use Rattle.recorder_with_cards.specs.Placed.{ShowsPlaces}
+use Rattle.recorder_with_cards.specs.Measured.{MeasuresVehicles}
 use Rattle.recorder_with_cards.proofs.KeptAfter.{end-kept}
 use Rattle.recorder_with_cards.specs.LastKept.{TellsLast}
 use Rattle.recorder_with_cards.proofs.LastKept.{safe-last}
@@ -112,12 +118,21 @@ use Rattle.run_acts.specs.Stays.{Stay, Coming, comings_on, registration_in, AreM
 use Rattle.recorder_with_cards.proofs.AtEnd.{noted-at-end, sits-at-end, words-so, odometers-so, owes-so}
 use Rattle.run_promise.specs.Whole.{NothingFailed}
 use Rattle.run_crew.specs.Cabin.{CabinIsSound}
-use Rattle.std.specs.Prelude.{filter}
+use Rattle.std.specs.Prelude.{filter, option_to_list, ◌++◌}
+use Rattle.std.proofs.Common.{append_assoc}
 use Rattle.log_model.specs.Causes.{device_of}
 use Rattle.log_model.specs.declared.lines.Find.{Find}
+use Rattle.log_model.specs.ByHand.{by_slots, stops, asked_of}
+use Rattle.log_model.specs.declared.lines.Refused.{Refused}
 use Rattle.run_acts.proofs.Stays.{stays-start}
 use Rattle.run_acts.proofs.AllStay.{placed-bare}
 use Rattle.run_acts.specs.Owed.{IsOwed}
+use Rattle.run_record.proofs.HandsFold.{hands-end}
+use Rattle.safety_model.specs.ByHand.{IsStoppedBy, IsNoLater}
+use Rattle.safety_model.specs.Hands.{sessions_in}
+use Rattle.run_record.specs.Handed.{done_for, asked_for}
+use Rattle.std.proofs.lemmas.List.Elements.{All-contains}
+use Rattle.hand_model.specs.Written.{no_hands}
 
 -- what holds of either card
 pub both : (P : Card → Type 0) → P A → P B → (c : Card) → P c
@@ -136,10 +151,10 @@ chip_of a b B = b
 -- ---- the images
 
 -- each device begins with its image, by whatever is told of the run
-pub begins-with : (x a b : List ℕ) (trace : List TraceSecond) (log : RunLog) (began : Devices) → BeginAs x a b began → Begin (recorded_with x a b trace log) began
-begins-with x a b trace log began h = record { unit = h.of_unit; card = each }
+pub begins-with : (x a b : List ℕ) (trace : List TraceSecond) (log : RunLog) (stops : List Refused) (began : Devices) → BeginAs x a b began → Begin (recorded_with x a b trace log stops) began
+begins-with x a b trace log stops began h = record { unit = h.of_unit; card = each }
   where
-    each : (c : Card) → BeginsAs (card_image (recorded_with x a b trace log) c) (card_of began c)
+    each : (c : Card) → BeginsAs (card_image (recorded_with x a b trace log stops) c) (card_of began c)
     each A = h.of_a
     each B = h.of_b
 
@@ -170,6 +185,11 @@ own-points : (x : List ℕ) → IsOwnValid x → PointsInside (places_in x) x
 unfolding own_bad_file
 own-points x valid = pointer-passes (places_in x) x (valid-passes (own_sizes x) x valid).places
 
+-- and so is that of its vehicle entries
+own-vehicles : (x : List ℕ) → IsOwnValid x → PointsInside (vehicle_ring (own_sizes x)) x
+unfolding own_bad_file
+own-vehicles x valid = pointer-passes (vehicle_ring (own_sizes x)) x (valid-passes (own_sizes x) x valid).vehicles
+
 -- only a valid card has some of the one, and only a valid one some of the other
 only-both : {P Q R S : Type 0} → P ⊎ R → Q ⊎ R → (R → S) → (P × Q) ⊎ S
 only-both (inl p) (inl q) same = inl (p, q)
@@ -194,13 +214,38 @@ module _ (x a b : List ℕ) (start : ℕ) (items : List Item) (began now : Devic
   is-carried done v w IsDue held = held.powerless.carried
   is-carried done v w IsLost held = held.powerless.carried
 
-  ends-so : (done : List TraceSecond) (supply : UnitPower) (v : Values) → RecordBetweenSeconds o done supply v now → IsCoherent now.unit → ((c : Card) → IsCoherent (card_of now c)) → IsFound r0 (found_in r0 began) began → Decodes x →
-      EndsRun (recorded_with x a b done v.log) v.marks began now
-  ends-so done supply v h unit_whole card_whole found decodes =
-      ends-run o done (progress v supply h.book) h.travel v.marks (carried v h.due h.book h.standing h.brought) began now h.recorded (found-by r0 done v.log (found_in r0 began) began found)
-      (is-carried done v (carried v h.due h.book h.standing h.brought) supply h.held) refl refl h.beside unit_whole card_whole decodes refl
+  -- a card's image is that which was found
+  image-found : (done : List TraceSecond) (log : RunLog) (lines : List Refused) → IsFound r0 (found_in r0 began) began → (c : Card) → (found_of (found_in r0 began) c).image ≡ card_image (recorded_with x a b done log lines) c
+  image-found done log lines found A = found.image A
+  image-found done log lines found B = found.image B
 
-  pub promised : (run : Run) (out : Outcome) → RunCarded o (seconds_of start items) run out now → (run.power ≡ Lit → (low : ℕ) × CabinIsSound low None run.keeper.cabin) → IsCoherent now.unit → ((c : Card) → IsCoherent (card_of now c)) → MayRecord x a b start → IsFound r0 (found_in r0 began) began →
+  -- a newest minute that was known when a card was accepted is no later than that of the history
+  known-then : (done : List TraceSecond) (supply : UnitPower) (v : Values) → (h : RecordBetweenSeconds o done supply v now) → (c : Card) (second newest : ℕ) → IsKnown (start_at o) h.book.sure c second newest
+      → IsNoLater (recorded_with x a b done v.log v.stops) c second newest
+  known-then done supply v h c second newest k =
+      let f = h.recorded.followed in
+      let whole : history_of (recorded_with x a b done v.log v.stops) ≡ h.book.sure ++ (option_to_list h.book.maybe ++ f.follows.front.0) = f.follows.front.1 ∙ append_assoc h.book.sure (option_to_list h.book.maybe) f.follows.front.0 in
+      known-grows (recorded_with x a b done v.log v.stops) c o.from h.book.sure (option_to_list h.book.maybe ++ f.follows.front.0) second newest f.order f.early whole k
+
+  -- ITS ENTRIES BY HAND, by what is recorded of them
+  hands-beside : (done : List TraceSecond) (supply : UnitPower) (v : Values) → (h : RecordBetweenSeconds o done supply v now) → IsFound r0 (found_in r0 began) began
+      → HandsBeside (recorded_with x a b done v.log v.stops) (carried v h.due h.book h.standing h.brought h.hands h.firsts) v.marks
+  hands-beside done supply v h found = record {
+    followed = λ c valid. hands-end (recorded_with x a b done v.log v.stops) c v.marks (h.hands c) (h.firsts c) (session_of v.cabin.cards c) (h.handed.each c (subst IsOwnValid (sym (image-found done v.log v.stops found c)) valid));
+    stops = λ c valid q at.
+        stopped-weaker (IsKnown (start_at o) h.book.sure c) (IsNoLater (recorded_with x a b done v.log v.stops) c) (known-then done supply v h c) (sessions_in c (went v.log done).told) (done_for c v.stops (asked_of v.log done)) (marks_of (device_of c) v.marks) v.stops q
+        (All-contains (IsStoppedBy (IsKnown (start_at o) h.book.sure c) (sessions_in c (went v.log done).told) (done_for c v.stops (asked_of v.log done)) (marks_of (device_of c) v.marks) v.stops) (asked_for c (asked_of v.log done)) q
+        (h.handed.stopped c (subst IsOwnValid (sym (image-found done v.log v.stops found c)) valid)) at);
+    each_stop = h.handed.told.each;
+  }
+
+  ends-so : (done : List TraceSecond) (supply : UnitPower) (v : Values) → (h : RecordBetweenSeconds o done supply v now) → IsCoherent now.unit → ((c : Card) → IsCoherent (card_of now c)) → IsFound r0 (found_in r0 began) began → Decodes x →
+      EndsRun (recorded_with x a b done v.log v.stops) v.marks began now
+  ends-so done supply v h unit_whole card_whole found decodes =
+      ends-run o done (progress v supply h.book) h.travel v.marks v.stops (carried v h.due h.book h.standing h.brought h.hands h.firsts) began now h.recorded (found-by r0 done v.log (found_in r0 began) began found)
+      (is-carried done v (carried v h.due h.book h.standing h.brought h.hands h.firsts) supply h.held) refl refl h.beside (hands-beside done supply v h found) unit_whole card_whole decodes refl
+
+  pub promised : (run : Run) (out : Outcome) (carded : RunCarded o (seconds_of start items) run out now) → (run.power ≡ Lit → (low : ℕ) × CabinIsSound low None run.keeper.cabin) → IsCoherent now.unit → ((c : Card) → IsCoherent (card_of now c)) → MayRecord x a b start → IsFound r0 (found_in r0 began) began →
       EndsTrace x a b start items out began now
   promised run out carded sits unit_whole card_whole may found = record {
     may = may;
@@ -236,7 +281,7 @@ module _ (x a b : List ℕ) (start : ℕ) (items : List Item) (began now : Devic
         };
     rows = λ y left.
         let hr = h.evented.recorded.recorded in
-        keeps-rows x a b y ((is-carried (seconds_of start items) (values_of run out) (carried (values_of run out) hr.due hr.book hr.standing hr.brought) h.evented.recorded.supply hr.held).unit.rows y left);
+        keeps-rows x a b y ((is-carried (seconds_of start items) (values_of run out) (carried (values_of run out) hr.due hr.book hr.standing hr.brought hr.hands hr.firsts) h.evented.recorded.supply hr.held).unit.rows y left);
     kept = end-kept o ss run out now h.evented.recorded h.spans h.ringed.spans_are h.stored;
     speeds = carded.speeds.blocks;
     again = begins-anew r out.marks.items began now run-ends.safe may.numbers;
@@ -247,6 +292,7 @@ module _ (x a b : List ℕ) (start : ℕ) (items : List Item) (began now : Devic
     };
     holders = keep-holders o (seconds_of start items) h.evented.recorded.supply (values_of run out) began now h.evented.recorded.recorded (found-by r0 (seconds_of start items) (log_of out) (found_in r0 began) began found);
     vehicles = keep-vehicles o (seconds_of start items) h.evented.recorded.supply (values_of run out) began now h.evented.recorded.recorded (found-by r0 (seconds_of start items) (log_of out) (found_in r0 began) began found);
+    measures = record { spans = h.spans; are_spans = record { spans_are = h.ringed.spans_are; bases = stores.0 }; measures = measures-vehicles };
     places = record { spans = h.spans; are_spans = record { spans_are = h.ringed.spans_are; bases = stores.0 }; shows = shows-places };
     cards = λ c valid.
         let one = carded.cards c (subst IsOwnValid (images c) valid) in
@@ -281,7 +327,7 @@ module _ (x a b : List ℕ) (start : ℕ) (items : List Item) (began now : Devic
       unit-last =
           let hr = h.evented.recorded.recorded in
           safe-last (started x (valid_number a) (valid_number b) began.unit.clock) (history_of r) (lost_of r) hr.due hr.book out.marks.items now.unit hr.recorded.followed.follows
-          (is-carried (seconds_of start items) (values_of run out) (carried (values_of run out) hr.due hr.book hr.standing hr.brought) h.evented.recorded.supply hr.held).unit run-ends.safe.unit
+          (is-carried (seconds_of start items) (values_of run out) (carried (values_of run out) hr.due hr.book hr.standing hr.brought hr.hands hr.firsts) h.evented.recorded.supply hr.held).unit run-ends.safe.unit
 
       -- what was owed to it at the start does not hang on the seconds
       owes-as : (c : Card) (stays : List Stay) → AreOwed (IsOwed (rule_of o) (start_at o) (log_of out) (seconds_of start items) c (brought r0 c).owed) run.keeper.memory.registration (own_sizes (card_image r c)).activity stays (start_shown (card_image r c)) →
@@ -319,7 +365,13 @@ module _ (x a b : List ℕ) (start : ℕ) (items : List Item) (began now : Devic
           h.spans (record { spans_are = h.ringed.spans_are; bases = stores.0 }) (stores.1 y left)
           (rings-shown began now (since_behind o (log_of out) (seconds_of start items)) (log_of out) h.spans (notes_in (log_of out) (seconds_of start items)) (seats_of run) h.ringed.ringed r refl images refl refl refl refl clocks y left)
 
-      -- of a card, the pointer of its ring is an index where it was valid
+      -- of a card, the pointer of its vehicle entries is an index where it was valid
+      measures-vehicles : (c : Card) → IsOwnValid (card_image r c) → (y : List ℕ) → (card_of now c).may_leave y → MeasuresVehicles r h.spans c y
+      measures-vehicles c valid y left =
+          let goes : GoesByReadings h.spans (card_image r c) (card_image r c) y = subst (λ (i : List ℕ). GoesByReadings h.spans i i y) (sym (images c)) (h.ringed.ringed.vehicles c (subst IsOwnValid (images c) valid) y left) in
+          (goes (own-vehicles (card_image r c) valid)).1
+
+      -- and that of its places
       shows-places : (c : Card) → IsOwnValid (card_image r c) → (y : List ℕ) → (card_of now c).may_leave y → ShowsPlaces r h.spans c y
       shows-places c valid y left =
           let good : IsApplication (own_sizes (card_image r c)) = subst (λ (i : List ℕ). IsApplication (own_sizes i)) (of_image c) (h.evented.recorded.recorded.found.sizes c (subst IsOwnValid (sym (of_image c)) valid)) in
@@ -362,7 +414,7 @@ module _ (x a b : List ℕ) (start : ℕ) (began now : Devices) (opened : Opened
   is-found = ready.found
 
   module _ (whole : (c : Card) → IsCoherent (card_of now c)) (unit_whole : IsCoherent now.unit) (on : Card → CardState) (found_on : (c : Card) → IsFoundOn (known_of opened c) (on c) (card_of now c)) (bytes : (c : Card) → All (λ n. n < 256) (card_image (opened_with x a b) c))
-      (clock : (c : Card) → (card_of now c).clock ≡ (card_of began c).clock) (more : IsMore (breakdowns_of began) (breakdowns_of now)) (low : opened.unit.journal.odometer ≤ HIGHEST_ODOMETER) where
+      (clock : (c : Card) → (card_of now c).clock ≡ (card_of began c).clock) (more : IsMore (breakdowns_of began) (breakdowns_of now)) (low : opened.unit.journal.odometer ≤ HIGHEST_ODOMETER) (is_unit : IsUnit now.unit) where
     sizes : (c : Card) → IsOwnValid (card_image (opened_with x a b) c) → IsApplication (own_sizes (card_image (opened_with x a b) c))
     sizes c valid = ((found_on c).port (own_sizes (card_image (opened_with x a b) c)) (valid-known (card_image (opened_with x a b) c) (known_of opened c) (ready.told c) valid)).good
 
@@ -377,7 +429,18 @@ module _ (x a b : List ℕ) (start : ℕ) (began now : Devices) (opened : Opened
         own-long image (omega (arith, fits, all, size))
 
     is-origin : IsOrigin first-o
-    is-origin = record { rule = refl; decodes = ready.decodes; unit = refl; image = ready.found.image; start = ready.found.start; number = ready.found.number; long = long; bytes = bytes; vehicle = ready.found.vehicle }
+    is-origin = record {
+      rule = refl;
+      decodes = ready.decodes;
+      unit = refl;
+      image = ready.found.image;
+      start = ready.found.start;
+      number = ready.found.number;
+      long = long;
+      bytes = bytes;
+      vehicle = ready.found.vehicle;
+      named = vehicle-long x (unit_sized unit_whole is_unit x ready.begins.unit.tells);
+    }
 
     told : (c : Card) → IsOwnValid (card_image (opened_with x a b) c) → is_some (known_of opened c).number ≡ true
     told c valid = ap (λ (o : Option FullCardNumber). is_some o) ((ready.told c).number ∙ ap (λ o. number_by o (card_number_of (own_number (card_image (opened_with x a b) c)))) valid)
@@ -395,6 +458,7 @@ module _ (x a b : List ℕ) (start : ℕ) (began now : Devices) (opened : Opened
         own = own;
         sizes = λ c valid. subst (λ (i : List ℕ). IsApplication (own_sizes i)) (sym (ready.found.image c)) (sizes c (valid-as c valid));
         entries = λ c valid. entries c;
+        word = λ c valid. word c;
       }
         where
           own : (c : Card) → IsOwnValid (found_of f c).image → IsCards f.unit (found_of f c).number
@@ -404,6 +468,10 @@ module _ (x a b : List ℕ) (start : ℕ) (began now : Devices) (opened : Opened
           entries : (c : Card) → (found_of f c).start.entries ≡ (own_view (found_of f c).image).held.entries
           entries A = refl
           entries B = refl
+
+          word : (c : Card) → (found_of f c).start.word ≤ own_covered (found_of f c).image
+          word A = word-covered (found_of f A).image
+          word B = word-covered (found_of f B).image
 
     only : (c : Card) (y : List ℕ) → (card_of now c).left_since (found_of f c).began y → y ≡ card_image (opened_with x a b) c
     only c y left = (ready.begins.card c).only y (subst (λ (n : ℕ). (card_of now c).left_since n y) (ready.found.clock c ∙ sym (clock c)) left)
@@ -419,7 +487,7 @@ module _ (x a b : List ℕ) (start : ℕ) (began now : Devices) (opened : Opened
       timed = λ c valid y left. subst (λ (z : List ℕ). IsTimed (found_of f c).image z) (sym (untouched c y left)) (inl refl);
     }
 
-    waits : (c : Card) → IsOwnValid (found_of f c).image → CardHoldsStringUnpowered (found_of f c) c not_begun Out (card_of now c)
+    waits : (c : Card) → IsOwnValid (found_of f c).image → CardHoldsStringUnpowered (found_of f c) no_hands c not_begun Out (card_of now c)
     waits c valid =
         let v = valid-as c valid in
         opened-wait f c x (card_image (opened_with x a b) c) (card_of now c) (whole c) (ready.begins.card c) (ready.looked c v) v (sizes c v) (ready.found.number c v) (bytes c)
@@ -447,8 +515,9 @@ module _ (x a b : List ℕ) (start : ℕ) (began now : Devices) (opened : Opened
       powers = subst (λ (p : Power). Supplies p IsDue) (sym due) tt;
       recorded = begun-recorded now first-o (values_of run out) (record {
         early = ready.later;
-        log = ap (λ bs. record { breaks = bs; refused = out.refused.items; finds = out.finds.items }) breaks ∙ ap (λ rs. record { breaks = []; refused = rs; finds = out.finds.items }) refused ∙ ap (λ fs. record { breaks = []; refused = []; finds = fs }) finds;
+        log = ap (λ bs. record { breaks = bs; refused = by_slots out.refused.items; finds = out.finds.items }) breaks ∙ ap (λ rs. record { breaks = []; refused = by_slots rs; finds = out.finds.items }) refused ∙ ap (λ fs. record { breaks = []; refused = []; finds = fs }) finds;
         marks = marks;
+        stops = ap stops refused;
         slots = slots;
         bare = bare;
         unfound = unfound;
@@ -506,7 +575,7 @@ module _ (x a b : List ℕ) (start : ℕ) (began now : Devices) (opened : Opened
         r = starts-recorded run out due next begun unfound slots same bare breaks refused finds marks (ap (λ (i : UnitFacts). i.registration.0) memory ∙ ready.memory.registration)
 
         log : log_of out ≡ empty_log
-        log = ap (λ bs. record { breaks = bs; refused = out.refused.items; finds = out.finds.items }) breaks ∙ ap (λ rs. record { breaks = []; refused = rs; finds = out.finds.items }) refused ∙ ap (λ fs. record { breaks = []; refused = []; finds = fs }) finds
+        log = ap (λ bs. record { breaks = bs; refused = by_slots out.refused.items; finds = out.finds.items }) breaks ∙ ap (λ rs. record { breaks = []; refused = by_slots rs; finds = out.finds.items }) refused ∙ ap (λ fs. record { breaks = []; refused = []; finds = fs }) finds
 
     -- and nothing of its rings
     pub starts-ringed : (run : Run) (out : Outcome) → run.power ≡ Due → run.next ≡ start → run.begun ≡ 0 → run.unfound ≡ 0 → run.keeper.memory ≡ opened.unit.memory → run.keeper.cabin.slots ≡ nothing_yet →

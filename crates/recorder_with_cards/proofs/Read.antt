@@ -92,7 +92,7 @@ module _ (o : Origin) (done : List TraceSecond) (supply : UnitPower) (v : Values
   p = progress v supply r.book
 
   abbrev w : RunLedger
-  w = carried v r.due r.book r.standing r.brought
+  w = carried v r.due r.book r.standing r.brought r.hands r.firsts
 
   off : RecordUnpowered o done v w d
   off = off-of o done supply v w d may r.held
@@ -154,6 +154,9 @@ module _ (o : Origin) (done : List TraceSecond) (supply : UnitPower) (v : Values
       due = r.due;
       standing = r.standing;
       brought = r.brought;
+      hands = r.hands;
+      firsts = r.firsts;
+      handed = r.handed;
       recorded = more-recorded o done p r.travel v.marks v.marks (breakdowns_of d) (breakdowns_of e) r.brought r.recorded (λ device m marked. marked) goes.breakdowns;
       beside = record { verdicts = verdicts; spared = spared; travels = travelled-read (odometer_at o.recording.unit) r.book r.travel r.beside.travels whole run };
       few = r.few;

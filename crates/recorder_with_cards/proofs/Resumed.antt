@@ -225,8 +225,8 @@ module _ (o : Origin) (origin : IsOrigin o) (done : List TraceSecond) (s : Trace
     next : old.next ≡ v.next
     next = ap (λ (x : Values). x.next) values
 
-    off : RecordUnpowered o done v (carried v r.due r.book r.standing r.brought) d
-    off = off-of o done supply v (carried v r.due r.book r.standing r.brought) d may r.held
+    off : RecordUnpowered o done v (carried v r.due r.book r.standing r.brought r.hands r.firsts) d
+    off = off-of o done supply v (carried v r.due r.book r.standing r.brought r.hands r.firsts) d may r.held
 
     -- the unit's rule is that with which the run began
     rule-is : rule ≡ rule_of o

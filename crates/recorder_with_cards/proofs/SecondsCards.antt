@@ -18,6 +18,7 @@ use Rattle.run_course.proofs.Told.{lost-dark, lit-power}
 use Rattle.run_outcome.specs.declared.outcome.Outcome.{Outcome}
 use Rattle.run_outcome.specs.Lines.{Listed}
 use Rattle.log_model.specs.declared.lines.Break.{Break}
+use Rattle.log_model.specs.ByHand.{by_slots}
 use Rattle.run_minutes.specs.Keeping.{with_lines}
 use Rattle.run_minutes.proofs.Fates.{no-lines}
 use Rattle.run_promise.specs.Origin.{Origin, rule_of, start_at, first_of}
@@ -37,7 +38,8 @@ use Rattle.run_acts.specs.RunCards.{vehicle_in, CardsBehind, CardsIn, CardsAtBy}
 use Rattle.run_acts.proofs.CardEnds.{IsLater, second-begins, plain-second, plain-same}
 use Rattle.run_acts.proofs.CardUses.{untold-to}
 use Rattle.recorder_with_cards.specs.Carded.{RunCarded, InSecondCardedBy, InSecondCarded}
-use Rattle.recorder_with_cards.proofs.SecondsRecorded.{refused_dark, lost-away, lost-supply}
+use Rattle.recorder_with_cards.proofs.SecondsRecorded.{lost-away, lost-supply}
+use Rattle.recorder_with_cards.proofs.SlotLines.{refused_dark, log-dark}
 use Rattle.recorder_with_cards.proofs.SecondsRinged.{refused-all, lost, away, dark-ringed, off-ringed}
 use Rattle.recorder_with_cards.proofs.Staying.{kept-memory, up-to-memory}
 use Rattle.recorder_with_cards.proofs.RingsHeld.{in-ringed_lit, in-ringed_cut}
@@ -142,7 +144,9 @@ module _ (o : Origin) (done : List TraceSecond) (old : Run) (before : Outcome) (
       record {
         ringed = dark-ringed o done old before d h.ringed (suc n) speed begun actions some away_ fits new after is told;
         vehicle = ap (λ (x : Run). x.keeper.memory.registration) is ∙ h.vehicle;
-        cards = subst (λ (q : Outcome). CardsBehind o (done ++ driven (suc n) old.next speed actions) (log_of q) d) (sym told) (lost-behind speed actions (before.refused.items ++ refused_dark old.next actions) supply none.1 n fits);
+        cards = subst (λ (q : Outcome). CardsBehind o (done ++ driven (suc n) old.next speed actions) (log_of q) d) (sym told)
+            (subst (λ (l : RunLog). CardsBehind o (done ++ driven (suc n) old.next speed actions) l d) (sym (log-dark before old.next actions))
+            (lost-behind speed actions (by_slots before.refused.items ++ refused_dark old.next actions) supply none.1 n fits));
         speeds = dark-behind o done old before d r h.speeds (suc n) speed begun actions some none fits new after is told;
       }
 

@@ -5,6 +5,8 @@ use Rattle.trace_model.specs.declared.Action.{Action}
 use Rattle.trace_model.specs.Trace.{TraceSecond, driven, dark}
 use Rattle.log_model.specs.declared.lines.Break.{Break}
 use Rattle.log_model.specs.declared.lines.Refused.{Refused}
+use Rattle.log_model.specs.ByHand.{by_slots}
+use Rattle.log_model.specs.Log.{RunLog}
 use Rattle.run_unit_course.specs.Followed.{UnitPower, IsDark, Lit as IsLit, Due as IsDue, Lost as IsLost}
 use Rattle.safety_model.specs.Safe.{Devices}
 use Rattle.run_course.specs.Followed.{Progress}
@@ -24,7 +26,8 @@ use Rattle.run_acts.specs.Power.{is_lit, has_power, darkened, off_run, off_cut, 
 use Rattle.run_acts.specs.Recording.{log_of, values_of, Supplies, RunRecorded}
 use Rattle.run_acts.specs.Evented.{RunEvented, LastAt}
 use Rattle.run_minutes.proofs.Fates.{no-lines}
-use Rattle.recorder_with_cards.proofs.SecondsRecorded.{refused_dark, lost-away, lost-supply, dark-run, off-seconds}
+use Rattle.recorder_with_cards.proofs.SecondsRecorded.{lost-away, lost-supply, dark-run, off-seconds}
+use Rattle.recorder_with_cards.proofs.SlotLines.{refused_dark, log-dark}
 
 due-supply : (p : Power) (supply : UnitPower) → p ≡ Due → Supplies p supply → supply ≡ IsDue
 due-supply Lit supply is powers = absurd (cc)
@@ -58,14 +61,15 @@ module _ (o : Origin) (done : List TraceSecond) (old : Run) (before : Outcome) (
       let power : new.power ≡ Lost = ap (λ (x : Run). x.power) is ∙ lost.0 in
       let on = dark-run o done old before d r (suc n) speed begun actions some away fits new after is told in
       let off : on.supply ≡ IsLost = lost-supply new.power on.supply power on.powers in
-      let lines : List Refused = before.refused.items ++ refused_dark old.next actions in
+      let lines : List Refused = by_slots before.refused.items ++ refused_dark old.next actions in
       let one : Evented o (done ++ driven (suc n) old.next speed actions) (record (log_of before) { refused = lines }) old.unfound (old.next + suc n) IsLost d =
       dark-seconds d o done p r.recorded.recorded.followed h.evented supply n speed actions lines lost.1 fits in
       record {
         recorded = on;
         evented = subst (λ (s : UnitPower). Evented o (done ++ driven (suc n) old.next speed actions) (log_of after) new.unfound new.next s d) (sym off)
             (subst (λ (x : Run). Evented o (done ++ driven (suc n) old.next speed actions) (log_of after) x.unfound x.next IsLost d) (sym is)
-            (subst (λ (q : Outcome). Evented o (done ++ driven (suc n) old.next speed actions) (log_of q) old.unfound (old.next + suc n) IsLost d) (sym told) one));
+            (subst (λ (q : Outcome). Evented o (done ++ driven (suc n) old.next speed actions) (log_of q) old.unfound (old.next + suc n) IsLost d) (sym told)
+            (subst (λ (l : RunLog). Evented o (done ++ driven (suc n) old.next speed actions) l old.unfound (old.next + suc n) IsLost d) (sym (log-dark before old.next actions)) one)));
         limit = ap (λ (x : Run). x.keeper.memory.limit) is ∙ h.limit;
         watched = λ lit. absurd (let bad : Lost ≡ Lit = sym power ∙ lit in cc);
       }

@@ -18,7 +18,7 @@ use Rattle.run_outcome.specs.declared.outcome.Outcome.{Outcome}
 use Rattle.run_outcome.specs.Lines.{Listed, cut_at}
 use Rattle.run_minutes.specs.Keeping.{with_lines}
 use Rattle.run_promise.specs.Origin.{Origin, rule_of, start_at, first_of}
-use Rattle.run_record.specs.Recorded.{RecordBetweenSeconds, progress}
+use Rattle.run_record.specs.Recorded.{RecordBetweenSeconds, progress, Values}
 use Rattle.run_record.specs.Going.{off_values}
 use Rattle.run_record.proofs.Going.{dark-recorded, off-recorded, off-cut-recorded}
 use Rattle.run_acts.specs.declared.run.Run.{Run}
@@ -38,6 +38,8 @@ use Rattle.run_crew.specs.Cards.{session_of}
 use Rattle.run_crew.specs.Cabin.{CabinIsSound, with_power_lost}
 use Rattle.log_model.specs.Causes.{refusals_at, refusal_told}
 use Rattle.log_model.specs.Course.{ToldSecond, went, without_power}
+use Rattle.log_model.specs.ByHand.{by_slots}
+use Rattle.log_model.specs.Log.{RunLog}
 use Rattle.note_model.specs.Noted.{Note}
 use Rattle.run_note_record.specs.Ringed.{notes_in}
 use Rattle.run_acts.specs.Closings.{spells_of}
@@ -48,17 +50,10 @@ use Rattle.run_acts.proofs.Truths.{grow-on, marked-still}
 use Rattle.run_acts.proofs.TruthsThen.{truths-same, truths-more}
 use Rattle.run_acts.proofs.SeatsThen.{sits-in-one}
 use Rattle.run_acts.proofs.NotesThen.{notes-off, notes-lost, notes-refused, went-refused}
+use Rattle.recorder_with_cards.proofs.SlotLines.{refused_from, refused_dark, log-dark, values-dark}
 use Rattle.recorder_with_cards.proofs.OffRings.{off-cut-notes, off-cut-true}
 
 -- ---- a second without power
-
--- its actions are refused for that, the first of these with so many before it
-abbrev pub refused_from : (second number : ℕ) → List Action → List Refused
-refused_from second number [] = []
-refused_from second number (a ∷ actions) = record { second = second; fault = NoPower; begun = number + 1 } ∷ refused_from second (number + 1) actions
-
-abbrev pub refused_dark : (second : ℕ) → List Action → List Refused
-refused_dark second actions = refused_from second 0 actions
 
 faults-from : (second number : ℕ) (actions : List Action) → map refusal_told (refused_from second number actions) ≡ refusals_at second (without_power number actions)
 faults-from second number [] = refl
@@ -142,21 +137,21 @@ module _ (o : Origin) (done : List TraceSecond) (old : Run) (before : Outcome) (
         vehicle = h.vehicle;
         supply = IsLost;
         powers = subst (λ (p : Power). Supplies p IsLost) (sym lost.0) tt;
-        recorded = on;
+        recorded = subst (λ (v : Values). RecordBetweenSeconds o (done ++ driven (suc n) old.next speed actions) IsLost v d) (sym (values-dark (passed (suc n) begun old) before old.next actions)) on;
         odometer = λ lit. absurd (let bad : Lost ≡ Lit = sym lost.0 ∙ lit in cc);
-        stay =
-            all-true o (marked before.marks.items (truths_of o (log_of before) done)) (marked before.marks.items (truths_of o (record (log_of before) { refused = before.refused.items ++ refused_dark old.next actions }) (done ++ driven (suc n) old.next speed actions))) 0 (record (log_of before) { refused = before.refused.items ++ refused_dark old.next actions })
-            (notes_in (record (log_of before) { refused = before.refused.items ++ refused_dark old.next actions }) (done ++ driven (suc n) old.next speed actions)) old.keeper.memory.registration old.keeper.cabin d
+        stay = subst (λ (log : RunLog). AllStay o (marked before.marks.items (truths_of o log (done ++ driven (suc n) old.next speed actions))) 0 log (notes_in log (done ++ driven (suc n) old.next speed actions)) old.keeper.memory.registration old.keeper.cabin d) (sym (log-dark before old.next actions))
+            (all-true o (marked before.marks.items (truths_of o (log_of before) done)) (marked before.marks.items (truths_of o (record (log_of before) { refused = by_slots before.refused.items ++ refused_dark old.next actions }) (done ++ driven (suc n) old.next speed actions))) 0 (record (log_of before) { refused = by_slots before.refused.items ++ refused_dark old.next actions })
+            (notes_in (record (log_of before) { refused = by_slots before.refused.items ++ refused_dark old.next actions }) (done ++ driven (suc n) old.next speed actions)) old.keeper.memory.registration old.keeper.cabin d
             (λ none.
-            marked-still before.marks.items (truths_of o (log_of before) done) (truths_of o (record (log_of before) { refused = before.refused.items ++ refused_dark old.next actions }) (done ++ driven (suc n) old.next speed actions))
-            (grow-on (truths_of o (log_of before) done) (truths_of o (record (log_of before) { refused = before.refused.items ++ refused_dark old.next actions }) done) (truths_of o (record (log_of before) { refused = before.refused.items ++ refused_dark old.next actions }) (done ++ driven (suc n) old.next speed actions))
-            (truths-same o (log_of before) (record (log_of before) { refused = before.refused.items ++ refused_dark old.next actions }) done (went-refused (log_of before) (before.refused.items ++ refused_dark old.next actions) done))
-            (truths-more o (record (log_of before) { refused = before.refused.items ++ refused_dark old.next actions }) done (driven (suc n) old.next speed actions))))
-            (all-noted o (marked before.marks.items (truths_of o (log_of before) done)) 0 (log_of before) (record (log_of before) { refused = before.refused.items ++ refused_dark old.next actions }) (notes_in (log_of before) done)
-            (notes_in (record (log_of before) { refused = before.refused.items ++ refused_dark old.next actions }) (done ++ driven (suc n) old.next speed actions)) old.keeper.memory.registration old.keeper.cabin d (λ none. record { none = none; finds = refl; judged = refl })
+            marked-still before.marks.items (truths_of o (log_of before) done) (truths_of o (record (log_of before) { refused = by_slots before.refused.items ++ refused_dark old.next actions }) (done ++ driven (suc n) old.next speed actions))
+            (grow-on (truths_of o (log_of before) done) (truths_of o (record (log_of before) { refused = by_slots before.refused.items ++ refused_dark old.next actions }) done) (truths_of o (record (log_of before) { refused = by_slots before.refused.items ++ refused_dark old.next actions }) (done ++ driven (suc n) old.next speed actions))
+            (truths-same o (log_of before) (record (log_of before) { refused = by_slots before.refused.items ++ refused_dark old.next actions }) done (went-refused (log_of before) (by_slots before.refused.items ++ refused_dark old.next actions) done))
+            (truths-more o (record (log_of before) { refused = by_slots before.refused.items ++ refused_dark old.next actions }) done (driven (suc n) old.next speed actions))))
+            (all-noted o (marked before.marks.items (truths_of o (log_of before) done)) 0 (log_of before) (record (log_of before) { refused = by_slots before.refused.items ++ refused_dark old.next actions }) (notes_in (log_of before) done)
+            (notes_in (record (log_of before) { refused = by_slots before.refused.items ++ refused_dark old.next actions }) (done ++ driven (suc n) old.next speed actions)) old.keeper.memory.registration old.keeper.cabin d (λ none. record { none = none; finds = refl; judged = refl })
             (λ none c. ap (λ (ns : List Note). spells_of c ns)
-            (notes-refused (log_of before) (before.refused.items ++ refused_dark old.next actions) (done ++ driven (suc n) old.next speed actions)
-            ∙ notes-lost (suc n) (log_of before) done old.next speed actions was.recorded.followed.power lost.1 fits)) h.stay);
+            (notes-refused (log_of before) (by_slots before.refused.items ++ refused_dark old.next actions) (done ++ driven (suc n) old.next speed actions)
+            ∙ notes-lost (suc n) (log_of before) done old.next speed actions was.recorded.followed.power lost.1 fits)) h.stay));
       }))
 
   -- AN `off` LINE

@@ -10,6 +10,7 @@ use Rattle.log_model.specs.declared.lines.Refused.{Refused}
 use Rattle.log_model.specs.Log.{RunLog}
 use Rattle.log_model.specs.Same.{SameAt}
 use Rattle.log_model.specs.Course.{ToldSecond, Went, has_power, went}
+use Rattle.log_model.specs.ByHand.{by_slots}
 use Rattle.note_model.specs.Odometer.{SpanFrom}
 use Rattle.run_unit_course.specs.Followed.{UnitPower, Lit as IsLit, Due as IsDue, Lost as IsLost}
 use Rattle.run_unit_course.specs.Lines.{cut_at}
@@ -41,7 +42,8 @@ use Rattle.run_acts.specs.Power.{is_lit, has_power as has_by, darkened, off_run,
 use Rattle.run_acts.specs.Recording.{log_of, values_of, Supplies, RunRecorded}
 use Rattle.run_acts.specs.RunRinged.{seats_of, RunRinged}
 use Rattle.run_acts.proofs.StoredRun.{run-off}
-use Rattle.recorder_with_cards.proofs.SecondsRecorded.{refused_dark, lost-away, lost-supply}
+use Rattle.recorder_with_cards.proofs.SecondsRecorded.{lost-away, lost-supply}
+use Rattle.recorder_with_cards.proofs.SlotLines.{refused_dark, log-dark}
 use Rattle.recorder_with_cards.proofs.SecondsEvented.{dark-evented, off-evented}
 use Rattle.recorder_with_cards.proofs.OffRings.{cut_off, off-cut-rings}
 
@@ -141,19 +143,21 @@ module _ (o : Origin) (done : List TraceSecond) (old : Run) (before : Outcome) (
       let none = lost-away old.power old.next away_ in
       let supply : r.supply ≡ IsLost = lost-supply old.power r.supply none.0 r.powers in
       let power : new.power ≡ Lost = ap (λ (x : Run). x.power) is ∙ none.0 in
-      let lines : List Refused = before.refused.items ++ refused_dark old.next actions in
+      let lines : List Refused = by_slots before.refused.items ++ refused_dark old.next actions in
       let one : RingedBehind o (done ++ driven (suc n) old.next speed actions) (record (log_of before) { refused = lines }) (old.next + suc n) h.spans (seats_of old) d =
       rings-lost o done p r.recorded.recorded.followed d h.spans (seats_of old) h.ringed supply speed actions lines none.1 n fits in
       let was : StoresOff o (log_of before) old.unfound h.spans d = subst (λ (q : Power). Stores (is_lit q) o (log_of before) old.unfound old.keeper.odometer h.spans d) none.0 h.stored in
       let off : StoresOff o (log_of after) old.unfound h.spans d = subst (λ (q : Outcome). StoresOff o (log_of q) old.unfound h.spans d) (sym told)
-      (stored-dark o (log_of before) (record (log_of before) { refused = lines }) old.unfound h.spans d r.recorded.recorded.followed.unfound ([], sym (append-nil (log_of before).breaks)) was) in
+      (subst (λ (l : RunLog). StoresOff o l old.unfound h.spans d) (sym (log-dark before old.next actions))
+      (stored-dark o (log_of before) (record (log_of before) { refused = lines }) old.unfound h.spans d r.recorded.recorded.followed.unfound ([], sym (append-nil (log_of before).breaks)) was)) in
       record {
         evented = dark-evented o done old before d h.evented (suc n) speed begun actions some away_ fits new after is told;
         spans = h.spans;
         base = λ lit. absurd (let bad : Lost ≡ Lit = sym power ∙ lit in cc);
         counted = let was = h.counted in let noted = ap (λ (x : Run). x.noted) is in let many = ap (λ (q : Outcome). length q.finds.items) told in omega (arith, was, noted, many);
         ringed = subst (λ (x : Run). RingedBehind o (done ++ driven (suc n) old.next speed actions) (log_of after) x.next h.spans (seats_of x) d) (sym is)
-            (subst (λ (q : Outcome). RingedBehind o (done ++ driven (suc n) old.next speed actions) (log_of q) (old.next + suc n) h.spans (seats_of old) d) (sym told) one);
+            (subst (λ (q : Outcome). RingedBehind o (done ++ driven (suc n) old.next speed actions) (log_of q) (old.next + suc n) h.spans (seats_of old) d) (sym told)
+            (subst (λ (l : RunLog). RingedBehind o (done ++ driven (suc n) old.next speed actions) l (old.next + suc n) h.spans (seats_of old) d) (sym (log-dark before old.next actions)) one));
         stored = subst (λ (q : Power). Stores (is_lit q) o (log_of after) new.unfound new.keeper.odometer h.spans d) (sym power) (subst (λ (x : Run). StoresOff o (log_of after) x.unfound h.spans d) (sym is) off);
       }
 

@@ -59,6 +59,7 @@ use Rattle.run_acts.specs.Power.{is_lit, has_power as has_by, over_by, minute_ov
 use Rattle.run_acts.specs.Recording.{log_of, values_of, Supplies, InSecondBy, RunRecorded}
 use Rattle.run_acts.specs.Speeds.{HasBlocks, SpeedsBehind, SpeedsInBy}
 use Rattle.run_acts.proofs.SpeedLogs.{FailsMore, unsure-here, blocks-same, blocks-more}
+use Rattle.run_acts.specs.ByHand.{stopped_in}
 use Rattle.recorder_with_cards.specs.Accepting.{IsAccepted, IsEnteringNow}
 use Rattle.recorder_with_cards.specs.Acting.{moment_of, cut_where, cut_breaks, IsCarriedOut, IsActedBy, IsActed, IsItemActed, AreActed}
 use Rattle.recorder_with_cards.specs.Carded.{InSecondCardedBy}
@@ -335,7 +336,7 @@ carried-so action begun speed old new before after on c = by c.failed c.run c.ou
 
 action-so : (action : Action) (begun speed : ℕ) (old new : Run) (before after : Outcome) (lit : Bool) → is_lit old.power ≡ lit → IsActed true lit action begun speed old new before after → ActedSo old.next old new before after
 action-so action begun speed old new before after false off is = acted-none old.next old new before after is.0 (ap (λ (o : Outcome). o.breaks.items) is.1)
-action-so action begun speed old new before after true on is = by (refusal (logged old.keeper.cabin.slots.seats) speed action) is
+action-so action begun speed old new before after true on is = by (stopped_in old speed action) is
   where
     by : (r : Option SlotFault) → IsActedBy r action begun speed old new before after → ActedSo old.next old new before after
     by None c = carried-so action begun speed old new before after on c

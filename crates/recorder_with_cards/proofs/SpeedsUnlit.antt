@@ -9,6 +9,7 @@ use Rattle.log_model.specs.Log.{RunLog}
 use Rattle.log_model.specs.Course.{Went, went}
 use Rattle.log_model.specs.Spans.{AreInOrder}
 use Rattle.log_model.proofs.Spanning.{order-parts}
+use Rattle.log_model.specs.ByHand.{by_slots}
 use Rattle.event_model.specs.Spans.{SpeedSecond}
 use Rattle.speed_model.specs.Blocks.{blocks_in}
 use Rattle.safety_model.specs.Safe.{Devices}
@@ -34,7 +35,8 @@ use Rattle.run_acts.specs.Recording.{log_of, values_of, Supplies, RunRecorded}
 use Rattle.run_acts.specs.Speeds.{HasBlocks, SpeedsBehind}
 use Rattle.run_acts.proofs.SpeedLogs.{blocks-same}
 use Rattle.run_acts.proofs.SpeedsTurn.{one-dark, many-dark}
-use Rattle.recorder_with_cards.proofs.SecondsRecorded.{refused_dark, lost-away, lost-supply}
+use Rattle.recorder_with_cards.proofs.SecondsRecorded.{lost-away, lost-supply}
+use Rattle.recorder_with_cards.proofs.SlotLines.{refused_dark, log-dark}
 use Rattle.recorder_with_cards.proofs.SpeedsSoFar.{SaysMore, says-lines}
 
 -- ---- an `off` line: the trace gives no power
@@ -83,12 +85,13 @@ module _ (o : Origin) (done : List TraceSecond) (old : Run) (before : Outcome) (
       after ≡ record before { refused = with_lines (refused_dark old.next actions) before.refused } → SpeedsBehind o (done ++ driven n old.next speed actions) new after d
   dark-behind zero speed begun actions some away fits new after is told = absurd (omega (arith, some))
   dark-behind (suc n) speed begun actions some away fits new after is told =
-      let later : RunLog = record log { refused = before.refused.items ++ refused_dark old.next actions } in
+      let later : RunLog = record log { refused = by_slots before.refused.items ++ refused_dark old.next actions } in
       record {
         watched = λ on. absurd (let clash : Lost ≡ Lit = sym (ap (λ (x : Run). x.power) is ∙ away.0) ∙ on in cc);
         blocks = subst (λ (q : Outcome). HasBlocks o (log_of q) (done ++ driven (suc n) old.next speed actions) d) (sym told)
+            (subst (λ (l : RunLog). HasBlocks o l (done ++ driven (suc n) old.next speed actions) d) (sym (log-dark before old.next actions))
             (blocks-same o log later (λ u has. has) done (done ++ driven (suc n) old.next speed actions) d d
-            (ap blocks_in (spans-lost speed actions (before.refused.items ++ refused_dark old.next actions) (lost-supply old.power r.supply away.0 r.powers) away.1 n fits)) (leaves-none d.unit) h.blocks);
+            (ap blocks_in (spans-lost speed actions (by_slots before.refused.items ++ refused_dark old.next actions) (lost-supply old.power r.supply away.0 r.powers) away.1 n fits)) (leaves-none d.unit) h.blocks));
       }
 
   -- ---- an `off` line

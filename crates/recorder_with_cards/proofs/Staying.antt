@@ -105,4 +105,5 @@ done-watched (Tear slot) at speed failed old new before after is =
     watched-then old pulled new (pulled-watched (card_in (seat_in old.keeper.cabin.slots.seats slot)) at.second old) (watched-is pulled new is.1)
 done-watched (Place slot ending country region) at speed failed old new before after is =
     placed-watched (card_in (seat_in old.keeper.cabin.slots.seats slot)) slot at old new before.breaks after.breaks is.0 is.1
-done-watched (Manual slot pick minute) at speed failed old new before after is = watched-is old new is.1
+done-watched (Manual slot pick minute) at speed failed old new before after is =
+    record { watch = ap (λ (r : Run). r.watch) is.1; memory = ap (λ (r : Run). r.keeper.memory) is.1; power = ap (λ (r : Run). r.power) is.1; next = ap (λ (r : Run). r.next) is.1 }

@@ -103,8 +103,8 @@ module _ (o : Origin) (done : List TraceSecond) (s : TraceSecond) (supply : Unit
   same-went : went q.log done ≡ went v.log done
   same-went = went-found v.log v.unfound k o.from done r.recorded.followed.order
 
-  off : RecordUnpowered o done v (carried v r.due r.book r.standing r.brought) d
-  off = off-of o done supply v (carried v r.due r.book r.standing r.brought) d may r.held
+  off : RecordUnpowered o done v (carried v r.due r.book r.standing r.brought r.hands r.firsts) d
+  off = off-of o done supply v (carried v r.due r.book r.standing r.brought r.hands r.firsts) d may r.held
 
   pub q-bare : AreBare (went q.log done).before.slots
   q-bare = record { driver = ap (λ (w : Went). is_accepted w.before.slots.driver) same-went ∙ off.driver; codriver = ap (λ (w : Went). is_accepted w.before.slots.codriver) same-went ∙ off.codriver }

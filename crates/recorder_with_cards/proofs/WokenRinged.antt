@@ -16,11 +16,14 @@ use Rattle.log_model.specs.declared.lines.Verdict.{Verdict}
 use Rattle.log_model.specs.Log.{RunLog, Phase, In, cut_in, is_torn_in, found_in, is_accepting}
 use Rattle.log_model.specs.Slots.{Slots, Sitting, in_slot, other_slot}
 use Rattle.log_model.specs.Course.{Course, fresh, unmoved, with_slot, ToldSecond, Before, Moved, Visit, Went, visits, leaves, slot_told, both_told, has_power, went, second_told}
-use Rattle.note_model.specs.Odometer.{SpanFrom, odometer_at}
+use Rattle.note_model.specs.Odometer.{SpanFrom}
+use Rattle.card_image.specs.Own.{own_sizes}
+use Rattle.safety_model.specs.Recording.{card_image}
 use Rattle.safety_model.specs.Safe.{Devices}
 use Rattle.unit_rule.specs.Odometer.{odometer_by, odometer_after}
 use Rattle.run_unit_course.specs.Lines.{cut_at}
 use Rattle.card_slots.specs.Calls.{card_in}
+use Rattle.run_devices.proofs.Measured.{goes-itself}
 use Rattle.run_promise.specs.Between.{devices}
 use Rattle.run_course.specs.Followed.{Progress, BookFollowsRun, Comes, IsSupplied}
 use Rattle.run_course.specs.Seconds.{GoesOnBy}
@@ -44,14 +47,14 @@ use Rattle.run_promise.specs.Origin.{Origin, rule_of, start_at, first_of}
 use Rattle.run_rings.specs.Spans.{with_second}
 use Rattle.run_rings.specs.Same.{LeavesRings}
 use Rattle.run_rings.proofs.Same.{behind-same, rings-left, rings-moments}
-use Rattle.run_note_record.specs.OnCards.{PlacesStay}
+use Rattle.run_note_record.specs.OnCards.{PlacesStay, IsReading, VehiclesGo, CardsStay}
 use Rattle.run_note_record.specs.Ringed.{Seating, IsInsertionIn, since_in}
 use Rattle.run_note_record.specs.RingsSoFar.{RingedBehind, IsSecond, RingedIn, HasMoreBreaks, GoesBehind}
 use Rattle.run_note_record.specs.Steps.{nobody, spans_cut}
 use Rattle.run_note_record.specs.Waking.{NoneFound, IsFoundAnew}
 use Rattle.run_note_record.specs.Stored.{StandsOn, StoresOn, StoresOff}
 use Rattle.run_note_record.proofs.Bases.{stored-first}
-use Rattle.run_note_record.proofs.OnCards.{places-itself}
+use Rattle.run_note_record.proofs.OnCards.{stay-itself}
 use Rattle.run_note_record.proofs.SoFar.{left-itself, go-on-in, cut-ends}
 use Rattle.run_note_record.proofs.RingsWaking.{behind-alike, still-failed, still-call-failed, power-begins, passed-anew, accepted-anew, cut-anew}
 use Rattle.run_record.specs.Recorded.{Values, RecordBetweenSeconds}
@@ -63,21 +66,29 @@ use Rattle.run_acts.specs.declared.run.Power.TheVariants.{Lit as HasPower}
 use Rattle.run_acts.specs.Recording.{log_of, values_of, RunWithin, RunFails, GoesOnOrFails}
 use Rattle.run_acts.specs.Evented.{CutEvented}
 use Rattle.run_acts.specs.RunRinged.{seats_of, IsLastFrom, RingsWithin, RingsCut, WithinRinged, CutRinged, InSecondRingedBy, InSecondRinged, with_cut, RingsGoOn}
+use Rattle.run_acts.proofs.Readings.{spans-here, insertion-reads}
 use Rattle.run_acts.proofs.StoredRun.{run-cut}
 use Rattle.run_acts.proofs.RingedSecond.{cut-is, cut-torn, cut-found, cut-failed, power-here, odometer-here, begins-last, since-begun}
 use Rattle.recorder_with_cards.specs.Accepting.{IsBare, IsAnew}
 use Rattle.recorder_with_cards.specs.Judged.{moment_in, RunNext, JudgesAnew}
-use Rattle.recorder_with_cards.specs.JudgedRings.{AreSeatedWith, JudgedInRings, IsJudgedInRings, RingsJudged, RingsJudgedAnew}
+use Rattle.recorder_with_cards.specs.JudgedRings.{AreSeatedWith, JudgedInRings, IsJudgedInRings, IsOdometerOf, RingsJudged, RingsJudgedAnew}
 use Rattle.recorder_with_cards.specs.Woken.{EventsWoken, RingsWoken}
 use Rattle.recorder_with_cards.proofs.Resumed.{RunWaking, within-of, waiting_in, driver-next, codriver-next, codriver-began}
 use Rattle.recorder_with_cards.proofs.RingsHere.{here-then, here-more, here-cut, goes-behind}
 
 -- ---- calls that write no ring
 
--- those on the unit alone leave the places of the cards
-pub places-beside : (o : Origin) (U W X Y : State) → PlacesStay o (devices U X Y) (devices W X Y)
-places-beside o U W X Y A valid y left = (y, left, refl)
-places-beside o U W X Y B valid y left = (y, left, refl)
+-- those on the unit alone leave the cards
+pub cards-beside : (o : Origin) (spans : List SpanFrom) (U W X Y : State) → CardsStay o spans (devices U X Y) (devices W X Y)
+cards-beside o spans U W X Y = record { places = places; vehicles = vehicles }
+  where
+    places : PlacesStay o (devices U X Y) (devices W X Y)
+    places A valid y left = (y, left, refl)
+    places B valid y left = (y, left, refl)
+
+    vehicles : VehiclesGo o spans (devices U X Y) (devices W X Y)
+    vehicles A valid y left = (y, left, goes-itself (own_sizes (card_image o.recording A)) (IsReading spans) y)
+    vehicles B valid y left = (y, left, goes-itself (own_sizes (card_image o.recording B)) (IsReading spans) y)
 
 -- images that differ in rows and slots of minutes alone have the same rings
 pub mend-leaves : (j : Notes) (U W : State) → IsCoherent U → LeavesOnly U W (IsMending j) → LeavesRings U W
@@ -184,7 +195,7 @@ module _ (o : Origin) (done : List TraceSecond) (s : TraceSecond) (p : Progress)
         begun_later = λ k lt. absurd (omega (arith, lt));
         torn = λ k slot le. cut-torn p.log s.number 0 at_once.none.cut (In k) slot;
         found = λ k slot le. cut-found p.log s.number 0 at_once.none.cut (In k) slot;
-      }) (rings-left d.unit) (left-itself o d) (places-itself o d) (λ c. inl refl) in
+      }) (rings-left d.unit) (left-itself o d) (stay-itself o (with_second spans base t) d) (λ c. inl refl) in
       cut-ends d o done s p.log (with_cut p.log s []) [] s.actions spans base t nobody nobody told at_once.behind at_once.power refl (cut-is p.log s.number 0 at_once.none.cut) (λ c. inl refl)
 
 -- power may come with the next second
@@ -319,8 +330,10 @@ card-ringed : (o : Origin) (done : List TraceSecond) (s : TraceSecond) (b : Begi
 card-ringed o done s b waits fewer slot card old new before after d e next is off first spans t rings at at_is failed judges time =
     let here : RingsWithin o done s next.goes.within.b.run.log [] old (log_of before) spans t d = subst (λ (y : Beginning). RingsWithin o done s y.run.log [] old (log_of before) spans t d) (sym is) rings in
     let off_here : (went next.goes.within.b.run.log done).before.running ≡ false = subst (λ (y : Beginning). (went y.run.log done).before.running ≡ false) (sym is) off in
-    let odometer : odometer_by old.keeper.odometer (travelled_of next.goes.within.sp) ≡ odometer_at s.number (with_second spans old.keeper.odometer t) =
-    sym (odometer-here o done s (In 0) waits [] (values_of old before) d next.goes.within [] (log_of before) spans old.keeper.odometer t (seats_of old) here.ringed here.base) in
+    let odometer : IsOdometerOf (with_second spans old.keeper.odometer t) s.number (odometer_by old.keeper.odometer (travelled_of next.goes.within.sp)) = record {
+      at = sym (odometer-here o done s (In 0) waits [] (values_of old before) d next.goes.within [] (log_of before) spans old.keeper.odometer t (seats_of old) here.ringed here.base);
+      reads = insertion-reads o done s (In 0) waits [] (values_of old before) d next.goes.within spans old.keeper.odometer t (spans-here o done s next.goes.within.b.run.log [] old (log_of before) spans t d here) (odometer_by old.keeper.odometer (travelled_of next.goes.within.sp)) refl;
+    } in
     let j = judges o done s 0 waits fewer at_is next (with_second spans old.keeper.odometer t) odometer rings.counted time in
     subst (λ (y : Beginning). RingsGoOn failed o done s y [] new (log_of after) spans t e) is
     (slot-ringed o done s waits fewer slot card old new before after d e next off_here first spans t here failed j)

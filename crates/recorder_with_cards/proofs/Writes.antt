@@ -25,7 +25,7 @@ writes-more s t m n d e seconds actions h = record {
 }
 
 -- an action
-pub writes-act : (d e : Devices) → WroteAtMost 102 1174 d e → WritesFor 0 1 d e
+pub writes-act : (d e : Devices) → WroteAtMost 102 1366 d e → WritesFor 0 1 d e
 writes-act d e h = record {
   unit = (let a = h.unit in omega (arith, a));
   card_a = (let a = h.card_a in omega (arith, a));
@@ -40,7 +40,7 @@ writes-begun s n d e some h = record {
   card_b = (let a = h.card_b in omega (arith, a, some));
 }
 
-pub writes-second : (s : ℕ) (d e f : Devices) → 0 < s → WroteAtMost 94 2152 d e → WroteAtMost 93 102 e f → WritesFor s 0 d f
+pub writes-second : (s : ℕ) (d e f : Devices) → 0 < s → WroteAtMost 94 2152 d e → WroteAtMost 93 294 e f → WritesFor s 0 d f
 writes-second s d e f some first next = record {
   unit = (let a = first.unit in let b = next.unit in omega (arith, a, b, some));
   card_a = (let a = first.card_a in let b = next.card_a in omega (arith, a, b, some));
@@ -48,7 +48,7 @@ writes-second s d e f some first next = record {
 }
 
 -- with actions between, and more seconds behind them
-pub writes-driven : (s n : ℕ) (d e f g h : Devices) → 0 < s → WroteAtMost 94 2152 d e → WritesFor 0 n e f → WroteAtMost 93 102 f g → WritesFor (s - 1) 0 g h → WritesFor s n d h
+pub writes-driven : (s n : ℕ) (d e f g h : Devices) → 0 < s → WroteAtMost 94 2152 d e → WritesFor 0 n e f → WroteAtMost 93 294 f g → WritesFor (s - 1) 0 g h → WritesFor s n d h
 writes-driven s n d e f g h some first acts turned rest = record {
   unit = (let a = first.unit in let b = acts.unit in let k = turned.unit in let l = rest.unit in omega (arith, a, b, k, l, some));
   card_a = (let a = first.card_a in let b = acts.card_a in let k = turned.card_a in let l = rest.card_a in omega (arith, a, b, k, l, some));

@@ -15,6 +15,7 @@ use Rattle.run_outcome.specs.Lines.{cut_at}
 use Rattle.run_outcome.specs.declared.outcome.Outcome.{Outcome}
 use Rattle.run_minutes.specs.declared.keeper.Moment.{Moment}
 use Rattle.run_minutes.specs.Keeping.{with_lines}
+use Rattle.run_acts.specs.ByHand.{entered_run, stopped_in}
 use Rattle.run_acts.specs.declared.run.Run.{Run}
 use Rattle.run_acts.specs.Power.{is_lit, cut_run}
 use Rattle.run_acts.specs.Going.{largest_number}
@@ -36,11 +37,11 @@ refusal_lines None second begun = []
 refusal_lines (Some fault) second begun = record { second = second; fault = fault; begun = begun } ∷ []
 
 -- THE REFUSALS of an action: each in a second without power; none in one in which power was lost; else what slots and
--- speed refuse
-abbrev pub refused_by : (has_power lit : Bool) → Seats → (speed : ℕ) → Action → Option SlotFault
-refused_by false lit seats speed action = Some NoPower
-refused_by true false seats speed action = None
-refused_by true true seats speed action = refusal (logged seats) speed action
+-- speed refuse, or the session that is to hold an entry by hand
+abbrev pub refused_by : (has_power lit : Bool) → Run → (speed : ℕ) → Action → Option SlotFault
+refused_by false lit run speed action = Some NoPower
+refused_by true false run speed action = None
+refused_by true true run speed action = stopped_in run speed action
 
 -- of a selection: nothing but the minutes has changed, which have one selection more for the next second
 abbrev pub IsSelected : Action → (old new : Run) → Type 0
@@ -73,7 +74,8 @@ abbrev pub moment_of : (begun : ℕ) → Run → Moment
 moment_of begun run = record { second = run.next; begun = begun; late = false }
 
 -- AN ACTION IS CARRIED OUT at a moment: a selection changes the minutes alone; a card is put in, withdrawn or pulled
--- out; a place is noted; an entry by hand that slots and speed let pass changes nothing
+-- out; a place is noted; an entry by hand that is not refused is held by the session of the slot's card, and nothing
+-- else changes
 abbrev pub IsDone : Action → Moment → (speed : ℕ) → (failed : Bool) → (old new : Run) → (before after : Outcome)
     → Type 0
 IsDone (Select slot pick) at speed failed old new before after = (failed ≡ false)
@@ -89,8 +91,8 @@ IsDone (Tear slot) at speed failed old new before after = let card = card_in (se
 IsDone (Place slot ending country region) at speed failed old new before after =
     (fell : Bool) × IsPlaced (card_in (seat_in old.keeper.cabin.slots.seats slot)) slot at old new before.breaks
     after.breaks fell × (after ≡ record before { breaks = after.breaks })
-IsDone (Manual slot pick minute) at speed failed old new before after = (failed ≡ false) × (new ≡ old)
-    × (after ≡ before)
+IsDone (Manual slot pick minute) at speed failed old new before after = (failed ≡ false)
+    × (new ≡ entered_run slot pick minute old) × (after ≡ before)
 
 -- the run and the outcome behind an action: where the unit failed in it, power was lost in its second
 abbrev pub cut_where : (failed : Bool) → Run → Run
@@ -120,14 +122,14 @@ IsActedBy (Some fault) action begun speed old new before after = (new ≡ old)
     })
 
 -- AN ACTION of a second: refused without power; passed over where power was lost in the second; else refused by slots
--- and speed, or carried out
+-- and speed or, if it is an entry by hand, by the session of the slot's card, or carried out
 abbrev pub IsActed : (has_power lit : Bool) → Action → (begun speed : ℕ) → (old new : Run) → (before after : Outcome)
     → Type 0
 IsActed false lit action begun speed old new before after = IsActedBy (Some NoPower) action begun speed old new before
     after
 IsActed true false action begun speed old new before after = (new ≡ old) × (after ≡ before)
-IsActed true true action begun speed old new before after = IsActedBy
-    (refusal (logged old.keeper.cabin.slots.seats) speed action) action begun speed old new before after
+IsActed true true action begun speed old new before after = IsActedBy (stopped_in old speed action) action begun speed
+    old new before after
 
 -- an item of a second
 abbrev pub IsItemActed : Item → (has_power lit : Bool) → (begun speed : ℕ) → (old new : Run) → (before after : Outcome)

@@ -2,9 +2,10 @@
 use Rattle.std.specs.Prelude.{ℕ, ◌*◌, ◌+◌, ◌≡◌, ◌≤◌, Bool, IfErr, IfOk, List, None, OnOk, Result, false, is_some}
 use Rattle.std.specs.Prelude.{length, true}
 use Rattle.activity_codec.specs.declared.values.Slot.{Slot}
-use Rattle.card_slots.specs.Calls.{card_in, logged, seat_in}
-use Rattle.log_model.specs.Slots.{other_slot, refusal}
+use Rattle.card_slots.specs.Calls.{card_in, seat_in}
+use Rattle.log_model.specs.Slots.{other_slot}
 use Rattle.log_model.specs.declared.lines.Break.{Break}
+use Rattle.run_acts.specs.ByHand.{stopped_in}
 use Rattle.run_acts.specs.Evented.{EventsAction}
 use Rattle.run_acts.specs.Going.{IsFoundLater, largest_number}
 use Rattle.run_acts.specs.Power.{has_power, is_lit}
@@ -16,7 +17,8 @@ use Rattle.run_acts.specs.declared.run.Power.TheVariants.{Lit}
 use Rattle.run_acts.specs.declared.run.Run.{Run}
 use Rattle.run_insertion.specs.declared.lines.Entering.{Entering as Enters}
 use Rattle.run_minutes.specs.Keeping.{with_lines}
-use Rattle.run_minutes.specs.Later.{AreCalm, AreLater, IsCalm, IsLater}
+use Rattle.run_minutes.specs.Later.{AreAfter, AreCalm, AreLater, IsCalm, IsLater}
+use Rattle.run_minutes.specs.Writes.{WroteAtMost}
 use Rattle.run_minutes.specs.declared.keeper.Moment.{Moment}
 use Rattle.run_opening.specs.declared.fault.RunFault.{RunFault}
 use Rattle.run_outcome.specs.Broken.{BreaksDown, failed_cuts}
@@ -45,6 +47,7 @@ use Rattle.recorder_with_cards.specs.Recorded.{BeginsRinged, RingsActions, actio
 use Rattle.recorder_with_cards.specs.Waking.{IsAwake}
 use Rattle.recorder_with_cards.specs.Woken.{EventsResuming, EventsWaking, ResumesSo, RingsResuming, RingsWaking}
 use Rattle.recorder_with_cards.specs.Woken.{WakesSo}
+use Rattle.recorder_with_cards.specs.Writes.{WritesFor}
 
 -- A CARD THAT SITS IN A SLOT WAS JUDGED: what became of it, and nothing else has changed
 pub record AcceptsIn (slot : Slot) (card : Card) (at : Moment) (speed : ℕ) (old new : Run)
@@ -74,10 +77,11 @@ pub record LeavesAccepted (slot : Slot) (card : Card) (at : Moment) (speed : ℕ
   pub noted : NotesJudging slot card at speed failed old new before after d e
 
 -- THE DEVICES GO ON: no clock and no count falls, none breaks down but in a call that failed, and no card without the
--- line of a tear
-pub record DevicesGo (before after : List Break) (d e : Devices) : Type 0 where
+-- line of a tear; and so many writes at most were begun
+pub record DevicesGo (on_unit on_card : ℕ) (before after : List Break) (d e : Devices) : Type 0 where
   pub later : AreLater d e
   pub calm : AreCalm before after d e
+  pub most : WroteAtMost on_unit on_card d e
 
 -- SO IT IS where the card of a slot is judged anew, if one sits there without a session
 pub record AcceptsAnew (slot : Slot) (at : Moment) (speed : ℕ) (old new : Run) (before after : Outcome) : Type 0 where
@@ -161,11 +165,9 @@ pub record LeavesDone (action : Action) (at : Moment) (speed : ℕ) (failed : Bo
 
 -- AN ACTION WITH POWER: it is refused, or carried out; and what it leaves as it was
 pub record ActsLit (action : Action) (begun speed : ℕ) (old new : Run) (before after : Outcome) : Type 0 where
-  pub done : IsActedBy (refusal (logged old.keeper.cabin.slots.seats) speed action) action begun speed old new before
-      after
-  pub refused : after.refused ≡ with_lines
-      (refusal_lines (refusal (logged old.keeper.cabin.slots.seats) speed action) old.next begun) before.refused
-  pub none : (refusal (logged old.keeper.cabin.slots.seats) speed action ≡ None → ⊥) → new ≡ old
+  pub done : IsActedBy (stopped_in old speed action) action begun speed old new before after
+  pub refused : after.refused ≡ with_lines (refusal_lines (stopped_in old speed action) old.next begun) before.refused
+  pub none : (stopped_in old speed action ≡ None → ⊥) → new ≡ old
   pub selected : IsSelected action old new
   pub next : new.next ≡ old.next
   pub unfound : new.unfound ≡ old.unfound
@@ -176,21 +178,22 @@ pub record PromisesActions (actions : List Action) (begun speed : ℕ) (old new 
   pub ringed : RingsActions actions begun speed old new before after d e
   pub cards : CardsActions actions begun speed old new before after d e
 
--- ALL GOES ON over the actions of a second, and the unit broke down where the power is lost, and nowhere else
-pub record ActGoes (before after : List Break) (d e : Devices) : Type 0 where
+-- ALL GOES ON over the actions of a second, and the unit broke down where the power is lost, and nowhere else; and so
+-- many writes at most were begun
+pub record ActGoes (actions : ℕ) (before after : List Break) (d e : Devices) : Type 0 where
   pub later : AreLater d e
   pub calm : AreCalm before after d e
   pub more : length before ≤ length after
   pub broke : BreaksDown before after d.unit e.unit
+  pub most : WritesFor 0 actions d e
 
 -- AN ACTION, with power in its second or without it
 pub record ActsSo (has_power : Bool) (action : Action) (begun speed : ℕ) (old new : Run) (before after : Outcome) : Type
     0 where
   pub done : IsActed has_power (is_lit old.power) action begun speed old new before after
   pub refused : after.refused ≡ with_lines
-      (refusal_lines (refused_by has_power (is_lit old.power) old.keeper.cabin.slots.seats speed action) old.next begun)
-      before.refused
-  pub none : (refused_by has_power (is_lit old.power) old.keeper.cabin.slots.seats speed action ≡ None → ⊥) → new ≡ old
+      (refusal_lines (refused_by has_power (is_lit old.power) old speed action) old.next begun) before.refused
+  pub none : (refused_by has_power (is_lit old.power) old speed action ≡ None → ⊥) → new ≡ old
   pub lost : has_power ≡ true → is_lit old.power ≡ false → (new ≡ old) × (after ≡ before)
   pub selected : is_lit old.power ≡ true → IsSelected action old new
   pub next : new.next ≡ old.next
@@ -245,11 +248,12 @@ pub record PromisesWaking (result : Result (Unit {0}) RunFault) (speed : ℕ) (o
       → CardsPowering result speed old new before after d e
 
 -- ALL GOES ON: no clock and no count of a device falls, the unit broke down where the power is lost and nowhere else,
--- and no card without the line of a tear
-pub record BreaksGo (before after : List Break) (d e : Devices) : Type 0 where
+-- and no card without the line of a tear; and so many writes at most were begun
+pub record BreaksGo (on_unit on_card : ℕ) (before after : List Break) (d e : Devices) : Type 0 where
   pub later : AreLater d e
   pub calm : AreCalm before after d e
   pub broke : BreaksDown before after d.unit e.unit
+  pub most : WroteAtMost on_unit on_card d e
 
 -- A SECOND BEGINS, with the power that is due: it is the next one, and nothing is refused
 pub record BeginsSecond (result : Result Bool RunFault) (old new : Run) (before after : Outcome) : Type 0 where
@@ -309,9 +313,18 @@ pub record LeavesHere (entering : Enters) (failed : Bool) (old new : Run) (befor
   pub noted : IsJudgedNoting entering failed old new before after d e
 
 -- THE UNIT AND ONE CARD GO ON: no clock and no count falls, the detailed speed stays, and the card does not break down
--- without the line of a tear
-pub record CardGoes (before after : List Break) (U V x y : State) : Type 0 where
+-- without the line of a tear; and so many writes at most were begun
+pub record CardGoes (on_unit on_card : ℕ) (before after : List Break) (U V x y : State) : Type 0 where
   pub clock : U.clock ≤ V.clock
   pub later : IsLater x y
   pub speeds : LeavesSpeeds U V
   pub calm : IsCalm before after x y
+  pub most : (V.clock ≤ U.clock + on_unit) × (y.clock ≤ x.clock + on_card)
+
+-- ALL GOES ON over an item of the trace: no clock and no count of a device falls, none breaks down but in a call that
+-- failed, the unit breaks down where the power is lost, and so many writes at most were begun
+pub record ItemGoes (seconds actions : ℕ) (before after : List Break) (d e : Devices) : Type 0 where
+  pub later : AreAfter d e
+  pub calm : AreCalm before after d e
+  pub broke : BreaksDown before after d.unit e.unit
+  pub most : WritesFor seconds actions d e

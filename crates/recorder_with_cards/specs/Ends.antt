@@ -17,6 +17,8 @@ use Rattle.run_opening.specs.Begun.{found_in, IsRefusedBy as IsRefusedAs}
 use Rattle.run_opening.specs.Opening.{IsAsItWas}
 use Rattle.run_opening.specs.declared.fault.RunFault.{RunFault}
 use Rattle.run_outcome.specs.declared.outcome.Outcome.{Outcome}
+use Rattle.log_model.specs.declared.lines.Refused.{Refused}
+use Rattle.log_model.specs.ByHand.{stops}
 use Rattle.run_acts.specs.Recording.{log_of}
 use Rattle.recorder_with_cards.specs.Written.{AreWritten}
 use Rattle.recorder_with_cards.specs.Stays.{HasAllStays}
@@ -25,6 +27,7 @@ use Rattle.recorder_with_cards.specs.Side.{ShowTheSide}
 use Rattle.recorder_with_cards.specs.KeptAfter.{TellsKept}
 use Rattle.recorder_with_cards.specs.LastKept.{TellsLast}
 use Rattle.recorder_with_cards.specs.Placed.{ShowTheirPlaces}
+use Rattle.recorder_with_cards.specs.Measured.{MeasureTheirVehicles}
 use Rattle.recorder_with_cards.specs.CardEvents.{ShowTheirEvents}
 use Rattle.recorder_with_cards.specs.Speeds.{CarriesItsSpeeds}
 
@@ -34,24 +37,30 @@ pub record BeginAs (unit card_a card_b : List ℕ) (began : Devices) : Type 0 wh
   pub of_a : BeginsAs card_a began.card_a
   pub of_b : BeginsAs card_b began.card_b
 
--- a run on devices with these images, by the rule of the unit's, with these seconds and this log
-abbrev pub recorded_with : (unit card_a card_b : List ℕ) → List TraceSecond → RunLog → Recording
-recorded_with unit card_a card_b trace log = record {
-  rule = rule_of unit;
-  unit = unit;
-  card_a = card_a;
-  card_b = card_b;
-  trace = trace;
-  log = log;
-}
+-- a run on devices with these images, by the rule of the unit's, with these seconds, this log and these refusals of
+-- sessions
+abbrev pub recorded_with : (unit card_a card_b : List ℕ) → List TraceSecond → RunLog → (stops : List Refused)
+    → Recording
+recorded_with unit card_a card_b trace log
+    stops = record {
+      rule = rule_of unit;
+      unit = unit;
+      card_a = card_a;
+      card_b = card_b;
+      trace = trace;
+      log = log;
+      stops = stops;
+    }
 
 -- the run of a trace, as its outcome tells it
 abbrev pub recording_of : (unit card_a card_b : List ℕ) → (start : ℕ) → List Item → Outcome → Recording
 recording_of unit card_a card_b start items out = recorded_with unit card_a card_b (seconds_of start items) (log_of out)
+    (stops out.refused.items)
 
 -- before its first second
 abbrev pub opened_with : (unit card_a card_b : List ℕ) → Recording
 opened_with unit card_a card_b = recorded_with unit card_a card_b [] (record { breaks = []; refused = []; finds = [] })
+    []
 
 -- what it began with
 abbrev pub origin_of : (unit card_a card_b : List ℕ) → (start : ℕ) → (began : Devices) → Origin
@@ -101,6 +110,7 @@ pub record EndsTrace (unit card_a card_b : List ℕ) (start : ℕ) (items : List
   pub dense : StayDense (recording_of unit card_a card_b start items out) now
   pub holders : KeepTheirHolders (recording_of unit card_a card_b start items out) began now
   pub vehicles : KeepTheirVehicles (recording_of unit card_a card_b start items out) began now
+  pub measures : MeasureTheirVehicles (recording_of unit card_a card_b start items out) now
   pub places : ShowTheirPlaces (recording_of unit card_a card_b start items out) now
   pub cards : ShowTheirEvents (recording_of unit card_a card_b start items out) began now
   pub speeds : CarriesItsSpeeds (recording_of unit card_a card_b start items out) began now

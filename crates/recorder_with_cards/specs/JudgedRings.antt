@@ -24,7 +24,7 @@ use Rattle.run_promise.specs.Origin.{Origin}
 use Rattle.run_promise.specs.Beside.{HaveLeftMore}
 use Rattle.run_note_record.specs.Ringed.{Seating, one_behind, StaysInRings, WritesRing, IsInsertionIn, IsAddedAt}
 use Rattle.run_note_record.specs.Ringed.{MayBeAdded, Since, since_in}
-use Rattle.run_note_record.specs.OnCards.{PlacesStay}
+use Rattle.run_note_record.specs.OnCards.{IsReading, CardsStay}
 use Rattle.run_note_record.specs.RingsSoFar.{AreFewer}
 use Rattle.run_minutes.specs.declared.keeper.Moment.{Moment}
 use Rattle.run_minutes.specs.Minutes.{odometer_by}
@@ -102,9 +102,14 @@ pub record IsJudgedInRings (failed : Bool) (o : Since) (s : TraceSecond) (n : �
   pub cut : cut_in (log_of after) s.number ≡ cut_in (log_of before) s.number
   pub same : (m : ℕ) → n ≡ suc m → TellSameTo (log_of before) (log_of after) s.number m
   pub left : HaveLeftMore o.origin d e
-  pub places : PlacesStay o.origin d e
+  pub places : CardsStay o.origin spans d e
   pub odometer : new.keeper.odometer ≡ old.keeper.odometer
   pub counted : new.noted ≤ length (log_of after).finds
+
+-- THE ODOMETER OF A SECOND, before that is fed: that of these spans, and one that stood in them
+pub record IsOdometerOf (spans : List SpanFrom) (second odometer : ℕ) : Type 0 where
+  pub at : odometer ≡ odometer_at second spans
+  pub reads : IsReading spans odometer
 
 -- ACCEPT, where the odometer of its insertion is that of these spans
 abbrev pub RingsEntering : Slot → Card → Moment → (odometer : ℕ) → (failed : Bool) → (old new : Run)
@@ -112,7 +117,7 @@ abbrev pub RingsEntering : Slot → Card → Moment → (odometer : ℕ) → (fa
 RingsEntering slot card at odometer failed old new before after d e = (o : Origin) (done : List TraceSecond)
     (s : TraceSecond) (n : ℕ) (waits fewer : List Visit) → at ≡ moment_in s n →
     (next : RunNext o done s n waits fewer old before d slot card) → (spans : List SpanFrom)
-    → odometer ≡ odometer_at s.number spans → old.noted ≤ length (log_of before).finds → HaveTime e →
+    → IsOdometerOf spans s.number odometer → old.noted ≤ length (log_of before).finds → HaveTime e →
     IsJudgedInRings failed (since_in o next.goes.within.b.run.log done s) s n slot card spans old new before after d e
 
 -- A CARD IS JUDGED that is the next, where the odometer of now is that of these spans.
@@ -121,7 +126,7 @@ abbrev pub RingsJudged : Slot → Card → Moment → (failed : Bool) → (old n
 RingsJudged slot card at failed old new before after d e = (o : Origin) (done : List TraceSecond) (s : TraceSecond)
     (n : ℕ) (waits fewer : List Visit) → at ≡ moment_in s n →
     (next : RunNext o done s n waits fewer old before d slot card) → (spans : List SpanFrom)
-    → odometer_by old.keeper.odometer (travelled_of next.goes.within.sp) ≡ odometer_at s.number spans
+    → IsOdometerOf spans s.number (odometer_by old.keeper.odometer (travelled_of next.goes.within.sp))
     → old.noted ≤ length (log_of before).finds → HaveTime e →
     IsJudgedInRings failed (since_in o next.goes.within.b.run.log done s) s n slot card spans old new before after d e
 

@@ -7,4 +7,4 @@ use Rattle.run_minutes.specs.Writes.{WroteAtMost}
 -- so many.
 abbrev pub WritesFor : (seconds actions : ℕ) → (old new : Devices) → Type 0
 WritesFor seconds actions old new =
-    WroteAtMost (187 * seconds + 102 * actions) (2254 * seconds + 1174 * actions) old new
+    WroteAtMost (187 * seconds + 102 * actions) (2446 * seconds + 1366 * actions) old new

@@ -4,7 +4,6 @@ ghost use Rattle.tach_media.specs.Medium.{HasCause};
 ghost use Rattle.card_slots.specs.Calls.{seat_in, card_in};
 ghost use Rattle.run_acts.specs.Going.{CanBeCut, RunHasPowerAllSeated, IsActing};
 ghost use Rattle.run_acts.specs.Room.{falls_of, bare_count, Takes};
-ghost use Rattle.run_minutes.specs.Writes.{WroteAtMost};
 ghost use Rattle.recorder_with_cards.specs.Accepting.{chip_a_of, chip_b_of, a_of, b_of};
 ghost use Rattle.recorder_with_cards.specs.Accepting.{IsBare};
 ghost use Rattle.run_promise.specs.Between.{devices};
@@ -63,9 +62,8 @@ pub(crate) fn accept_here<M: Medium, C: Chip, D: Chip>(
         (M.state unit.new)
         (arranged entering.which (M.state unit.old) (C.state card.old) (D.state others.now))
         (arranged entering.which (M.state unit.new) (C.state card.new) (D.state others.now)) }
-    ensures most { ((M.state unit.new).clock ≤ (M.state unit.old).clock + 24)
-        × ((C.state card.new).clock ≤ (C.state card.old).clock + 1072) }
-    ensures goes { CardGoes outcome.old.breaks.items outcome.new.breaks.items (M.state unit.old) (M.state unit.new)
+    ensures goes { CardGoes 24 1072 outcome.old.breaks.items outcome.new.breaks.items (M.state unit.old)
+        (M.state unit.new)
         (C.state card.old) (C.state card.new) }
     ensures cause { HasCause (M.state unit.old) (M.state unit.new) (is_err result) }
 {
@@ -119,9 +117,7 @@ pub(crate) fn accept_in<M: Medium, C: Chip, D: Chip>(
     ensures leaves { LeavesAccepted slot card at speed (is_err result) run.old run.new outcome.old outcome.new
         (devices (M.state unit.old) (C.state card_a.old) (D.state card_b.old))
         (devices (M.state unit.new) (C.state card_a.new) (D.state card_b.new)) }
-    ensures most { WroteAtMost 24 1072 (devices (M.state unit.old) (C.state card_a.old) (D.state card_b.old))
-        (devices (M.state unit.new) (C.state card_a.new) (D.state card_b.new)) }
-    ensures goes { DevicesGo outcome.old.breaks.items outcome.new.breaks.items
+    ensures goes { DevicesGo 24 1072 outcome.old.breaks.items outcome.new.breaks.items
         (devices (M.state unit.old) (C.state card_a.old) (D.state card_b.old))
         (devices (M.state unit.new) (C.state card_a.new) (D.state card_b.new)) }
 {
@@ -190,9 +186,7 @@ pub(crate) fn accept_anew<M: Medium, C: Chip, D: Chip>(
     ensures leaves { LeavesAnew slot at speed (is_err result) run.old run.new outcome.old outcome.new
         (devices (M.state unit.old) (C.state card_a.old) (D.state card_b.old))
         (devices (M.state unit.new) (C.state card_a.new) (D.state card_b.new)) }
-    ensures most { WroteAtMost 24 1072 (devices (M.state unit.old) (C.state card_a.old) (D.state card_b.old))
-        (devices (M.state unit.new) (C.state card_a.new) (D.state card_b.new)) }
-    ensures goes { DevicesGo outcome.old.breaks.items outcome.new.breaks.items
+    ensures goes { DevicesGo 24 1072 outcome.old.breaks.items outcome.new.breaks.items
         (devices (M.state unit.old) (C.state card_a.old) (D.state card_b.old))
         (devices (M.state unit.new) (C.state card_a.new) (D.state card_b.new)) }
 {

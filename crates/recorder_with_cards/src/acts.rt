@@ -2,14 +2,16 @@
 ghost use Rattle.std.specs.Prelude.{◌≡◌, ℕ, ◌+◌, ◌-◌, ◌/◌, ◌≤◌, ◌∷◌, [], true, false, None, OnOk, length, min};
 ghost use Rattle.std.specs.Prelude.{is_err};
 ghost use Rattle.std.specs.Result.{result_err};
+ghost use Rattle.activity_codec.specs.declared.values.Pick.{Pick};
+ghost use Rattle.trace_model.specs.declared.Action.TheVariants.{Manual};
 ghost use Rattle.log_model.specs.Slots.{refusal};
 ghost use Rattle.card_slots.specs.Calls.{logged};
 ghost use Rattle.run_promise.specs.Between.{devices};
 ghost use Rattle.run_acts.specs.declared.run.Power.TheVariants.{Lit};
+ghost use Rattle.run_acts.specs.ByHand.{stopped_in};
 ghost use Rattle.run_acts.specs.Power.{is_lit};
 ghost use Rattle.run_acts.specs.Going.{largest_number, RunHasPowerAllSeated, IsInsideSecond};
 ghost use Rattle.run_acts.specs.Room.{HasRoomWithin, Takes};
-ghost use Rattle.recorder_with_cards.specs.Writes.{WritesFor};
 ghost use Rattle.recorder_with_cards.specs.Carded.{CardsActions};
 ghost use Rattle.recorder_with_cards.specs.Acting.{put_count};
 ghost use Rattle.recorder_with_cards.specs.Acting.{moment_of};
@@ -22,8 +24,9 @@ ghost use Rattle.recorder_with_cards.specs.Acts.{ActGoes, ActsAll, ActsItem, Act
 ghost use Rattle.recorder_with_cards.specs.Acts.{PromisesAction, PromisesActions, PromisesAll};
 
 use crate::inserting::insert;
+use activity_codec::Slot;
 use log_model::SlotFault;
-use run_acts::{Run, note_place, place, pull, withdraw};
+use run_acts::{Run, enter, may_enter, note_place, place, pull, withdraw};
 use run_outcome::Outcome;
 use tach_media::{Chip, Failed, Medium};
 use trace_text::{Action, Item, Items};
@@ -63,9 +66,7 @@ pub(crate) fn act_all<M: Medium, C: Chip, D: Chip>(
     ensures still { is_lit run.old.power ≡ false
         → (is_lit run.new.power ≡ false) × (unit.new ≡ unit.old) × (card_a.new ≡ card_a.old)
         × (card_b.new ≡ card_b.old) }
-    ensures most { WritesFor 0 (to - from) (devices (M.state unit.old) (C.state card_a.old) (D.state card_b.old))
-        (devices (M.state unit.new) (C.state card_a.new) (D.state card_b.new)) }
-    ensures goes { ActGoes outcome.old.breaks.items outcome.new.breaks.items
+    ensures goes { ActGoes (to - from) outcome.old.breaks.items outcome.new.breaks.items
         (devices (M.state unit.old) (C.state card_a.old) (D.state card_b.old))
         (devices (M.state unit.new) (C.state card_a.new) (D.state card_b.new)) }
     ensures going { IsInsideSecond run.new (M.state unit.new) (C.card card_a.new) (D.card card_b.new)
@@ -117,9 +118,7 @@ fn act_item<M: Medium, C: Chip, D: Chip>(
     ensures still { is_lit run.old.power ≡ false
         → (is_lit run.new.power ≡ false) × (unit.new ≡ unit.old) × (card_a.new ≡ card_a.old)
         × (card_b.new ≡ card_b.old) }
-    ensures most { WritesFor 0 1 (devices (M.state unit.old) (C.state card_a.old) (D.state card_b.old))
-        (devices (M.state unit.new) (C.state card_a.new) (D.state card_b.new)) }
-    ensures goes { ActGoes outcome.old.breaks.items outcome.new.breaks.items
+    ensures goes { ActGoes 1 outcome.old.breaks.items outcome.new.breaks.items
         (devices (M.state unit.old) (C.state card_a.old) (D.state card_b.old))
         (devices (M.state unit.new) (C.state card_a.new) (D.state card_b.new)) }
     ensures going { IsInsideSecond run.new (M.state unit.new) (C.card card_a.new) (D.card card_b.new)
@@ -166,9 +165,7 @@ fn act<M: Medium, C: Chip, D: Chip>(
     ensures still { (has_power ≡ true → is_lit run.old.power ≡ true
         → CallsNone (refusal (logged run.old.keeper.cabin.slots.seats) speed action) action)
         → (unit.new ≡ unit.old) × (card_a.new ≡ card_a.old) × (card_b.new ≡ card_b.old) }
-    ensures most { WritesFor 0 1 (devices (M.state unit.old) (C.state card_a.old) (D.state card_b.old))
-        (devices (M.state unit.new) (C.state card_a.new) (D.state card_b.new)) }
-    ensures goes { ActGoes outcome.old.breaks.items outcome.new.breaks.items
+    ensures goes { ActGoes 1 outcome.old.breaks.items outcome.new.breaks.items
         (devices (M.state unit.old) (C.state card_a.old) (D.state card_b.old))
         (devices (M.state unit.new) (C.state card_a.new) (D.state card_b.new)) }
     ensures going { IsInsideSecond run.new (M.state unit.new) (C.card card_a.new) (D.card card_b.new)
@@ -209,9 +206,7 @@ fn act_lit<M: Medium, C: Chip, D: Chip>(
         (devices (M.state unit.new) (C.state card_a.new) (D.state card_b.new)) }
     ensures still { CallsNone (refusal (logged run.old.keeper.cabin.slots.seats) speed action) action
         → (unit.new ≡ unit.old) × (card_a.new ≡ card_a.old) × (card_b.new ≡ card_b.old) }
-    ensures most { WritesFor 0 1 (devices (M.state unit.old) (C.state card_a.old) (D.state card_b.old))
-        (devices (M.state unit.new) (C.state card_a.new) (D.state card_b.new)) }
-    ensures goes { ActGoes outcome.old.breaks.items outcome.new.breaks.items
+    ensures goes { ActGoes 1 outcome.old.breaks.items outcome.new.breaks.items
         (devices (M.state unit.old) (C.state card_a.old) (D.state card_b.old))
         (devices (M.state unit.new) (C.state card_a.new) (D.state card_b.new)) }
     ensures going { IsInsideSecond run.new (M.state unit.new) (C.card card_a.new) (D.card card_b.new)
@@ -229,9 +224,10 @@ fn act_lit<M: Medium, C: Chip, D: Chip>(
     }
 }
 
-// Whether the slots and the speed let an action be carried out.
+// Whether the slots and the speed, and of an entry by hand the session of the slot's card, let an action be carried
+// out.
 fn may(run: &Run, action: Action, speed: u8) -> Result<(), SlotFault>
-    ensures { result_err result ≡ refusal (logged run.now.keeper.cabin.slots.seats) speed action }
+    ensures { result_err result ≡ stopped_in run.now speed action }
 {
     match action {
         Action::Select { .. } => Ok(()),
@@ -239,8 +235,16 @@ fn may(run: &Run, action: Action, speed: u8) -> Result<(), SlotFault>
         Action::Withdraw { slot } => run.keeper.cabin.slots.may_withdraw(slot, speed),
         Action::Tear { slot } => run.keeper.cabin.slots.may_tear(slot),
         Action::Place { slot, .. } => run.keeper.cabin.slots.may_note(slot),
-        Action::Manual { slot, .. } => run.keeper.cabin.slots.may_enter(slot, speed),
+        Action::Manual { slot, minute, .. } => may_hold(run, slot, minute, speed),
     }
+}
+
+// Whether the slots and the speed, and then the session of the slot's card, let an entry by hand be done.
+fn may_hold(run: &Run, slot: Slot, minute: u16, speed: u8) -> Result<(), SlotFault>
+    ensures answer { (pick : Pick) → result_err result ≡ stopped_in run.now speed (Manual slot pick minute) }
+{
+    run.keeper.cabin.slots.may_enter(slot, speed)?;
+    may_enter(run, slot, minute)
 }
 
 // An action that is not refused.
@@ -257,7 +261,7 @@ fn carry_out<M: Medium, C: Chip, D: Chip>(
     requires lit { run.old.power ≡ Lit }
     requires going { IsInsideSecond run.old (M.state unit.old) (C.card card_a.old) (D.card card_b.old)
         (C.state card_a.old) (D.state card_b.old) }
-    requires allowed { refusal (logged run.old.keeper.cabin.slots.seats) speed action ≡ None }
+    requires allowed { stopped_in run.old speed action ≡ None }
     requires room { HasRoomWithin run.old outcome.old 1 0 (put_count action) 0 }
     ensures done { CarriesOut action (moment_of begun run.old) speed (is_err result) run.old run.new outcome.old
         outcome.new }
@@ -271,9 +275,7 @@ fn carry_out<M: Medium, C: Chip, D: Chip>(
         (devices (M.state unit.new) (C.state card_a.new) (D.state card_b.new)) }
     ensures still { CallsNone None action
         → (unit.new ≡ unit.old) × (card_a.new ≡ card_a.old) × (card_b.new ≡ card_b.old) }
-    ensures most { WritesFor 0 1 (devices (M.state unit.old) (C.state card_a.old) (D.state card_b.old))
-        (devices (M.state unit.new) (C.state card_a.new) (D.state card_b.new)) }
-    ensures goes { AllGoOn outcome.old.breaks.items outcome.new.breaks.items
+    ensures goes { AllGoOn 102 1366 outcome.old.breaks.items outcome.new.breaks.items
         (devices (M.state unit.old) (C.state card_a.old) (D.state card_b.old))
         (devices (M.state unit.new) (C.state card_a.new) (D.state card_b.new)) }
     ensures held { IsHeldBehind (is_err result) run.new
@@ -308,6 +310,9 @@ fn carry_out<M: Medium, C: Chip, D: Chip>(
             let breaks = &mut outcome.breaks;
             note_place(run, slot, &entry, at, unit, card_a, card_b, breaks)
         }
-        Action::Manual { .. } => Ok(()),
+        Action::Manual { slot, pick, minute } => {
+            enter(run, slot, pick, minute);
+            Ok(())
+        }
     }
 }

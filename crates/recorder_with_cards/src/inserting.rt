@@ -6,7 +6,6 @@ ghost use Rattle.run_acts.specs.Going.{RunHasPowerAllSeated, IsActing};
 ghost use Rattle.run_acts.specs.Room.{falls_of, Takes};
 ghost use Rattle.run_promise.specs.Between.{devices};
 ghost use Rattle.run_acts.specs.Acts.{IsHeldBehind};
-ghost use Rattle.run_minutes.specs.Writes.{WroteAtMost};
 ghost use Rattle.recorder_with_cards.specs.Acts.{DevicesGo, Inserts, LeavesInserted, PromisesInsertion};
 
 use crate::accepting::accept_in;
@@ -56,9 +55,7 @@ pub(crate) fn insert<M: Medium, C: Chip, D: Chip>(
     ensures leaves { LeavesInserted slot card at speed (is_err result) run.old run.new outcome.old outcome.new
         (devices (M.state unit.old) (C.state card_a.old) (D.state card_b.old))
         (devices (M.state unit.new) (C.state card_a.new) (D.state card_b.new)) }
-    ensures most { WroteAtMost 102 1174 (devices (M.state unit.old) (C.state card_a.old) (D.state card_b.old))
-        (devices (M.state unit.new) (C.state card_a.new) (D.state card_b.new)) }
-    ensures goes { DevicesGo outcome.old.breaks.items outcome.new.breaks.items
+    ensures goes { DevicesGo 102 1366 outcome.old.breaks.items outcome.new.breaks.items
         (devices (M.state unit.old) (C.state card_a.old) (D.state card_b.old))
         (devices (M.state unit.new) (C.state card_a.new) (D.state card_b.new)) }
 {

@@ -7,7 +7,6 @@ ghost use Rattle.run_opening.specs.Units.{IsLoaded};
 ghost use Rattle.run_acts.specs.Power.{is_lit, minute_over};
 ghost use Rattle.run_acts.specs.Going.{RunHasPowerAllSeated, IsBetweenSeconds, IsInsideSecond};
 ghost use Rattle.run_acts.specs.Room.{HasRoom, HasRoomWithin, falls_of, bare_seats};
-ghost use Rattle.run_minutes.specs.Writes.{WroteAtMost};
 ghost use Rattle.recorder_with_cards.specs.Waking.{TakesUp, TakesAwake};
 ghost use Rattle.recorder_with_cards.specs.Noting.{NotesWaking, NotesFound, NotesPowerOn};
 ghost use Rattle.run_promise.specs.Between.{devices};
@@ -59,9 +58,7 @@ pub(crate) fn begin_second<M: Medium, C: Chip, D: Chip>(
     ensures promises { PromisesSecond result speed run.old run.new outcome.old outcome.new
         (devices (M.state unit.old) (C.state card_a.old) (D.state card_b.old))
         (devices (M.state unit.new) (C.state card_a.new) (D.state card_b.new)) }
-    ensures most { WroteAtMost 94 2152 (devices (M.state unit.old) (C.state card_a.old) (D.state card_b.old))
-        (devices (M.state unit.new) (C.state card_a.new) (D.state card_b.new)) }
-    ensures goes { BreaksGo outcome.old.breaks.items outcome.new.breaks.items
+    ensures goes { BreaksGo 94 2152 outcome.old.breaks.items outcome.new.breaks.items
         (devices (M.state unit.old) (C.state card_a.old) (D.state card_b.old))
         (devices (M.state unit.new) (C.state card_a.new) (D.state card_b.new)) }
 {
@@ -104,9 +101,7 @@ fn power_on<M: Medium, C: Chip, D: Chip>(
     ensures noted { OnOk result (NotesPowerOn speed run.old run.new outcome.old outcome.new
         (devices (M.state unit.old) (C.state card_a.old) (D.state card_b.old))
         (devices (M.state unit.new) (C.state card_a.new) (D.state card_b.new))) }
-    ensures most { WroteAtMost 94 2152 (devices (M.state unit.old) (C.state card_a.old) (D.state card_b.old))
-        (devices (M.state unit.new) (C.state card_a.new) (D.state card_b.new)) }
-    ensures goes { BreaksGo outcome.old.breaks.items outcome.new.breaks.items
+    ensures goes { BreaksGo 94 2152 outcome.old.breaks.items outcome.new.breaks.items
         (devices (M.state unit.old) (C.state card_a.old) (D.state card_b.old))
         (devices (M.state unit.new) (C.state card_a.new) (D.state card_b.new)) }
 {
@@ -164,9 +159,7 @@ fn found<M: Medium, C: Chip, D: Chip>(
     ensures noted { OnOk result (NotesFound journal.kept speed run.old run.new outcome.old outcome.new
         (devices (M.state unit.old) (C.state card_a.old) (D.state card_b.old))
         (devices (M.state unit.new) (C.state card_a.new) (D.state card_b.new))) }
-    ensures most { WroteAtMost 94 2152 (devices (M.state unit.old) (C.state card_a.old) (D.state card_b.old))
-        (devices (M.state unit.new) (C.state card_a.new) (D.state card_b.new)) }
-    ensures goes { BreaksGo outcome.old.breaks.items outcome.new.breaks.items
+    ensures goes { BreaksGo 94 2152 outcome.old.breaks.items outcome.new.breaks.items
         (devices (M.state unit.old) (C.state card_a.old) (D.state card_b.old))
         (devices (M.state unit.new) (C.state card_a.new) (D.state card_b.new)) }
 {
@@ -216,9 +209,7 @@ fn resume<M: Medium, C: Chip, D: Chip>(
     ensures noted { NotesWaking journal.kept speed (is_err result) run.old run.new outcome.old outcome.new
         (devices (M.state unit.old) (C.state card_a.old) (D.state card_b.old))
         (devices (M.state unit.new) (C.state card_a.new) (D.state card_b.new)) }
-    ensures most { WroteAtMost 94 2152 (devices (M.state unit.old) (C.state card_a.old) (D.state card_b.old))
-        (devices (M.state unit.new) (C.state card_a.new) (D.state card_b.new)) }
-    ensures goes { AllGoOn outcome.old.breaks.items outcome.new.breaks.items
+    ensures goes { AllGoOn 94 2152 outcome.old.breaks.items outcome.new.breaks.items
         (devices (M.state unit.old) (C.state card_a.old) (D.state card_b.old))
         (devices (M.state unit.new) (C.state card_a.new) (D.state card_b.new)) }
 {

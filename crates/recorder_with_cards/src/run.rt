@@ -8,11 +8,10 @@ ghost use Rattle.unit_model.specs.Image.{IsUnit};
 ghost use Rattle.run_outcome.specs.Room.{off_count, IsReserved};
 ghost use Rattle.run_promise.specs.Between.{devices};
 ghost use Rattle.run_minutes.specs.Books.{HaveTime};
-ghost use Rattle.run_minutes.specs.Later.{AreAfter, AreCalm};
+ghost use Rattle.run_minutes.specs.Later.{AreAfter};
 ghost use Rattle.run_acts.specs.Recording.{log_of};
 ghost use Rattle.log_model.specs.Causes.{cuts, tears};
 ghost use Rattle.tach_media.specs.Medium.{HasBroken};
-ghost use Rattle.run_outcome.specs.Broken.{BreaksDown};
 ghost use Rattle.run_acts.specs.Going.{largest_number, end_of_seconds, IsBetweenSeconds};
 ghost use Rattle.run_acts.specs.Room.{HasRoom};
 ghost use Rattle.recorder_with_cards.specs.Writes.{WritesFor};
@@ -21,6 +20,7 @@ ghost use Rattle.recorder_with_cards.specs.Recorded.{actions_in, RingsItem};
 ghost use Rattle.recorder_with_cards.specs.Carded.{CardsItem};
 ghost use Rattle.recorder_with_cards.specs.Ends.{BeginAs, EndsTrace, MayRecord, IsKeptFrom};
 ghost use Rattle.recorder_with_cards.specs.Gone.{first_waiting, has_seconds, HasGone, IsRefusedBy};
+ghost use Rattle.recorder_with_cards.specs.Acts.{ItemGoes};
 
 use crate::driving::drive;
 use run_acts::Run;
@@ -152,12 +152,8 @@ fn go_on<M: Medium, C: Chip, D: Chip>(
         → CardsItem result item (actions_in (between from to items.now)) run.old run.new outcome.old outcome.new
         (devices (M.state unit.old) (C.state card_a.old) (D.state card_b.old))
         (devices (M.state unit.new) (C.state card_a.new) (D.state card_b.new)) }
-    ensures later { AreAfter (devices (M.state unit.old) (C.state card_a.old) (D.state card_b.old))
-        (devices (M.state unit.new) (C.state card_a.new) (D.state card_b.new)) }
-    ensures most { WritesFor (item_seconds item) (first_waiting item from to - from)
-        (devices (M.state unit.old) (C.state card_a.old) (D.state card_b.old))
-        (devices (M.state unit.new) (C.state card_a.new) (D.state card_b.new)) }
-    ensures calm { AreCalm outcome.old.breaks.items outcome.new.breaks.items
+    ensures goes { ItemGoes (item_seconds item) (first_waiting item from to - from) outcome.old.breaks.items
+        outcome.new.breaks.items
         (devices (M.state unit.old) (C.state card_a.old) (D.state card_b.old))
         (devices (M.state unit.new) (C.state card_a.new) (D.state card_b.new)) }
     ensures gone { HasGone result (item_seconds item) run.old run.new outcome.new (M.state unit.new) (C.card card_a.new)
@@ -167,7 +163,6 @@ fn go_on<M: Medium, C: Chip, D: Chip>(
         → HasRoom run.old outcome.old (item_seconds item + left) (off_count item + offs)
         (insertions_in from to items.now + insertions) (to - from + actions)
         → OnOk result (has_seconds item ≡ true → HasRoom run.new outcome.new left offs insertions actions) }
-    ensures broke { BreaksDown outcome.old.breaks.items outcome.new.breaks.items (M.state unit.old) (M.state unit.new) }
 {
     match item {
         Item::Act(_) => Ok(()),

@@ -1,5 +1,5 @@
 -- Calls that leave the places of the cards: an event is noted, minutes are kept, a session is closed; and the note of a place.
-use Rattle.std.proofs.Common.{◌≡◌, ◌∙◌, ◌⊎◌, inl, inr, ⊎_elim, ℕ, ◌+◌, ◌≤◌, Bool, true, false, Option, Some, None, IfSome, List, [], ◌∷◌, ◌++◌, length, refl, sym, ap, subst, arith}
+use Rattle.std.proofs.Common.{◌≡◌, ◌∙◌, ◌⊎◌, inl, inr, ⊎_elim, ℕ, ◌+◌, ◌≤◌, Bool, true, false, Option, Some, None, IfSome, List, [], ◌∷◌, ◌++◌, Contains, length, refl, sym, ap, subst, arith}
 use Rattle.std.specs.Prelude.{Ok, filter, nat_eq, is_some}
 use Rattle.std.specs.List.{list_any}
 use Rattle.std.proofs.lemmas.Bool.Decides.{nat_tests}
@@ -23,7 +23,8 @@ use Rattle.gated_ring.specs.Ring.{PointsInside, size_of as ring_size}
 use Rattle.card_files.specs.declared.card_event.CardEvent.{CardEvent}
 use Rattle.card_files.specs.Noting.{IsNotingEvent, IsPlaceNoted, IsNotingPlace}
 use Rattle.card_files.specs.Rings.{file, place_ring}
-use Rattle.card_image.specs.Fields.{file_bytes}
+use Rattle.card_image.specs.Beside.{HaveSameVehicles}
+use Rattle.card_image.specs.Fields.{file_bytes, vehicle_ring}
 use Rattle.card_image.specs.Own.{own_sizes, IsOwnValid}
 use Rattle.card_session.specs.Sessions.{IsSession}
 use Rattle.card_session.specs.Cards.{IsCardClosing}
@@ -35,6 +36,8 @@ use Rattle.log_model.specs.Log.{RunLog, Phase}
 use Rattle.log_model.specs.Slots.{same_card}
 use Rattle.log_model.specs.Course.{Visit}
 use Rattle.note_model.specs.Noted.{PlaceNote}
+use Rattle.note_model.specs.Odometer.{SpanFrom}
+use Rattle.device_rule.specs.Views.{other}
 use Rattle.safety_model.specs.Recording.{card_image}
 use Rattle.safety_model.specs.Safe.{Devices, card_of}
 use Rattle.run_crew.specs.declared.cards.Accepted.{Accepted}
@@ -43,12 +46,14 @@ use Rattle.run_crew.specs.Cards.{known_of, session_of}
 use Rattle.run_promise.specs.Found.{found_of}
 use Rattle.run_promise.specs.Between.{RunLedger}
 use Rattle.run_devices.specs.Told.{AreFoundCards, DevicesPowered, SessionIsOnCard, arranged}
+use Rattle.run_devices.specs.Measured.{GoesMeasured}
 use Rattle.run_devices.proofs.Holders.{event-places, closing-places}
+use Rattle.run_devices.proofs.Measured.{goes-itself, goes-then, goes-more, bytes-go, close-goes, event-vehicles, place-vehicles}
 use Rattle.run_devices.proofs.Parts.{CardLit, parts-of}
 use Rattle.run_record.proofs.Seats.{this-or}
 use Rattle.run_outcome.specs.declared.outcome.Outcome.{Outcome}
 use Rattle.run_promise.specs.Origin.{Origin}
-use Rattle.run_note_record.specs.OnCards.{has_call_failed_in, places_in, place_width, PlacesStay, TakesPlace, PlaceIsTaken, LeavesPlaces as LeavesRing}
+use Rattle.run_note_record.specs.OnCards.{has_call_failed_in, places_in, place_width, PlacesStay, IsReading, GoesByReadings, VehiclesGo, CardsStay, TakesPlace, PlaceIsTaken, LeavesPlaces as LeavesRing}
 use Rattle.run_minutes.specs.declared.keeper.Moment.{Moment}
 use Rattle.run_minutes.specs.Books.{AreTimedOn}
 use Rattle.run_minutes.specs.Keeping.{CardMayBeCalled, tear_of}
@@ -77,19 +82,37 @@ ring-file app = omega arith
 pub file-ring : (app : Application) (x y : List ℕ) → file_bytes app 0x0506 y ≡ file_bytes app 0x0506 x → bytes_at y (place_ring app).base (ring_size (place_ring app)) ≡ bytes_at x (place_ring app).base (ring_size (place_ring app))
 file-ring app x y same = subst (λ (n : ℕ). bytes_at y (place_of app (file 0x0506)) n ≡ bytes_at x (place_of app (file 0x0506)) n) (ring-file app) same
 
+pub stays-then : (o : Origin) (spans : List SpanFrom) (d e f : Devices) → CardsStay o spans d e → CardsStay o spans e f → CardsStay o spans d f
+stays-then o spans d e f first next = record { places = stay-then o d e f first.places next.places; vehicles = vehicles }
+  where
+    vehicles : VehiclesGo o spans d f
+    vehicles c valid z left =
+        let behind = next.vehicles c valid z left in
+        let was = first.vehicles c valid behind.0 behind.1 in
+        (was.0, was.1, goes-then (sizes_in o c) (IsReading spans) was.0 behind.0 z was.2 behind.2)
+
 -- ---- MINUTES ARE KEPT
-pub timed-places : (o : Origin) → IsOrigin o → (d e : Devices) → AreTimedOn o.found d e → PlacesStay o d e
-timed-places o origin d e h c valid y left =
+timed-places : (o : Origin) → IsOrigin o → (values : List ℕ) (d e : Devices) → AreTimedOn o.found values d e → PlacesStay o d e
+timed-places o origin values d e h c valid y left =
     let was = (h c (valid-found o origin c valid)).1 y left in
     (was.0, was.1, file-ring (sizes_in o c) was.0 y (subst (λ (x : List ℕ). file_bytes (own_sizes x) 0x0506 y ≡ file_bytes (own_sizes x) 0x0506 was.0) (origin.image c) was.4))
+
+-- with readings of these spans alone
+pub timed-stays : (o : Origin) → IsOrigin o → (values : List ℕ) (d e : Devices) → AreTimedOn o.found values d e → (spans : List SpanFrom) → ((n : ℕ) → Contains values n → IsReading spans n) → CardsStay o spans d e
+timed-stays o origin values d e h spans reads = record { places = timed-places o origin values d e h; vehicles = vehicles }
+  where
+    vehicles : VehiclesGo o spans d e
+    vehicles c valid y left =
+        let was = (h c (valid-found o origin c valid)).2 y left in
+        (was.0, was.1, goes-more (sizes_in o c) (λ n. Contains values n) (IsReading spans) reads was.0 y (subst (λ (x : List ℕ). GoesMeasured (own_sizes x) (λ n. Contains values n) was.0 y) (origin.image c) was.2))
 
 -- ---- A SESSION IS CLOSED, or was about to be
 closes-places : (o : Origin) (w : RunLedger) (cards : Cards) (c : Card) (U X Z : State) (Y : State) → IsOrigin o → AreFoundCards o.found cards → IsCoherent X → LARGEST_IMAGE ≤ X.size → (a : Accepted) (act : Activity) → session_of cards c ≡ Some a → DevicesPowered o.found w cards (arranged c U X Z) →
     LeavesOnly X Y (λ i n. IsSession a.session i → IsCardClosing a.session act i n) → IsOwnValid (card_image o.recording c) → LeavesRing (card_image o.recording c) X Y
 closes-places o w cards c U X Z Y origin found whole size a act has p run valid y left =
     let there : IsOwnValid (found_of o.found c).image = valid-found o origin c valid in
-    let one : CardLit o.found w.book (w.standing c) (w.brought c) (Some a) c U X = subst (λ (q : Option Accepted). CardLit o.found w.book (w.standing c) (w.brought c) q c U X) has ((parts-of o.found w cards c U X Z p).mine there) in
-    let on : SessionIsOnCard (found_of o.found c) one.goes.has (w.standing c) a.session X = one.goes.goes in
+    let one : CardLit o.found w.book (w.standing c) (w.hands c) (w.firsts c) (w.brought c) (Some a) c U X = subst (λ (q : Option Accepted). CardLit o.found w.book (w.standing c) (w.hands c) (w.firsts c) (w.brought c) q c U X) has ((parts-of o.found w cards c U X Z p).mine there) in
+    let on : SessionIsOnCard (found_of o.found c) (w.hands c) one.goes.has (w.standing c) a.session X = one.goes.goes.0 in
     let sizes : a.session.application ≡ own_sizes (card_image o.recording c) = on.sizes ∙ ap own_sizes (origin.image c) in
     let fits = largest_image a.session.application (subst IsApplication (sym on.sizes) (found.sizes c there)) in
     ⊎_elim
@@ -114,12 +137,53 @@ closing-stay {C = C} state o done s at waits rest run out c U V Z x y w whole si
     by v None is h = subst (λ (z : C). LeavesRing (card_image o.recording c) (state x) (state z)) (sym (still is)) (λ z there. (z, there, refl))
     by v (Some a) is h = closes-places o _ run.keeper.cabin.cards c U (state x) Z (state y) w.origin w.within.found whole size a h.0 is w.within.powered h.1 v
 
+-- what images of a card go on so
+abbrev pub ImagesGo : (spans : List SpanFrom) → (start : List ℕ) → (old new : State) → Type 0
+ImagesGo spans start old new = (y : List ℕ) → new.may_leave y → (x : List ℕ) × old.may_leave x × GoesByReadings spans start x y
+
+closes-vehicles : (o : Origin) (spans : List SpanFrom) (w : RunLedger) (cards : Cards) (c : Card) (U X Z : State) (Y : State) → IsOrigin o → AreFoundCards o.found cards → IsCoherent X → LARGEST_IMAGE ≤ X.size → (a : Accepted) (act : Activity) → session_of cards c ≡ Some a → DevicesPowered o.found w cards (arranged c U X Z) →
+    LeavesOnly X Y (λ i n. IsSession a.session i → IsCardClosing a.session act i n) → IsOwnValid (card_image o.recording c) → ImagesGo spans (card_image o.recording c) X Y
+closes-vehicles o spans w cards c U X Z Y origin found whole size a act has p run valid y left =
+    let there : IsOwnValid (found_of o.found c).image = valid-found o origin c valid in
+    let one : CardLit o.found w.book (w.standing c) (w.hands c) (w.firsts c) (w.brought c) (Some a) c U X = subst (λ (q : Option Accepted). CardLit o.found w.book (w.standing c) (w.hands c) (w.firsts c) (w.brought c) q c U X) has ((parts-of o.found w cards c U X Z p).mine there) in
+    let on : SessionIsOnCard (found_of o.found c) (w.hands c) one.goes.has (w.standing c) a.session X = one.goes.goes.0 in
+    let sizes : a.session.application ≡ own_sizes (card_image o.recording c) = on.sizes ∙ ap own_sizes (origin.image c) in
+    let sound : IsApplication a.session.application = subst IsApplication (sym on.sizes) (found.sizes c there) in
+    let fits = largest_image a.session.application sound in
+    ⊎_elim
+    (λ before. (y, before, goes-itself (sizes_in o c) (IsReading spans) y))
+    (λ (x, is, closes).
+    let long = whole.sized x is in (
+      x,
+      whole.is_left x is,
+      subst (λ (app : Application). GoesMeasured app (IsReading spans) x y) sizes
+          (close-goes (IsReading spans) a.session act x y sound (omega (arith, fits, size, long)) (closes (at_image (IsSession a.session) is on.session))),
+    ))
+    (run.now y left)
+
+closing-go : {C : Type 0} (state : C → State) (o : Origin) (spans : List SpanFrom) (done : List TraceSecond) (s : TraceSecond) (at : Phase) (waits : List Visit) (rest : List Minute) (run : Run) (out : Outcome) (c : Card) (U V Z : State) (x y : C) → RunWithin o done s at waits rest run out (arranged c U (state x) Z) →
+    IsCoherent (state x) → LARGEST_IMAGE ≤ (state x).size → IfSome (session_of run.keeper.cabin.cards c) (λ s. (act : Activity) × LeavesOnly (state x) (state y) (λ i n. IsSession s.session i → IsCardClosing s.session act i n)) →
+    (session_of run.keeper.cabin.cards c ≡ None → y ≡ x) → VehiclesGo o spans (arranged c U (state x) Z) (arranged c V (state y) Z)
+closing-go {C = C} state o spans done s at waits rest run out c U V Z x y w whole size left still q0 valid =
+    each c U V (state x) (state y) Z (λ (q : Card) (a b : State). IsOwnValid (card_image o.recording q) → ImagesGo spans (card_image o.recording q) a b)
+    (λ v. by v (session_of run.keeper.cabin.cards c) refl left) (λ v z there. (z, there, goes-itself (sizes_in o (other c)) (IsReading spans) z)) q0 valid
+  where
+    by : IsOwnValid (card_image o.recording c) → (q : Option Accepted) → session_of run.keeper.cabin.cards c ≡ q → IfSome q (λ s. (act : Activity) × LeavesOnly (state x) (state y) (λ i n. IsSession s.session i → IsCardClosing s.session act i n)) → ImagesGo spans (card_image o.recording c) (state x) (state y)
+    by v None is h = subst (λ (z : C). ImagesGo spans (card_image o.recording c) (state x) (state z)) (sym (still is)) (λ z there. (z, there, goes-itself (sizes_in o c) (IsReading spans) z))
+    by v (Some a) is h = closes-vehicles o spans _ run.keeper.cabin.cards c U (state x) Z (state y) w.origin w.within.found whole size a h.0 is w.within.powered h.1 v
+
+pub closing-stays : {C : Type 0} (state : C → State) (o : Origin) (spans : List SpanFrom) (done : List TraceSecond) (s : TraceSecond) (at : Phase) (waits : List Visit) (rest : List Minute) (run : Run) (out : Outcome) (c : Card) (U V Z : State) (x y : C) → RunWithin o done s at waits rest run out (arranged c U (state x) Z) →
+    IsCoherent (state x) → LARGEST_IMAGE ≤ (state x).size → IfSome (session_of run.keeper.cabin.cards c) (λ s. (act : Activity) × LeavesOnly (state x) (state y) (λ i n. IsSession s.session i → IsCardClosing s.session act i n)) →
+    (session_of run.keeper.cabin.cards c ≡ None → y ≡ x) → CardsStay o spans (arranged c U (state x) Z) (arranged c V (state y) Z)
+closing-stays state o spans done s at waits rest run out c U V Z x y w whole size left still =
+    record { places = closing-stay state o done s at waits rest run out c U V Z x y w whole size left still; vehicles = closing-go state o spans done s at waits rest run out c U V Z x y w whole size left still }
+
 -- ---- AN EVENT IS NOTED
 
 -- no call
 pub places-self : (session : Option Accepted) (X : State) → LeavesPlaces session X X
 places-self None X = λ c left. left
-places-self (Some a) X = λ c left. (c, left, refl)
+places-self (Some a) X = λ c left. (c, left, refl, refl)
 
 -- by the session that a card has
 pub event-leaves : (c : Card) (cards : Cards) (app : Application) (event : CardEvent) (chip : CardState) (X Y : State) → IsCoherent X → CardMayBeCalled (known_of cards c) chip X → (known_of cards c).sizes ≡ Ok app → is_some (session_of cards c) ≡ true → LeavesOnly X Y (IsNotingEvent app event) → LeavesPlaces (session_of cards c) X Y
@@ -127,8 +191,13 @@ event-leaves c cards app event chip X Y whole ready told some run = by c some re
   where
     one : (a : Accepted) → app ≡ a.session.application → LeavesPlaces (Some a) X Y
     one a same y left = ⊎_elim
-        (λ was. (y, was, refl))
-        (λ here. (here.0, whole.is_left here.0 here.1, subst (λ (p : Application). file_bytes p 0x0506 y ≡ file_bytes p 0x0506 here.0) same (event-places app here.0 y event here.2)))
+        (λ was. (y, was, refl, refl))
+        (λ here. (
+          here.0,
+          whole.is_left here.0 here.1,
+          subst (λ (p : Application). file_bytes p 0x0506 y ≡ file_bytes p 0x0506 here.0) same (event-places app here.0 y event here.2),
+          subst (λ (p : Application). HaveSameVehicles p here.0 y) same (event-vehicles app here.0 y event here.2),
+        ))
         (run.now y left)
 
     by : (c : Card) → is_some (session_of cards c) ≡ true → CardMayBeCalled (known_of cards c) chip X → (known_of cards c).sizes ≡ Ok app → LeavesPlaces (session_of cards c) X Y
@@ -157,8 +226,12 @@ leaves-then (Some a) None X Y Z goes first next = λ c left. first c (next c lef
 leaves-then (Some a) (Some b) X Y Z goes first next = λ c left.
     let two = next c left in
     let one = first two.0 two.1 in
-    let sizes : b.session.application ≡ a.session.application = ⊎_elim (λ is. alike is) (λ is. absurd (let wrong : Some b ≡ None = is in cc)) goes in
-    (one.0, one.1, subst (λ (p : Application). file_bytes p 0x0506 c ≡ file_bytes p 0x0506 two.0) sizes two.2 ∙ one.2)
+    let sizes : b.session.application ≡ a.session.application = ⊎_elim (λ is. alike is) (λ is. absurd (let wrong : Some b ≡ None = is in cc)) goes in (
+      one.0,
+      one.1,
+      subst (λ (p : Application). file_bytes p 0x0506 c ≡ file_bytes p 0x0506 two.0) sizes two.2 ∙ one.2,
+      subst (λ (p : Application). HaveSameVehicles p two.0 c) sizes two.3 ∙ one.3,
+    )
   where
     alike : Some b ≡ Some a → b.session.application ≡ a.session.application
     alike is = let same : b ≡ a = cc in ap (λ (q : Accepted). q.session.application) same
@@ -173,7 +246,64 @@ leave-stay o done s at waits rest run out d e w leaves c valid = by (session_of 
         let was = h y left in
         (was.0, was.1, file-ring (sizes_in o c) was.0 y (subst (λ (app : Application). file_bytes app 0x0506 y ≡ file_bytes app 0x0506 was.0) (session-sizes o done s at waits rest run out d w c valid a is) was.2))
 
+-- and their vehicle entries are the same
+leave-go : (o : Origin) (spans : List SpanFrom) (done : List TraceSecond) (s : TraceSecond) (at : Phase) (waits : List Visit) (rest : List Minute) (run : Run) (out : Outcome) (d e : Devices) → RunWithin o done s at waits rest run out d → LeavePlaces run.keeper.cabin.cards d e → VehiclesGo o spans d e
+leave-go o spans done s at waits rest run out d e w leaves c valid = by (session_of run.keeper.cabin.cards c) refl (leaves c)
+  where
+    sound : IsApplication (sizes_in o c)
+    sound = subst (λ (x : List ℕ). IsApplication (own_sizes x)) (w.origin.image c) (w.within.found.sizes c (valid-found o w.origin c valid))
+
+    by : (q : Option Accepted) → session_of run.keeper.cabin.cards c ≡ q → LeavesPlaces q (card_of d c) (card_of e c) → ImagesGo spans (card_image o.recording c) (card_of d c) (card_of e c)
+    by None is h = λ y left. (y, h y left, goes-itself (sizes_in o c) (IsReading spans) y)
+    by (Some a) is h = λ y left.
+        let was = h y left in
+        (was.0, was.1, bytes-go (sizes_in o c) (IsReading spans) sound was.0 y (subst (λ (app : Application). HaveSameVehicles app was.0 y) (session-sizes o done s at waits rest run out d w c valid a is) was.3))
+
+pub leave-stays : (o : Origin) (spans : List SpanFrom) (done : List TraceSecond) (s : TraceSecond) (at : Phase) (waits : List Visit) (rest : List Minute) (run : Run) (out : Outcome) (d e : Devices) → RunWithin o done s at waits rest run out d → LeavePlaces run.keeper.cabin.cards d e → CardsStay o spans d e
+leave-stays o spans done s at waits rest run out d e w leaves = record { places = leave-stay o done s at waits rest run out d e w leaves; vehicles = leave-go o spans done s at waits rest run out d e w leaves }
+
 -- ---- A PLACE IS NOTED
+
+-- the vehicle entries lie beside it
+place-same : (app : Application) (entry : PlaceEntry) (x y : List ℕ) → (y ≡ x) ⊎ IsNotingPlace app entry x y → HaveSameVehicles app x y
+place-same app entry x y moment = ⊎_elim
+    (λ same. ap (λ (l : List ℕ). bytes_at l (vehicle_ring app).base (ring_size (vehicle_ring app))) same)
+    (λ noting. place-vehicles app x y noting.outside)
+    moment
+
+-- no call
+pub may-unbegun : (app : Application) (entry : PlaceEntry) (X : State) → MayHavePlace app entry X X
+may-unbegun app entry X y left = (y, left, inl refl)
+
+-- so they go on, of the card that entered it and of the other
+pub place-go : (o : Origin) (spans : List SpanFrom) (done : List TraceSecond) (s : TraceSecond) (at : Phase) (waits : List Visit) (rest : List Minute) (run : Run) (out : Outcome) (d e : Devices) → RunWithin o done s at waits rest run out d → (card : Card) (entry : PlaceEntry) → is_some (session_of run.keeper.cabin.cards card) ≡ true →
+    ((a : Accepted) → session_of run.keeper.cabin.cards card ≡ Some a → MayHavePlace a.session.application entry (card_of d card) (card_of e card)) → ((c : Card) → same_card card c ≡ false → (y : List ℕ) → (card_of e c).may_leave y → (card_of d c).may_leave y) → VehiclesGo o spans d e
+place-go o spans done s at waits rest run out d e w card entry some call others c valid = ⊎_elim
+    (λ same. subst (λ (q : Card). IsOwnValid (card_image o.recording q) → ImagesGo spans (card_image o.recording q) (card_of d q) (card_of e q)) (alike card c same) own valid)
+    (λ apart_. λ y left. (y, others c apart_ y left, goes-itself (sizes_in o c) (IsReading spans) y))
+    (this-or card c)
+  where
+    alike : (x y : Card) → same_card x y ≡ true → x ≡ y
+    alike A A is = refl
+    alike B B is = refl
+    alike A B is = absurd (let wrong : false ≡ true = is in cc)
+    alike B A is = absurd (let wrong : false ≡ true = is in cc)
+
+    own : IsOwnValid (card_image o.recording card) → ImagesGo spans (card_image o.recording card) (card_of d card) (card_of e card)
+    own there = by (session_of run.keeper.cabin.cards card) refl some
+      where
+        sound : IsApplication (sizes_in o card)
+        sound = subst (λ (x : List ℕ). IsApplication (own_sizes x)) (w.origin.image card) (w.within.found.sizes card (valid-found o w.origin card there))
+
+        by : (q : Option Accepted) → session_of run.keeper.cabin.cards card ≡ q → is_some q ≡ true → ImagesGo spans (card_image o.recording card) (card_of d card) (card_of e card)
+        by None is none = absurd (let wrong : false ≡ true = none in cc)
+        by (Some a) is has = λ y left.
+            let was = call a is y left in (
+              was.0,
+              was.1,
+              bytes-go (sizes_in o card) (IsReading spans) sound was.0 y
+                  (subst (λ (app : Application). HaveSameVehicles app was.0 y) (session-sizes o done s at waits rest run out d w card there a is) (place-same a.session.application entry was.0 y was.2)),
+            )
 
 -- how wide its entry is
 pub entry-wide : (v : PlaceEntry) → length (place_bytes v) ≡ place_width

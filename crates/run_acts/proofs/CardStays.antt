@@ -58,8 +58,8 @@ pub shows-self : (o : Origin) (d : Devices) → StillShow o d d
 shows-self o d c valid = still-same (sizes_in o c) (card_of d c)
 
 -- MINUTES ARE KEPT
-pub timed-still : (o : Origin) → IsOrigin o → (d e : Devices) → AreTimedOn o.found d e → StillShow o d e
-timed-still o origin d e h c valid =
+pub timed-still : (o : Origin) → IsOrigin o → (values : List ℕ) (d e : Devices) → AreTimedOn o.found values d e → StillShow o d e
+timed-still o origin values d e h c valid =
     file-still (sizes_in o c) (card_of d c) (card_of e c) (subst (λ (x : List ℕ). LeavesEvents (own_sizes x) (card_of d c) (card_of e c)) (origin.image c) (h c (valid-found o origin c valid)).1)
 
 pub none-shown : (app : Application) (cut : Bool) (x y : List ℕ) → ShowsMore app [] cut x y → (kind : ℕ) → events_in app kind y ≡ events_in app kind x
@@ -71,7 +71,7 @@ pub session-sizes : (o : Origin) (done : List TraceSecond) (s : TraceSecond) (at
     session_of run.keeper.cabin.cards c ≡ Some a → a.session.application ≡ sizes_in o c
 session-sizes o done s at waits rest run out d w c valid a has =
     let one = w.within.powered.go.goes c (valid-found o w.origin c valid) in
-    let on : SessionIsOnCard (found_of o.found c) one.has (w.within.standing c) a.session (card_of d c) = subst (λ (q : Option Accepted). GoesWith (found_of o.found c) one.has (w.within.standing c) q (card_of d c)) has one.goes in
+    let on : SessionIsOnCard (found_of o.found c) (w.within.hands c) one.has (w.within.standing c) a.session (card_of d c) = (subst (λ (q : Option Accepted). GoesWith (found_of o.found c) (w.within.hands c) one.has (w.within.standing c) q (card_of d c)) has one.goes).0 in
     on.sizes ∙ ap own_sizes (w.origin.image c)
 
 -- A PLACE IS NOTED
@@ -90,8 +90,8 @@ closes-still : (o : Origin) (w : RunLedger) (cards : Cards) (c : Card) (U X Z : 
     LeavesOnly X Y (λ i n. IsSession a.session i → IsCardClosing a.session act i n) → IsOwnValid (card_image o.recording c) → StillShows (sizes_in o c) X Y
 closes-still o w cards c U X Z Y origin found whole size a act has p run valid y left =
     let there : IsOwnValid (found_of o.found c).image = valid-found o origin c valid in
-    let one : CardLit o.found w.book (w.standing c) (w.brought c) (Some a) c U X = subst (λ (q : Option Accepted). CardLit o.found w.book (w.standing c) (w.brought c) q c U X) has ((parts-of o.found w cards c U X Z p).mine there) in
-    let on : SessionIsOnCard (found_of o.found c) one.goes.has (w.standing c) a.session X = one.goes.goes in
+    let one : CardLit o.found w.book (w.standing c) (w.hands c) (w.firsts c) (w.brought c) (Some a) c U X = subst (λ (q : Option Accepted). CardLit o.found w.book (w.standing c) (w.hands c) (w.firsts c) (w.brought c) q c U X) has ((parts-of o.found w cards c U X Z p).mine there) in
+    let on : SessionIsOnCard (found_of o.found c) (w.hands c) one.goes.has (w.standing c) a.session X = one.goes.goes.0 in
     let sizes : a.session.application ≡ own_sizes (card_image o.recording c) = on.sizes ∙ ap own_sizes (origin.image c) in
     let fits = largest_image a.session.application (subst IsApplication (sym on.sizes) (found.sizes c there)) in
     ⊎_elim

@@ -21,6 +21,7 @@ use Rattle.run_course.proofs.Quiet.{quiet-are-told}
 use Rattle.run_outcome.specs.declared.outcome.Outcome.{Outcome}
 use Rattle.run_minutes.specs.declared.keeper.Moment.{Moment}
 use Rattle.run_minutes.specs.Books.{HaveTime, AreTimedOn}
+use Rattle.run_minutes.specs.Decided.{odometers_of}
 use Rattle.run_rings.specs.Notes.{TellSameTo}
 use Rattle.run_promise.specs.Origin.{Origin, rule_of, start_at, first_of}
 use Rattle.run_promise.specs.Beside.{HaveLeftMore}
@@ -135,7 +136,7 @@ module _ {U A0 B0 : State} {chip_a chip_b : CardState} (n speed begun : ℕ) (ol
 
   -- THE LAST SECOND, once its actions are noted
   module _ (o : Origin) (origin : IsOrigin o) (D : List TraceSecond) (L : TraceSecond) (rest : List Minute) (next_ gone : ℕ) (w : RecordInSecond o D L Keeping [] (Some L.speed) rest (record (values_of old before) { minutes = T.fed.minutes; next = next_; begun = gone }) d)
-      (number : L.number ≡ old.next + n - 1) (acts : length L.actions ≡ begun) (timed : AreTimedOn o.found d e) (r : CardsIn o D L w.b.run.log L.actions (log_of before) d) where
+      (number : L.number ≡ old.next + n - 1) (acts : length L.actions ≡ begun) (values : List ℕ) (timed : AreTimedOn o.found values d e) (r : CardsIn o D L w.b.run.log L.actions (log_of before) d) where
     abbrev log : RunLog
     log = log_of before
 
@@ -171,7 +172,7 @@ module _ {U A0 B0 : State} {chip_a chip_b : CardState} (n speed begun : ℕ) (ol
     ended later lines is quiet_ here same =
         let l = lines-later o D L Keeping [] (Some L.speed) rest v d w lines later is here (omega (arith, number, low, some)) in
         let power = power-here o D L Keeping [] (Some L.speed) rest v d w in
-        ends-shown o D L w.b.run.log later l power L.actions log d e r (lines-still o w.b.run.log D L log later lines is quiet_) (failed-more log later (lines, ap (λ (x : RunLog). x.breaks) is)) (whole-quiet o D L w.b.run.log later l power log same) left (timed-still o origin d e timed)
+        ends-shown o D L w.b.run.log later l power L.actions log d e r (lines-still o w.b.run.log D L log later lines is quiet_) (failed-more log later (lines, ap (λ (x : RunLog). x.breaks) is)) (whole-quiet o D L w.b.run.log later l power log same) left (timed-still o origin values d e timed)
 
     same-kept : TellSameTo log kept_log L.number (length L.actions)
     same-kept = record {
@@ -272,13 +273,13 @@ module _ {U A0 B0 : State} {chip_a chip_b : CardState} (n speed begun : ℕ) (ol
           let power = lit-power (second_told log_ (went log_ D).before L ∷ []) (went log_ D).before L L.number goes-l refl refl in
           let begun_ : CardsIn o D L log_ [] log_ d = second-begins o D L log_ d behind-all goes-l.running power untold_ in
           let log_is = (x.goes_on (omega arith)).0 in
-          last-shown o r.origin D L T.decided (old.next + suc c) x.begun x.fed (number-of (suc c) is) (acts-of (suc c) is)
+          last-shown o r.origin D L T.decided (old.next + suc c) x.begun x.fed (number-of (suc c) is) (acts-of (suc c) is) (odometers_of old.keeper T.decided)
           (timed-last n speed begun old new before after d e g lit some minute small h o done s now actions none r time (suc c) is D L (old.next + suc c) x.begun (last-number (suc c) s) refl (acts-of (suc c) is) x.fed x.travelled_before x.from)
           (subst (λ (l : RunLog). CardsIn o D L l [] log_ d) (sym log_is) begun_)
 
     by-count : (c : ℕ) → c ≡ n - 1 → IsTurned o done s c T.decided T.fed.minutes (values_of old before) d r.within → CardsBehind o (before_last c s done ++ last_of c s ∷ []) (log_of after) e
     by-count zero is x =
-        last-shown o r.origin done s T.decided (old.next + 0) x.begun x.fed (number-of zero is) (acts-of zero is)
+        last-shown o r.origin done s T.decided (old.next + 0) x.begun x.fed (number-of zero is) (acts-of zero is) (odometers_of old.keeper T.decided)
         (timed-last n speed begun old new before after d e g lit some minute small h o done s now actions none r time zero is done s (old.next + 0) x.begun (last-number zero s) refl (acts-of zero is) x.fed x.travelled_before x.from)
         (subst (λ (b : Beginning). CardsIn o done s b.run.log s.actions log_ d) (sym (x.first refl)) cards)
     by-count (suc c) is x = several-shown c x is

@@ -144,8 +144,8 @@ closes-well a act X Y R whole after works well run closed c left =
 -- what the image of an accepted card is that is carried: its session knows it
 pub session-knows : (f : Found) (w : RunLedger) (cards : Cards) (c : Card) (U X Z : State) → DevicesPowered f w cards (arranged c U X Z) → IsOwnValid (found_of f c).image → (a : Accepted) → session_of cards c ≡ Some a → IfSome X.image (IsSession a.session)
 session-knows f w cards c U X Z p valid a has =
-    let one = subst (λ (o : Option Accepted). CardLit f w.book (w.standing c) (w.brought c) o c U X) has ((parts-of f w cards c U X Z p).mine valid) in
-    let on : SessionIsOnCard (found_of f c) one.goes.has (w.standing c) a.session X = one.goes.goes in
+    let one = subst (λ (o : Option Accepted). CardLit f w.book (w.standing c) (w.hands c) (w.firsts c) (w.brought c) o c U X) has ((parts-of f w cards c U X Z p).mine valid) in
+    let on : SessionIsOnCard (found_of f c) (w.hands c) one.goes.has (w.standing c) a.session X = one.goes.goes.0 in
     on.session
 
 module _ (c : Card) (U V X Y Z : State) (unit : LeavesOnly U V LeavesJournal) (later : X.clock ≤ Y.clock) (closing : Closing) (decided : List Minute) (at : Moment) (t v : KeepingState) (d : Devices) (act : Activity)

@@ -102,8 +102,8 @@ use Rattle.run_acts.proofs.LastLine.{IsSince, since-line, only-second, acceptanc
 closed-timed : (f : Found) (w : RunLedger) (cards : Cards) (c : Card) (U X Y Z : State) → AreFoundCards f cards → IsCoherent X → LARGEST_IMAGE ≤ X.size → (a : Accepted) (act : Activity) → session_of cards c ≡ Some a → DevicesPowered f w cards (arranged c U X Z) →
     LeavesOnly X Y (λ i n. IsSession a.session i → IsCardClosing a.session act i n) → IsOwnValid (found_of f c).image → AreTimedSince (found_of f c).image (found_of f c).began X → AreTimedSince (found_of f c).image (found_of f c).began Y
 closed-timed f w cards c U X Y Z found whole size a act has p run valid h =
-    let one : CardLit f w.book (w.standing c) (w.brought c) (Some a) c U X = subst (λ (o : Option Accepted). CardLit f w.book (w.standing c) (w.brought c) o c U X) has ((parts-of f w cards c U X Z p).mine valid) in
-    let on : SessionIsOnCard (found_of f c) one.goes.has (w.standing c) a.session X = one.goes.goes in
+    let one : CardLit f w.book (w.standing c) (w.hands c) (w.firsts c) (w.brought c) (Some a) c U X = subst (λ (o : Option Accepted). CardLit f w.book (w.standing c) (w.hands c) (w.firsts c) (w.brought c) o c U X) has ((parts-of f w cards c U X Z p).mine valid) in
+    let on : SessionIsOnCard (found_of f c) (w.hands c) one.goes.has (w.standing c) a.session X = one.goes.goes.0 in
     let sound : IsApplication a.session.application = subst IsApplication (sym on.sizes) (found.sizes c valid) in
     let fits = largest_image a.session.application sound in
     closing-timed (found_of f c).image (found_of f c).began X Y one.rule.dark.later whole h a.session act sound (omega (arith, fits, size))
@@ -125,7 +125,7 @@ module _ {C : Type 0} (state : C → State) (c : Card) (slot : Slot) (at : Momen
   v = values_of run told
 
   abbrev carries : RunLedger
-  carries = carried v w.within.due (kept_all w.within.new w.within.b.run.book) w.within.standing w.within.brought
+  carries = carried v w.within.due (kept_all w.within.new w.within.b.run.book) w.within.standing w.within.brought w.within.hands w.within.firsts
 
   began : o.found.unit.began ≤ U.clock
   began = ((parts-of o.found carries run.keeper.cabin.cards c U (state x) Z w.within.powered).unit.unit.unit_holds [] []).later
@@ -171,9 +171,9 @@ module _ {C : Type 0} (state : C → State) (c : Card) (slot : Slot) (at : Momen
     stays-closed : (shut : ClosesOnCard slot run.minutes (Some a) (state x) (state y)) → IsOwnValid (found_of o.found c).image → (ss : List Stay) → HasStays s.number (found_of o.found c) run.keeper.memory.registration (spells_of c so-far) (sits_in run.keeper.cabin.slots.seats c) ss (Some a) (state x) →
         HasStays s.number (found_of o.found c) run.keeper.memory.registration (spells_of c so-far) (sits_in run.keeper.cabin.slots.seats c) (on_last (with_end (shut-by shut.0)) ss) None (state y)
     stays-closed shut valid ss h =
-        let one : CardLit o.found carries.book (carries.standing c) (carries.brought c) (Some a) c U (state x) =
-        subst (λ (q : Option Accepted). CardLit o.found carries.book (carries.standing c) (carries.brought c) q c U (state x)) has ((parts-of o.found carries run.keeper.cabin.cards c U (state x) Z w.within.powered).mine valid) in
-        let on : SessionIsOnCard (found_of o.found c) one.goes.has (carries.standing c) a.session (state x) = one.goes.goes in
+        let one : CardLit o.found carries.book (carries.standing c) (carries.hands c) (carries.firsts c) (carries.brought c) (Some a) c U (state x) =
+        subst (λ (q : Option Accepted). CardLit o.found carries.book (carries.standing c) (carries.hands c) (carries.firsts c) (carries.brought c) q c U (state x)) has ((parts-of o.found carries run.keeper.cabin.cards c U (state x) Z w.within.powered).mine valid) in
+        let on : SessionIsOnCard (found_of o.found c) (carries.hands c) one.goes.has (carries.standing c) a.session (state x) = one.goes.goes.0 in
         let sound : IsApplication a.session.application = subst IsApplication (sym on.sizes) (w.within.found.sizes c valid) in
         let most = largest_image a.session.application sound in
         stays-close s.number (found_of o.found c) run.keeper.memory.registration (spells_of c so-far) (sits_in run.keeper.cabin.slots.seats c) (sits_in run.keeper.cabin.slots.seats c) ss shut.0 a (state x) (state y)

@@ -108,9 +108,9 @@ untorn (Lost entered clock entry) e none = absurd (let one : 1 ≡ 0 = none in o
 
 module _ (o : Origin) (done : List TraceSecond) (s : TraceSecond) (n : ℕ) (waits fewer : List Visit) (e : Entering) (k : Keeper) (out : Outcome) (unfound next_ begun : ℕ) (minutes : Kept) (U X Z : State) (w : RecordInSecond o done s (In n) waits None [] (values_with k out unfound next_ begun minutes) (arranged e.which U X Z)) (m : MayJudge o done s n waits fewer e k out unfound next_ begun minutes U X Z w) where
   abbrev pub before : RunLedger
-  before = carried (values_with k out unfound next_ begun minutes) w.due (kept_all w.new w.b.run.book) w.standing w.brought
+  before = carried (values_with k out unfound next_ begun minutes) w.due (kept_all w.new w.b.run.book) w.standing w.brought w.hands w.firsts
 
-  pub was : AreParts o.found (carried (values_with k out unfound next_ begun minutes) w.due (kept_all w.new w.b.run.book) w.standing w.brought) k.cabin.cards e.which U X Z
+  pub was : AreParts o.found (carried (values_with k out unfound next_ begun minutes) w.due (kept_all w.new w.b.run.book) w.standing w.brought w.hands w.firsts) k.cabin.cards e.which U X Z
   was = parts-of o.found before k.cabin.cards e.which U X Z w.powered
 
   pub unit-began : o.found.unit.began ≤ U.clock
@@ -128,7 +128,7 @@ module _ (o : Origin) (done : List TraceSecond) (s : TraceSecond) (n : ℕ) (wai
   pub unit-told : (u : List ℕ) × (U.image ≡ Some u)
   unit-told = told-one U.image was.unit.tells
 
-  may-enter : MayEnter o.found (carried (values_with k out unfound next_ begun minutes) w.due (kept_all w.new w.b.run.book) w.standing w.brought) k.cabin.cards e U X Z
+  may-enter : MayEnter o.found (carried (values_with k out unfound next_ begun minutes) w.due (kept_all w.new w.b.run.book) w.standing w.brought w.hands w.firsts) k.cabin.cards e U X Z
   may-enter = record {
     found = w.found;
     powered = w.powered;
@@ -142,7 +142,7 @@ module _ (o : Origin) (done : List TraceSecond) (s : TraceSecond) (n : ℕ) (wai
   }
 
   module _ (failed : Bool) (k' : Keeper) (noted noted' : ℕ) (out' : Outcome) (W Y : State) (way : Way) (g : HasGone e failed k k' noted noted' out out' U W X Y Z way) (sound : AreSound U W X Y) where
-    pub known : IsEnteredOn (ending_of way) e failed k k' U W X Y Z o.found (with_standing e.which Out (carried (values_with k out unfound next_ begun minutes) w.due (kept_all w.new w.b.run.book) w.standing w.brought))
+    pub known : IsEnteredOn (ending_of way) e failed k k' U W X Y Z o.found (with_standing e.which Out (carried (values_with k out unfound next_ begun minutes) w.due (kept_all w.new w.b.run.book) w.standing w.brought w.hands w.firsts))
     known = g.books o.found before may-enter m.vehicle sound.time
 
     pub card-run : (u : List ℕ) × LeavesOnly X Y (λ x c. (y : List ℕ) × X.may_leave y × AreComingOnCard way k.memory.registration e u y c)

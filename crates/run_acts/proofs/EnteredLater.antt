@@ -124,8 +124,8 @@ module _ (o : Origin) (done : List TraceSecond) (s : TraceSecond) (n : ℕ) (wai
   valid-found : IsOwnValid (found_of o.found e.which).image
   valid-found = subst IsOwnValid (sym (m.origin.image e.which)) may.valid
 
-  one : CardLit o.found (kept_all w.new w.b.run.book) (w.standing e.which) (w.brought e.which) None e.which U X
-  one = subst (λ (q : Option Session). CardLit o.found (kept_all w.new w.b.run.book) (w.standing e.which) (w.brought e.which) q e.which U X) m.bare ((was o done s n waits fewer e k out unfound next_ begun minutes U X Z w m).mine valid-found)
+  one : CardLit o.found (kept_all w.new w.b.run.book) (w.standing e.which) (w.hands e.which) (w.firsts e.which) (w.brought e.which) None e.which U X
+  one = subst (λ (q : Option Session). CardLit o.found (kept_all w.new w.b.run.book) (w.standing e.which) (w.hands e.which) (w.firsts e.which) (w.brought e.which) q e.which U X) m.bare ((was o done s n waits fewer e k out unfound next_ begun minutes U X Z w m).mine valid-found)
 
   abbrev u : UnitView
   u = unit_view o.found.card_a.number o.found.card_b.number (unit-told o done s n waits fewer e k out unfound next_ begun minutes U X Z w m).0

@@ -11,6 +11,7 @@ use Rattle.log_model.specs.declared.lines.Find.{Find}
 use Rattle.log_model.specs.declared.lines.Mark.{Mark}
 use Rattle.log_model.specs.declared.lines.Refused.{Refused}
 use Rattle.log_model.specs.Causes.{device_of}
+use Rattle.log_model.specs.ByHand.{by_slots, stops}
 use Rattle.history_model.specs.Completeness.{IsMarked}
 use Rattle.run_crew.specs.declared.cabin.Cabin.{Cabin}
 use Rattle.run_devices.specs.Told.{card_marks}
@@ -81,7 +82,7 @@ values-as k v out after unfound next begun minutes one two = ap (λ (q : Keeper)
 -- with these lines
 abbrev pub lined : (breaks : List Break) (refused : List Refused) (finds : List Find) (marks : List Mark) (cabin : Cabin) (unfound next begun : ℕ) (minutes : Kept) (odometer : ℕ) → Values
 lined breaks refused finds marks cabin unfound next begun minutes odometer = record {
-  log = record { breaks = breaks; refused = refused; finds = finds };
+  log = record { breaks = breaks; refused = by_slots refused; finds = finds };
   marks = marks;
   cabin = cabin;
   unfound = unfound;
@@ -89,6 +90,7 @@ lined breaks refused finds marks cabin unfound next begun minutes odometer = rec
   begun = begun;
   minutes = minutes;
   odometer = odometer;
+  stops = stops refused;
 }
 
 pub lined-as : (breaks breaks' : List Break) (refused : List Refused) (finds finds' : List Find) (marks marks' : List Mark) (cabin : Cabin) (unfound next begun : ℕ) (minutes : Kept) (odometer : ℕ) → breaks ≡ breaks' → finds ≡ finds' → marks ≡ marks' →

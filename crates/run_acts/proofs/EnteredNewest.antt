@@ -251,6 +251,14 @@ module _ (o : Origin) (done : List TraceSecond) (s : TraceSecond) (n : ℕ) (wai
   was-valid y there valid = ⊎_elim (λ whole. subst IsOwnValid (whole y there) valid) (λ may. may.valid) written-or
 
   module _ (entered : Entered) (told : IsToldSo o.found (with_standing e.which Out (before o done s n waits fewer e k out unfound next_ begun minutes U X Z w m)) e entered U X) where
+    -- ITS NEWEST MINUTE is not later than that of the history
+    pub not-later : entered.session.minute ≤ newest_minute (start_at o) (kept_all w.new w.b.run.book).sure e.which s.number
+    not-later =
+        let is = history-is in
+        let kept : newest_minute (start_at o) (kept_all w.new w.b.run.book).sure e.which s.number ≡ newest_minute (start_at o) (w.b.run.book.sure ++ w.new) e.which s.number = ap (λ (past : List HistoryMinute). newest_minute (start_at o) past e.which s.number) (sure-kept w.new None w.b.run.book) in
+        let most = told.answers.most in
+        omega (arith, is, kept, most)
+
     -- its stored time at the start is not later than this second
     pub in-time : (own_view (card_image o.recording e.which)).stored ≤ s.number
     in-time = ⊎_elim

@@ -1,5 +1,5 @@
 -- The stays of a card that enters: a new one where it is accepted.
-use Rattle.std.proofs.Common.{◌≡◌, ◌∙◌, ◌⊎◌, inl, inr, ℕ, ◌+◌, ◌≤◌, Bool, true, false, List, [], ◌∷◌, ◌++◌, All, length, Option, Some, None, refl, ap, sym, subst, arith, ◌||◌, ◌<◌, append-nil}
+use Rattle.std.proofs.Common.{◌≡◌, ◌∙◌, ◌⊎◌, inl, inr, ℕ, ◌+◌, ◌≤◌, Bool, true, false, List, [], ◌∷◌, ◌++◌, All, length, Option, Some, None, refl, ap, sym, subst, arith, ◌||◌, ◌<◌, append-nil, ◌/◌}
 use Rattle.std.specs.Prelude.{filter}
 use Rattle.std.proofs.lemmas.List.{append-nil}
 use Rattle.std.proofs.lemmas.List.Elements.{filter-append}
@@ -20,6 +20,7 @@ use Rattle.history_model.specs.Completeness.{IsMarked}
 use Rattle.log_model.specs.declared.lines.Verdict.{Verdict}
 use Rattle.log_model.specs.declared.lines.Find.{Find}
 use Rattle.log_model.specs.declared.lines.Verdict.TheVariants.{Accepted as AcceptedWith, NotValid, TimeOverlap}
+use Rattle.log_model.specs.ByHand.{by_slots}
 use Rattle.card_image.specs.View.{CardView, card_view}
 use Rattle.card_image.specs.Own.{own_sizes, IsOwnValid}
 use Rattle.device_calls.proofs.OnCard.{own-is}
@@ -38,6 +39,7 @@ use Rattle.run_record.specs.Recorded.{Values}
 use Rattle.run_record.specs.Within.{RecordInSecond}
 use Rattle.run_record.specs.Judging.{IsNext}
 use Rattle.run_minutes.specs.declared.keeper.Moment.{Moment}
+use Rattle.hand_model.specs.Holding.{none_held}
 use Rattle.run_crew.specs.declared.cards.Accepted.{Accepted}
 use Rattle.run_crew.specs.declared.cabin.Cabin.{Cabin}
 use Rattle.run_crew.specs.Cards.{session_of}
@@ -70,22 +72,22 @@ use Rattle.run_acts.proofs.SeatsThen.{torn-other, put-own, put-again, torn-slot,
 use Rattle.run_acts.proofs.NotesThen.{accepted-now, rejected-now, elsewhere-now}
 
 -- its session behind
-abbrev session_by : Ending → (noted : ℕ) → Option Accepted
-session_by (Unfit fid place) noted = None
-session_by (Ahead stored) noted = None
-session_by Fell noted = None
-session_by Unasked noted = None
-session_by (Unnoted entered clock) noted = None
-session_by (Seated entered clock entry) noted = Some (record { session = entered.session; entry = entry; noted = and_one noted })
-session_by (Lost entered clock entry) noted = None
+abbrev session_by : (second : ℕ) → Ending → (noted : ℕ) → Option Accepted
+session_by second (Unfit fid place) noted = None
+session_by second (Ahead stored) noted = None
+session_by second Fell noted = None
+session_by second Unasked noted = None
+session_by second (Unnoted entered clock) noted = None
+session_by second (Seated entered clock entry) noted = Some (record { session = entered.session; held = none_held (second / 60); entry = entry; noted = and_one noted })
+session_by second (Lost entered clock entry) noted = None
 
-sessions-by : (ending : Ending) (e : Entering) (noted : ℕ) (cabin : Cabin) → session_of cabin.cards e.which ≡ None → session_of (cabin_by ending e noted cabin).cards e.which ≡ session_by ending noted
+sessions-by : (ending : Ending) (e : Entering) (noted : ℕ) (cabin : Cabin) → session_of cabin.cards e.which ≡ None → session_of (cabin_by ending e noted cabin).cards e.which ≡ session_by e.at.second ending noted
 sessions-by (Unfit fid place) e noted cabin bare = bare
 sessions-by (Ahead stored) e noted cabin bare = bare
 sessions-by Fell e noted cabin bare = mine-left e.which cabin.cards
 sessions-by Unasked e noted cabin bare = bare
 sessions-by (Unnoted entered clock) e noted cabin bare = bare
-sessions-by (Seated entered clock entry) e noted cabin bare = has-session e.slot e.which entered.look.number entered.row (record { session = entered.session; entry = entry; noted = and_one noted }) cabin
+sessions-by (Seated entered clock entry) e noted cabin bare = has-session e.slot e.which entered.look.number entered.row (record { session = entered.session; held = none_held (e.at.second / 60); entry = entry; noted = and_one noted }) cabin
 sessions-by (Lost entered clock entry) e noted cabin bare =
     mine-left e.which (cabin_by (Seated entered clock entry) e noted cabin).cards
 
@@ -150,12 +152,12 @@ module _ (o : Origin) (e : Entering) (failed : Bool) (well : failed ≡ false) (
   log_by ending = log_of (outcome_by ending e out)
 
   -- where a verdict is told alone
-  one-find : (verdict : Verdict) → record { breaks = out.breaks.items ++ []; refused = out.refused.items; finds = out.finds.items ++ find_of e verdict ∷ [] } ≡ and_find (log_of out) (find_of e verdict)
+  one-find : (verdict : Verdict) → record { breaks = out.breaks.items ++ []; refused = by_slots out.refused.items; finds = out.finds.items ++ find_of e verdict ∷ [] } ≡ and_find (log_of out) (find_of e verdict)
   one-find verdict = ap (λ (bs : List Break). record (and_find (log_of out) (find_of e verdict)) { breaks = bs }) (append-nil out.breaks.items)
 
   -- its stay begins
   abbrev new_stay : Entered → List Find → Stay
-  new_stay entered since = record { found = find_of e (AcceptedWith entered.replayed); odometer = e.odometer.0; owed = entered.owed.items; kepts = []; closed = None; turned = since }
+  new_stay entered since = record { found = find_of e (AcceptedWith entered.replayed); odometer = e.odometer.0; owed = entered.owed.items; by_hand = []; kepts = []; closed = None; turned = since }
 
   abbrev vehicle : Registration
   vehicle = k.memory.registration
@@ -199,7 +201,7 @@ module _ (o : Origin) (e : Entering) (failed : Bool) (well : failed ≡ false) (
 
   -- of a card that was judged
   own-judged : (ending : Ending) → after ≡ outcome_by ending e out → (app : Application) (w : RunLedger) → OwesIn w → (cabin : Cabin) → IsEnding ending app k.memory.registration e failed U.image X Y → IsToldOf ending o.found w e U X → (IsOwnValid f.image → OpensSo ending k.memory.registration e f X Y) → TellsBy e.at.second ending f U W X → NothingFailed (log_by ending)
-      → (ss : List Stay) (since : List Find) → TurnsBy ending (cabin_by ending e noted cabin) (session_by ending noted) ss since
+      → (ss : List Stay) (since : List Find) → TurnsBy ending (cabin_by ending e noted cabin) (session_by e.at.second ending noted) ss since
   own-judged (Unfit fid place) behind app w owes cabin is told opens tells none ss since =
       turned-away (Unfit fid place) cabin (none-more (find_of e (NotValid fid place)) refl) (ap (λ (l : RunLog). spells_of e.which (notes l)) (one-find (NotValid fid place)) ∙ (judges (NotValid fid place)).rejects refl) opens tells ss since since
       (inl (filter-append judging (log_of out).finds (find_of e (NotValid fid place) ∷ []) ∙ append-nil (judged_told (log_of out)), refl)) (λ valid h was. was) (λ was. was)
@@ -232,7 +234,7 @@ module _ (o : Origin) (e : Entering) (failed : Bool) (well : failed ≡ false) (
     only = λ only. inr told.valid;
     shows = λ valid h.
         stays-open u f vehicle (spells_of e.which (notes (log_of out))) (spells_of e.which (notes (log_by (Seated entered clock entry)))) (sits_in k.cabin.slots.seats e.which) (sits_in (cabin_by (Seated entered clock entry) e noted cabin).slots.seats e.which) ss
-        (find_of e (AcceptedWith entered.replayed)) e.odometer.0 entered.owed.items since (record { session = entered.session; entry = entry; noted = and_one noted }) X Y is.1.vehicle is.1.fresh (opens valid)
+        (find_of e (AcceptedWith entered.replayed)) e.odometer.0 entered.owed.items since (record { session = entered.session; held = none_held (e.at.second / 60); entry = entry; noted = and_one noted }) X Y is.1.vehicle is.1.fresh refl (opens valid)
         (put-own cabin.slots.seats e.slot e.which (Some entered.session.minute))
         (ap (λ (l : RunLog). spells_of e.which (notes l)) (one-find (AcceptedWith entered.replayed)) ∙ (judges (AcceptedWith entered.replayed)).accepts refl) h;
     hold = λ only shown all.
@@ -259,7 +261,7 @@ module _ (o : Origin) (e : Entering) (failed : Bool) (well : failed ≡ false) (
   own-judged (Lost entered clock entry) behind app w owes cabin is told opens tells none ss since = no-tear (record (log_of out) { finds = (log_by (Lost entered clock entry)).finds }) e.slot e.at none
 
   own : (way : Way) → after ≡ outcome_by (ending_of way) e out → (w : RunLedger) → OwesIn w → (cabin : Cabin) → IsWay way k.memory.registration e failed U.image X Y → IsToldOf (ending_of way) o.found w e U X → (IsOwnValid f.image → OpensSo (ending_of way) k.memory.registration e f X Y) → TellsBy e.at.second (ending_of way) f U W X → NothingFailed (log_by (ending_of way))
-      → (ss : List Stay) (since : List Find) → TurnsBy (ending_of way) (cabin_by (ending_of way) e noted cabin) (session_by (ending_of way) noted) ss since
+      → (ss : List Stay) (since : List Find) → TurnsBy (ending_of way) (cabin_by (ending_of way) e noted cabin) (session_by e.at.second (ending_of way) noted) ss since
   own Unread behind w owes cabin is told opens tells none ss since = no-tear (log_of out) e.slot e.at none
   own (Unsized field) behind w owes cabin is told opens tells none ss since = own-judged (ending_of (Unsized field)) behind (own_sizes f.image) w owes cabin tt tt opens tells none ss since
   own (Judged app ending) behind w owes cabin is told opens tells none ss since = own-judged ending behind app w owes cabin is told opens tells none ss since
@@ -271,8 +273,8 @@ module _ (o : Origin) (e : Entering) (failed : Bool) (well : failed ≡ false) (
   others-noted (Ahead stored) none = ap (λ (l : RunLog). spells_of (other e.which) (notes l)) (one-find (TimeOverlap stored e.at.second)) ∙ (judges (TimeOverlap stored e.at.second)).others
   others-noted Fell none = no-tear (log_of out) e.slot e.at none
   others-noted Unasked none =
-      ap (λ (bs : List Break). spells_of (other e.which) (notes (record { breaks = bs; refused = out.refused.items; finds = out.finds.items ++ [] }))) (append-nil out.breaks.items)
-      ∙ ap (λ (fs : List Find). spells_of (other e.which) (notes (record { breaks = out.breaks.items; refused = out.refused.items; finds = fs }))) (append-nil out.finds.items)
+      ap (λ (bs : List Break). spells_of (other e.which) (notes (record { breaks = bs; refused = by_slots out.refused.items; finds = out.finds.items ++ [] }))) (append-nil out.breaks.items)
+      ∙ ap (λ (fs : List Find). spells_of (other e.which) (notes (record { breaks = out.breaks.items; refused = by_slots out.refused.items; finds = fs }))) (append-nil out.finds.items)
   others-noted (Unnoted entered clock) none = ap (λ (l : RunLog). spells_of (other e.which) (notes l)) (one-find (AcceptedWith entered.replayed)) ∙ (judges (AcceptedWith entered.replayed)).others
   others-noted (Seated entered clock entry) none = ap (λ (l : RunLog). spells_of (other e.which) (notes l)) (one-find (AcceptedWith entered.replayed)) ∙ (judges (AcceptedWith entered.replayed)).others
   others-noted (Lost entered clock entry) none = no-tear (record (log_of out) { finds = (log_by (Lost entered clock entry)).finds }) e.slot e.at none
@@ -301,7 +303,7 @@ module _ (o : Origin) (e : Entering) (failed : Bool) (well : failed ≡ false) (
       filled-slot cabin.slots.seats e.slot at e.which (other e.which) (Some entered.session.minute) (apart e.which) (torn-slot e.which (other e.which) e.at.second (cabin_by (Seated entered clock entry) e noted cabin) at there)
 
   -- its own slot is the one in which it is accepted
-  own-slot : (ending : Ending) (cabin after : Cabin) → cabin.slots ≡ k.cabin.slots → after ≡ cabin_by ending e noted cabin → session_of after.cards e.which ≡ session_by ending noted → NothingFailed (log_by ending) → IsPlaced (notes (log_by ending)) after e.which
+  own-slot : (ending : Ending) (cabin after : Cabin) → cabin.slots ≡ k.cabin.slots → after ≡ cabin_by ending e noted cabin → session_of after.cards e.which ≡ session_by e.at.second ending noted → NothingFailed (log_by ending) → IsPlaced (notes (log_by ending)) after e.which
   own-slot (Unfit fid place) cabin after slots is session none = placed-bare (notes (log_by (Unfit fid place))) after e.which session
   own-slot (Ahead stored) cabin after slots is session none = placed-bare (notes (log_by (Ahead stored))) after e.which session
   own-slot Fell cabin after slots is session none = placed-bare (notes (log_by Fell)) after e.which session
@@ -330,7 +332,7 @@ module _ (o : Origin) (e : Entering) (failed : Bool) (well : failed ≡ false) (
       let ending : Ending = ending_of way in
       let behind : Cabin = cabin_by (ending_of way) e noted (measured way e k).cabin in
       let cabin : v.cabin ≡ cabin_by (ending_of way) e noted (measured way e k).cabin = ap (λ (q : Keeper). q.cabin) entered.left.keeper in
-      let session : session_of v.cabin.cards e.which ≡ session_by (ending_of way) noted =
+      let session : session_of v.cabin.cards e.which ≡ session_by e.at.second (ending_of way) noted =
       ap (λ (q : Keeper). session_of q.cabin.cards e.which) entered.left.keeper
       ∙ sessions-by (ending_of way) e noted (measured way e k).cabin (session-sized e.which e.which (sizes_by way) k.cabin.cards ∙ bare) in
       let there : card_in (seat_in (measured way e k).cabin.slots.seats e.slot) ≡ Some e.which =
@@ -348,9 +350,9 @@ module _ (o : Origin) (e : Entering) (failed : Bool) (well : failed ≡ false) (
       (λ none h. turned way w entered known owes tells none (h.stays e.which) (h.since e.which) bare cabin session) all))
     where
       turned : (way : Way) (w : RunLedger) (entered : HasEntered e failed k v noted noted_after out after U W X Y way) → IsEnteredOn (ending_of way) e failed k v U W X Y Z o.found w → OwesIn w → TellsBy e.at.second (ending_of way) f U W X → NothingFailed (log_by (ending_of way)) → (ss : List Stay) (since : List Find) → session_of k.cabin.cards e.which ≡ None →
-          v.cabin ≡ cabin_by (ending_of way) e noted (measured way e k).cabin → session_of v.cabin.cards e.which ≡ session_by (ending_of way) noted →
+          v.cabin ≡ cabin_by (ending_of way) e noted (measured way e k).cabin → session_of v.cabin.cards e.which ≡ session_by e.at.second (ending_of way) noted →
           Turns t e.which u f (log_of out) (log_by (ending_of way)) vehicle (spells_of e.which (notes (log_of out))) (spells_of e.which (notes (log_by (ending_of way)))) (sits_in k.cabin.slots.seats e.which) (sits_in v.cabin.slots.seats e.which) (session_of k.cabin.cards e.which) (session_of v.cabin.cards e.which) U W X Y ss since
       turned way w entered known owes tells none ss since bare cabin session =
           subst (λ (s : Option Accepted). Turns t e.which u f (log_of out) (log_by (ending_of way)) vehicle (spells_of e.which (notes (log_of out))) (spells_of e.which (notes (log_by (ending_of way)))) (sits_in k.cabin.slots.seats e.which) (sits_in v.cabin.slots.seats e.which) s (session_of v.cabin.cards e.which) U W X Y ss since) (sym bare)
           (subst (λ (s : Option Accepted). TurnsBy (ending_of way) v.cabin s ss since) (sym session)
-          (subst (λ (q : Cabin). TurnsBy (ending_of way) q (session_by (ending_of way) noted) ss since) (sym cabin) (own way entered.left.outcome w owes (measured way e k).cabin entered.is known.told known.opens tells none ss since)))
+          (subst (λ (q : Cabin). TurnsBy (ending_of way) q (session_by e.at.second (ending_of way) noted) ss since) (sym cabin) (own way entered.left.outcome w owes (measured way e k).cabin entered.is known.told known.opens tells none ss since)))

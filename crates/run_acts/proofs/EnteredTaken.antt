@@ -1,5 +1,5 @@
 -- A card that enters is found to be accepted: it is seated, or torn out since, or the unit fails.
-use Rattle.std.proofs.Common.{◌≡◌, ◌⊎◌, inl, inr, ⊎_elim, ℕ, ◌/◌, ◌≤◌, ◌<◌, Bool, true, false, Option, Some, None, is_some, List, [], ◌∷◌, ◌++◌, Contains, refl, ap, sym, subst, ◌∙◌}
+use Rattle.std.proofs.Common.{◌≡◌, ◌⊎◌, inl, inr, ⊎_elim, ℕ, ◌/◌, ◌≤◌, ◌<◌, Bool, true, false, Option, Some, None, is_some, List, [], ◌∷◌, ◌++◌, Contains, refl, ap, sym, subst, ◌∙◌, arith}
 use Rattle.std.specs.Prelude.{Result}
 use Rattle.std.proofs.lemmas.List.Elements.{Contains-append_left, Contains-append_right, Contains-push}
 use Rattle.activity_codec.specs.declared.values.Slot.{Slot}
@@ -14,7 +14,7 @@ use Rattle.minute_rules.specs.Kept.{Kept}
 use Rattle.card_layout.specs.declared.files.Application.{Application}
 use Rattle.log_model.specs.declared.lines.Verdict.TheVariants.{Accepted}
 use Rattle.log_model.specs.Log.{In}
-use Rattle.log_model.specs.Slots.{other_slot}
+use Rattle.log_model.specs.Slots.{other_slot, same_card}
 use Rattle.log_model.specs.Course.{Visit}
 use Rattle.unit_minutes.specs.Image.{Agrees}
 use Rattle.unit_model.specs.Image.{last_kept}
@@ -22,6 +22,7 @@ use Rattle.device_rule.specs.Rules.{Standing, Out, In as IsIn, Torn}
 use Rattle.card_slots.specs.Calls.{seat_in, is_card}
 use Rattle.card_slots.specs.Kept.{Kept as SlotsKept, put_in, taken}
 use Rattle.safety_model.specs.Safe.{card_of}
+use Rattle.hand_model.specs.Holding.{none_held}
 use Rattle.run_crew.specs.declared.cabin.Cabin.{Cabin}
 use Rattle.run_crew.specs.declared.cards.Cards.{Cards}
 use Rattle.run_crew.specs.declared.cards.Accepted.{Accepted as Session}
@@ -32,7 +33,7 @@ use Rattle.run_course.specs.Presence.{IsNewestAt}
 use Rattle.run_course.specs.Seconds.{kept_all}
 use Rattle.run_promise.specs.Going.{IsTakenAt}
 use Rattle.run_devices.specs.Presence.{IsSeated}
-use Rattle.run_devices.specs.Told.{AreFoundCards, DevicesUnpowered, arranged, for_card, card_marks, with_marks, with_standing}
+use Rattle.run_devices.specs.Told.{AreFoundCards, DevicesUnpowered, arranged, for_card, card_marks, with_marks, with_standing, HasFoundSo}
 use Rattle.run_devices.proofs.Known.{session-sized, early-accepted}
 use Rattle.run_outcome.specs.declared.outcome.Outcome.{Outcome}
 use Rattle.run_promise.specs.Origin.{Origin, start_at, first_of}
@@ -53,6 +54,9 @@ use Rattle.run_record.proofs.Losing.{card-lost, losing-fails}
 use Rattle.run_acts.specs.Entered.{values_with, MayJudge, HasGone, AreSound, IsCut, GoesOnOrIsCut}
 use Rattle.run_acts.proofs.EnteredFacts.{unit-back, for-own, for-other, before, now-is, unit-told, left, there, breakdowns, broke-once, unit-broke, travels, untouched}
 use Rattle.run_acts.proofs.EnteredTurned.{not-keeping, own-card, slot-there}
+use Rattle.run_record.proofs.HandedSteps.{less-stay}
+use Rattle.history_model.specs.Presence.{trimmed_by, newest_minute}
+use Rattle.run_promise.specs.Cards.{brought_by}
 
 -- ---- small facts
 
@@ -75,6 +79,24 @@ seated-sessions A B number row a sizes cards some = inl some
 seated-sessions B A number row a sizes cards some = inl some
 seated-sessions B B number row a sizes cards some = inr refl
 
+seated-own : (c : Card) (number : FullCardNumber) (row : ℕ) (a : Session) (sizes : Result Application ℕ) (cards : Cards) → session_of (with_session c (Some a) (with_number c number row (with_sizes c sizes cards))) c ≡ Some a
+seated-own A number row a sizes cards = refl
+seated-own B number row a sizes cards = refl
+
+seated-others : (c x : Card) (number : FullCardNumber) (row : ℕ) (a : Session) (sizes : Result Application ℕ) (cards : Cards) → same_card c x ≡ false → session_of (with_session c (Some a) (with_number c number row (with_sizes c sizes cards))) x ≡ session_of cards x
+seated-others A A number row a sizes cards apart = absurd (cc)
+seated-others A B number row a sizes cards apart = refl
+seated-others B A number row a sizes cards apart = refl
+seated-others B B number row a sizes cards apart = absurd (cc)
+
+own-is : (a b : Session) → Some a ≡ Some b → a ≡ b
+own-is a b is = cc
+
+-- the unit and the card of three devices
+both-back : (c : Card) (U X Z : State) (P : State → State → Type 0) → P U X → P (arranged c U X Z).unit (card_of (arranged c U X Z) c)
+both-back A U X Z P p = p
+both-back B U X Z P p = p
+
 old-lost : (c : Card) (number : FullCardNumber) (row : ℕ) (a : Session) (sizes : Result Application ℕ) (cards : Cards) → AreOld cards (with_session c None (with_session c (Some a) (with_number c number row (with_sizes c sizes cards))))
 old-lost A number row a sizes cards A some = absurd (cc)
 old-lost A number row a sizes cards B some = some
@@ -88,6 +110,7 @@ slot-put CoDriver card newest kept elsewhere = slot-there (put_in CoDriver card 
 
 module _ (o : Origin) (done : List TraceSecond) (s : TraceSecond) (n : ℕ) (waits fewer : List Visit) (e : Entering) (k : Keeper) (out : Outcome) (unfound next_ begun : ℕ) (minutes : Kept) (U X Z : State) (w : RecordInSecond o done s (In n) waits None [] (values_with k out unfound next_ begun minutes) (arranged e.which U X Z)) (m : MayJudge o done s n waits fewer e k out unfound next_ begun minutes U X Z w) (failed : Bool) (k' : Keeper) (noted noted' : ℕ) (out' : Outcome) (W Y : State) (way : Way) (g : HasGone e failed k k' noted noted' out out' U W X Y Z way) (sound : AreSound U W X Y) (entered : Entered) (clock : ℕ) (told : IsToldSo o.found (with_standing e.which Out (before o done s n waits fewer e k out unfound next_ begun minutes U X Z w m)) e entered U X)
     (answered : IsNewestAt (start_at o) (w.b.run.book.sure ++ w.new) k.cabin.slots e.which entered.session.minute s.number)
+    (under : entered.session.minute ≤ newest_minute (start_at o) (kept_all w.new w.b.run.book).sure e.which s.number)
     (may : (many : ℕ) × (many ≤ often o w.b done (course_in w.b done s (In n) (values_with k out unfound next_ begun minutes).log) s.number e.which) × VerdictBy o w.b done many (out.marks.items ++ card_marks e.which clock entered.owed.items) ((arranged e.which W Y Z).unit.left_since o.found.unit.began) ((card_of (arranged e.which W Y Z) e.which).left_since (found_of o.found e.which).began) e.which s.number (Accepted entered.replayed)) where
   -- the unit had kept this minute last
   last-is : last_kept (unit-told o done s n waits fewer e k out unfound next_ begun minutes U X Z w m).0 ≡ k.journal.kept
@@ -102,9 +125,17 @@ module _ (o : Origin) (done : List TraceSecond) (s : TraceSecond) (n : ℕ) (wai
   kept-low : k.journal.kept < w.due
   kept-low = subst (λ (m_ : ℕ). m_ < w.due) last-is (kept-before o done s (In n) waits None [] (values_with k out unfound next_ begun minutes) (arranged e.which U X Z) w m.origin.first (unit-told o done s n waits fewer e k out unfound next_ begun minutes U X Z w m).0 on-unit)
 
+  -- what was owed to it, of the devices as they were
+  told-here : HasFoundSo o.found e.which (arranged e.which U X Z).unit (card_of (arranged e.which U X Z) e.which) s.number entered.owed.items entered.replayed
+  told-here = both-back e.which U X Z (λ (u c : State). HasFoundSo o.found e.which u c s.number entered.owed.items entered.replayed)
+      (subst (λ (at : ℕ). HasFoundSo o.found e.which U X at entered.owed.items entered.replayed) (now-is o done s n waits fewer e k out unfound next_ begun minutes U X Z w m) told.found)
+
   -- IT IS FOUND TO BE ACCEPTED, with these slots and sessions
   module _ (cabin : Cabin) (slots_are : cabin.slots ≡ put_in e.slot e.which (Some entered.session.minute) k.cabin.slots) (found : AreFoundCards o.found cabin.cards)
-      (sessions : (x : Card) → is_some (session_of cabin.cards x) ≡ true → (is_some (session_of k.cabin.cards x) ≡ true) ⊎ (x ≡ e.which)) where
+      (sessions : (x : Card) → is_some (session_of cabin.cards x) ≡ true → (is_some (session_of k.cabin.cards x) ≡ true) ⊎ (x ≡ e.which))
+      (fresh : (b : Session) → session_of cabin.cards e.which ≡ Some b → b.held ≡ none_held (s.number / 60)) (apart_ : (x : Card) → same_card e.which x ≡ false → session_of cabin.cards x ≡ session_of k.cabin.cards x)
+      (above_ : (b : Session) → session_of cabin.cards e.which ≡ Some b → trimmed_by (found_of o.found e.which).start ((found_of o.found e.which).start.entries ++ brought_by e.which (found_of o.found e.which).start (kept_all w.new w.b.run.book)) ≤ b.session.minute)
+      (under_ : (b : Session) → session_of cabin.cards e.which ≡ Some b → b.session.minute ≤ newest_minute (start_at o) (kept_all w.new w.b.run.book).sure e.which s.number) where
     taken-judged : IsJudged o done s (In n) waits fewer (values_with k out unfound next_ begun minutes) (arranged e.which U X Z) (arranged e.which W Y Z) w e.which (find_of e (Accepted entered.replayed)) (out.marks.items ++ card_marks e.which clock entered.owed.items) cabin (for_card e.which (k.journal.kept ∷ w.brought e.which) w.brought)
     taken-judged = record {
       next = m.next_;
@@ -128,12 +159,18 @@ module _ (o : Origin) (done : List TraceSecond) (s : TraceSecond) (n : ℕ) (wai
       left = left o done s n waits fewer e k out unfound next_ begun minutes U X Z w m failed k' noted noted' out' W Y way g sound;
       there = there o done s n waits fewer e k out unfound next_ begun minutes U X Z w m failed k' noted noted' out' W Y way g sound;
       sessions = λ x some. ⊎_elim (λ had. inl had) (λ is. inr (is, refl)) (sessions x some);
+      first = m.origin.first;
+      start = m.origin.start e.which;
+      opens = record { clock = clock; owed = entered.owed.items; marks = refl; told = told-here; fresh = fresh };
+      others = apart_;
+      above = λ accepts b some. above_ b some;
+      under = λ accepts b some. under_ b some;
       untouched = λ x same. ⊎_elim (λ still. inl still) (λ wrote. inr (inr (wrote.0, refl))) (untouched o done s n waits fewer e k out unfound next_ begun minutes U X Z w m failed k' noted noted' out' W Y way g sound x same);
       travels = travels o done s n waits fewer e k out unfound next_ begun minutes U X Z w m failed k' noted noted' out' W Y way g sound;
     }
 
     -- and the unit failed behind that
-    taken-fails : falls_of (ending_of way) ≡ 0 → (z : Card → Standing) → failed ≡ true → DevicesUnpowered o.found (carried (judged_values (find_of e (Accepted entered.replayed)) (out.marks.items ++ card_marks e.which clock entered.owed.items) cabin (values_with k out unfound next_ begun minutes)) w.due (kept_all w.new w.b.run.book) z (for_card e.which (k.journal.kept ∷ w.brought e.which) w.brought)) (arranged e.which W Y Z) → RecordAtFailure o done s (In n) fewer None (judged_values (find_of e (Accepted entered.replayed)) (out.marks.items ++ card_marks e.which clock entered.owed.items) cabin (values_with k out unfound next_ begun minutes)) (arranged e.which W Y Z)
+    taken-fails : falls_of (ending_of way) ≡ 0 → (z : Card → Standing) → failed ≡ true → DevicesUnpowered o.found (carried (judged_values (find_of e (Accepted entered.replayed)) (out.marks.items ++ card_marks e.which clock entered.owed.items) cabin (values_with k out unfound next_ begun minutes)) w.due (kept_all w.new w.b.run.book) z (for_card e.which (k.journal.kept ∷ w.brought e.which) w.brought) w.hands w.firsts) (arranged e.which W Y Z) → RecordAtFailure o done s (In n) fewer None (judged_values (find_of e (Accepted entered.replayed)) (out.marks.items ++ card_marks e.which clock entered.owed.items) cabin (values_with k out unfound next_ begun minutes)) (arranged e.which W Y Z)
     taken-fails calm z fails powerless = judging-fails (arranged e.which U X Z) (arranged e.which W Y Z) o done s (In n) waits fewer (values_with k out unfound next_ begun minutes) w e.which (find_of e (Accepted entered.replayed)) (out.marks.items ++ card_marks e.which clock entered.owed.items) cabin (for_card e.which (k.journal.kept ∷ w.brought e.which) w.brought) taken-judged
         (breakdowns o done s n waits fewer e k out unfound next_ begun minutes U X Z w m failed k' noted noted' out' W Y way g sound calm)
         (record { standing = z; powerless = powerless; broke = unit-broke o done s n waits fewer e k out unfound next_ begun minutes U X Z w m failed k' noted noted' out' W Y way g sound fails; no_keeping = λ keeping. not-keeping n keeping })
@@ -144,6 +181,12 @@ module _ (o : Origin) (done : List TraceSecond) (s : TraceSecond) (n : ℕ) (wai
     abbrev pretended : Cabin
     pretended = record { slots = put_in e.slot e.which (Some entered.session.minute) k.cabin.slots; cards = with_sizes e.which sizes k.cabin.cards }
 
+    bare-still : (b : Session) → session_of (with_sizes e.which sizes k.cabin.cards) e.which ≡ Some b → ⊥
+    bare-still b some = let both : None ≡ Some b = sym m.bare ∙ sym (session-sized e.which e.which sizes k.cabin.cards) ∙ some in cc
+
+    none-yet : (b : Session) → session_of (with_sizes e.which sizes k.cabin.cards) e.which ≡ Some b → b.held ≡ none_held (s.number / 60)
+    none-yet b some = absurd (bare-still b some)
+
     pub unnoted : falls_of (ending_of way) ≡ 0 → failed ≡ true → values_with k' out' unfound next_ begun minutes ≡ judged_values (find_of e (Accepted entered.replayed)) (out.marks.items ++ card_marks e.which clock entered.owed.items) (with_sizes_of e.which sizes k.cabin) (values_with k out unfound next_ begun minutes)
         → IsTakenOn (Unnoted entered clock) true e k.journal.kept o.found (with_marks (card_marks e.which clock entered.owed.items) (with_standing e.which Out (before o done s n waits fewer e k out unfound next_ begun minutes U X Z w m))) (with_sizes e.which sizes k.cabin.cards) (arranged e.which W Y Z)
         → GoesOnOrIsCut failed o done s n waits fewer (values_with k out unfound next_ begun minutes) (values_with k' out' unfound next_ begun minutes) (arranged e.which U X Z) (arranged e.which W Y Z) w
@@ -153,7 +196,7 @@ module _ (o : Origin) (done : List TraceSecond) (s : TraceSecond) (n : ℕ) (wai
           left = fewer;
           cabin = pretended;
           same = ap (λ (q : SlotsKept). record (with_power_lost s.number (with_sizes_of e.which sizes k.cabin)) { slots = q }) (cut-same k.cabin.slots e.slot e.which (Some entered.session.minute) s.number m.seat);
-          within = taken-fails pretended refl found (λ x some. inl (subst (λ (q : Option Session). is_some q ≡ true) (session-sized e.which x sizes k.cabin.cards) some)) calm (for_card e.which Out w.standing) fails powerless;
+          within = taken-fails pretended refl found (λ x some. inl (subst (λ (q : Option Session). is_some q ≡ true) (session-sized e.which x sizes k.cabin.cards) some)) none-yet (λ x apart. session-sized e.which x sizes k.cabin.cards) (λ b some. absurd (bare-still b some)) (λ b some. absurd (bare-still b some)) calm (for_card e.which Out w.standing) fails powerless;
         }))
 
   -- ---- it is seated
@@ -163,10 +206,27 @@ module _ (o : Origin) (done : List TraceSecond) (s : TraceSecond) (n : ℕ) (wai
     here = (seated entered.look entered.session entered.row entry noted e (with_sizes_of e.which sizes k.cabin))
 
     abbrev a : Session
-    a = record { session = entered.session; entry = entry; noted = and_one noted }
+    a = record { session = entered.session; held = none_held (e.at.second / 60); entry = entry; noted = and_one noted }
 
     abbrev z : Card → Standing
     z = for_card e.which (IsIn e.at.second entered.session.minute) (for_card e.which Out w.standing)
+
+    seated-fresh : (b : Session) → session_of (seated entered.look entered.session entered.row entry noted e (with_sizes_of e.which sizes k.cabin)).cards e.which ≡ Some b → b.held ≡ none_held (s.number / 60)
+    seated-fresh b some = sym (ap (λ (x : Session). x.held) (own-is a b (sym (seated-own e.which entered.look.number entered.row a sizes k.cabin.cards) ∙ some))) ∙ ap (λ (u : ℕ). none_held (u / 60)) (now-is o done s n waits fewer e k out unfound next_ begun minutes U X Z w m)
+
+    seated-apart : (x : Card) → same_card e.which x ≡ false → session_of (seated entered.look entered.session entered.row entry noted e (with_sizes_of e.which sizes k.cabin)).cards x ≡ session_of k.cabin.cards x
+    seated-apart x apart = seated-others e.which x entered.look.number entered.row a sizes k.cabin.cards apart
+
+    seated-above : (b : Session) → session_of (seated entered.look entered.session entered.row entry noted e (with_sizes_of e.which sizes k.cabin)).cards e.which ≡ Some b → trimmed_by (found_of o.found e.which).start ((found_of o.found e.which).start.entries ++ brought_by e.which (found_of o.found e.which).start (kept_all w.new w.b.run.book)) ≤ b.session.minute
+    seated-above b some =
+        let least = told.answers.least in
+        let same : entered.session.minute ≡ b.session.minute = ap (λ (x : Session). x.session.minute) (own-is a b (sym (seated-own e.which entered.look.number entered.row a sizes k.cabin.cards) ∙ some)) in
+        omega (arith, least, same)
+
+    seated-under : (b : Session) → session_of (seated entered.look entered.session entered.row entry noted e (with_sizes_of e.which sizes k.cabin)).cards e.which ≡ Some b → b.session.minute ≤ newest_minute (start_at o) (kept_all w.new w.b.run.book).sure e.which s.number
+    seated-under b some =
+        let same : entered.session.minute ≡ b.session.minute = ap (λ (x : Session). x.session.minute) (own-is a b (sym (seated-own e.which entered.look.number entered.row a sizes k.cabin.cards) ∙ some)) in
+        subst (λ (j : ℕ). j ≤ newest_minute (start_at o) (kept_all w.new w.b.run.book).sure e.which s.number) same under
 
     others-stand : (x : Card) → (x ≡ e.which → ⊥) → z x ≡ w.standing x
     others-stand x apart = for-other e.which x (IsIn e.at.second entered.session.minute) (for_card e.which Out w.standing) apart ∙ for-other e.which x Out w.standing apart
@@ -176,7 +236,7 @@ module _ (o : Origin) (done : List TraceSecond) (s : TraceSecond) (n : ℕ) (wai
 
     module _ (found : AreFoundCards o.found ((seated entered.look entered.session entered.row entry noted e (with_sizes_of e.which sizes k.cabin))).cards) where
       seated-judged : IsJudged o done s (In n) waits fewer (values_with k out unfound next_ begun minutes) (arranged e.which U X Z) (arranged e.which W Y Z) w e.which (find_of e (Accepted entered.replayed)) (out.marks.items ++ card_marks e.which clock entered.owed.items) (seated entered.look entered.session entered.row entry noted e (with_sizes_of e.which sizes k.cabin)) (for_card e.which (k.journal.kept ∷ w.brought e.which) w.brought)
-      seated-judged = taken-judged (seated entered.look entered.session entered.row entry noted e (with_sizes_of e.which sizes k.cabin)) refl found (λ x some. seated-sessions e.which x entered.look.number entered.row a sizes k.cabin.cards some)
+      seated-judged = taken-judged (seated entered.look entered.session entered.row entry noted e (with_sizes_of e.which sizes k.cabin)) refl found (λ x some. seated-sessions e.which x entered.look.number entered.row a sizes k.cabin.cards some) seated-fresh seated-apart seated-above seated-under
 
       seated-goes : falls_of (ending_of way) ≡ 0 → (b : Bool) → failed ≡ b → IsTakenOn (Seated entered clock entry) b e k.journal.kept o.found (with_marks (card_marks e.which clock entered.owed.items) (with_standing e.which Out (before o done s n waits fewer e k out unfound next_ begun minutes U X Z w m))) ((seated entered.look entered.session entered.row entry noted e (with_sizes_of e.which sizes k.cabin))).cards (arranged e.which W Y Z)
           → GoesOnOrIsCut b o done s n waits fewer (values_with k out unfound next_ begun minutes) (judged_values (find_of e (Accepted entered.replayed)) (out.marks.items ++ card_marks e.which clock entered.owed.items) (seated entered.look entered.session entered.row entry noted e (with_sizes_of e.which sizes k.cabin)) (values_with k out unfound next_ begun minutes)) (arranged e.which U X Z) (arranged e.which W Y Z) w
@@ -187,8 +247,8 @@ module _ (o : Origin) (done : List TraceSecond) (s : TraceSecond) (n : ℕ) (wai
         cabin = (seated entered.look entered.session entered.row entry noted e (with_sizes_of e.which sizes k.cabin));
         same = refl;
         within = ⊎_elim
-            (λ out_. taken-fails (seated entered.look entered.session entered.row entry noted e (with_sizes_of e.which sizes k.cabin)) refl found (λ x some. seated-sessions e.which x entered.look.number entered.row a sizes k.cabin.cards some) calm (for_card e.which Out w.standing) is out_)
-            (λ in_. taken-fails (seated entered.look entered.session entered.row entry noted e (with_sizes_of e.which sizes k.cabin)) refl found (λ x some. seated-sessions e.which x entered.look.number entered.row a sizes k.cabin.cards some) calm z is in_)
+            (λ out_. taken-fails (seated entered.look entered.session entered.row entry noted e (with_sizes_of e.which sizes k.cabin)) refl found (λ x some. seated-sessions e.which x entered.look.number entered.row a sizes k.cabin.cards some) seated-fresh seated-apart seated-above seated-under calm (for_card e.which Out w.standing) is out_)
+            (λ in_. taken-fails (seated entered.look entered.session entered.row entry noted e (with_sizes_of e.which sizes k.cabin)) refl found (λ x some. seated-sessions e.which x entered.look.number entered.row a sizes k.cabin.cards some) seated-fresh seated-apart seated-above seated-under calm z is in_)
             powerless;
       }
 
@@ -214,6 +274,7 @@ module _ (o : Origin) (done : List TraceSecond) (s : TraceSecond) (n : ℕ) (wai
         slots_are = ap (λ (slot : Option Slot). left_from slot e.at.second ((seated entered.look entered.session entered.row entry noted e (with_sizes_of e.which sizes k.cabin))).slots) (slot-put e.slot e.which (Some entered.session.minute) k.cabin.slots m.elsewhere) ∙ ap (λ (u : ℕ). taken e.slot u ((seated entered.look entered.session entered.row entry noted e (with_sizes_of e.which sizes k.cabin))).slots) (now-is o done s n waits fewer e k out unfound next_ begun minutes U X Z w m);
         found = found;
         sessions = old-lost e.which entered.look.number entered.row a sizes k.cabin.cards;
+        lasts = less-stay e.which (seated entered.look entered.session entered.row entry noted e (with_sizes_of e.which sizes k.cabin)).cards;
       }
 
       lost-goes : (b : Bool) → failed ≡ b → IsTakenOn (Lost entered clock entry) b e k.journal.kept o.found (with_marks (card_marks e.which clock entered.owed.items) (with_standing e.which Out (before o done s n waits fewer e k out unfound next_ begun minutes U X Z w m))) (torn_out e.which e.at.second (seated entered.look entered.session entered.row entry noted e (with_sizes_of e.which sizes k.cabin))).cards (arranged e.which W Y Z)

@@ -38,12 +38,13 @@ use Rattle.run_insertion.specs.Entering.{Way, ending_of, falls_of, find_of}
 use Rattle.run_insertion.specs.Told.{IsCarriedOn, MayHaveWritten}
 use Rattle.run_record.specs.Recorded.{Values}
 use Rattle.run_record.specs.Within.{course_in, often, VerdictBy, AreOld, RecordInSecond, RecordAtFailure}
-use Rattle.run_record.specs.Judging.{IsSeatedBy, IsJudged, MayBeWrittenBy, IsTornNext, judged_values, torn_values}
+use Rattle.run_record.specs.Judging.{IsSeatedBy, IsJudged, MayBeWrittenBy, IsTornNext, judged_values, torn_values, OpensBy}
 use Rattle.run_record.proofs.Steps.{failure-recorded}
 use Rattle.run_record.proofs.Judging.{judged-so, judging-fails}
 use Rattle.run_record.proofs.Tearing.{torn-next, tearing-fails}
 use Rattle.run_acts.specs.Entered.{values_with, MayJudge, HasGone, AreSound, IsCut, GoesOnOrIsCut}
 use Rattle.run_acts.proofs.EnteredFacts.{each, for-other, before, now-is, left, there, breakdowns, broke-once, unit-broke, travels, untouched}
+use Rattle.run_record.specs.Handed.{StayOrEnd}
 
 pub not-keeping : (n : ℕ) → In n ≡ Keeping → ⊥
 not-keeping n is = cc
@@ -76,7 +77,10 @@ cut-cabin o done s at waits speed v d cards found w = record {
   due = w.due;
   standing = w.standing;
   brought = w.brought;
+  hands = w.hands;
+  firsts = w.firsts;
   powerless = w.powerless;
+  handed = w.handed;
   found = found;
   early = w.early;
   late = w.late;
@@ -109,12 +113,22 @@ old-torn A sizes cards B some = some
 old-torn B sizes cards A some = some
 old-torn B sizes cards B some = absurd (cc)
 
+-- and each session is as it was, or is over
+fewer-torn : (c : Card) (sizes : Result Application ℕ) (cards : Cards) → StayOrEnd (session_of cards) (session_of (with_session c None (with_sizes c sizes cards)))
+fewer-torn A sizes cards A = inr refl
+fewer-torn A sizes cards B = inl refl
+fewer-torn B sizes cards A = inl refl
+fewer-torn B sizes cards B = inr refl
+
 module _ (o : Origin) (done : List TraceSecond) (s : TraceSecond) (n : ℕ) (waits fewer : List Visit) (e : Entering) (k : Keeper) (out : Outcome) (unfound next_ begun : ℕ) (minutes : Kept) (U X Z : State) (w : RecordInSecond o done s (In n) waits None [] (values_with k out unfound next_ begun minutes) (arranged e.which U X Z)) (m : MayJudge o done s n waits fewer e k out unfound next_ begun minutes U X Z w) (failed : Bool) (k' : Keeper) (noted noted' : ℕ) (out' : Outcome) (W Y : State) (way : Way) (g : HasGone e failed k k' noted noted' out out' U W X Y Z way) (sound : AreSound U W X Y) where
   -- ---- IT IS TURNED AWAY
 
   module _ (verdict : Verdict) (refused : is_accepting verdict ≡ false) (sizes : Result Application ℕ) (found : AreFoundCards o.found (with_sizes e.which sizes k.cabin.cards))
       (may : (many : ℕ) × (many ≤ often o w.b done (course_in w.b done s (In n) (values_with k out unfound next_ begun minutes).log) s.number e.which) × VerdictBy o w.b done many out.marks.items ((arranged e.which W Y Z).unit.left_since o.found.unit.began) ((card_of (arranged e.which W Y Z) e.which).left_since (found_of o.found e.which).began) e.which s.number verdict)
       (never : MayHaveWritten (ending_of way) → ⊥) where
+    accepts-not : is_accepting verdict ≡ true → ⊥
+    accepts-not accepts = let both : true ≡ false = sym accepts ∙ refused in cc
+
     turned : IsJudged o done s (In n) waits fewer (values_with k out unfound next_ begun minutes) (arranged e.which U X Z) (arranged e.which W Y Z) w e.which (find_of e verdict) out.marks.items (with_sizes_of e.which sizes k.cabin) w.brought
     turned = record {
       next = m.next_;
@@ -131,11 +145,14 @@ module _ (o : Origin) (done : List TraceSecond) (s : TraceSecond) (n : ℕ) (wai
       there = there o done s n waits fewer e k out unfound next_ begun minutes U X Z w m failed k' noted noted' out' W Y way g sound;
       sessions = λ x some. inl (subst (λ (q : Option Accepted). is_some q ≡ true) (session-sized e.which x sizes k.cabin.cards) some);
       untouched = λ x same. ⊎_elim (λ still. inl still) (λ wrote. absurd (never wrote.2)) (untouched o done s n waits fewer e k out unfound next_ begun minutes U X Z w m failed k' noted noted' out' W Y way g sound x same);
+      first = m.origin.first;
+      start = m.origin.start e.which;
+      opens = subst (λ (b : Bool). OpensBy b o (arranged e.which U X Z) e.which s.number verdict out.marks.items out.marks.items (session_of k.cabin.cards e.which) (session_of (with_sizes e.which sizes k.cabin.cards) e.which)) (sym refused) (refl, inl (session-sized e.which e.which sizes k.cabin.cards));
+      others = λ x apart. session-sized e.which x sizes k.cabin.cards;
+      above = λ accepts a some. absurd (accepts-not accepts);
+      under = λ accepts a some. absurd (accepts-not accepts);
       travels = travels o done s n waits fewer e k out unfound next_ begun minutes U X Z w m failed k' noted noted' out' W Y way g sound;
     }
-
-    accepts-not : is_accepting verdict ≡ true → ⊥
-    accepts-not accepts = let both : true ≡ false = sym accepts ∙ refused in cc
 
     turned-goes : falls_of (ending_of way) ≡ 0 → (b : Bool) → failed ≡ b → IsCarriedOn b o.found (with_standing e.which Out (before o done s n waits fewer e k out unfound next_ begun minutes U X Z w m)) (with_sizes e.which sizes k.cabin.cards) (arranged e.which W Y Z)
         → GoesOnOrIsCut b o done s n waits fewer (values_with k out unfound next_ begun minutes) (judged_values (find_of e verdict) out.marks.items (with_sizes_of e.which sizes k.cabin) (values_with k out unfound next_ begun minutes)) (arranged e.which U X Z) (arranged e.which W Y Z) w
@@ -171,6 +188,7 @@ module _ (o : Origin) (done : List TraceSecond) (s : TraceSecond) (n : ℕ) (wai
       slots_are = ap (λ (slot : Option Slot). left_from slot e.at.second k.cabin.slots) sits ∙ ap (λ (u : ℕ). taken e.slot u k.cabin.slots) (now-is o done s n waits fewer e k out unfound next_ begun minutes U X Z w m);
       found = found;
       sessions = old-torn e.which sizes k.cabin.cards;
+      lasts = fewer-torn e.which sizes k.cabin.cards;
       left = left o done s n waits fewer e k out unfound next_ begun minutes U X Z w m failed k' noted noted' out' W Y way g sound;
       there = there o done s n waits fewer e k out unfound next_ begun minutes U X Z w m failed k' noted noted' out' W Y way g sound;
       untouched = each e.which U W X Y Z (λ (c : Card) (a b : State). IsUntouched (found_of o.found c) a → IsUntouched (found_of o.found c) b ⊎ ((is_some (session_of k.cabin.cards c) ≡ true) ⊎ MayBeWrittenBy o s.number e.which c))

@@ -43,7 +43,7 @@ use Rattle.run_acts.proofs.EnteredFacts.{before, now-is, card-tells, card-began,
 use Rattle.run_acts.proofs.EnteredLines.{lined-as, marks-are, values-as}
 use Rattle.run_acts.proofs.EnteredTurned.{turned-away, torn-first, unasked}
 use Rattle.run_acts.proofs.EnteredTaken.{unnoted, seated-so, lost-since}
-use Rattle.run_acts.proofs.EnteredNewest.{answered}
+use Rattle.run_acts.proofs.EnteredNewest.{answered, not-later}
 use Rattle.run_acts.proofs.EnteredVerdict.{bad-sizes, bad-file, not-valid, later-time, accepted-may}
 
 -- the numbers that cards have told go with them
@@ -149,7 +149,7 @@ module _ (o : Origin) (done : List TraceSecond) (s : TraceSecond) (n : ℕ) (wai
       not-noted : HasGone e failed k k' noted noted' out out' U W X Y Z (Judged app (Unnoted entered clock)) → Goes
       not-noted g =
           let r = known o done s n waits fewer e k out unfound next_ begun minutes U X Z w m failed k' noted noted' out' W Y (Judged app (Unnoted entered clock)) g sound in
-          unnoted o done s n waits fewer e k out unfound next_ begun minutes U X Z w m failed k' noted noted' out' W Y (Judged app (Unnoted entered clock)) g sound entered clock r.told (answered o done s n waits fewer e k out unfound next_ begun minutes U X Z w m sound.card_before entered r.told)
+          unnoted o done s n waits fewer e k out unfound next_ begun minutes U X Z w m failed k' noted noted' out' W Y (Judged app (Unnoted entered clock)) g sound entered clock r.told (answered o done s n waits fewer e k out unfound next_ begun minutes U X Z w m sound.card_before entered r.told) (not-later o done s n waits fewer e k out unfound next_ begun minutes U X Z w m sound.card_before entered r.told)
           (accepted-may o done s n waits fewer e k out unfound next_ begun minutes U X Z w m sound.card_before sound.unit_before W Y (left o done s n waits fewer e k out unfound next_ begun minutes U X Z w m failed k' noted noted' out' W Y (Judged app (Unnoted entered clock)) g sound) entered clock r.told) (Ok app)
           (cards-behind o done s n waits fewer e k out unfound next_ begun minutes U X Z w m failed k' noted noted' out' W Y (Judged app (Unnoted entered clock)) g sound (λ (q : Cards). AreFoundCards o.found q) r.found) refl g.entered.is.0
           (values-behind o done s n waits fewer e k out unfound next_ begun minutes U X Z w m failed k' noted noted' out' W Y (Judged app (Unnoted entered clock)) g sound ∙ lined-as (out.breaks.items ++ []) out.breaks.items out.refused.items (out.finds.items ++ find_of e (Accepted entered.replayed) ∷ []) _ (and_marks (device_of e.which) clock (last_of entered.owed.items entered.replayed) out.marks).items (out.marks.items ++ card_marks e.which clock entered.owed.items) (with_sizes_of e.which (Ok app) k.cabin) unfound next_ begun minutes k.odometer (append-nil out.breaks.items) refl (all-marked r.told))
@@ -159,7 +159,7 @@ module _ (o : Origin) (done : List TraceSecond) (s : TraceSecond) (n : ℕ) (wai
         is-seated : HasGone e failed k k' noted noted' out out' U W X Y Z (Judged app (Seated entered clock entry)) → Goes
         is-seated g =
             let r = known o done s n waits fewer e k out unfound next_ begun minutes U X Z w m failed k' noted noted' out' W Y (Judged app (Seated entered clock entry)) g sound in
-            seated-so o done s n waits fewer e k out unfound next_ begun minutes U X Z w m failed k' noted noted' out' W Y (Judged app (Seated entered clock entry)) g sound entered clock r.told (answered o done s n waits fewer e k out unfound next_ begun minutes U X Z w m sound.card_before entered r.told)
+            seated-so o done s n waits fewer e k out unfound next_ begun minutes U X Z w m failed k' noted noted' out' W Y (Judged app (Seated entered clock entry)) g sound entered clock r.told (answered o done s n waits fewer e k out unfound next_ begun minutes U X Z w m sound.card_before entered r.told) (not-later o done s n waits fewer e k out unfound next_ begun minutes U X Z w m sound.card_before entered r.told)
             (accepted-may o done s n waits fewer e k out unfound next_ begun minutes U X Z w m sound.card_before sound.unit_before W Y (left o done s n waits fewer e k out unfound next_ begun minutes U X Z w m failed k' noted noted' out' W Y (Judged app (Seated entered clock entry)) g sound) entered clock r.told) entry (Ok app)
             (cards-behind o done s n waits fewer e k out unfound next_ begun minutes U X Z w m failed k' noted noted' out' W Y (Judged app (Seated entered clock entry)) g sound (λ (q : Cards). AreFoundCards o.found q) r.found)
             refl (values-behind o done s n waits fewer e k out unfound next_ begun minutes U X Z w m failed k' noted noted' out' W Y (Judged app (Seated entered clock entry)) g sound ∙ lined-as (out.breaks.items ++ []) out.breaks.items out.refused.items (out.finds.items ++ find_of e (Accepted entered.replayed) ∷ []) _ (and_marks (device_of e.which) clock (last_of entered.owed.items entered.replayed) out.marks).items (out.marks.items ++ card_marks e.which clock entered.owed.items) (seated entered.look entered.session entered.row entry noted e (with_sizes_of e.which (Ok app) k.cabin)) unfound next_ begun minutes k.odometer (append-nil out.breaks.items) refl (all-marked r.told))
@@ -169,7 +169,7 @@ module _ (o : Origin) (done : List TraceSecond) (s : TraceSecond) (n : ℕ) (wai
         is-lost g =
             let r = known o done s n waits fewer e k out unfound next_ begun minutes U X Z w m failed k' noted noted' out' W Y (Judged app (Lost entered clock entry)) g sound in
             let found = cards-behind o done s n waits fewer e k out unfound next_ begun minutes U X Z w m failed k' noted noted' out' W Y (Judged app (Lost entered clock entry)) g sound (λ (q : Cards). AreFoundCards o.found q) r.found in
-            lost-since o done s n waits fewer e k out unfound next_ begun minutes U X Z w m failed k' noted noted' out' W Y (Judged app (Lost entered clock entry)) g sound entered clock r.told (answered o done s n waits fewer e k out unfound next_ begun minutes U X Z w m sound.card_before entered r.told)
+            lost-since o done s n waits fewer e k out unfound next_ begun minutes U X Z w m failed k' noted noted' out' W Y (Judged app (Lost entered clock entry)) g sound entered clock r.told (answered o done s n waits fewer e k out unfound next_ begun minutes U X Z w m sound.card_before entered r.told) (not-later o done s n waits fewer e k out unfound next_ begun minutes U X Z w m sound.card_before entered r.told)
             (accepted-may o done s n waits fewer e k out unfound next_ begun minutes U X Z w m sound.card_before sound.unit_before W Y (left o done s n waits fewer e k out unfound next_ begun minutes U X Z w m failed k' noted noted' out' W Y (Judged app (Lost entered clock entry)) g sound) entered clock r.told) entry (Ok app)
             (found-before o.found e.which (seated entered.look entered.session entered.row entry noted e (with_sizes_of e.which (Ok app) k.cabin)).cards found) found g.entered.broken
             (values-behind o done s n waits fewer e k out unfound next_ begun minutes U X Z w m failed k' noted noted' out' W Y (Judged app (Lost entered clock entry)) g sound ∙ lined-as (out.breaks.items ++ tear_of e.slot e.at ∷ []) _ out.refused.items (out.finds.items ++ find_of e (Accepted entered.replayed) ∷ []) _ (and_marks (device_of e.which) clock (last_of entered.owed.items entered.replayed) out.marks).items (out.marks.items ++ card_marks e.which clock entered.owed.items) (torn_out e.which e.at.second (seated entered.look entered.session entered.row entry noted e (with_sizes_of e.which (Ok app) k.cabin))) unfound next_ begun minutes k.odometer refl refl (all-marked r.told))

@@ -86,7 +86,7 @@ untouched-card : (f : CardFound) (session after : Option Accepted) (old new : St
 untouched-card f None after old new h whole = inl (λ x at. whole x (h.bare refl f.began x at))
 untouched-card f (Some a) after old new h whole = inr refl
 
-module _ (o : Origin) (w : RunLedger) (failed : Bool) (cards after : Cards) (d e : Devices) (powered : DevicesPowered o.found w cards d) (there : AreThere o.found d) (h : DevicesGoOn failed cards after d e) (timed : AreTimedOn o.found d e) where
+module _ (o : Origin) (w : RunLedger) (failed : Bool) (cards after : Cards) (d e : Devices) (powered : DevicesPowered o.found w cards d) (there : AreThere o.found d) (h : DevicesGoOn failed cards after d e) (values : List ℕ) (timed : AreTimedOn o.found values d e) where
   -- where the unit failed it broke down
   pub unit-rose : failed ≡ true → RoseBy 1 (breakdowns_of d Recorder) (breakdowns_of e Recorder)
   unit-rose is = rose-by d.unit.breakdowns e.unit.breakdowns (h.cause.breaks powered.lit.works is)

@@ -16,6 +16,7 @@ pub mod RoundLeaving
 pub mod RoundFates
 pub mod Round
 pub mod RoundFound
+pub mod RoundHanded
 pub mod RoundReached
 pub mod RoundBegun
 pub mod RoundWhole
@@ -85,6 +86,7 @@ pub mod RingedPlace
 pub mod RingedWithdrawn
 pub mod RingedClosed
 pub mod RingedGap
+pub mod Readings
 pub mod RingedTurn
 pub mod Stored
 pub mod StoredRun
@@ -108,3 +110,5 @@ pub mod StayUses
 pub mod PulledBy
 pub mod OwedOn
 pub mod OwedNow
+pub mod ByHand
+pub mod HeldStays

@@ -251,7 +251,7 @@ module _ (o : Origin) (done : List TraceSecond) (s : TraceSecond) (at : Phase) (
 module _ (o : Origin) (done : List TraceSecond) (s : TraceSecond) (n : ℕ) (run : Run) (out : Outcome) (U V X Y : State) (whole : IsCoherent U) (unit : LeavesOnly U V LeavesJournal) (span : Span) (stands : CountsSpan run.minutes span) (ends : end_of span ≡ run.next)
     (w : RunWithin o done s (In n) [] [] run out (devices U X Y)) where
   abbrev noted-carries : RunLedger
-  noted-carries = carried (values_of run out) w.within.due (kept_all w.within.new w.within.b.run.book) w.within.standing w.within.brought
+  noted-carries = carried (values_of run out) w.within.due (kept_all w.within.new w.within.b.run.book) w.within.standing w.within.brought w.within.hands w.within.firsts
 
   unit-began : o.found.unit.began ≤ U.clock
   unit-began = (w.within.powered.lit.unit.unit_holds [] []).later
@@ -355,7 +355,7 @@ module _ (c : Card) (slot : Slot) (at : Moment) (run : Run) (breaks : Listed Bre
     v = values_of run (record out { breaks = breaks })
 
     abbrev carries : RunLedger
-    carries = carried v w.within.due (kept_all w.within.new w.within.b.run.book) w.within.standing w.within.brought
+    carries = carried v w.within.due (kept_all w.within.new w.within.b.run.book) w.within.standing w.within.brought w.within.hands w.within.firsts
 
     -- what was noted so far
     abbrev here-notes : List Note

@@ -49,11 +49,11 @@ module _ (f : Found) (w : RunLedger) (cards after : Cards) (c : Card) (U X Y Z :
   parts : AreParts f w cards c U X Z
   parts = parts-of f w cards c U X Z p
 
-  mine : IsOwnValid (found_of f c).image → CardLit f w.book (w.standing c) (w.brought c) (Some a) c U X
-  mine valid = subst (λ (s : Option Accepted). CardLit f w.book (w.standing c) (w.brought c) s c U X) has (parts.mine valid)
+  mine : IsOwnValid (found_of f c).image → CardLit f w.book (w.standing c) (w.hands c) (w.firsts c) (w.brought c) (Some a) c U X
+  mine valid = subst (λ (s : Option Accepted). CardLit f w.book (w.standing c) (w.hands c) (w.firsts c) (w.brought c) s c U X) has (parts.mine valid)
 
   by-own : IsOwnValid (found_of f c).image → LeavesOnly X Y (IsNote (own_sizes (found_of f c).image))
-  by-own valid = subst (λ (app : Application). LeavesOnly X Y (IsNote app)) (mine valid).goes.goes.sizes run
+  by-own valid = subst (λ (app : Application). LeavesOnly X Y (IsNote app)) (mine valid).goes.goes.0.sizes run
 
   room : IsOwnValid (found_of f c).image → image_size_of (own_sizes (found_of f c).image) ≤ X.size
   room valid = let fits = largest_image (own_sizes (found_of f c).image) (found.sizes c valid) in omega (arith, fits, size)
@@ -96,15 +96,15 @@ module _ (f : Found) (w : RunLedger) (cards after : Cards) (c : Card) (U X Y Z :
     where
       by : IsOwnValid (found_of f c).image ⊎ (IsOwnValid (found_of f c).image → ⊥) → DevicesPowered f (with_standing c (fallen floor (w.standing c)) w) after (arranged c U Y Z)
       by (inl valid) =
-          let on : SessionIsOnCard (found_of f c) (mine valid).goes.has (w.standing c) a.session X = (mine valid).goes.goes in
+          let on : SessionIsOnCard (found_of f c) (w.hands c) (mine valid).goes.has (w.standing c) a.session X = (mine valid).goes.goes.0 in
           let is : Torn on.time a.session.minute floor ≡ fallen floor (w.standing c) = ap (fallen floor) (sym on.stands) in
           subst (λ (z : Standing). DevicesPowered f (with_standing c z w) after (arranged c U Y Z)) is
           (noted-off f w cards c U X Y Z found unit_whole whole later a value has p (by-own valid) on.time floor after found_after none same (λ _. on.stands))
       by (inr bad) = powered-of f (with_standing c (fallen floor (w.standing c)) w) after c U Y Z found_after (record {
         unit = record { tells = parts.unit.tells; works = parts.unit.works; unit = parts.unit.unit; none = parts.unit.none };
         mine = λ valid. absurd (bad valid);
-        others = λ valid. subst (λ (s : Option Accepted). CardLit f w.book (for_card c (fallen floor (w.standing c)) w.standing (other c)) (w.brought (other c)) s (other c) U Z) (sym same)
-            (at-other c (fallen floor (w.standing c)) w.standing (λ (z : Standing). CardLit f w.book z (w.brought (other c)) (session_of cards (other c)) (other c) U Z) (parts.others valid));
+        others = λ valid. subst (λ (s : Option Accepted). CardLit f w.book (for_card c (fallen floor (w.standing c)) w.standing (other c)) (w.hands (other c)) (w.firsts (other c)) (w.brought (other c)) s (other c) U Z) (sym same)
+            (at-other c (fallen floor (w.standing c)) w.standing (λ (z : Standing). CardLit f w.book z (w.hands (other c)) (w.firsts (other c)) (w.brought (other c)) (session_of cards (other c)) (other c) U Z) (parts.others valid));
         marks_mine = no-marks f c w.book w.marks X Y bad parts.marks_mine;
         marks_others = parts.marks_others;
       })

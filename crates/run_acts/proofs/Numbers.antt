@@ -12,6 +12,7 @@ use Rattle.card_image.specs.Fields.{file, card_number}
 use Rattle.tach_media.specs.Medium.{bytes_at}
 use Rattle.card_image.specs.Own.{own_sizes, own_number, own_bad_file, IsOwnValid}
 use Rattle.event_model.specs.declared.kinds.TheConstants.{OVER_SPEEDING}
+use Rattle.unit_model.specs.declared.layout.TheConstants.{IMAGE_SIZE, REGISTRATION}
 use Rattle.event_model.specs.Events.{Event, Crew}
 use Rattle.log_model.specs.Log.{RunLog}
 use Rattle.event_model.specs.Places.{day_place, place_of, similar_after}
@@ -22,6 +23,7 @@ use Rattle.safety_model.specs.Safe.{Devices}
 use Rattle.run_events.specs.Shown.{by_kind, none, ShowsMore, AreNumbers}
 use Rattle.run_promise.specs.Origin.{Origin}
 use Rattle.run_note_record.specs.Evented.{number_in}
+use Rattle.run_note_record.specs.Uses.{vehicle_of}
 use Rattle.run_acts.specs.NotedEvents.{AreTold, NotesSo, NotesEvents}
 use Rattle.run_acts.specs.Named.{ValidHere, NamesValid, spare, by_fault, image_or, named_as}
 
@@ -41,6 +43,10 @@ kind-inside app = omega arith
 identification-inside : (app : Application) → layout_at app (file 0x0520) + 17 ≤ image_size_of app
 unfolding files_of
 identification-inside app = omega arith
+
+-- the registration that an image of a unit tells has all its bytes
+pub vehicle-long : (x : List ℕ) → length x ≡ IMAGE_SIZE → length (vehicle_of x).0 ≡ 15
+vehicle-long x size = part-long x REGISTRATION.place REGISTRATION.size (omega (arith, size))
 
 -- where the image has all that its sizes tell
 pub own-long : (x : List ℕ) → image_size_of (own_sizes x) ≤ length x → length (own_number x) ≡ 18

@@ -26,9 +26,9 @@ use Rattle.run_promise.specs.Beside.{HaveLeftMore}
 use Rattle.run_note_record.specs.Ringed.{Ringed, LeavesRings, notes_in, since_in}
 use Rattle.run_note_record.specs.RingsSoFar.{RingedBehind, RingedIn, AreFewer, HasMoreBreaks, GoesBehind, notes_so_far}
 use Rattle.run_note_record.specs.Steps.{nobody, spans_cut}
-use Rattle.run_note_record.specs.OnCards.{PlacesStay}
+use Rattle.run_note_record.specs.OnCards.{CardsStay}
 use Rattle.run_acts.specs.CardNotes.{LeavePlaces}
-use Rattle.run_acts.proofs.CardPlaces.{leave-stay}
+use Rattle.run_acts.proofs.CardPlaces.{leave-stays}
 use Rattle.run_note_record.proofs.OnCards.{call-failed-more}
 use Rattle.run_note_record.proofs.Rings.{fewer-sit, rings-stay}
 use Rattle.run_note_record.proofs.SoFar.{failed-more, goes-alike, cut-ends}
@@ -116,7 +116,7 @@ gap-notes (Some span) at failed old new breaks after (BothSlots driver codriver)
 -- ---- before any action
 
 module _ (o : Origin) (done : List TraceSecond) (s : TraceSecond) (old new : Run) (out : Outcome) (after : Listed Break) (d e : Devices) (w : RunWithin o done s (In 0) [] [] old out d) (comes : ComesPower done out)
-    (n : NotesOn (record { second = s.number; begun = 0; late = false }) old new out.breaks after) (leaves : LeavesRings d.unit e.unit) (left : HaveLeftMore o d e) (places : PlacesStay o d e) (spans : List SpanFrom) (t : ToldSecond) (rings : RingsWithin o done s w.within.b.run.log [] old (log_of out) spans t d) where
+    (n : NotesOn (record { second = s.number; begun = 0; late = false }) old new out.breaks after) (leaves : LeavesRings d.unit e.unit) (left : HaveLeftMore o d e) (spans : List SpanFrom) (t : ToldSecond) (places : CardsStay o (with_second spans old.keeper.odometer t) d e) (rings : RingsWithin o done s w.within.b.run.log [] old (log_of out) spans t d) where
   abbrev log : RunLog
   log = log_of out
 
@@ -150,7 +150,7 @@ module _ (o : Origin) (done : List TraceSecond) (s : TraceSecond) (old new : Run
   ringed-by y more found =
       let now : List SpanFrom = with_second spans old.keeper.odometer t in
       let notes : List Note = notes_so_far w.within.b.run.log done log s [] in
-      let stays : Ringed (since_in o w.within.b.run.log done s) y now notes (seats_of old) e = rings-stay d e (since_in o w.within.b.run.log done s) log y now now notes (seats_of old) rings.ringed.ringed leaves left places (goes-alike log y now now notes (failed-more log y more) (call-failed-more log y more) (λ u. refl)) in
+      let stays : Ringed (since_in o w.within.b.run.log done s) y now notes (seats_of old) e = rings-stay d e (since_in o w.within.b.run.log done s) log y now now notes (seats_of old) rings.ringed.ringed leaves left places (goes-alike log y now now notes (failed-more log y more) (call-failed-more log y more) (λ u. refl) (λ k is. is)) in
       record {
         spans_are = rings.ringed.spans_are;
         before = rings.ringed.before;
@@ -198,4 +198,4 @@ pub note-ringed : (gap : Option Span) (failed : Bool) (old new : Run) (breaks af
     RingsGap failed old new breaks after d e
 note-ringed gap failed old new breaks after d e noted leaves left places = λ o done s out w comes spans t rings.
     let here : now_moment old ≡ record { second = s.number; begun = 0; late = false } = ap (λ (u : ℕ). record { second = u; begun = 0; late = false }) (w.within.next ∙ sym w.within.moment.number) in
-    gap-ringed o done s old new (record out { breaks = breaks }) after d e w comes (subst (λ (m : Moment). NotesOn m old new breaks after) here (gap-notes gap (now_moment old) failed old new breaks after noted.0 noted.1)) leaves (left o done s out w comes).0 (leave-stay o done s (In 0) [] [] old (record out { breaks = breaks }) d e w places) spans t rings failed
+    gap-ringed o done s old new (record out { breaks = breaks }) after d e w comes (subst (λ (m : Moment). NotesOn m old new breaks after) here (gap-notes gap (now_moment old) failed old new breaks after noted.0 noted.1)) leaves (left o done s out w comes).0 spans t (leave-stays o (with_second spans old.keeper.odometer t) done s (In 0) [] [] old (record out { breaks = breaks }) d e w places) rings failed

@@ -44,7 +44,7 @@ use Rattle.run_promise.specs.Beside.{HaveLeftMore}
 use Rattle.run_note_record.specs.Ringed.{IsPlaceIn, holder_in}
 use Rattle.run_note_record.specs.RingsSoFar.{RingedBehind, RingedIn, AreFewer}
 use Rattle.run_note_record.specs.Steps.{nobody, spans_cut}
-use Rattle.run_note_record.specs.OnCards.{has_call_failed_in, IsPlaceOn, PlaceIsTaken}
+use Rattle.run_note_record.specs.OnCards.{has_call_failed_in, IsPlaceOn, VehiclesGo, PlaceIsTaken}
 use Rattle.run_note_record.proofs.OnCards.{call-failed, call-failed-more}
 use Rattle.run_note_record.proofs.Bytes.{IsPlaceTold, place-is}
 use Rattle.run_note_record.proofs.RingSteps.{place-entered, place-is-cut}
@@ -59,11 +59,12 @@ use Rattle.run_acts.specs.Going.{end_of_seconds}
 use Rattle.run_acts.specs.Recording.{log_of, values_of, RunWithin}
 use Rattle.run_acts.specs.RunCards.{sizes_in}
 use Rattle.run_acts.specs.RunRinged.{seats_of, IsLastFrom, RingsWithin, with_cut, RingsGoOn, RingsPlace}
+use Rattle.run_acts.specs.CardWrites.{MayHavePlace}
 use Rattle.run_acts.specs.Ringing.{IsPlaceNow, WritesPlace}
 use Rattle.run_acts.proofs.Cabins.{session-known, noted-sessions}
 use Rattle.run_unit_course.specs.Lines.{cut_at}
 use Rattle.run_acts.proofs.CardStays.{session-sizes}
-use Rattle.run_acts.proofs.CardPlaces.{PlaceCall, entry-wide, place-taken, tear-failed}
+use Rattle.run_acts.proofs.CardPlaces.{PlaceCall, entry-wide, place-taken, place-go, tear-failed}
 use Rattle.run_acts.proofs.FallEvented.{known}
 use Rattle.run_acts.proofs.RingedLines.{AreTears, seats-go}
 use Rattle.run_acts.proofs.WithdrawnRecorded.{moment-is}
@@ -219,16 +220,16 @@ module _ (o : Origin) (done : List TraceSecond) (s : TraceSecond) (front rest : 
 
   pub place-ringed : (failed : Bool) (new : Run) → AreFewer (seats_of run) (seats_of new) → new.keeper.odometer ≡ run.keeper.odometer → new.noted ≡ run.noted → WritesPlace (Some number) entry failed d.unit e.unit →
       ((log : RunLog) → (has_call_failed_in later s.number ≡ true → has_call_failed_in log s.number ≡ true) → (failed ≡ true → has_call_failed_in log s.number ≡ true) → PlaceIsTaken o log note (place_bytes entry) d e) →
-      RingsGoOn failed o done s w.within.b (front ++ a ∷ []) new later spans t e
-  place-ringed false new fewer same noted writes takes = record {
+      VehiclesGo o now_spans d e → RingsGoOn failed o done s w.within.b (front ++ a ∷ []) new later spans t e
+  place-ringed false new fewer same noted writes takes goes = record {
     base = subst (λ (b : ℕ). IsLastFrom b (with_second spans b t)) (sym same) rings.base;
     counted = counted-on new noted;
     ringed = subst (λ (b : ℕ). RingedIn o done s w.within.b.run.log (front ++ a ∷ []) later spans b t (seats_of new) e) (sym same)
         (place-entered d e o done s w.within.b.run.log (log_of before) later front spans run.keeper.odometer t (seats_of run) (seats_of new) rings.ringed
         (goes-to o done s front rest a are v d w.within lines later is tears) slot ending country region x (sits-then o done s front rest a are v d w.within lines later is tears slot x sitting.1) refl
-        (unit_place_bytes number entry) writes long (stands-for later) left (place_bytes entry) (entry-wide entry) stands-on (takes later (λ h. h) (λ apart_. absurd (let wrong : false ≡ true = apart_ in cc))) fewer);
+        (unit_place_bytes number entry) writes long (stands-for later) left (place_bytes entry) (entry-wide entry) stands-on (takes later (λ h. h) (λ apart_. absurd (let wrong : false ≡ true = apart_ in cc))) goes fewer);
   }
-  place-ringed true new fewer same noted writes takes = record {
+  place-ringed true new fewer same noted writes takes goes = record {
     counted = counted-on new noted;
     lines = since-begun o done s (In (length front)) [] None [] v d w.within later (lines, ap (λ (l : RunLog). l.breaks) is);
     behind = (is-cut o done s front rest a are v d w.within lines later is tears).behind;
@@ -237,7 +238,7 @@ module _ (o : Origin) (done : List TraceSecond) (s : TraceSecond) (front rest : 
         (place-is-cut d e o done s w.within.b.run.log (log_of before) (with_cut later s (front ++ a ∷ [])) front rest spans run.keeper.odometer t (seats_of run) rings.ringed slot ending country region
         (is-cut o done s front rest a are v d w.within lines later is tears) x (sits-cut o done s front rest a are v d w.within lines later is tears slot x sitting.1) refl
         (unit_place_bytes number entry) writes long (stands-for (with_cut later s (front ++ a ∷ []))) left (place_bytes entry) (entry-wide entry) stands-on
-        (takes log_cut (call-failed-more later log_cut (cut_at s.number true (length (front ++ a ∷ [])) ∷ [], refl) s.number) (λ _. call-failed log_cut s.number (is-cut o done s front rest a are v d w.within lines later is tears).failed)));
+        (takes log_cut (call-failed-more later log_cut (cut_at s.number true (length (front ++ a ∷ [])) ∷ [], refl) s.number) (λ _. call-failed log_cut s.number (is-cut o done s front rest a are v d w.within lines later is tears).failed)) goes);
   }
 
 -- ---- AS THE CALL SAYS IT
@@ -245,7 +246,7 @@ module _ (o : Origin) (done : List TraceSecond) (s : TraceSecond) (front rest : 
 pub place-goes : (slot : Slot) (entry : PlaceEntry) (at : Moment) (failed : Bool) (old new : Run) (breaks after : Listed Break) (d e : Devices) (card : Card) (number : FullCardNumber) (fell : Bool) → card_in (seat_in old.keeper.cabin.slots.seats slot) ≡ Some card →
     number_of_seat old.keeper.cabin.cards (seat_in old.keeper.cabin.slots.seats slot) ≡ Some number → is_some (session_of old.keeper.cabin.cards card) ≡ true → (low : ℕ) → CabinIsSound low None old.keeper.cabin → at.second ≡ old.next → old.next ≤ end_of_seconds →
     IsNotedOn card slot at old new breaks after fell → (is_some d.unit.image ≡ true → WritesPlace (Some number) entry failed d.unit e.unit) → AreLeftMore d e →
-    ((a : Accepted) → session_of old.keeper.cabin.cards card ≡ Some a → PlaceCall fell failed a.session.application entry (card_of d card) (card_of e card)) → ((c : Card) → same_card card c ≡ false → (y : List ℕ) → (card_of e c).may_leave y → (card_of d c).may_leave y) →
+    ((a : Accepted) → session_of old.keeper.cabin.cards card ≡ Some a → PlaceCall fell failed a.session.application entry (card_of d card) (card_of e card) × MayHavePlace a.session.application entry (card_of d card) (card_of e card)) → ((c : Card) → same_card card c ≡ false → (y : List ℕ) → (card_of e c).may_leave y → (card_of d c).may_leave y) →
     RingsPlace slot entry at failed old new breaks after d e
 place-goes slot entry at failed old new breaks after d e card number fell seat numbered some low stands second small noted writes keeps call others = λ ending country region now late speed before is o done s here front rest are n allowed w spans t rings time.
     let number_is = here.number in
@@ -260,10 +261,11 @@ place-goes slot entry at failed old new breaks after d e card number fell seat n
     (λ torn. more (torn-told fell slot at s.number (log_of before) (second ∙ sym here.number) torn
     (log_of (record before { breaks = after })) (ap (λ (l : Listed Break). record (log_of before) { breaks = l.items }) (noted.told ∙ ap (λ (l : Listed Break). with_lines lines l) (sym is))))) cut
     (λ valid. sized (sizes_in o card) (session_of old.keeper.cabin.cards card) refl some (λ a at_. session-sizes o done s (In (length front)) [] [] old before d w card valid a at_)) others)
+    (place-go o (with_second spans old.keeper.odometer t) done s (In (length front)) [] [] old before d e w card entry some (λ a at_. (call a at_).1) others)
   where
     sized : (app : Application) (q : Option Accepted) → session_of old.keeper.cabin.cards card ≡ q → is_some q ≡ true → ((a : Accepted) → session_of old.keeper.cabin.cards card ≡ Some a → a.session.application ≡ app) → PlaceCall fell failed app entry (card_of d card) (card_of e card)
     sized app None is none sizes = absurd (let wrong : false ≡ true = none in cc)
-    sized app (Some a) is has sizes = subst (λ (p : Application). PlaceCall fell failed p entry (card_of d card) (card_of e card)) (sizes a is) (call a is)
+    sized app (Some a) is has sizes = subst (λ (p : Application). PlaceCall fell failed p entry (card_of d card) (card_of e card)) (sizes a is) (call a is).0
 
     torn-told : (fell : Bool) (slot : Slot) (at : Moment) (u : ℕ) (log : RunLog) → at.second ≡ u → fell ≡ true → (later : RunLog) → later ≡ record log { breaks = log.breaks ++ noted_breaks fell slot at } → has_call_failed_in later u ≡ true
     torn-told false slot at u log is apart_ later are = absurd (let wrong : false ≡ true = apart_ in cc)

@@ -25,7 +25,8 @@ use Rattle.run_crew.specs.declared.cards.Accepted.{Accepted}
 use Rattle.run_outcome.specs.declared.outcome.Outcome.{Outcome}
 use Rattle.run_minutes.specs.declared.keeper.Moment.{Moment}
 use Rattle.run_minutes.specs.Keeping.{SessionsGoOn}
-use Rattle.run_minutes.specs.Books.{HaveTime}
+use Rattle.run_minutes.specs.Books.{HaveTime, AreTimedOn}
+use Rattle.run_minutes.specs.Decided.{odometers_of}
 use Rattle.run_rings.specs.Notes.{TellSameTo}
 use Rattle.run_rings.specs.Spans.{with_second}
 use Rattle.run_promise.specs.Origin.{Origin, first_of}
@@ -48,11 +49,12 @@ use Rattle.run_acts.specs.Booked.{IsBookedTurn}
 use Rattle.run_acts.specs.Going.{end_of_seconds, RunHasPower}
 use Rattle.run_acts.specs.Power.{is_lit, passed, cut_run}
 use Rattle.run_acts.specs.Rounds.{told_values}
-use Rattle.run_acts.specs.Recording.{log_of, values_of, IsNow, RunWithin, RunCut}
+use Rattle.run_acts.specs.Recording.{log_of, values_of, IsOrigin, IsNow, RunWithin, RunCut}
 use Rattle.run_acts.specs.RunRinged.{seats_of, IsLastFrom, RingsWithin, TurnedRings}
 use Rattle.run_acts.specs.Turning.{late_moment, told_of, cut_where, cut_breaks, IsLitTurn}
-use Rattle.run_note_record.specs.OnCards.{PlacesStay}
-use Rattle.run_acts.proofs.CardPlaces.{timed-places}
+use Rattle.run_note_record.specs.OnCards.{CardsStay}
+use Rattle.run_acts.proofs.CardPlaces.{timed-stays}
+use Rattle.run_acts.proofs.Readings.{values-read}
 use Rattle.run_acts.proofs.TurnRecorded.{last-actions, last-number, turned, fails-last, timed-last}
 use Rattle.run_acts.proofs.StoredRun.{found-first, cut-stored}
 use Rattle.run_acts.specs.Ringing.{seating_of}
@@ -229,7 +231,7 @@ module _ {U A0 B0 : State} {chip_a chip_b : CardState} (n speed begun : ℕ) (ol
       (number : L.number ≡ old.next + n - 1) (acts : length L.actions ≡ begun)
       (fails : T.failed ≡ true → RecordAtFailure o D L Keeping [] (Some L.speed) (told_values (told_of (record old { minutes = T.fed.minutes; keeper = T.between.keeper; watch = T.between.watch }) (record before { marks = T.told.marks; breaks = T.told.breaks }))
       (record (values_of old before) { minutes = T.fed.minutes; next = next_; begun = gone })) e)
-      (places : PlacesStay o d e) (spans : List SpanFrom) (t : ToldSecond) (base : IsLastFrom old.keeper.odometer (with_second spans old.keeper.odometer t)) (counted : old.noted ≤ length (log_of before).finds) (r : RingedIn o D L w.b.run.log L.actions (log_of before) spans old.keeper.odometer t (seats_of old) d)
+      (origin : IsOrigin o) (timed : AreTimedOn o.found (odometers_of old.keeper rest) d e) (spans : List SpanFrom) (t : ToldSecond) (base : IsLastFrom old.keeper.odometer (with_second spans old.keeper.odometer t)) (counted : old.noted ≤ length (log_of before).finds) (r : RingedIn o D L w.b.run.log L.actions (log_of before) spans old.keeper.odometer t (seats_of old) d)
       (st : StoresOn o w.b.run.log w.b.run.unfound old.keeper.odometer (with_second spans old.keeper.odometer t)) where
     abbrev log : RunLog
     log = log_of before
@@ -260,6 +262,12 @@ module _ {U A0 B0 : State} {chip_a chip_b : CardState} (n speed begun : ℕ) (ol
 
     left : HaveLeftMore o d e
     left = more-left o d e (w.powered.lit.unit.unit_holds [] []).later w.there.clocks (record { unit = h.4.keeps; card_a = h.4.card_a.keeps; card_b = h.4.card_b.keeps })
+
+    -- the cards' places stay, and what it keeps on them are readings
+    places : CardsStay o (with_second spans old.keeper.odometer t) d e
+    places =
+        timed-stays o origin (odometers_of old.keeper rest) d e timed (with_second spans old.keeper.odometer t)
+        (values-read o D L Keeping [] (Some L.speed) rest v d w spans old.keeper.odometer t (record { last = base; are = r.spans_are; second = r.second }) old.keeper refl)
 
     -- by a log behind it
     module _ (later : RunLog) (lines : List Break) (is : later ≡ record log { breaks = log.breaks ++ lines }) (here : AllByRecursion (λ (b : Break). second_of b ≡ L.number) lines) where
@@ -454,9 +462,9 @@ module _ {U A0 B0 : State} {chip_a chip_b : CardState} (n speed begun : ℕ) (ol
           last-ringed o (found-first o r.origin) (done ++ s ∷ driven c (s.number + 1) s.speed []) (last_of (suc c) s) T.decided (old.next + suc c) x.begun x.fed (number-of (suc c) is) (acts-of (suc c) is)
           (fails-last n speed begun old new before after d e g lit some minute small h o done s now actions none r time (suc c) is (done ++ s ∷ driven c (s.number + 1) s.speed []) (last_of (suc c) s) (old.next + suc c) x.begun (last-number (suc c) s) refl (acts-of (suc c) is)
           x.fed x.travelled_before x.from)
-          (timed-places o r.origin d e
+          r.origin
           (timed-last n speed begun old new before after d e g lit some minute small h o done s now actions none r time (suc c) is (done ++ s ∷ driven c (s.number + 1) s.speed []) (last_of (suc c) s) (old.next + suc c) x.begun (last-number (suc c) s) refl (acts-of (suc c) is)
-          x.fed x.travelled_before x.from))
+          x.fed x.travelled_before x.from)
           q.spans t_ (goes-last base_ q.spans t_ second.lit (second.starts ∙ ap not goes-l.running) q.base_is) rings.counted
           (subst (λ (l : RunLog). RingedIn o (done ++ s ∷ driven c (s.number + 1) s.speed []) (last_of (suc c) s) l [] log_ q.spans base_ t_ (seats_of old) d) (sym log_is) begun_)
           (subst (λ (l : RunLog). StoresOn o l x.fed.b.run.unfound base_ (with_second q.spans base_ t_)) (sym log_is)
@@ -467,7 +475,8 @@ module _ {U A0 B0 : State} {chip_a chip_b : CardState} (n speed begun : ℕ) (ol
     by-count zero is x =
         last-ringed o (found-first o r.origin) done s T.decided (old.next + 0) x.begun x.fed (number-of zero is) (acts-of zero is)
         (fails-last n speed begun old new before after d e g lit some minute small h o done s now actions none r time zero is done s (old.next + 0) x.begun (last-number zero s) refl (acts-of zero is) x.fed x.travelled_before x.from)
-        (timed-places o r.origin d e (timed-last n speed begun old new before after d e g lit some minute small h o done s now actions none r time zero is done s (old.next + 0) x.begun (last-number zero s) refl (acts-of zero is) x.fed x.travelled_before x.from))
+        r.origin
+        (timed-last n speed begun old new before after d e g lit some minute small h o done s now actions none r time zero is done s (old.next + 0) x.begun (last-number zero s) refl (acts-of zero is) x.fed x.travelled_before x.from)
         spans t rings.base rings.counted
         (subst (λ (b : Beginning). RingedIn o done s b.run.log s.actions log_ spans base_ t (seats_of old) d) (sym (x.first refl)) rings.ringed)
         (subst (λ (b : Beginning). StoresOn o b.run.log b.run.unfound base_ (with_second spans base_ t)) (sym (x.first refl)) st)

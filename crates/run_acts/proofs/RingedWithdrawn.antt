@@ -35,7 +35,7 @@ use Rattle.run_promise.specs.Beside.{HaveLeftMore}
 use Rattle.run_note_record.specs.Ringed.{Seating, LeavesRings, WritesRing, MayBeWithdrawn}
 use Rattle.run_note_record.specs.RingsSoFar.{RingedBehind, RingedIn, AreFewer}
 use Rattle.run_note_record.specs.Steps.{GoesOnTo, IsCutIn, nobody, spans_cut}
-use Rattle.run_note_record.specs.OnCards.{PlacesStay}
+use Rattle.run_note_record.specs.OnCards.{CardsStay}
 use Rattle.run_note_record.proofs.RingSteps.{passes, action-cut, card-withdrawn, withdrawal-is-cut}
 use Rattle.run_record.specs.Recorded.{Values}
 use Rattle.run_record.specs.Within.{told_before, course_in}
@@ -70,7 +70,7 @@ none-written q time odometer d e leaves = λ y at.
 
 module _ (o : Origin) (done : List TraceSecond) (s : TraceSecond) (front rest : List Action) (slot : Slot) (are : s.actions ≡ front ++ Withdraw slot ∷ rest) (run : Run) (before : Outcome) (d e : Devices)
     (w : RunWithin o done s (In (length front)) [] [] run before d) (lines : List Break) (later : RunLog) (is : later ≡ record (log_of before) { breaks = (log_of before).breaks ++ lines })
-    (tears : AreTears (record { second = s.number; begun = suc (length front); late = false }) lines) (left : HaveLeftMore o d e) (places : PlacesStay o d e) (spans : List SpanFrom) (t : ToldSecond) (rings : RingsWithin o done s w.within.b.run.log front run (log_of before) spans t d)
+    (tears : AreTears (record { second = s.number; begun = suc (length front); late = false }) lines) (left : HaveLeftMore o d e) (spans : List SpanFrom) (t : ToldSecond) (places : CardsStay o (with_second spans run.keeper.odometer t) d e) (rings : RingsWithin o done s w.within.b.run.log front run (log_of before) spans t d)
     (card : Card) (seat : card_in (seat_in run.keeper.cabin.slots.seats slot) ≡ Some card) (low : ℕ) (stands : CabinIsSound low None run.keeper.cabin) (speed : ℕ) (now : s.speed ≡ speed)
     (allowed : refusal (logged run.keeper.cabin.slots.seats) speed (Withdraw slot) ≡ None) (small : s.number < 2 ^ 32) where
   abbrev v : Values

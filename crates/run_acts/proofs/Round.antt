@@ -51,7 +51,7 @@ ext f g same = λ i c. same c i
 -- ---- two cards
 
 -- a card that was present in one slot was not in the other
-apart-both : (driver codriver : Option Card) → AreTwo driver codriver → (c : Card) → is_this driver c ≡ true → is_this codriver c ≡ false
+pub apart-both : (driver codriver : Option Card) → AreTwo driver codriver → (c : Card) → is_this driver c ≡ true → is_this codriver c ≡ false
 apart-both None codriver two c is = no-both true refl (sym is)
 apart-both (Some k) None two c is = refl
 apart-both (Some A) (Some B) two A is = refl
@@ -67,7 +67,7 @@ stands-by true false e d m z two = refl
 stands-by false true e d m z two = refl
 stands-by false false e d m z two = refl
 
-this-one : (o : Option Card) (c : Card) → is_this o c ≡ true → o ≡ Some c
+pub this-one : (o : Option Card) (c : Card) → is_this o c ≡ true → o ≡ Some c
 this-one None c is = no-both true refl (sym is)
 this-one (Some k) c is = ap (λ (x : Card). Some x) (same_is k c is)
 
@@ -85,7 +85,7 @@ turned A B = refl
 turned B A = refl
 
 -- the session of the other card
-other-session : (fate : Fate) (present : Option Card) (second : ℕ) (cabin : Cabin) (c : Card) → is_this present c ≡ false → session_of (cabin_by fate present second cabin).cards c ≡ session_of cabin.cards c
+pub other-session : (fate : Fate) (present : Option Card) (second : ℕ) (cabin : Cabin) (c : Card) → is_this present c ≡ false → session_of (cabin_by fate present second cabin).cards c ≡ session_of cabin.cards c
 other-session Still None second cabin c ne = refl
 other-session (Has a n) None second cabin c ne = refl
 other-session Fell None second cabin c ne = refl

@@ -37,6 +37,7 @@ use Rattle.run_record.specs.Recorded.{Values}
 use Rattle.run_record.specs.Within.{told_before, course_in}
 use Rattle.run_acts.specs.Rounds.{Point, Outset, told_values, keeping_of, SoFar}
 use Rattle.run_acts.specs.RoundLaws.{InRounds, carried_at, KeepsSo}
+use Rattle.hand_model.specs.Written.{Hands}
 
 all-behind : {X : Type 0} (P : X → Type 0) (xs ys : List X) → All P (xs ++ ys) → All P ys
 all-behind P [] ys h = h
@@ -68,8 +69,8 @@ each-decided P f from n (x ∷ xs) h low over =
     All-cons P (f x) (map f xs) (h x (All-head (λ (m : Minute). from ≤ m.minute) x xs low) (All-head (λ (m : Minute). m.minute < n) x xs over))
     (each-decided P f from n xs h (All-tail (λ (m : Minute). from ≤ m.minute) x xs low) (All-tail (λ (m : Minute). m.minute < n) x xs over))
 
-stands-of : (f : CardFound) (has : List Entry) (z : Standing) (a : Accepted) (card : State) → GoesWith f has z (Some a) card → (t : ℕ) × (z ≡ In t a.session.minute)
-stands-of f has z a card h = (h.time, h.stands)
+stands-of : (f : CardFound) (hd : Hands) (has : List Entry) (z : Standing) (a : Accepted) (card : State) → GoesWith f hd has z (Some a) card → (t : ℕ) × (z ≡ In t a.session.minute)
+stands-of f hd has z a card h = (h.0.time, h.0.stands)
 
 -- they are over where they end by a minute
 over-from : (xs : List Minute) (from n : ℕ) → map (λ (m : Minute). m.minute) xs ≡ count_from from (length xs) → from + length xs ≤ n → All (λ (m : Minute). m.minute < n) xs
@@ -154,7 +155,7 @@ module _ (o : Origin) (done : List TraceSecond) (s : TraceSecond) (q : Point) (a
   sessions : SessionsStand o.found w.standing t.keeper.cabin.cards
   sessions card a valid is =
       let g = w.powered.go.goes card valid in
-      stands-of (found_of o.found card) g.has (w.standing card) a (card_of d card) (subst (λ (q : Option Accepted). GoesWith (found_of o.found card) g.has (w.standing card) q (card_of d card)) is g.goes)
+      stands-of (found_of o.found card) (w.hands card) g.has (w.standing card) a (card_of d card) (subst (λ (q : Option Accepted). GoesWith (found_of o.found card) (w.hands card) g.has (w.standing card) q (card_of d card)) is g.goes)
 
   pub begun-so : (e : Devices) → KeepsSo o done s q all t v d e w → SoFar o done s q w.b outset (breakdowns_of d) (breakdowns_of e) t.keeper w.sp v t.marks.items c w.brought t (carried_at o done s q all t v d w) w.ds all w.new w.from
   begun-so e k = record {

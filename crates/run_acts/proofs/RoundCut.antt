@@ -6,7 +6,7 @@ use Rattle.trace_model.specs.Trace.{TraceSecond}
 use Rattle.run_model.specs.declared.Device.TheVariants.{Unit as Recorder}
 use Rattle.minute_model.specs.declared.Minute.{Minute}
 use Rattle.log_model.specs.declared.lines.Mark.{Mark}
-use Rattle.log_model.specs.Causes.{RoseBy}
+use Rattle.log_model.specs.Causes.{RoseBy, device_of}
 use Rattle.log_model.specs.Course.{Course}
 use Rattle.history_model.specs.Minutes.{HistoryMinute}
 use Rattle.history_model.specs.History.{seated}
@@ -33,8 +33,13 @@ use Rattle.run_acts.proofs.Rising.{fell-more}
 use Rattle.run_acts.proofs.RoundReached.{Through, one-on, first-number}
 use Rattle.run_acts.proofs.Round.{minute-is}
 use Rattle.run_acts.proofs.RoundBegun.{outset}
-use Rattle.run_acts.proofs.RoundWhole.{through, verdicts-so, finds-so, spared-so}
+use Rattle.run_acts.proofs.RoundWhole.{through, verdicts-so, finds-so, spared-so, handed_so}
 use Rattle.std.specs.Prelude.{option_to_list}
+use Rattle.run_record.proofs.Opened.{sessions-since, seconds-before}
+use Rattle.run_record.proofs.HandedSteps.{handed-gone}
+use Rattle.run_acts.proofs.RoundHanded.{HandedAt, HandedBy, one-handed, increased}
+use Rattle.safety_model.specs.Unit.{marks_of, Increase}
+use Rattle.run_crew.specs.Cards.{session_of}
 
 rose-since : (before mid now : ℕ) → before ≤ mid → RoseBy 1 mid now → RoseBy 1 before now
 rose-since before mid now le (inl low) = inl (omega (arith, le, low))
@@ -45,12 +50,13 @@ module _ (o : Origin) (done : List TraceSecond) (s : TraceSecond) (q : Point) (a
     (x : KeepingState) (behind : RunLedger) (ds : List Minute) (lost : Option Minute) (rest : List Minute) (new : List HistoryMinute) (from : ℕ)
     (so : SoFar o done s q w.b (outset o done s q all t v d w) (breakdowns_of d) (breakdowns_of e) t.keeper w.sp v t.marks.items (course_in w.b done s q.at (told_values t v).log) w.brought x behind ds (option_to_list lost ++ rest) new from)
     (rose : RoseBy 1 (breakdowns_of d Recorder) (breakdowns_of e Recorder)) (rests : RestBy t.keeper.cabin.cards x.keeper.cabin.cards d e) (none : s.number / 60 ≤ w.from → (new ≡ w.new) × (w.from ≤ from)) (low : from ≤ s.number / 60)
+    (handed : ((y : Card) → Increase (marks_of (device_of y) x.marks.items)) → HandedAt o done s q w.b v x behind)
     (due : ℕ) (late : due ≤ s.number / 60) where
   abbrev book_then : Book
   book_then = broken_at (lost_minute o w.b done new lost) (kept_all new w.b.run.book)
 
   abbrev carried_then : RunLedger
-  carried_then = carried (told_values x v) due book_then behind.standing behind.brought
+  carried_then = carried (told_values x v) due book_then behind.standing behind.brought behind.hands behind.firsts
 
   cut-so : AreEarly carried_then → DevicesUnpowered o.found carried_then e → HasTravelled (odometer_at o.recording.unit) book_then (stranded_at lost (all_travelled ds w.b.travel)) e.unit → RecordAtFailure o done s q.at q.waits q.speed (told_values x v) e
   cut-so early powerless travels = record {
@@ -78,7 +84,11 @@ module _ (o : Origin) (done : List TraceSecond) (s : TraceSecond) (q : Point) (a
     due = due;
     standing = behind.standing;
     brought = behind.brought;
+    hands = behind.hands;
+    firsts = behind.firsts;
     powerless = powerless;
+    handed = handed-gone o.found w.b.run.log done s q.at (told_values x v).log (course_in w.b done s q.at (told_values x v).log) v.stops x.marks.items behind.hands behind.firsts (session_of x.keeper.cabin.cards)
+        (subst (λ (bk : Book). HandedBy o done s q w.b v x behind bk) so.book (handed (λ y. (powerless.carried.marks y).rise)));
     found = so.found;
     early = early;
     late = late;
@@ -127,11 +137,15 @@ module _ (o : Origin) (done : List TraceSecond) (s : TraceSecond) (q : Point) (a
   abbrev g : Travel
   g = travelled_at o done s q all t v d w xs
 
+  -- the entries by hand of those that are kept
+  handed-so : ((y : Card) → Increase (marks_of (device_of y) u.marks.items)) → HandedAt o done s q w.b v u before
+  handed-so = handed_so o done s q all t v d e w k xs (m ∷ rest) split rounds broken_
+
   -- not begun
   pub cut-none : RestBy t.keeper.cabin.cards u.keeper.cabin.cards d e → DevicesUnpowered o.found before e → HasTravelled (odometer_at o.recording.unit) before.book g e.unit → RecordAtFailure o done s q.at q.waits q.speed (told_values u v) e
   cut-none rests powerless travels =
-      cut-so o done s q all t v d e w k u before th.ds_now None (m ∷ rest) th.new_now th.from_now th.so rose rests (λ late. let n = th.none late in let is = n.1 in (n.0, omega (arith, is))) (omega (arith, over, here)) before.due (let due = th.so.due in omega (arith, due, over, here)) th.so.early
-      (subst (λ (bk : Book). DevicesUnpowered o.found (carried (told_values u v) before.due bk before.standing before.brought) e) th.so.book
+      cut-so o done s q all t v d e w k u before th.ds_now None (m ∷ rest) th.new_now th.from_now th.so rose rests (λ late. let n = th.none late in let is = n.1 in (n.0, omega (arith, is))) (omega (arith, over, here)) handed-so before.due (let due = th.so.due in omega (arith, due, over, here)) th.so.early
+      (subst (λ (bk : Book). DevicesUnpowered o.found (carried (told_values u v) before.due bk before.standing before.brought before.hands before.firsts) e) th.so.book
       (subst (λ (ms : List Mark). DevicesUnpowered o.found (record before { marks = ms }) e) marks-are powerless))
       (subst (λ (bk : Book). HasTravelled (odometer_at o.recording.unit) bk (all_travelled th.ds_now w.b.travel) e.unit) th.so.book
       (subst (λ (h : Travel). HasTravelled (odometer_at o.recording.unit) before.book h e.unit) (sym th.travel) travels))
@@ -139,9 +153,9 @@ module _ (o : Origin) (done : List TraceSecond) (s : TraceSecond) (q : Point) (a
   -- begun
   pub cut-begun : RestBy t.keeper.cabin.cards u.keeper.cabin.cards d e → DevicesUnpowered o.found (carried_broken i before) e → HasTravelled (odometer_at o.recording.unit) (broken i before.book) (stranded m.minute m.travelled g) e.unit → RecordAtFailure o done s q.at q.waits q.speed (told_values u v) e
   cut-begun rests powerless travels =
-      cut-so o done s q all t v d e w k u before th.ds_now (Some m) rest th.new_now th.from_now th.so rose rests (λ late. let n = th.none late in let is = n.1 in (n.0, omega (arith, is))) (omega (arith, over, here)) (suc m.minute) (omega (arith, over)) (λ card n at. let lt = th.so.early card n at in let due = th.so.due in omega (arith, lt, due, here))
-      (subst (λ (j : HistoryMinute). DevicesUnpowered o.found (carried (told_values u v) (suc m.minute) (broken j (kept_all th.new_now w.b.run.book)) before.standing before.brought) e) (sym i-is)
-      (subst (λ (bk : Book). DevicesUnpowered o.found (carried (told_values u v) (suc m.minute) (broken i bk) before.standing before.brought) e) th.so.book
+      cut-so o done s q all t v d e w k u before th.ds_now (Some m) rest th.new_now th.from_now th.so rose rests (λ late. let n = th.none late in let is = n.1 in (n.0, omega (arith, is))) (omega (arith, over, here)) handed-so (suc m.minute) (omega (arith, over)) (λ card n at. let lt = th.so.early card n at in let due = th.so.due in omega (arith, lt, due, here))
+      (subst (λ (j : HistoryMinute). DevicesUnpowered o.found (carried (told_values u v) (suc m.minute) (broken j (kept_all th.new_now w.b.run.book)) before.standing before.brought before.hands before.firsts) e) (sym i-is)
+      (subst (λ (bk : Book). DevicesUnpowered o.found (carried (told_values u v) (suc m.minute) (broken i bk) before.standing before.brought before.hands before.firsts) e) th.so.book
       (subst (λ (ms : List Mark). DevicesUnpowered o.found (record (carried_broken i before) { marks = ms }) e) marks-are powerless)))
       (subst (λ (j : HistoryMinute). HasTravelled (odometer_at o.recording.unit) (broken j (kept_all th.new_now w.b.run.book)) (stranded m.minute m.travelled (all_travelled th.ds_now w.b.travel)) e.unit) (sym i-is)
       (subst (λ (bk : Book). HasTravelled (odometer_at o.recording.unit) (broken i bk) (stranded m.minute m.travelled (all_travelled th.ds_now w.b.travel)) e.unit) th.so.book
@@ -159,10 +173,16 @@ module _ (o : Origin) (done : List TraceSecond) (s : TraceSecond) (q : Point) (a
     so : SoFar o done s q w.b (outset o done s q all t v d w) (breakdowns_of d) (breakdowns_of e) t.keeper w.sp v t.marks.items c w.brought x behind (th.ds_now ++ m ∷ []) rest (th.new_now ++ i ∷ []) (suc th.from_now)
     so = one-on o done s q w.b (outset o done s q all t v d w) (breakdowns_of d) (breakdowns_of e) t.keeper w.sp v t.marks.items c w.brought k.few k.two m rest round true u before th.ds_now th.new_now th.from_now th.so last_one.0 more_broken.0 more_broken.1
 
+    -- and the entries by hand of this one
+    handed-one : ((y : Card) → Increase (marks_of (device_of y) x.marks.items)) → HandedAt o done s q w.b v x behind
+    handed-one rise = one-handed o done s q w.b (outset o done s q all t v d w) (breakdowns_of d) (breakdowns_of e) t.keeper w.sp v t.marks.items c w.brought k.few k.two
+        (sessions-since o done s q.at q.waits q.speed all (told_values t v) d w) (seconds-before o done s q.at q.waits q.speed all (told_values t v) d w) m rest round true u before th.ds_now th.new_now th.from_now th.so last_one.0 more_broken.0 more_broken.1 rise
+        (handed-so (λ y. increased (device_of y) (present_at t.keeper.cabin m.minute) m.minute round u.marks.items (rise y)))
+
     pub cut-kept : RestBy t.keeper.cabin.cards x.keeper.cabin.cards d e → DevicesUnpowered o.found behind e → HasTravelled (odometer_at o.recording.unit) (kept i before.book) (travelled m.minute m.travelled g) e.unit → RecordAtFailure o done s q.at q.waits q.speed (told_values x v) e
     cut-kept rests powerless travels =
-        cut-so o done s q all t v d e w k x behind (th.ds_now ++ m ∷ []) None rest (th.new_now ++ i ∷ []) (suc th.from_now) so rose rests (λ late. let n = th.none late in let is = n.1 in absurd (omega (arith, late, is, over, here))) (omega (arith, over, here)) behind.due (omega (arith, over)) so.early
-        (subst (λ (bk : Book). DevicesUnpowered o.found (carried (told_values x v) behind.due bk behind.standing behind.brought) e) so.book
+        cut-so o done s q all t v d e w k x behind (th.ds_now ++ m ∷ []) None rest (th.new_now ++ i ∷ []) (suc th.from_now) so rose rests (λ late. let n = th.none late in let is = n.1 in absurd (omega (arith, late, is, over, here))) (omega (arith, over, here)) handed-one behind.due (omega (arith, over)) so.early
+        (subst (λ (bk : Book). DevicesUnpowered o.found (carried (told_values x v) behind.due bk behind.standing behind.brought behind.hands behind.firsts) e) so.book
         (subst (λ (ms : List Mark). DevicesUnpowered o.found (record behind { marks = ms }) e) (marks-one t.keeper (moment_of s q) m round u before marks-are) powerless))
         (subst (λ (bk : Book). HasTravelled (odometer_at o.recording.unit) bk (all_travelled (th.ds_now ++ m ∷ []) w.b.travel) e.unit) so.book
         (subst (λ (h : Travel). HasTravelled (odometer_at o.recording.unit) behind.book h e.unit) (sym (one-travelled th.ds_now m w.b.travel ∙ ap (travelled m.minute m.travelled) th.travel)) travels))
@@ -185,8 +205,8 @@ module _ (o : Origin) (done : List TraceSecond) (s : TraceSecond) (q : Point) (a
 
   pub cut-behind : RestBy t.keeper.cabin.cards end.keeper.cabin.cards d e → DevicesUnpowered o.found all_ e → HasTravelled (odometer_at o.recording.unit) all_.book (travelled_at o done s q all t v d w xs) e.unit → RecordAtFailure o done s q.at q.waits q.speed (told_values end v) e
   cut-behind rests powerless travels =
-      cut-so o done s q all t v d e w k end all_ thr.ds_now None [] thr.new_now thr.from_now thr.so rose rests (λ late. let n = thr.none late in let is = n.1 in (n.0, omega (arith, is))) low-now all_.due (let due = thr.so.due in let le = low-now in omega (arith, due, le)) thr.so.early
-      (subst (λ (bk : Book). DevicesUnpowered o.found (carried (told_values end v) all_.due bk all_.standing all_.brought) e) thr.so.book
+      cut-so o done s q all t v d e w k end all_ thr.ds_now None [] thr.new_now thr.from_now thr.so rose rests (λ late. let n = thr.none late in let is = n.1 in (n.0, omega (arith, is))) low-now (handed_so o done s q all t v d e w k xs [] split rounds broken_) all_.due (let due = thr.so.due in let le = low-now in omega (arith, due, le)) thr.so.early
+      (subst (λ (bk : Book). DevicesUnpowered o.found (carried (told_values end v) all_.due bk all_.standing all_.brought all_.hands all_.firsts) e) thr.so.book
       (subst (λ (ms : List Mark). DevicesUnpowered o.found (record all_ { marks = ms }) e) (marks-by t.keeper (moment_of s q) xs t (carried_at o done s q all t v d w) refl) powerless))
       (subst (λ (bk : Book). HasTravelled (odometer_at o.recording.unit) bk (all_travelled thr.ds_now w.b.travel) e.unit) thr.so.book
       (subst (λ (h : Travel). HasTravelled (odometer_at o.recording.unit) all_.book h e.unit) (sym thr.travel) travels))

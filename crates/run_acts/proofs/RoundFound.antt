@@ -22,6 +22,7 @@ found-with f c s cards h = record {
   own = h.own;
   sizes = h.sizes;
   entries = h.entries;
+  word = h.word;
 }
 
 found-by : (f : Found) (fate : Fate) (present : Option Card) (second : ℕ) (cabin : Cabin) → AreFoundCards f cabin.cards → AreFoundCards f (cabin_by fate present second cabin).cards

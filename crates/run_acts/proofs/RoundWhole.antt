@@ -40,6 +40,10 @@ use Rattle.run_minutes.specs.Later.{RestBy}
 use Rattle.run_acts.proofs.Rising.{fell-more}
 use Rattle.run_acts.proofs.RoundReached.{Through, all-on}
 use Rattle.run_acts.proofs.RoundBegun.{outset, begun-so}
+use Rattle.run_record.proofs.Opened.{sessions-since, seconds-before}
+use Rattle.run_acts.proofs.RoundHanded.{HandedAt, HandedBy, all-handed}
+use Rattle.log_model.specs.Causes.{device_of}
+use Rattle.safety_model.specs.Unit.{marks_of, Increase}
 
 -- a card that leaves leaves so where fewer minutes are to be kept, up to the same one
 pub leaving-later : (log : RunLog) (before : Before) (s : TraceSecond) (at : Phase) (low high next end : ℕ) (cabin : Cabin) (slot : Slot) (card : Card) → low ≤ next → end ≡ high →
@@ -114,6 +118,13 @@ module _ (o : Origin) (done : List TraceSecond) (s : TraceSecond) (q : Point) (a
         (subst (λ (ms : List Minute). SoFar o done s q w.b (outset o done s q all t v d w) (breakdowns_of d) (breakdowns_of e) t.keeper w.sp v t.marks.items c w.brought t (carried_at o done s q all t v d w) w.ds ms w.new w.from) split (begun-so o done s q all t v d w e k))
         w.marked rounds broken
 
+    -- the entries by hand of them
+    pub handed_so : ((y : Card) → Increase (marks_of (device_of y) u.marks.items)) → HandedAt o done s q w.b v u Carried_
+    handed_so rise = all-handed o done s q w.b (outset o done s q all t v d w) (breakdowns_of d) (breakdowns_of e) t.keeper w.sp v t.marks.items c w.brought k.few k.two
+        (sessions-since o done s q.at q.waits q.speed all (told_values t v) d w) (seconds-before o done s q.at q.waits q.speed all (told_values t v) d w) xs rest t (carried_at o done s q all t v d w) w.ds w.new w.from
+        (subst (λ (ms : List Minute). SoFar o done s q w.b (outset o done s q all t v d w) (breakdowns_of d) (breakdowns_of e) t.keeper w.sp v t.marks.items c w.brought t (carried_at o done s q all t v d w) w.ds ms w.new w.from) split (begun-so o done s q all t v d w e k))
+        rounds broken rise w.handed
+
     pub minutes-kept_so : RestBy t.keeper.cabin.cards u.keeper.cabin.cards d e → AreBooked o.found Carried_ u.keeper.cabin.cards u.marks.items e → HasTravelled (odometer_at o.recording.unit) Carried_.book (travelled_at o done s q all t v d w xs) e.unit → GoOn o done s q rest u v e w.b (w.from + length xs)
     minutes-kept_so rests booked travels =
         let th = through in
@@ -142,7 +153,10 @@ module _ (o : Origin) (done : List TraceSecond) (s : TraceSecond) (q : Point) (a
             due = Carried_.due;
             standing = Carried_.standing;
             brought = Carried_.brought;
-            powered = subst (λ (bk : Book). DevicesPowered o.found (carried (told_values u v) Carried_.due bk Carried_.standing Carried_.brought) u.keeper.cabin.cards e) so.book
+            hands = Carried_.hands;
+            firsts = Carried_.firsts;
+            handed = subst (λ (bk : Book). HandedBy o done s q w.b v u Carried_ bk) so.book (handed_so (λ y. subst (λ (ms : List Mark). Increase (marks_of (device_of y) ms)) booked.told (booked.powered.lit.marks y).rise));
+            powered = subst (λ (bk : Book). DevicesPowered o.found (carried (told_values u v) Carried_.due bk Carried_.standing Carried_.brought Carried_.hands Carried_.firsts) u.keeper.cabin.cards e) so.book
                 (subst (λ (ms : List Mark). DevicesPowered o.found (record Carried_ { marks = ms }) u.keeper.cabin.cards e) booked.told booked.powered);
             found = booked.found;
             early = booked.early;

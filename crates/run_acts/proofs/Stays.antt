@@ -4,6 +4,7 @@ use Rattle.std.specs.Prelude.{IfSome, length}
 use Rattle.std.specs.List.{AllByRecursion}
 use Rattle.activity_codec.specs.declared.values.Activity.{Activity}
 use Rattle.activity_codec.specs.declared.entries.Entry.{Entry}
+use Rattle.activity_codec.specs.declared.entries.Manual.{Manual}
 use Rattle.tach_media.specs.Medium.{State}
 use Rattle.tacho_types.specs.declared.numbers.Odometer.{Odometer}
 use Rattle.tacho_types.specs.declared.texts.Registration.{Registration}
@@ -19,14 +20,15 @@ use Rattle.card_session.specs.Inserting.{lacked}
 use Rattle.card_string.specs.Deeds.{Deed, Close}
 use Rattle.run_crew.specs.declared.cards.Accepted.{Accepted}
 use Rattle.run_promise.specs.Found.{CardFound}
-use Rattle.run_minutes.specs.CardDeeds.{made_by, is_open_in, ShowsBook, DoesOn, keeps, last_odometer, opens, OpensOn, ClosesOn}
+use Rattle.run_minutes.specs.CardDeeds.{made_by, is_open_in, ShowsBook, DoesOn, keeps, holds_after, last_odometer, opens, OpensOn, ClosesOn}
 use Rattle.run_minutes.specs.Deeds.{KeepsOn}
-use Rattle.run_minutes.proofs.CardDeeds.{made-append, keeps-append, last-append}
+use Rattle.run_minutes.proofs.CardDeeds.{made-append, keeps-append, holds-append, last-append}
 use Rattle.log_model.specs.declared.lines.Find.{Find}
 use Rattle.log_model.specs.declared.lines.Verdict.TheVariants.{Accepted as AcceptedWith}
 use Rattle.run_acts.specs.Closings.{Spell, last_shut, with_last_shut, last_slot}
 use Rattle.run_acts.specs.Truths.{Truths, Grow}
 use Rattle.run_acts.specs.Stays.{Shut, Stay, Shown, Coming, comings_of, comings_on, closes, deeds_of, use_after, after_stay, after_stays, start_shown, stay_spell, spells, as_noted, AreMerged, IsTrueOf, GoesIn, StaysIn, HasStays, stored_by, AreOwed, judged_in, IsTurnedAway, IsJudged, AreJudged}
+use Rattle.run_acts.specs.ByHand.{holding}
 
 -- ---- the last of some stays
 
@@ -154,6 +156,10 @@ with_kepts ks s = record s { kepts = s.kepts ++ ks }
 abbrev pub with_end : Shut → Stay → Stay
 with_end x s = record s { closed = Some x }
 
+-- with an entry by hand more
+abbrev pub with_hand : Manual → Stay → Stay
+with_hand e s = record s { by_hand = s.by_hand ++ e ∷ [] }
+
 -- ---- their spells
 
 spells-more : (ss : List Stay) (s : Stay) → spells (ss ++ s ∷ []) ≡ spells ss ++ stay_spell s ∷ []
@@ -170,6 +176,17 @@ on-last-kept : (ks : List Kept) (ss : List Stay) → spells (on_last (with_kepts
 unfolding on_last
 on-last-kept ks [] = refl
 on-last-kept ks (t ∷ ss) = kept-spells ks t ss
+
+hand-spells : (e : Manual) (t : Stay) (ss : List Stay) → spells (last_as (with_hand e) t ss) ≡ spells (t ∷ ss)
+unfolding last_as
+hand-spells e t [] = refl
+hand-spells e t (x ∷ ss) = ap (λ (l : List Spell). stay_spell t ∷ l) (hand-spells e x ss)
+
+-- nor does an entry by hand change them
+pub on-last-hand : (e : Manual) (ss : List Stay) → spells (on_last (with_hand e) ss) ≡ spells ss
+unfolding on_last
+on-last-hand e [] = refl
+on-last-hand e (t ∷ ss) = hand-spells e t ss
 
 shut-spells : (x : Shut) (t : Stay) (ss : List Stay) → spells (last_as (with_end x) t ss) ≡ last_shut x.second (stay_spell t) (spells ss)
 unfolding last_as
@@ -304,10 +321,10 @@ module _ (u : ℕ) (f : CardFound) (vehicle : Registration) where
 
   -- what the deeds of a stay make is that of its parts
   parts : (s : Stay) (p : Shown) → made_by size (deeds_of vehicle (is_open_in p.held) p.book s) p.book
-      ≡ made_by size (closes s.closed) (made_by size (keeps vehicle None s.kepts) (made_by size (opens (is_open_in p.held) vehicle s.odometer (lacked (mark_of p.book) s.owed)) p.book))
+      ≡ made_by size (closes s.closed) (made_by size (keeps vehicle None s.by_hand s.kepts) (made_by size (opens (is_open_in p.held) vehicle s.odometer (lacked (mark_of p.book) s.owed)) p.book))
   parts s p =
       let first : List Deed = opens (is_open_in p.held) vehicle s.odometer (lacked (mark_of p.book) s.owed) in
-      made-append size first (keeps vehicle None s.kepts ++ closes s.closed) p.book ∙ made-append size (keeps vehicle None s.kepts) (closes s.closed) (made_by size first p.book)
+      made-append size first (keeps vehicle None s.by_hand s.kepts ++ closes s.closed) p.book ∙ made-append size (keeps vehicle None s.by_hand s.kepts) (closes s.closed) (made_by size first p.book)
 
   -- at the start
   pub stays-start : (sits : Bool) (X : State) → ((y : List ℕ) → X.may_leave y → y ≡ f.image) → HasStays u f vehicle [] sits [] None X
@@ -339,24 +356,26 @@ module _ (u : ℕ) (f : CardFound) (vehicle : Registration) where
     was : Shows (after_stay vehicle size g.stay before) X
     was = subst (λ (p : Shown). Shows p X) (ap shown_by g.are ∙ behind g.front g.stay) h.shows
 
-    was-book : made_by size (deeds_of vehicle (is_open_in before.held) before.book g.stay) before.book ≡ made_by size (keeps vehicle None g.stay.kepts) opened
-    was-book = parts g.stay before ∙ ap (λ (o : Option Shut). made_by size (closes o) (made_by size (keeps vehicle None g.stay.kepts) opened)) g.still
+    was-book : made_by size (deeds_of vehicle (is_open_in before.held) before.book g.stay) before.book ≡ made_by size (keeps vehicle None g.stay.by_hand g.stay.kepts) opened
+    was-book = parts g.stay before ∙ ap (λ (o : Option Shut). made_by size (closes o) (made_by size (keeps vehicle None g.stay.by_hand g.stay.kepts) opened)) g.still
 
     now-book : made_by size (deeds_of vehicle (is_open_in before.held) before.book kept_stay) before.book
-        ≡ made_by size (keeps vehicle (last_odometer None g.stay.kepts) ks) (made_by size (keeps vehicle None g.stay.kepts) opened)
+        ≡ made_by size (keeps vehicle (last_odometer None g.stay.kepts) (holds_after g.stay.by_hand g.stay.kepts) ks) (made_by size (keeps vehicle None g.stay.by_hand g.stay.kepts) opened)
     now-book =
-        parts kept_stay before ∙ ap (λ (o : Option Shut). made_by size (closes o) (made_by size (keeps vehicle None (g.stay.kepts ++ ks)) opened)) g.still
-        ∙ ap (λ (ds : List Deed). made_by size ds opened) (keeps-append vehicle None g.stay.kepts ks)
-        ∙ made-append size (keeps vehicle None g.stay.kepts) (keeps vehicle (last_odometer None g.stay.kepts) ks) opened
+        parts kept_stay before ∙ ap (λ (o : Option Shut). made_by size (closes o) (made_by size (keeps vehicle None g.stay.by_hand (g.stay.kepts ++ ks)) opened)) g.still
+        ∙ ap (λ (ds : List Deed). made_by size ds opened) (keeps-append vehicle None g.stay.by_hand g.stay.kepts ks)
+        ∙ made-append size (keeps vehicle None g.stay.by_hand g.stay.kepts) (keeps vehicle (last_odometer None g.stay.kepts) (holds_after g.stay.by_hand g.stay.kepts) ks) opened
 
-    same-keeps : keeps a.session.registration a.session.odometer ks ≡ keeps vehicle (last_odometer None g.stay.kepts) ks
-    same-keeps = ap (λ (r : Registration). keeps r a.session.odometer ks) g.registered ∙ ap (λ (o : Option Odometer). keeps vehicle o ks) g.odometer
+    same-keeps : keeps a.session.registration a.session.odometer a.held.entries ks ≡ keeps vehicle (last_odometer None g.stay.kepts) (holds_after g.stay.by_hand g.stay.kepts) ks
+    same-keeps =
+        ap (λ (r : Registration). keeps r a.session.odometer a.held.entries ks) g.registered ∙ ap (λ (o : Option Odometer). keeps vehicle o a.held.entries ks) g.odometer
+        ∙ ap (λ (l : List Manual). keeps vehicle (last_odometer None g.stay.kepts) l ks) g.held
 
     made : Shows (after_stay vehicle size kept_stay before) Y
     made = subst (λ (c : Book). ShowsBook app c (use_after vehicle g.stay) Y)
         (ap (λ (ds : List Deed). made_by size ds (made_by size (deeds_of vehicle (is_open_in before.held) before.book g.stay) before.book)) same-keeps
-        ∙ ap (made_by size (keeps vehicle (last_odometer None g.stay.kepts) ks)) was-book ∙ sym now-book)
-        (on.2 (after_stay vehicle size g.stay before).book (after_stay vehicle size g.stay before).held was)
+        ∙ ap (made_by size (keeps vehicle (last_odometer None g.stay.kepts) (holds_after g.stay.by_hand g.stay.kepts) ks)) was-book ∙ sym now-book)
+        (on.4 (after_stay vehicle size g.stay before).book (after_stay vehicle size g.stay before).held was)
 
     now-are : on_last (with_kepts ks) ss ≡ g.front ++ kept_stay ∷ []
     now-are = ap (on_last (with_kepts ks)) g.are ∙ on-last (with_kepts ks) g.front g.stay
@@ -371,15 +390,57 @@ module _ (u : ℕ) (f : CardFound) (vehicle : Registration) where
         still = g.still;
         registered = on.0 ∙ g.registered;
         odometer = on.1 ∙ ap (λ (o : Option Odometer). last_odometer o ks) g.odometer ∙ sym (last-append None g.stay.kepts ks);
+        held = on.2 ∙ ap (λ (l : List Manual). holds_after l ks) g.held ∙ sym (holds-append g.stay.by_hand g.stay.kepts ks);
+        free = λ none. let was = on.3 none in ap (λ (l : List Kept). l ++ ks) (g.free was.0) ∙ was.1;
       };
       spell = noted-alike u a b sits (spells (on_last (with_kepts ks) ss)) ∙ ap (λ (l : List Spell). as_noted u (Some a) sits l) (on-last-kept ks ss) ∙ h.spell;
     }
 
+  -- its session takes an entry by hand, and has kept no minute
+  module _ (noted : List Spell) (sits : Bool) (ss : List Stay) (e : Manual) (a : Accepted) (X : State) (begun : a.held.begun ≡ None) (h : HasStays u f vehicle noted sits ss (Some a) X) where
+    abbrev was_stay : Stay
+    was_stay = h.goes.stay
+
+    abbrev hand_stay : Stay
+    hand_stay = with_hand e was_stay
+
+    no-keeps : (hs : List Manual) → keeps vehicle None hs was_stay.kepts ≡ []
+    no-keeps hs = ap (λ (ks : List Kept). keeps vehicle None hs ks) (h.goes.free begun)
+
+    hand-same : (p : Shown) → after_stay vehicle size hand_stay p ≡ after_stay vehicle size was_stay p
+    hand-same p =
+        ap (λ (ds : List Deed). record { book = made_by size (opens (is_open_in p.held) vehicle was_stay.odometer (lacked (mark_of p.book) was_stay.owed) ++ (ds ++ closes was_stay.closed)) p.book; held = use_after vehicle was_stay })
+        (no-keeps (was_stay.by_hand ++ e ∷ []) ∙ sym (no-keeps was_stay.by_hand))
+
+    hand-are : on_last (with_hand e) ss ≡ h.goes.front ++ hand_stay ∷ []
+    hand-are = ap (on_last (with_hand e)) h.goes.are ∙ on-last (with_hand e) h.goes.front was_stay
+
+    hand-shown : shown_by (on_last (with_hand e) ss) ≡ shown_by ss
+    hand-shown = ap shown_by hand-are ∙ behind h.goes.front hand_stay ∙ hand-same (shown_by h.goes.front) ∙ sym (behind h.goes.front was_stay) ∙ sym (ap shown_by h.goes.are)
+
+    pub stays-enter : HasStays u f vehicle noted sits (on_last (with_hand e) ss) (Some (holding e a)) X
+    stays-enter = record {
+      shows = subst (λ (p : Shown). Shows p X) (sym hand-shown) h.shows;
+      goes = record {
+        front = h.goes.front;
+        stay = hand_stay;
+        are = hand-are;
+        still = h.goes.still;
+        registered = h.goes.registered;
+        odometer = h.goes.odometer;
+        held =
+            ap (λ (l : List Manual). l ++ e ∷ []) h.goes.held ∙ ap (λ (ks : List Kept). holds_after was_stay.by_hand ks ++ e ∷ []) (h.goes.free begun)
+            ∙ sym (ap (λ (ks : List Kept). holds_after (was_stay.by_hand ++ e ∷ []) ks) (h.goes.free begun));
+        free = λ none. h.goes.free none;
+      };
+      spell = noted-alike u a (holding e a) sits (spells (on_last (with_hand e) ss)) ∙ ap (λ (l : List Spell). as_noted u (Some a) sits l) (on-last-hand e ss) ∙ h.spell;
+    }
+
   -- it is put in, and accepted
-  module _ (noted now : List Spell) (sits sits_now : Bool) (ss : List Stay) (found : Find) (odometer : ℕ) (owed : List Entry) (turned : List Find) (a : Accepted) (X Y : State) (is : a.session.registration ≡ vehicle) (fresh : a.session.odometer ≡ None) (on : OpensOn app vehicle found.second odometer owed X Y)
+  module _ (noted now : List Spell) (sits sits_now : Bool) (ss : List Stay) (found : Find) (odometer : ℕ) (owed : List Entry) (turned : List Find) (a : Accepted) (X Y : State) (is : a.session.registration ≡ vehicle) (fresh : a.session.odometer ≡ None) (none : a.held.entries ≡ []) (on : OpensOn app vehicle found.second odometer owed X Y)
       (there : sits_now ≡ true) (more : now ≡ noted ++ record { second = found.second; slot = found.slot; withdrawn = None } ∷ []) (h : HasStays u f vehicle noted sits ss None X) where
     abbrev new_stay : Stay
-    new_stay = record { found = found; odometer = odometer; owed = owed; kepts = []; closed = None; turned = turned }
+    new_stay = record { found = found; odometer = odometer; owed = owed; by_hand = []; kepts = []; closed = None; turned = turned }
 
     new-book : made_by size (deeds_of vehicle (is_open_in (shown_by ss).held) (shown_by ss).book new_stay) (shown_by ss).book
         ≡ made_by size (opens (is_open_in (shown_by ss).held) vehicle odometer (lacked (mark_of (shown_by ss).book) owed)) (shown_by ss).book
@@ -389,7 +450,7 @@ module _ (u : ℕ) (f : CardFound) (vehicle : Registration) where
     stays-open = record {
       shows = subst (λ (p : Shown). Shows p Y) (sym (behind ss new_stay))
           (subst (λ (c : Book). ShowsBook app c (use_after vehicle new_stay) Y) (sym new-book) (on (shown_by ss).book (shown_by ss).held h.shows));
-      goes = record { front = ss; stay = new_stay; are = refl; still = refl; registered = is; odometer = fresh };
+      goes = record { front = ss; stay = new_stay; are = refl; still = refl; registered = is; odometer = fresh; held = none; free = λ begun. refl };
       spell =
           ap (λ (b : Bool). as_noted u (Some a) b (spells (ss ++ new_stay ∷ []))) there ∙ spells-more ss new_stay
           ∙ ap (λ (l : List Spell). l ++ stay_spell new_stay ∷ []) h.spell ∙ sym more;
@@ -413,8 +474,8 @@ module _ (u : ℕ) (f : CardFound) (vehicle : Registration) where
     abbrev begun : Book
     begun = made_by size (opens (is_open_in earlier.held) vehicle last_stay.odometer (lacked (mark_of earlier.book) last_stay.owed)) earlier.book
 
-    open-book : made_by size (deeds_of vehicle (is_open_in earlier.held) earlier.book last_stay) earlier.book ≡ made_by size (keeps vehicle None last_stay.kepts) begun
-    open-book = parts last_stay earlier ∙ ap (λ (o : Option Shut). made_by size (closes o) (made_by size (keeps vehicle None last_stay.kepts) begun)) h.goes.still
+    open-book : made_by size (deeds_of vehicle (is_open_in earlier.held) earlier.book last_stay) earlier.book ≡ made_by size (keeps vehicle None last_stay.by_hand last_stay.kepts) begun
+    open-book = parts last_stay earlier ∙ ap (λ (o : Option Shut). made_by size (closes o) (made_by size (keeps vehicle None last_stay.by_hand last_stay.kepts) begun)) h.goes.still
 
     stood : Shows (after_stay vehicle size last_stay earlier) X
     stood = subst (λ (p : Shown). Shows p X) (ap shown_by h.goes.are ∙ behind h.goes.front last_stay) h.shows

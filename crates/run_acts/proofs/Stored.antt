@@ -119,7 +119,7 @@ module _ (o : Origin) (first : o.found.unit.first ≡ first_of o) (done : List T
   abbrev so_far : Progress
   so_far = progress v (Lit (t ∷ span)) r.book
 
-  abbrev on : RecordPowered o done (t ∷ span) v (carried v r.due r.book r.standing r.brought) d
+  abbrev on : RecordPowered o done (t ∷ span) v (carried v r.due r.book r.standing r.brought r.hands r.firsts) d
   on = r.held
 
   abbrev legs : AreShutLegs (rule_of o) (first_of o) v.log (take v.unfound v.log.breaks) r.recorded.legs.ended (t ∷ span) r.book r.travel

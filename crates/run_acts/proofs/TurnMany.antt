@@ -62,6 +62,7 @@ use Rattle.run_acts.proofs.EventCrews.{AllSitWell, crew-sits}
 use Rattle.run_acts.proofs.TurnRecorded.{pushed, reach-is, books-is, between-is, new-is, after-is}
 use Rattle.run_note_record.proofs.Lines.{same-before}
 use Rattle.log_model.specs.Slots.{Slots, Sitting, is_accepted}
+use Rattle.log_model.specs.ByHand.{by_slots}
 use Rattle.run_events.specs.Watching.{seconds_with, CrewSecond}
 use Rattle.run_record.specs.Turning.{last_of, before_last, IsTurned, BehindFirst}
 use Rattle.run_record.proofs.Turning.{turn-is_fed, turn-ends as turn-ended}
@@ -664,7 +665,7 @@ dark-events d n speed begun old before some minute o done s now actions none h =
         let p_ : Progress = progress (passed_values s (values_of old before)) IsLost r.book in
         let at = now.number in
         let number : suc old.next ≡ s.number + 1 = omega (arith, at) in
-        let more = dark-seconds d o (done ++ s ∷ []) p_ r.recorded.followed h.evented refl c speed [] before.refused.items (omega (arith, minute, is_)) (omega (arith, minute, is_)) in
+        let more = dark-seconds d o (done ++ s ∷ []) p_ r.recorded.followed h.evented refl c speed [] (by_slots before.refused.items) (omega (arith, minute, is_)) (omega (arith, minute, is_)) in
         subst (λ (m : ℕ). Evented o (done ++ s ∷ driven (suc c) (s.number + 1) speed []) (log_of before) old.unfound m IsLost d) (let same : suc old.next + suc c ≡ old.next + n = omega (arith, is_, some) in same)
         (subst (λ (ss : List TraceSecond). Evented o ss (log_of before) old.unfound (suc old.next + suc c) IsLost d)
         (append_assoc done (s ∷ []) (driven (suc c) (suc old.next) speed []) ∙ ap (λ (m : ℕ). done ++ s ∷ driven (suc c) m speed []) number) more)

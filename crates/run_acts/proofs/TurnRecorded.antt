@@ -14,6 +14,7 @@ use Rattle.log_model.specs.declared.lines.Refused.{Refused}
 use Rattle.log_model.specs.Log.{In, Keeping}
 use Rattle.log_model.specs.Causes.{RoseBy}
 use Rattle.log_model.specs.Course.{ToldSecond as Second}
+use Rattle.log_model.specs.ByHand.{by_slots}
 use Rattle.safety_model.specs.Safe.{Devices, breakdowns_of}
 use Rattle.run_unit_course.specs.Followed.{Lit as IsLit, Lost as IsLost}
 use Rattle.run_unit_course.specs.Legs.{all_travelled}
@@ -39,6 +40,7 @@ use Rattle.run_minutes.specs.declared.keeper.Moment.{Moment}
 use Rattle.run_minutes.specs.Minutes.{KeepingState, Reach, Whole, Short, IsReach, present_at}
 use Rattle.run_minutes.specs.Deeds.{AllKeep, kepts_on}
 use Rattle.run_minutes.specs.Books.{HaveTime, AreTimedOn}
+use Rattle.run_minutes.specs.Decided.{odometers_of}
 use Rattle.run_acts.specs.Rounds.{Point, IsPoint, told_values, keeping_of, moment_of}
 use Rattle.run_acts.specs.RoundLaws.{KeepsSo, HaveBrokenOff, carried_at}
 use Rattle.run_acts.proofs.RoundBegun.{are-over, may-book}
@@ -113,7 +115,7 @@ module _ (old : Run) (before : Outcome) (minutes : Kept) (keeper : Keeper) (watc
     abbrev u : KeepingState
     u = told_of between told
 
-    pub booked : IsTurnBooked o.found (odometer_at o.recording.unit) (carried_at o done s q decided t v d w) old.keeper failed reach (all_travelled w.ds w.b.travel) u e × AreTimedOn o.found d e
+    pub booked : IsTurnBooked o.found (odometer_at o.recording.unit) (carried_at o done s q decided t v d w) old.keeper failed reach (all_travelled w.ds w.b.travel) u e × AreTimedOn o.found (odometers_of old.keeper decided) d e
         × (failed ≡ false → AllKeep o.found (kepts_on t.keeper decided) t.keeper.cabin.cards u.keeper.cabin.cards d e)
     booked = books o.found (carried_at o done s q decided t v d w) (odometer_at o.recording.unit) (all_travelled w.ds w.b.travel) (may-book o done s q decided t v d w few (are-over o done s decided t v d w)) w.travels
         (stored ∙ ap (odometer_after (odometer_at o.recording.unit)) (sym (travelled-earlier w.ds w.b.travel))) time
@@ -124,7 +126,7 @@ module _ (old : Run) (before : Outcome) (minutes : Kept) (keeper : Keeper) (watc
       few = few;
       over = are-over o done s decided t v d w;
       two = two;
-      goes = goes-on o (carried_at o done s q decided t v d w) failed old.keeper.cabin.cards keeper.cabin.cards d e w.powered w.there devices booked.1;
+      goes = goes-on o (carried_at o done s q decided t v d w) failed old.keeper.cabin.cards keeper.cabin.cards d e w.powered w.there devices (odometers_of old.keeper decided) booked.1;
       unit = devices.cause.breakdowns;
     }
 
@@ -132,7 +134,7 @@ module _ (old : Run) (before : Outcome) (minutes : Kept) (keeper : Keeper) (watc
     off = record { a = devices.card_a.broken; b = devices.card_b.broken; rests = record { card_a = devices.card_a.rests; card_b = devices.card_b.rests } }
 
     pub rose : failed ≡ true → RoseBy 1 (breakdowns_of d Recorder) (breakdowns_of e Recorder)
-    rose = unit-rose o (carried_at o done s q decided t v d w) failed old.keeper.cabin.cards keeper.cabin.cards d e w.powered w.there devices booked.1
+    rose = unit-rose o (carried_at o done s q decided t v d w) failed old.keeper.cabin.cards keeper.cabin.cards d e w.powered w.there devices (odometers_of old.keeper decided) booked.1
 
     pub at-is : late_moment old.next n begun ≡ moment_of s q
     at-is = ap (λ (m : ℕ). record { second = m; begun = begun; late = true }) (sym number) ∙ ap (λ (b : ℕ). record { second = s.number; begun = b; late = true }) (sym actions)
@@ -334,7 +336,7 @@ module _ {U A0 B0 : State} {chip_a chip_b : CardState} (n speed begun : ℕ) (ol
 
     -- what its keeping leaves of when cards were used, and of their events
     pub timed-last : (c : ℕ) → c ≡ n - 1 → (D : List TraceSecond) (L : TraceSecond) (next gone : ℕ) → L.number ≡ s.number + c → next ≡ old.next + c → length L.actions ≡ begun →
-        (w : RecordInSecond o D L Keeping [] (Some L.speed) T.decided (record (values_of old before) { minutes = T.fed.minutes; next = next; begun = gone }) d) → w.b.travel.before ≡ r.within.b.travel.before → w.from ≡ r.within.from → AreTimedOn o.found d e
+        (w : RecordInSecond o D L Keeping [] (Some L.speed) T.decided (record (values_of old before) { minutes = T.fed.minutes; next = next; begun = gone }) d) → w.b.travel.before ≡ r.within.b.travel.before → w.from ≡ r.within.from → AreTimedOn o.found (odometers_of old.keeper T.decided) d e
     timed-last c is D L next gone number next_is acts w travel from =
         let at = now.number in
         let num : L.number ≡ old.next + n - 1 = omega (arith, number, is, at, some) in
@@ -402,7 +404,7 @@ module _ (n speed begun : ℕ) (old : Run) (before : Outcome) (d : Devices) (som
       let dark = dark-recorded d o (done ++ s ∷ []) (passed_values s (values_of old before)) r.recorded c speed [] [] begun (omega (arith, minute, is)) (omega (arith, minute, is)) refl in
       cut-recorded_ (suc old.next + suc c) begun (done ++ s ∷ driven (suc c) (s.number + 1) speed []) (omega (arith, is, some)) refl
       (subst (λ (ss : List TraceSecond). RecordBetweenSeconds o ss IsLost (V (suc old.next + suc c) begun) d) (append_assoc done (s ∷ []) (driven (suc c) (suc old.next) speed []) ∙ ap (λ (m : ℕ). done ++ s ∷ driven (suc c) m speed []) number)
-      (subst (λ (rs : List Refused). RecordBetweenSeconds o ((done ++ s ∷ []) ++ driven (suc c) (suc old.next) speed []) IsLost (record (V (suc old.next + suc c) begun) { log = record (log_of before) { refused = rs } }) d) (append-nil before.refused.items) dark))
+      (subst (λ (rs : List Refused). RecordBetweenSeconds o ((done ++ s ∷ []) ++ driven (suc c) (suc old.next) speed []) IsLost (record (V (suc old.next + suc c) begun) { log = record (log_of before) { refused = rs } }) d) (append-nil (by_slots before.refused.items)) dark))
 
   pub turn-dark : RunRecorded o (done ++ s ∷ driven (n - 1) (s.number + 1) speed []) (passed n begun old) before d
   turn-dark = by-more (n - 1) refl

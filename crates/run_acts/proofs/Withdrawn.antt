@@ -70,8 +70,8 @@ module _ (f : Found) (w : RunLedger) (cards after : Cards) (c : Card) (U V X Y Z
       by (inr bad) = powered-of f (with_standing c Out w) after c U Y Z found_after (record {
         unit = record { tells = parts.unit.tells; works = parts.unit.works; unit = parts.unit.unit; none = parts.unit.none };
         mine = λ valid. absurd (bad valid);
-        others = λ valid. subst (λ (o : Option Accepted). CardLit f w.book (for_card c Out w.standing (other c)) (w.brought (other c)) o (other c) U Z) (sym same)
-            (at-other c Out w.standing (λ (z : Standing). CardLit f w.book z (w.brought (other c)) (session_of cards (other c)) (other c) U Z) (parts.others valid));
+        others = λ valid. subst (λ (o : Option Accepted). CardLit f w.book (for_card c Out w.standing (other c)) (w.hands (other c)) (w.firsts (other c)) (w.brought (other c)) o (other c) U Z) (sym same)
+            (at-other c Out w.standing (λ (z : Standing). CardLit f w.book z (w.hands (other c)) (w.firsts (other c)) (w.brought (other c)) (session_of cards (other c)) (other c) U Z) (parts.others valid));
         marks_mine = no-marks f c w.book w.marks X Y bad parts.marks_mine;
         marks_others = parts.marks_others;
       })

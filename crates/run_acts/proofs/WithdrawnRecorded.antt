@@ -17,7 +17,7 @@ use Rattle.minute_rules.specs.Kept.{CountsSpan}
 use Rattle.log_model.specs.declared.lines.Break.{Break}
 use Rattle.log_model.specs.Log.{In, RunLog, Phase, is_torn_in, found_in}
 use Rattle.log_model.specs.Slots.{in_slot, refusal, other_slot, same_card}
-use Rattle.log_model.specs.Course.{Course, Before, went}
+use Rattle.log_model.specs.Course.{Course, ToldSecond, Before, went}
 use Rattle.event_model.specs.Events.{course_by}
 use Rattle.run_course.specs.Moment.{found_at}
 use Rattle.run_course.specs.Reached.{course_at}
@@ -62,8 +62,11 @@ use Rattle.run_minutes.specs.Later.{IsCalm}
 use Rattle.run_acts.proofs.Closed.{closed-recorded, closed-evented}
 use Rattle.run_acts.specs.RunCards.{StillShow, CardsSettling, PlacesSettling}
 use Rattle.run_acts.proofs.CardStays.{closing-still}
-use Rattle.run_note_record.specs.OnCards.{PlacesStay}
-use Rattle.run_acts.proofs.CardPlaces.{closing-stay}
+use Rattle.note_model.specs.Odometer.{SpanFrom}
+use Rattle.run_rings.specs.Spans.{with_second}
+use Rattle.run_note_record.specs.OnCards.{CardsStay}
+use Rattle.run_acts.specs.RunRinged.{AreSpansNow}
+use Rattle.run_acts.proofs.CardPlaces.{closing-stays}
 use Rattle.note_model.specs.Noted.{Note}
 use Rattle.card_image.specs.Own.{IsOwnValid}
 use Rattle.run_promise.specs.Found.{found_of}
@@ -259,17 +262,18 @@ module _ (o : Origin) (done : List TraceSecond) (s : TraceSecond) (front rest : 
   settled-still e settles time = settles o done s (length front) [] refl gone time
 
   -- and their places stay
-  pub settled-places : (e : Devices) → PlacesSettling decided (acting_at s.number (suc (length front))) (left_run slot s.number run) between before d e → HaveTime e → PlacesStay o d e
-  settled-places e settles time = settles o done s (length front) [] refl gone time
+  pub settled-places : (e : Devices) → PlacesSettling decided (acting_at s.number (suc (length front))) (left_run slot s.number run) between before d e → HaveTime e → (spans : List SpanFrom) (t : ToldSecond) →
+      AreSpansNow done s w.within.b.run.log spans run.keeper.odometer t → CardsStay o (with_second spans run.keeper.odometer t) d e
+  settled-places e settles time spans t now = settles o done s (length front) [] refl gone time spans t (subst (λ (b : Beginning). AreSpansNow done s b.run.log spans run.keeper.odometer t) (sym left.goes.began) now)
 
   pub closed-places : {C : Type 0} (state : C → State) (U V Z : State) (x y : C) → IsCoherent (state x) → LARGEST_IMAGE ≤ (state x).size →
       IfSome (session_of between.keeper.cabin.cards c) (λ s. (act : Activity) × LeavesOnly (state x) (state y) (λ i n. IsSession s.session i → IsCardClosing s.session act i n)) → (session_of between.keeper.cabin.cards c ≡ None → y ≡ x) →
       RecordsSettling decided (acting_at s.number (suc (length front))) false (left_run slot s.number run) between before told d (arranged c U (state x) Z) → HaveTime (arranged c U (state x) Z) →
-      PlacesStay o (arranged c U (state x) Z) (arranged c V (state y) Z)
-  closed-places state U V Z x y whole size closes still records time =
+      (spans : List SpanFrom) → CardsStay o spans (arranged c U (state x) Z) (arranged c V (state y) Z)
+  closed-places state U V Z x y whole size closes still records time spans =
       let kept_all : IsSettledIn o done s (In (suc (length front))) [] gone.within.b gone.within.from (gone.within.from + length decided) (left_run slot s.number run) between before told (arranged c U (state x) Z) =
       records o done s (suc (length front)) [] (omega arith) refl gone time in
-      closing-stay state o done s (In (suc (length front))) [] [] between told c U V Z x y kept_all.goes whole size closes still
+      closing-stays state o spans done s (In (suc (length front))) [] [] between told c U V Z x y kept_all.goes whole size closes still
 
   -- and so they do behind the closing
   pub closed-still : {C : Type 0} (state : C → State) (U V Z : State) (x y : C) → IsCoherent (state x) → LARGEST_IMAGE ≤ (state x).size →

@@ -21,6 +21,8 @@ use Rattle.run_events.specs.Entries.{card_entry}
 use Rattle.run_minutes.specs.Keeping.{CardMayBeCalled, HasItsRow, UnitMayBeCalled}
 use Rattle.run_minutes.specs.Later.{AreAfter, AreCalm, AreLater, IsCalm, IsLater}
 use Rattle.run_minutes.specs.Minutes.{IsReach, KeepingState, Reach}
+use Rattle.run_minutes.specs.Stand.{KeepingGoes, Stand}
+use Rattle.run_minutes.specs.Writes.{WroteAtMost}
 use Rattle.run_minutes.specs.declared.keeper.Moment.{Moment}
 use Rattle.run_outcome.specs.Broken.{BreaksDown}
 use Rattle.run_outcome.specs.Lines.{Listed}
@@ -98,11 +100,12 @@ pub record IsHeldBehind (failed : Bool) (new : Run) (d e : Devices) (chip_a chip
   pub cause : HasCause d.unit e.unit failed
 
 -- ALL GOES ON: no clock and no count of a device falls, none breaks down but in a call that failed, and no card without
--- the line of a tear; the detailed speed stays, and breaks are only added
-pub record AllGoOn (before after : List Break) (d e : Devices) : Type 0 where
+-- the line of a tear; the detailed speed stays, and breaks are only added; and so many writes at most were begun
+pub record AllGoOn (on_unit on_card : ℕ) (before after : List Break) (d e : Devices) : Type 0 where
   pub later : AreLater d e
   pub calm : AreCalm before after d e
   pub more : length before ≤ length after
+  pub most : WroteAtMost on_unit on_card d e
 
 -- A PLACE WAS TO BE NOTED for the card of a slot: whether that fell, and nothing else has changed; a tear more is a
 -- card less
@@ -201,12 +204,14 @@ pub record PromisesTurn (n speed begun : ℕ) (old new : Run) (before after : Ou
   pub cards : CardsTurn n speed begun old new before after d e
   pub speeds : SpeedsTurn n speed begun old new before after d e
 
--- ALL GOES ON over them, and the unit broke down where the power is lost, and nowhere else
-pub record TurnGoes (before after : List Break) (d e : Devices) : Type 0 where
+-- ALL GOES ON over them, and the unit broke down where the power is lost, and nowhere else; and so many writes at most
+-- were begun
+pub record TurnGoes (on_unit on_card : ℕ) (before after : List Break) (d e : Devices) : Type 0 where
   pub later : AreAfter d e
   pub calm : AreCalm before after d e
   pub more : length before ≤ length after
   pub broke : BreaksDown before after d.unit e.unit
+  pub most : WroteAtMost on_unit on_card d e
 
 -- so it is with power
 pub record LitTurns (n speed begun : ℕ) (old new : Run) (before after : Outcome) : Type 0 where
@@ -282,3 +287,10 @@ pub record ShowsClosing (which : Card) (slot : Slot) (at : Moment) (failed : Boo
 pub record CardGoesOn (before after : List Break) (x y : State) : Type 0 where
   pub later : IsLater x y
   pub calm : IsCalm before after x y
+
+-- THE KEEPING GOES ON as a second settles: all goes on over what is kept, the detailed speed stays, and so many writes
+-- at most were begun
+pub record SettlingGoes (on_unit on_card : ℕ) (s t : Stand) : Type 0 where
+  pub keeping : KeepingGoes s t
+  pub speeds : LeavesSpeeds s.devices.unit t.devices.unit
+  pub most : WroteAtMost on_unit on_card s.devices t.devices

@@ -3,6 +3,7 @@ use Rattle.std.specs.Prelude.{◌≡◌, ℕ, ◌||◌, Bool, not, Option, Some,
 use Rattle.trace_model.specs.declared.Card.{Card}
 use Rattle.tach_media.specs.Medium.{State}
 use Rattle.tacho_types.specs.declared.texts.Registration.{Registration}
+use Rattle.card_image.specs.Beside.{HaveSameVehicles}
 use Rattle.card_image.specs.Fields.{file_bytes}
 use Rattle.card_files.specs.declared.card_event.CardEvent.{CardEvent}
 use Rattle.event_model.specs.declared.entries.Span.{Span}
@@ -45,13 +46,14 @@ gap_on (Some span) registration = record {
 
 -- ---- the places
 
--- CALLS LEAVE THE PLACES of a card: without a session it may leave no image that it might not have left before; else
--- each has the places of one before
+-- CALLS LEAVE THE PLACES of a card, and its vehicle entries: without a session it may leave no image that it might not
+-- have left before; else each has those of one before
 abbrev pub LeavesPlaces : (session : Option Accepted) → (card card_after : State) → Type 0
 LeavesPlaces None card card_after = (c : List ℕ) → card_after.may_leave c → card.may_leave c
 LeavesPlaces (Some a) card card_after = (c : List ℕ) → card_after.may_leave c
     → (x : List ℕ) × card.may_leave x
     × (file_bytes a.session.application 0x0506 c ≡ file_bytes a.session.application 0x0506 x)
+    × HaveSameVehicles a.session.application x c
 
 -- so they do of each card
 abbrev pub LeavePlaces : Cards → (d e : Devices) → Type 0

@@ -10,6 +10,7 @@ use Rattle.log_model.specs.Slots.{same_card}
 use Rattle.note_model.specs.Noted.{InsertionNote, Note, insertions_of}
 use Rattle.run_note_record.specs.RingsSoFar.{notes_so_far}
 use Rattle.run_record.specs.Within.{Beginning}
+pub use Rattle.run_record.specs.Handed.{actions_to}
 
 -- A SPELL of a card in the vehicle: the second and the slot of its acceptance, and the second of its withdrawal, if it
 -- was withdrawn in order
@@ -43,11 +44,6 @@ abbrev pub last_slot : List Spell → Option Slot
 last_slot [] = None
 last_slot (s ∷ []) = Some s.slot
 last_slot (s ∷ t ∷ ss) = last_slot (t ∷ ss)
-
--- the actions of a second up to a moment of it
-abbrev pub actions_to : Phase → List Action → List Action
-actions_to (In n) actions = take n actions
-actions_to Keeping actions = actions
 
 -- THE NOTES OF A RUN SO FAR, within a second that began so
 abbrev pub notes_within : Beginning → List TraceSecond → TraceSecond → Phase → RunLog → List Note

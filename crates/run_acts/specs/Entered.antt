@@ -11,6 +11,7 @@ use Rattle.card_slots.specs.Calls.{seat_in, is_card}
 use Rattle.log_model.specs.Log.{In, found_in}
 use Rattle.log_model.specs.Slots.{other_slot}
 use Rattle.log_model.specs.Course.{Visit, went}
+use Rattle.log_model.specs.ByHand.{by_slots, stops}
 use Rattle.safety_model.specs.Recording.{card_image, brought}
 use Rattle.safety_model.specs.Safe.{Devices}
 use Rattle.run_crew.specs.declared.cabin.Cabin.{Cabin}
@@ -35,7 +36,7 @@ use Rattle.run_record.specs.Judging.{IsNext, Behind}
 -- what a run has by value, with this keeper and these lines
 abbrev pub values_with : Keeper → Outcome → (unfound next begun : ℕ) → Kept → Values
 values_with k out unfound next begun minutes = record {
-  log = record { breaks = out.breaks.items; refused = out.refused.items; finds = out.finds.items };
+  log = record { breaks = out.breaks.items; refused = by_slots out.refused.items; finds = out.finds.items };
   marks = out.marks.items;
   cabin = k.cabin;
   unfound = unfound;
@@ -43,6 +44,7 @@ values_with k out unfound next begun minutes = record {
   begun = begun;
   minutes = minutes;
   odometer = k.odometer;
+  stops = stops out.refused.items;
 }
 
 -- what the opening found is that of the images at the start

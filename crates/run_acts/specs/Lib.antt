@@ -34,3 +34,4 @@ pub mod Comings
 pub mod Words
 pub mod Truths
 pub mod Owed
+pub mod ByHand

@@ -4,6 +4,7 @@ use Rattle.trace_model.specs.declared.Action.{Action}
 use Rattle.trace_model.specs.declared.Card.{Card}
 use Rattle.trace_model.specs.Trace.{TraceSecond, driven}
 use Rattle.minute_model.specs.declared.Minute.{Minute}
+use Rattle.log_model.specs.ByHand.{by_slots, stops}
 use Rattle.log_model.specs.Log.{RunLog, Phase, In}
 use Rattle.log_model.specs.Course.{Visit, went}
 use Rattle.log_model.specs.Slots.{refusal}
@@ -36,9 +37,9 @@ use Rattle.run_acts.specs.Closings.{notes_within}
 use Rattle.run_acts.specs.Stays.{AllStay}
 use Rattle.run_acts.specs.Truths.{truths_of, truths_within, marked}
 
--- the log of an outcome
+-- the log of an outcome: of the refusals those of slots and power, by which alone the course of a run goes
 abbrev pub log_of : Outcome → RunLog
-log_of out = record { breaks = out.breaks.items; refused = out.refused.items; finds = out.finds.items }
+log_of out = record { breaks = out.breaks.items; refused = by_slots out.refused.items; finds = out.finds.items }
 
 -- what a run has by value, as far as its record speaks of it
 abbrev pub values_of : Run → Outcome → Values
@@ -51,6 +52,7 @@ values_of run out = record {
   begun = run.begun;
   minutes = run.minutes;
   odometer = run.keeper.odometer;
+  stops = stops out.refused.items;
 }
 
 -- the power of a run between two seconds is that of the seconds so far: a span that goes on has a second
@@ -79,6 +81,7 @@ pub record IsOrigin (o : Origin) : Type 0 where
   pub long : (c : Card) → IsOwnValid (card_image o.recording c) → length (own_number (card_image o.recording c)) ≡ 18
   pub bytes : (c : Card) → All (λ n. n < 256) (card_image o.recording c)
   pub vehicle : (c : Card) → (found_of o.found c).vehicle ≡ vehicle_in o
+  pub named : length (vehicle_in o).0 ≡ 15
 
 -- BETWEEN TWO SECONDS, behind these: all is recorded, and the odometer that minutes are counted from is that at the
 -- last power-on; the unit tells the registration of its image at the start; and each card shows exactly what its stays

@@ -47,6 +47,7 @@ GoOn o done s q rest t v d b first = SecondGoesOn o done s q.at q.waits q.speed 
 abbrev pub carried_at : (o : Origin) (done : List TraceSecond) (s : TraceSecond) (q : Point) (rest : List Minute)
     (t : KeepingState) (v : Values) (d : Devices) → InRounds o done s q rest t v d → RunLedger
 carried_at o done s q rest t v d w = carried (told_values t v) w.due (kept_all w.new w.b.run.book) w.standing w.brought
+    w.hands w.firsts
 
 -- WHAT IS KNOWN of a keeping beside its rounds: at most four minutes are over, and those that are to be kept are; two
 -- cards were present at most; and behind it devices have left more, the unit broke down no less, and a card that is not

@@ -14,7 +14,9 @@ use Rattle.event_model.specs.Events.{Event, Seen, seen_of, seen_spans, gap_event
 use Rattle.minute_model.specs.declared.Minute.{Minute}
 use Rattle.log_model.specs.Log.{RunLog, In}
 use Rattle.log_model.specs.Slots.{refusal}
-use Rattle.log_model.specs.Course.{Before, Course, Visit, went}
+use Rattle.log_model.specs.Course.{ToldSecond, Before, Course, Visit, went}
+use Rattle.note_model.specs.Odometer.{SpanFrom}
+use Rattle.run_rings.specs.Spans.{with_second}
 use Rattle.card_slots.specs.Calls.{logged}
 use Rattle.safety_model.specs.Recording.{card_image}
 use Rattle.safety_model.specs.Safe.{Devices, card_of}
@@ -25,7 +27,7 @@ use Rattle.run_note_record.specs.Uses.{notes_in, notes_now, uses_in}
 use Rattle.run_rings.specs.Notes.{course_behind}
 use Rattle.run_promise.specs.Origin.{Origin}
 use Rattle.run_promise.specs.Whole.{NothingFailed}
-use Rattle.run_note_record.specs.OnCards.{PlacesStay}
+use Rattle.run_note_record.specs.OnCards.{CardsStay}
 use Rattle.log_model.specs.declared.lines.Break.{Break}
 use Rattle.run_outcome.specs.Lines.{Listed}
 use Rattle.run_outcome.specs.declared.outcome.Outcome.{Outcome}
@@ -34,7 +36,7 @@ use Rattle.run_minutes.specs.Books.{HaveTime}
 use Rattle.run_acts.specs.declared.run.Run.{Run}
 use Rattle.run_acts.specs.Power.{is_lit}
 use Rattle.run_acts.specs.Recording.{log_of, RunWithin, RunCut, IsNow}
-use Rattle.run_acts.specs.RunRinged.{with_cut}
+use Rattle.run_acts.specs.RunRinged.{with_cut, AreSpansNow}
 use Rattle.run_acts.specs.Settling.{settled_run}
 use Rattle.run_acts.specs.OnCards.{as_accepted, events_by, unclosed_by, accepted_on, moved_in, gaps_on, are_sure_on}
 use Rattle.run_acts.specs.OnCards.{ShowsThem, StillShows, AreUses}
@@ -121,13 +123,15 @@ CardsSettling decided at old new before d e = (o : Origin) (done : List TraceSec
     (w : RunWithin o done s (In (suc n)) waits decided (settled_run new.minutes old) before d) → HaveTime e
     → StillShow o d e
 
--- and it leaves their places
+-- and it leaves their places, and measures their vehicle entries with readings of the power spans of now
 abbrev pub PlacesSettling : (decided : List Minute) → Moment → (old new : Run) → (before : Outcome) → (d e : Devices)
     → Type 0
 PlacesSettling decided at old new before d e = (o : Origin) (done : List TraceSecond) (s : TraceSecond) (n : ℕ)
     (waits : List Visit) → at ≡ record { second = s.number; begun = suc n; late = false } →
     (w : RunWithin o done s (In (suc n)) waits decided (settled_run new.minutes old) before d) → HaveTime e
-    → PlacesStay o d e
+    → (spans : List SpanFrom) (t : ToldSecond)
+    → AreSpansNow done s w.within.b.run.log spans old.keeper.odometer t
+    → CardsStay o (with_second spans old.keeper.odometer t) d e
 
 -- BEHIND A CALL in a second they go on so far; or the unit has failed in the last of these actions, as the cut says
 -- that is told next.

@@ -1,7 +1,7 @@
 -- What is carried of the rings of a run with cards, beside what is recorded of it (profile): between two seconds, and
 -- within one; and what calls make of that.
 use Rattle.std.specs.Prelude.{◌≡◌, ◌+◌, ◌-◌, ◌<◌, ◌≤◌, ◌++◌, ℕ, suc, Bool, true, false, Option, None, List, [], ◌∷◌}
-use Rattle.std.specs.Prelude.{length, option_map}
+use Rattle.std.specs.Prelude.{length, map, option_map}
 use Rattle.activity_codec.specs.declared.values.Slot.{Slot}
 use Rattle.trace_model.specs.declared.Action.{Action}
 use Rattle.trace_model.specs.declared.Action.TheVariants.{Withdraw, Place}
@@ -11,7 +11,8 @@ use Rattle.tacho_types.specs.declared.places.PlaceEntry.{PlaceEntry}
 use Rattle.log_model.specs.declared.lines.Break.{Break}
 use Rattle.log_model.specs.Log.{RunLog, In}
 use Rattle.log_model.specs.Slots.{refusal}
-use Rattle.log_model.specs.Course.{ToldSecond}
+use Rattle.log_model.specs.Course.{ToldSecond, went}
+use Rattle.log_model.specs.Spans.{spans_of}
 use Rattle.card_slots.specs.Calls.{logged}
 use Rattle.unit_model.specs.Image.{odometer_at}
 use Rattle.unit_rule.specs.Odometer.{odometer_after}
@@ -27,7 +28,7 @@ use Rattle.run_rings.specs.Spans.{with_second}
 use Rattle.run_record.specs.Within.{Beginning}
 use Rattle.run_note_record.specs.Noting.{Acting}
 use Rattle.run_note_record.specs.Ringed.{Seating}
-use Rattle.run_note_record.specs.RingsSoFar.{RingedBehind, RingedIn, HasMoreBreaks, GoesBehind}
+use Rattle.run_note_record.specs.RingsSoFar.{RingedBehind, RingedIn, IsSecond, HasMoreBreaks, GoesBehind}
 use Rattle.run_note_record.specs.Steps.{nobody, spans_cut}
 use Rattle.run_note_record.specs.Stored.{StoresOn, StoresOff, Stores}
 use Rattle.run_minutes.specs.declared.keeper.Moment.{Moment}
@@ -46,6 +47,13 @@ seats_of run c = option_map (seating_of run.noted) (session_of run.keeper.cabin.
 -- the span that goes on is the last, and began with this odometer
 abbrev pub IsLastFrom : (base : ℕ) → List SpanFrom → Type 0
 IsLastFrom base spans = (front : List SpanFrom) × (last : SpanFrom) × (spans ≡ front ++ last ∷ []) × (last.base ≡ base)
+
+-- THE POWER SPANS within a second, which began by this log: the last of them, with it, began with this odometer
+pub record AreSpansNow (done : List TraceSecond) (s : TraceSecond) (began : RunLog) (spans : List SpanFrom) (base : ℕ)
+    (told : ToldSecond) : Type 0 where
+  pub last : IsLastFrom base (with_second spans base told)
+  pub are : map (λ (x : SpanFrom). x.span) spans ≡ spans_of (went began done).told
+  pub second : IsSecond s (went began done).before told
 
 -- BETWEEN TWO SECONDS: all is recorded, events are noted, and the rings show what these seconds noted; each span began
 -- with what the unit had stored. No more insertions were noted than finds were told.

@@ -7,6 +7,7 @@ use Rattle.std.specs.List.{AllByRecursion}
 use Rattle.activity_codec.specs.declared.values.Activity.{Activity}
 use Rattle.activity_codec.specs.declared.values.Slot.{Slot}
 use Rattle.activity_codec.specs.declared.entries.Entry.{Entry}
+use Rattle.activity_codec.specs.declared.entries.Manual.{Manual}
 use Rattle.trace_model.specs.declared.Card.{Card}
 use Rattle.trace_model.specs.declared.Card.TheVariants.{A, B}
 use Rattle.minute_model.specs.Span.{Span, activity_next}
@@ -39,7 +40,8 @@ use Rattle.run_crew.specs.Cards.{session_of}
 use Rattle.run_promise.specs.Found.{CardFound, found_of}
 use Rattle.run_promise.specs.Origin.{Origin}
 use Rattle.run_promise.specs.Whole.{NothingFailed}
-use Rattle.run_minutes.specs.CardDeeds.{made_by, is_open_in, ShowsBook, keeps, last_odometer, opens}
+use Rattle.run_minutes.specs.CardDeeds.{made_by, is_open_in, ShowsBook, keeps, holds_after, last_odometer, opens}
+use Rattle.run_note_record.specs.OnCards.{HasRing}
 use Rattle.gated_ring.specs.Ring.{PointsInside}
 use Rattle.run_acts.specs.Closings.{Spell, spells_of, with_last_shut, last_slot}
 use Rattle.run_acts.specs.Comings.{VehicleTold, told_of, TellsMore}
@@ -55,12 +57,13 @@ pub record Shut : Type 0 where
   pub word : Activity
 
 -- A STAY of a card in the vehicle: from its insertion, of whose acceptance this line of the log tells, where the
--- vehicle had this odometer value, and so much was owed to the card, with the minutes that it kept, to its withdrawal
--- with an activity; or it was not withdrawn.
+-- vehicle had this odometer value, and so much was owed to the card, with the entries by hand that were done in it and
+-- the minutes that it kept, to its withdrawal with an activity; or it was not withdrawn.
 pub record Stay : Type 0 where
   pub found : Find
   pub odometer : ℕ
   pub owed : List Entry
+  pub by_hand : List Manual
   pub kepts : List Kept
   pub closed : Option Shut
   -- the lines by which its card was turned away since the stay before
@@ -73,7 +76,7 @@ closes (Some x) = Close x.word ∷ []
 -- what is done on the card in it
 abbrev pub deeds_of : Registration → (used : Bool) → Book → Stay → List Deed
 deeds_of vehicle used b s = opens used vehicle s.odometer (lacked (mark_of b) s.owed)
-    ++ (keeps vehicle None s.kepts ++ closes s.closed)
+    ++ (keeps vehicle None s.by_hand s.kepts ++ closes s.closed)
 
 -- a book, and the current use with it
 pub record Shown : Type 0 where
@@ -239,7 +242,8 @@ pub record TellsBefores (unit : List ℕ) (acceptances : List Find) (vehicle : R
 -- ---- one card
 
 -- A CARD IN ITS SLOT goes on in the last of its stays: its session is of the vehicle, and has the odometer value of the
--- last minute kept in it.
+-- last minute kept in it; and it holds the entries by hand that were done in the stay, as long as it has kept no
+-- minute; and where it may take one it has kept none.
 pub record GoesIn (vehicle : Registration) (stays : List Stay) (a : Accepted) : Type 0 where
   pub front : List Stay
   pub stay : Stay
@@ -247,6 +251,8 @@ pub record GoesIn (vehicle : Registration) (stays : List Stay) (a : Accepted) : 
   pub still : stay.closed ≡ None
   pub registered : a.session.registration ≡ vehicle
   pub odometer : a.session.odometer ≡ last_odometer None stay.kepts
+  pub held : a.held.entries ≡ holds_after stay.by_hand stay.kepts
+  pub free : a.held.begun ≡ None → stay.kepts ≡ []
 
 abbrev pub StaysIn : Registration → List Stay → Option Accepted → Type 0
 StaysIn vehicle stays None = Unit {0}

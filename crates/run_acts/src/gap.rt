@@ -8,7 +8,6 @@ ghost use Rattle.log_model.specs.Log.{In};
 ghost use Rattle.run_promise.specs.Between.{devices};
 ghost use Rattle.run_crew.specs.Cards.{known_of, session_of};
 ghost use Rattle.run_crew.specs.Cabin.{CabinIsSound};
-ghost use Rattle.run_minutes.specs.Writes.{WroteAtMost};
 ghost use Rattle.run_minutes.specs.Keeping.{UnitMayBeCalled, CardMayBeCalled};
 ghost use Rattle.run_acts.specs.declared.run.Power.TheVariants.{Lit};
 ghost use Rattle.run_acts.specs.Going.{first_second, CanBeCut, RunHasPowerAllSeated, IsActing};
@@ -61,10 +60,7 @@ pub fn note_gap<M: Medium, C: Chip, D: Chip>(
         (C.card card_a.new) (D.card card_b.new) }
     ensures going { OnOk result (RunHasPowerAllSeated (run.new.next / 60) run.new (M.state unit.new) (C.card card_a.new)
         (D.card card_b.new) (C.state card_a.new) (D.state card_b.new)) }
-    ensures most { WroteAtMost 12 8
-        (devices (M.state unit.old) (C.state card_a.old) (D.state card_b.old))
-        (devices (M.state unit.new) (C.state card_a.new) (D.state card_b.new)) }
-    ensures goes { AllGoOn breaks.old.items breaks.new.items
+    ensures goes { AllGoOn 12 8 breaks.old.items breaks.new.items
         (devices (M.state unit.old) (C.state card_a.old) (D.state card_b.old))
         (devices (M.state unit.new) (C.state card_a.new) (D.state card_b.new)) }
 {
@@ -109,10 +105,7 @@ fn note_in<M: Medium, C: Chip, D: Chip>(
         (C.card card_a.new) (D.card card_b.new) }
     ensures going { OnOk result (RunHasPowerAllSeated (run.new.next / 60) run.new (M.state unit.new) (C.card card_a.new)
         (D.card card_b.new) (C.state card_a.new) (D.state card_b.new)) }
-    ensures most { WroteAtMost 4 4
-        (devices (M.state unit.old) (C.state card_a.old) (D.state card_b.old))
-        (devices (M.state unit.new) (C.state card_a.new) (D.state card_b.new)) }
-    ensures goes { AllGoOn breaks.old.items breaks.new.items
+    ensures goes { AllGoOn 4 4 breaks.old.items breaks.new.items
         (devices (M.state unit.old) (C.state card_a.old) (D.state card_b.old))
         (devices (M.state unit.new) (C.state card_a.new) (D.state card_b.new)) }
 {

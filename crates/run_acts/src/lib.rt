@@ -3,6 +3,7 @@
 //! one minute at one speed.
 #![tactic(auto)]
 
+mod by_hand;
 mod entered;
 mod feeding;
 mod gap;
@@ -17,6 +18,7 @@ mod settling;
 mod turning;
 mod withdrawing;
 
+pub use by_hand::{enter, may_enter};
 pub use entered::a_card_that_entered_is_recorded;
 pub use feeding::turn_length;
 pub use gap::note_gap;

@@ -8,7 +8,6 @@ ghost use Rattle.minute_rules.specs.Kept.{CountsSpan};
 ghost use Rattle.unit_model.specs.declared.layout.TheConstants.{HIGHEST_ODOMETER};
 ghost use Rattle.run_crew.specs.Cards.{known_of, session_of};
 ghost use Rattle.run_crew.specs.Cabin.{CabinIsSound};
-ghost use Rattle.run_minutes.specs.Writes.{WroteAtMost};
 ghost use Rattle.run_minutes.specs.Keeping.{UnitMayBeCalled, CardMayBeCalled};
 ghost use Rattle.run_minutes.specs.Minutes.{odometer_by};
 ghost use Rattle.run_promise.specs.Between.{devices};
@@ -83,10 +82,7 @@ pub fn note_place<M: Medium, C: Chip, D: Chip>(
         (C.card card_a.new) (D.card card_b.new) }
     ensures going { OnOk result (RunHasPowerAllSeated (run.new.next / 60) run.new (M.state unit.new) (C.card card_a.new)
         (D.card card_b.new) (C.state card_a.new) (D.state card_b.new)) }
-    ensures most { WroteAtMost 9 5
-        (devices (M.state unit.old) (C.state card_a.old) (D.state card_b.old))
-        (devices (M.state unit.new) (C.state card_a.new) (D.state card_b.new)) }
-    ensures goes { AllGoOn breaks.old.items breaks.new.items
+    ensures goes { AllGoOn 9 5 breaks.old.items breaks.new.items
         (devices (M.state unit.old) (C.state card_a.old) (D.state card_b.old))
         (devices (M.state unit.new) (C.state card_a.new) (D.state card_b.new)) }
 {

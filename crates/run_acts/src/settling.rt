@@ -1,16 +1,14 @@
 //! The minutes before that of an action are decided and kept.
 ghost use Rattle.std.specs.Prelude.{◌≡◌, ◌+◌, ◌*◌, ◌/◌, ◌≤◌, Option, OnOk, length, is_err};
 ghost use Rattle.trace_model.specs.declared.Card.{Card};
-ghost use Rattle.run_speeds.specs.Speeds.{LeavesSpeeds};
-ghost use Rattle.run_minutes.specs.Writes.{WroteAtMost};
 ghost use Rattle.run_minutes.specs.Keeping.{most_tears};
-ghost use Rattle.run_minutes.specs.Stand.{KeepingGoes};
 ghost use Rattle.run_promise.specs.Between.{devices};
 ghost use Rattle.run_acts.specs.declared.run.Power.TheVariants.{Lit};
 ghost use Rattle.run_acts.specs.Going.{first_second, end_of_seconds, CanBeCut, RunHasPower};
 ghost use Rattle.run_acts.specs.Room.{Takes};
 ghost use Rattle.run_acts.specs.Acting.{IsSettled};
 ghost use Rattle.run_acts.specs.Keepings.{acting, KeepsSettled, IsBehindSettling};
+ghost use Rattle.run_acts.specs.Acts.{SettlingGoes};
 
 use crate::run::Run;
 use run_minutes::Moment;
@@ -56,15 +54,11 @@ pub fn settle<M: Medium, C: Chip, D: Chip>(
         (C.state card_a.new) (D.state card_b.new)) }
     ensures behind { IsBehindSettling (is_err result) run.old run.new (M.state unit.old) (M.state unit.new) }
     ensures takes { Takes 0 0 0 run.old run.new outcome.old outcome.new }
-    ensures goes { KeepingGoes
+    ensures goes { SettlingGoes 78 294
         (acting run.old outcome.old (M.state unit.old) (C.state card_a.old) (D.state card_b.old) (C.card card_a.old)
         (D.card card_b.old))
         (acting run.new outcome.new (M.state unit.new) (C.state card_a.new) (D.state card_b.new) (C.card card_a.new)
         (D.card card_b.new)) }
-    ensures most { WroteAtMost 78 102
-        (devices (M.state unit.old) (C.state card_a.old) (D.state card_b.old))
-        (devices (M.state unit.new) (C.state card_a.new) (D.state card_b.new)) }
-    ensures speeds { LeavesSpeeds (M.state unit.old) (M.state unit.new) }
 {
     let decided = run.minutes.settle();
     run.keeper.keep_all(

@@ -1,6 +1,6 @@
 //! Seconds of one minute at one speed.
 ghost use Rattle.std.specs.Prelude.{◌≡◌, ℕ, ◌+◌, ◌*◌, ◌%◌, ◌<◌, ◌≤◌, false, length, is_err};
-ghost use Rattle.run_minutes.specs.Writes.{WroteAtMost};
+ghost use Rattle.run_minutes.specs.Writes.{WroteAtMost, minute_most};
 ghost use Rattle.run_minutes.specs.Keeping.{DevicesMayBeCalled};
 ghost use Rattle.run_acts.specs.declared.run.Power.TheVariants.{Lit};
 ghost use Rattle.run_acts.specs.Power.{is_lit, passed};
@@ -56,10 +56,7 @@ pub fn turn<M: Medium, C: Chip, D: Chip>(
     ensures room { (left offs insertions actions : ℕ)
         → HasRoomWithin run.old outcome.old (n + left) offs insertions actions
         → HasRoom run.new outcome.new left offs insertions actions }
-    ensures most { WroteAtMost 93 102
-        (devices (M.state unit.old) (C.state card_a.old) (D.state card_b.old))
-        (devices (M.state unit.new) (C.state card_a.new) (D.state card_b.new)) }
-    ensures goes { TurnGoes outcome.old.breaks.items outcome.new.breaks.items
+    ensures goes { TurnGoes 93 294 outcome.old.breaks.items outcome.new.breaks.items
         (devices (M.state unit.old) (C.state card_a.old) (D.state card_b.old))
         (devices (M.state unit.new) (C.state card_a.new) (D.state card_b.new)) }
 {
@@ -98,10 +95,7 @@ fn lit_turn<M: Medium, C: Chip, D: Chip>(
     ensures room { (left offs insertions actions : ℕ)
         → HasRoomWithin run.old outcome.old (n + left) offs insertions actions
         → HasRoom (passed n begun run.new) outcome.new left offs insertions actions }
-    ensures most { WroteAtMost 93 102
-        (devices (M.state unit.old) (C.state card_a.old) (D.state card_b.old))
-        (devices (M.state unit.new) (C.state card_a.new) (D.state card_b.new)) }
-    ensures goes { TurnGoes outcome.old.breaks.items outcome.new.breaks.items
+    ensures goes { TurnGoes 93 294 outcome.old.breaks.items outcome.new.breaks.items
         (devices (M.state unit.old) (C.state card_a.old) (D.state card_b.old))
         (devices (M.state unit.new) (C.state card_a.new) (D.state card_b.new)) }
 {
@@ -159,7 +153,7 @@ fn keep_turn<M: Medium, C: Chip, D: Chip>(
         (D.card card_b.old))
         (acting run.new outcome.new (M.state unit.new) (C.state card_a.new) (D.state card_b.new) (C.card card_a.new)
         (D.card card_b.new)) }
-    ensures most { WroteAtMost (26 * length decided.now + 15) (34 * length decided.now)
+    ensures most { WroteAtMost (26 * length decided.now + 15) (minute_most * length decided.now)
         (devices (M.state unit.old) (C.state card_a.old) (D.state card_b.old))
         (devices (M.state unit.new) (C.state card_a.new) (D.state card_b.new)) }
     ensures bare { AreBare run.old.keeper.cabin.cards card_a.old card_a.new card_b.old card_b.new }

@@ -21,8 +21,8 @@ use Rattle.run_crew.specs.declared.cards.Known.{Known}
 use Rattle.run_crew.specs.declared.cards.Cards.{Cards}
 use Rattle.run_crew.specs.declared.cabin.Cabin.{Cabin}
 use Rattle.run_crew.specs.Cards.{known_of, session_of, with_session, with_number, with_sizes, IsKnown}
-use Rattle.run_crew.specs.Cabin.{CabinIsSound, AnswersTo, SeatAnswers, AreTwo, IsBehind, EndedStands, SitsThere, SitsNowhere, MayBeKept, slot_with, left_from, with_card_in, with_sizes_of, with_accepted, with_slot_left, with_session_of, torn_out, with_power_lost, with_minute_ended}
-use Rattle.run_crew.proofs.Sessions.{same_self, session_set, session_apart, session_named, sized_of, numbered_of, SameBut, seat_apart, two_first, two_second, two_none, off_first, off_second, sits_is, behind_none, ended_less, gone_or_same, all_gone, kept_is_apart}
+use Rattle.run_crew.specs.Cabin.{CabinIsSound, HoldsHands, AnswersTo, SeatAnswers, AreTwo, IsBehind, EndedStands, SitsThere, SitsNowhere, MayBeKept, slot_with, left_from, with_card_in, with_sizes_of, with_accepted, with_slot_left, with_session_of, torn_out, with_power_lost, with_minute_ended}
+use Rattle.run_crew.proofs.Sessions.{hold_later, hold_less, ready_for, same_self, session_set, session_apart, session_named, sized_of, numbered_of, SameBut, seat_apart, two_first, two_second, two_none, off_first, off_second, sits_is, behind_none, ended_less, gone_or_same, all_gone, kept_is_apart}
 
 -- ---- a card that has no session
 
@@ -43,8 +43,13 @@ new-stands a b no_a no_b from = record {
   left = tt;
   past = All-nil (EndedStands from 0 (record { a = a; b = b }));
   newest = new-knows;
+  hands = λ c. bare_holds c;
 }
   where
+    bare_holds : (c : Card) → IfSome (session_of (record { a = a; b = b }) c) (HoldsHands from)
+    bare_holds A = subst (λ (o : Option Accepted). IfSome o (HoldsHands from)) (sym no_a) tt
+    bare_holds B = subst (λ (o : Option Accepted). IfSome o (HoldsHands from)) (sym no_b) tt
+
     bare : (c : Card) → is_some (session_of (record { a = a; b = b }) c) ≡ true → ⊥
     bare A some = let e : false ≡ true = ap is_some (sym no_a) ∙ some in cc
     bare B some = let e : false ≡ true = ap is_some (sym no_b) ∙ some in cc
@@ -91,6 +96,7 @@ put-stands cabin Driver card from empty off newest h =
       left = tt;
       past = h.past;
       newest = newest;
+      hands = h.hands;
     }
   where
     sits : (c : Card) → SitsThere cabin.slots.seats c ⊎ (None ≡ Some c) → SitsThere (put_in Driver card None cabin.slots).seats c ⊎ (None ≡ Some c)
@@ -109,6 +115,7 @@ put-stands cabin CoDriver card from empty off newest h =
       left = tt;
       past = h.past;
       newest = newest;
+      hands = h.hands;
     }
   where
     sits : (c : Card) → SitsThere cabin.slots.seats c ⊎ (None ≡ Some c) → SitsThere (put_in CoDriver card None cabin.slots).seats c ⊎ (None ≡ Some c)
@@ -136,6 +143,7 @@ same-stands cabin new from leaving same a b h = record {
   past = All-weaker (EndedStands from cabin.slots.minute cabin.cards) (EndedStands from cabin.slots.minute new)
       (λ e was. ended_less from cabin.slots.minute cabin.slots.minute cabin.cards new (omega arith) (λ c. inr (same c)) e was) cabin.slots.past h.past;
   newest = h.newest;
+  hands = λ c. subst (λ (o : Option Accepted). IfSome o (HoldsHands from)) (sym (same c)) (h.hands c);
 }
 
 pub measure-stands : (cabin : Cabin) (card : Card) (sizes : Result Application ℕ) (from : ℕ) (leaving : Option Card) → session_of cabin.cards card ≡ None → CabinIsSound from leaving cabin → CabinIsSound from leaving (with_sizes_of card sizes cabin)
@@ -155,7 +163,16 @@ measure-stands cabin B sizes from leaving bare h =
 -- ---- a card is accepted
 
 module _ (cabin : Cabin) (card : Card) (number : FullCardNumber) (row : ℕ) (accepted : Accepted) (from : ℕ) (early : cabin.slots.minute ≤ from)
-    (sizes : (known_of cabin.cards card).sizes ≡ Ok accepted.session.application) (h : CabinIsSound from None cabin) where
+    (sizes : (known_of cabin.cards card).sizes ≡ Ok accepted.session.application) (holds : HoldsHands from accepted) (h : CabinIsSound from None cabin) where
+  hands_now : (c : Card) → IfSome (session_of (with_session card (Some accepted) (with_number card number row cabin.cards)) c) (HoldsHands from)
+  hands_now c = by card c h.hands
+    where
+      by : (k c : Card) → ((c : Card) → IfSome (session_of cabin.cards c) (HoldsHands from)) → IfSome (session_of (with_session k (Some accepted) (with_number k number row cabin.cards)) c) (HoldsHands from)
+      by A A was = holds
+      by A B was = was B
+      by B A was = was A
+      by B B was = holds
+
   known_now : (c : Card) → IsKnown (known_of (with_session card (Some accepted) (with_number card number row cabin.cards)) c)
   known_now c = by card c sizes
     where
@@ -204,6 +221,7 @@ module _ (cabin : Cabin) (card : Card) (number : FullCardNumber) (row : ℕ) (ac
     left = tt;
     past = past_now;
     newest = newest;
+    hands = hands_now;
   }
     where
       stays : (c : Card) → SitsThere cabin.slots.seats c ⊎ (None ≡ Some c) → SitsThere (put_in Driver card (Some accepted.session.minute) cabin.slots).seats c ⊎ (None ≡ Some c)
@@ -224,6 +242,7 @@ module _ (cabin : Cabin) (card : Card) (number : FullCardNumber) (row : ℕ) (ac
     left = tt;
     past = past_now;
     newest = newest;
+    hands = hands_now;
   }
     where
       stays : (c : Card) → SitsThere cabin.slots.seats c ⊎ (None ≡ Some c) → SitsThere (put_in CoDriver card (Some accepted.session.minute) cabin.slots).seats c ⊎ (None ≡ Some c)
@@ -253,6 +272,7 @@ leave-stands cabin Driver second from card le is newest h = record {
   left = record { driver = refl; codriver = off_first card cabin.slots.seats.codriver (subst (λ (o : Option Card). AreTwo o (card_in cabin.slots.seats.codriver)) is h.apart) };
   past = later_past from cabin.slots.minute (second / 60) cabin.cards cabin.slots.past le h.past;
   newest = newest;
+  hands = h.hands;
 }
   where
     sits : (c : Card) → SitsThere cabin.slots.seats c ⊎ (None ≡ Some c) → SitsThere (taken Driver second cabin.slots).seats c ⊎ (Some card ≡ Some c)
@@ -269,6 +289,7 @@ leave-stands cabin CoDriver second from card le is newest h = record {
   left = record { driver = off_second card cabin.slots.seats.driver (subst (λ (o : Option Card). AreTwo (card_in cabin.slots.seats.driver) o) is h.apart); codriver = refl };
   past = later_past from cabin.slots.minute (second / 60) cabin.cards cabin.slots.past le h.past;
   newest = newest;
+  hands = h.hands;
 }
   where
     sits : (c : Card) → SitsThere cabin.slots.seats c ⊎ (None ≡ Some c) → SitsThere (taken CoDriver second cabin.slots).seats c ⊎ (Some card ≡ Some c)
@@ -297,6 +318,7 @@ close-stands cabin card from h = record {
   past = All-weaker (EndedStands from cabin.slots.minute cabin.cards) (EndedStands from cabin.slots.minute (with_session card None cabin.cards))
       (λ e was. ended_less from cabin.slots.minute cabin.slots.minute cabin.cards (with_session card None cabin.cards) (omega arith) (gone_or_same card cabin.cards) e was) cabin.slots.past h.past;
   newest = h.newest;
+  hands = hold_less from cabin.cards (with_session card None cabin.cards) (gone_or_same card cabin.cards) h.hands;
 }
   where
     sits : (c : Card) → same_card c card ≡ false → SitsThere cabin.slots.seats c ⊎ (Some card ≡ Some c) → SitsThere cabin.slots.seats c ⊎ (None ≡ Some c)
@@ -326,6 +348,7 @@ module _ (cabin : Cabin) (card : Card) (second from : ℕ) (leaving : Option Car
         left = nowhere leaving h.left;
         past = torn_past (second / 60) le;
         newest = newest;
+        hands = hold_less from cabin.cards (with_session card None cabin.cards) (gone_or_same card cabin.cards) h.hands;
       }
     where
       sits : (c : Card) → same_card c card ≡ false → SitsThere cabin.slots.seats c ⊎ (leaving ≡ Some c) → SitsThere (taken Driver second cabin.slots).seats c ⊎ (leaving ≡ Some c)
@@ -354,6 +377,7 @@ module _ (cabin : Cabin) (card : Card) (second from : ℕ) (leaving : Option Car
     left = nowhere leaving h.left;
     past = torn_past (second / 60) le;
     newest = newest;
+    hands = hold_less from cabin.cards (with_session card None cabin.cards) (gone_or_same card cabin.cards) h.hands;
   }
     where
       sits : (c : Card) → same_card c card ≡ false → SitsThere cabin.slots.seats c ⊎ (leaving ≡ Some c) → SitsThere (taken CoDriver second cabin.slots).seats c ⊎ (leaving ≡ Some c)
@@ -382,6 +406,7 @@ module _ (cabin : Cabin) (card : Card) (second from : ℕ) (leaving : Option Car
     left = h.left;
     past = torn_past cabin.slots.minute (omega arith);
     newest = h.newest;
+    hands = hold_less from cabin.cards (with_session card None cabin.cards) (gone_or_same card cabin.cards) h.hands;
   }
 
   abbrev TornBy : Option Slot → Type 0
@@ -432,11 +457,16 @@ cut-stands cabin second from to leaving le newest h = record {
   left = tt;
   past = All-weaker (EndedStands from cabin.slots.minute cabin.cards) (EndedStands to (second / 60) (with_session B None (with_session A None cabin.cards))) (λ e was. dark e was) cabin.slots.past h.past;
   newest = newest;
+  hands = λ c. none_held_dark c;
 }
   where
     none : (c : Card) → is_some (session_of (with_session B None (with_session A None cabin.cards)) c) ≡ true → ⊥
     none A some = cc
     none B some = cc
+
+    none_held_dark : (c : Card) → IfSome (session_of (with_session B None (with_session A None cabin.cards)) c) (HoldsHands to)
+    none_held_dark A = tt
+    none_held_dark B = tt
 
     dark : (e : Ended) → EndedStands from cabin.slots.minute cabin.cards e → EndedStands to (second / 60) (with_session B None (with_session A None cabin.cards)) e
     dark e was = record {
@@ -503,14 +533,15 @@ end-stands cabin m from le early newest h =
           })
           (All-take (EndedStands from (m + 1) cabin.cards) 3 cabin.slots.past (later_past from cabin.slots.minute (m + 1) cabin.cards cabin.slots.past (omega arith) h.past));
       newest = newest;
+      hands = h.hands;
     }
 
 -- ---- who was present
 
-pub present-found : (from before : ℕ) (cards : Cards) (m : ℕ) (p : Present) (past : List Ended) → from ≤ m → All (EndedStands from before cards) past → Some p ≡ present_in past m → MayBeKept cards m p
-present-found from before cards m p [] late h is = absurd (cc)
-present-found from before cards m p (e ∷ past) late h is =
-    by (λ at. present-found from before cards m p past late (All-tail (EndedStands from before cards) e past h) at) (nat_eq e.minute m) refl
+pub present-found : (from before : ℕ) (cards : Cards) (m : ℕ) (p : Present) (past : List Ended) → from ≤ m → ((c : Card) → IfSome (session_of cards c) (HoldsHands from)) → All (EndedStands from before cards) past → Some p ≡ present_in past m → MayBeKept cards m p
+present-found from before cards m p [] late holds h is = absurd (cc)
+present-found from before cards m p (e ∷ past) late holds h is =
+    by (λ at. present-found from before cards m p past late holds (All-tail (EndedStands from before cards) e past h) at) (nat_eq e.minute m) refl
   where
     by : (Some p ≡ present_in past m → MayBeKept cards m p) → (b : Bool) → nat_eq e.minute m ≡ b → MayBeKept cards m p
     by rest true here =
@@ -519,14 +550,19 @@ present-found from before cards m p (e ∷ past) late h is =
         let one : e.minute ≡ m = eqb-true e.minute m here in
         let own = All-head (EndedStands from before cards) e past h in
         let since : from ≤ e.minute = omega arith in
-        let kept : MayBeKept cards e.minute e.present = record { driver = own.driver since; codriver = own.codriver since; apart = own.apart } in
+        let kept : MayBeKept cards e.minute e.present = record { driver = ready_for from e.minute cards since holds e.present.driver (own.driver since); codriver = ready_for from e.minute cards since holds e.present.codriver (own.codriver since); apart = own.apart } in
         subst (λ (q : Present). MayBeKept cards m q) (sym same) (subst (λ (n : ℕ). MayBeKept cards n e.present) one kept)
     by rest false other = rest (rw other at is)
 
 -- ---- a session that kept a minute
 
 module _ (from m : ℕ) (card : Card) (old new : Accepted) (cabin : Cabin) (leaving : Option Card) (le : from ≤ m + 1) (is : session_of cabin.cards card ≡ Some old)
-    (sizes : new.session.application ≡ old.session.application) (most : new.session.minute ≤ m) (h : CabinIsSound from leaving cabin) where
+    (sizes : new.session.application ≡ old.session.application) (most : new.session.minute ≤ m) (holds : HoldsHands (m + 1) new) (h : CabinIsSound from leaving cabin) where
+  hands_on : (c : Card) → ((c ≡ card) × (session_of (with_session card (Some new) cabin.cards) c ≡ Some new)) ⊎ (session_of (with_session card (Some new) cabin.cards) c ≡ session_of cabin.cards c)
+      → IfSome (session_of (with_session card (Some new) cabin.cards) c) (HoldsHands (m + 1))
+  hands_on c (inl own) = subst (λ (o : Option Accepted). IfSome o (HoldsHands (m + 1))) (sym own.1) holds
+  hands_on c (inr same) = subst (λ (o : Option Accepted). IfSome o (HoldsHands (m + 1))) (sym same) (hold_later from (m + 1) le (session_of cabin.cards c) (h.hands c))
+
   known_on : (c : Card) → IsKnown (known_of (with_session card (Some new) cabin.cards) c)
   known_on c = by card c is (sized_of cabin.cards card old is h.a h.b) (numbered_of cabin.cards card old is h.a h.b)
     where
@@ -606,6 +642,7 @@ module _ (from m : ℕ) (card : Card) (old new : Accepted) (cabin : Cabin) (leav
     past = All-weaker (EndedStands from cabin.slots.minute cabin.cards) (EndedStands (m + 1) cabin.slots.minute (with_session card (Some new) cabin.cards))
         (λ e was. ended_on cabin.slots.minute e was) cabin.slots.past h.past;
     newest = h.newest;
+    hands = λ c. hands_on c (is_or_same c);
   }
 
 -- ---- from a later minute on
@@ -633,4 +670,5 @@ later-stands from to leaving cabin le h = record {
   past = All-weaker (EndedStands from cabin.slots.minute cabin.cards) (EndedStands to cabin.slots.minute cabin.cards)
       (λ e was. record { over = was.over; driver = λ late. was.driver (omega (arith, late, le)); codriver = λ late. was.codriver (omega (arith, late, le)); apart = was.apart }) cabin.slots.past h.past;
   newest = h.newest;
+  hands = λ c. hold_later from to le (session_of cabin.cards c) (h.hands c);
 }

@@ -1,6 +1,6 @@
 -- What a changed session leaves of the others.
-use Rattle.std.proofs.Common.{◌≡◌, ◌∙◌, inl, inr, ℕ, ◌<◌, ◌≤◌, true, false, Option, Some, None, IfSome, refl, sym, ap, subst, arith, is_some}
-use Rattle.std.specs.Prelude.{◌⊎◌, Ok}
+use Rattle.std.proofs.Common.{◌≡◌, ◌∙◌, ◌⊎◌, inl, inr, ⊎_elim, ℕ, ◌<◌, ◌≤◌, List, [], ◌∷◌, length, true, false, Option, Some, None, IfSome, refl, sym, ap, subst, arith, is_some}
+use Rattle.std.specs.Prelude.{Ok}
 use Rattle.trace_model.specs.declared.Card.{Card}
 use Rattle.trace_model.specs.declared.Card.TheVariants.{A, B}
 use Rattle.tacho_types.specs.declared.card_number.FullCardNumber.{FullCardNumber}
@@ -10,7 +10,9 @@ use Rattle.card_slots.specs.Calls.{card_in, is_card}
 use Rattle.run_crew.specs.declared.cards.Accepted.{Accepted}
 use Rattle.run_crew.specs.declared.cards.Cards.{Cards}
 use Rattle.run_crew.specs.Cards.{known_of, session_of, with_session, with_number, IsKnown}
-use Rattle.run_crew.specs.Cabin.{AnswersTo, SeatAnswers, AreTwo, IsBehind, EndedStands}
+use Rattle.activity_codec.specs.declared.entries.Manual.{Manual}
+use Rattle.hand_model.specs.Holding.{Holding, LieBetween, first_of, begun_by}
+use Rattle.run_crew.specs.Cabin.{AnswersTo, SeatAnswers, AreTwo, IsBehind, IsReadyFor, HoldsBy, HoldsHands, MayKeepAt, EndedStands}
 use Rattle.card_slots.specs.declared.seats.Ended.{Ended}
 
 -- ---- two cards are one or not
@@ -136,3 +138,54 @@ kept_is_apart A A cards some = absurd (cc)
 kept_is_apart A B cards some = refl
 kept_is_apart B A cards some = refl
 kept_is_apart B B cards some = absurd (cc)
+
+-- ---- what sessions hold of entries by hand
+
+-- from a later minute on
+hold_by : (from to : ℕ) → from ≤ to → (a : Accepted) (o : Option ℕ) → HoldsBy from o a → HoldsBy to o a
+hold_by from to le a (Some first) h = h
+hold_by from to le a None h = (omega (arith, h.0, le), h.1, h.2)
+
+pub hold_later : (from to : ℕ) → from ≤ to → (o : Option Accepted) → IfSome o (HoldsHands from) → IfSome o (HoldsHands to)
+hold_later from to le None h = tt
+hold_later from to le (Some a) h = hold_by from to le a a.held.begun h
+
+-- where each session is as it was, or gone
+pub hold_less : (from : ℕ) (cards new : Cards) → ((c : Card) → (session_of new c ≡ None) ⊎ (session_of new c ≡ session_of cards c)) → ((c : Card) → IfSome (session_of cards c) (HoldsHands from)) → (c : Card) → IfSome (session_of new c) (HoldsHands from)
+hold_less from cards new less h c = ⊎_elim
+    (λ gone. subst (λ (o : Option Accepted). IfSome o (HoldsHands from)) (sym gone) tt)
+    (λ same. subst (λ (o : Option Accepted). IfSome o (HoldsHands from)) (sym same) (h c)) (less c)
+
+-- entries by hand lie before a later minute too
+pub lie_later : (after before later : ℕ) (es : List Manual) → before ≤ later → LieBetween after before es → LieBetween after later es
+lie_later after before later [] le lie = omega (arith, lie, le)
+lie_later after before later (e ∷ es) le lie = (lie.0, lie_later e.minute before later es le lie.1)
+
+-- A MINUTE THAT MAY BE KEPT lies behind all that a session holds
+may_by : (from m : ℕ) (a : Accepted) (o : Option ℕ) → a.held.begun ≡ o → from ≤ m → a.session.minute < m → HoldsBy from o a → MayKeepAt m a
+may_by from m a (Some first) is le late h = record {
+  lie = subst (λ (es : List Manual). LieBetween a.session.minute m es) (sym h) late;
+  few = subst (λ (es : List Manual). length es ≤ 8) (sym h) (omega arith);
+  once = λ n begun. h;
+}
+may_by from m a None is le late h = record {
+  lie = ⊎_elim (λ none. subst (λ (es : List Manual). LieBetween a.session.minute m es) (sym none) late) (λ lie. lie_later a.session.minute a.held.inserted m a.held.entries (omega (arith, h.0, le)) lie) h.2;
+  few = h.1;
+  once = λ n begun. absurd (cc);
+}
+
+pub ready_for : (from m : ℕ) (cards : Cards) → from ≤ m → ((c : Card) → IfSome (session_of cards c) (HoldsHands from)) → (o : Option Card) → IsBehind cards m o → IsReadyFor cards m o
+ready_for from m cards le holds None behind = tt
+ready_for from m cards le holds (Some c) behind = by (session_of cards c) (holds c) behind
+  where
+    by : (o : Option Accepted) → IfSome o (HoldsHands from) → IfSome o (λ a. a.session.minute < m) → IfSome o (MayKeepAt m)
+    by None h behind = tt
+    by (Some a) h behind = may_by from m a a.held.begun refl le behind h
+
+-- a session that kept a minute holds none
+pub begun_holds : (n m : ℕ) (was : Holding) (a : Accepted) → a.held ≡ begun_by m was → HoldsHands n a
+begun_holds n m was a is = subst (λ (g : Holding). HoldsBy n g.begun (record a { held = g })) (sym is) (by was.begun)
+  where
+    by : (o : Option ℕ) → HoldsBy n (first_of m o) (record a { held = record { inserted = was.inserted; begun = first_of m o; entries = [] } })
+    by None = refl
+    by (Some first) = refl

@@ -1,12 +1,13 @@
 -- Which card is in which slot with which session (profile).
-use Rattle.std.specs.Prelude.{◌≡◌, ◌⊎◌, ℕ, ◌+◌, ◌<◌, ◌≤◌, true, false, Option, Some, None, Result, IfSome, All, is_some}
-use Rattle.std.specs.Prelude.{slice_get, if◌then◌else◌}
+use Rattle.std.specs.Prelude.{◌≡◌, ◌⊎◌, ℕ, ◌+◌, ◌<◌, ◌≤◌, true, false, Option, Some, None, Result, IfSome, All, List}
+use Rattle.std.specs.Prelude.{[], length, is_some, slice_get, if◌then◌else◌}
 use Rattle.activity_codec.specs.declared.values.Slot.{Slot}
 use Rattle.activity_codec.specs.declared.values.Slot.TheVariants.{Driver, CoDriver}
 use Rattle.trace_model.specs.declared.Card.{Card}
 use Rattle.trace_model.specs.declared.Card.TheVariants.{A, B}
 use Rattle.card_layout.specs.declared.files.Application.{Application}
 use Rattle.tacho_types.specs.declared.card_number.FullCardNumber.{FullCardNumber}
+use Rattle.hand_model.specs.Holding.{LieBetween}
 use Rattle.log_model.specs.Slots.{same_card}
 use Rattle.card_slots.specs.declared.seats.Seat.{Seat}
 use Rattle.card_slots.specs.declared.seats.Ended.{Ended}
@@ -107,6 +108,28 @@ AreTwo (Some card) (Some other) = same_card card other ≡ false
 abbrev pub IsBehind : Cards → (minute : ℕ) → Option Card → Type 0
 IsBehind cards minute present = IfSome present (λ card. IfSome (session_of cards card) (λ a. a.session.minute < minute))
 
+-- WHAT A SESSION HOLDS of entries by hand: none once it has kept a minute; else at most eight, which lie behind its
+-- newest minute and before that of its insertion, and no minute that may come to be kept, from this one on, is earlier
+-- than the insertion's
+abbrev pub HoldsBy : (from : ℕ) → (begun : Option ℕ) → Accepted → Type 0
+HoldsBy from (Some first) a = a.held.entries ≡ []
+HoldsBy from None a = (a.held.inserted ≤ from) × (length a.held.entries ≤ 8)
+    × ((a.held.entries ≡ []) ⊎ LieBetween a.session.minute a.held.inserted a.held.entries)
+
+abbrev pub HoldsHands : (from : ℕ) → Accepted → Type 0
+HoldsHands from a = HoldsBy from a.held.begun a
+
+-- a session can keep a minute: its newest one is earlier, and the entries by hand that it holds, at most eight, lie
+-- between the two; none is held once it has kept one
+pub record MayKeepAt (minute : ℕ) (a : Accepted) : Type 0 where
+  pub lie : LieBetween a.session.minute minute a.held.entries
+  pub few : length a.held.entries ≤ 8
+  pub once : (first : ℕ) → a.held.begun ≡ Some first → a.held.entries ≡ []
+
+-- so can that of a card that was present, if it has one
+abbrev pub IsReadyFor : Cards → (minute : ℕ) → Option Card → Type 0
+IsReadyFor cards minute present = IfSome present (λ card. IfSome (session_of cards card) (MayKeepAt minute))
+
 -- a minute that has ended: its cards are two, and can keep it where it is none of those before `from`
 pub record EndedStands (from before : ℕ) (cards : Cards) (ended : Ended) : Type 0 where
   pub over : ended.minute < before
@@ -136,6 +159,7 @@ pub record CabinIsSound (from : ℕ) (leaving : Option Card) (cabin : Cabin) : T
   pub left : IfSome leaving (SitsNowhere cabin.slots.seats)
   pub past : All (EndedStands from cabin.slots.minute cabin.cards) cabin.slots.past
   pub newest : KnowsNewest cabin.slots
+  pub hands : (card : Card) → IfSome (session_of cabin.cards card) (HoldsHands from)
 
 -- The minutes from one on and before another have ended one after the other, and are the newest that are kept.
 pub record KnowsEnded (from to : ℕ) (slots : Kept) : Type 0 where
@@ -145,6 +169,6 @@ pub record KnowsEnded (from to : ℕ) (slots : Kept) : Type 0 where
 
 -- who was present in a minute: two cards at most, and each that has a session can keep it
 pub record MayBeKept (cards : Cards) (minute : ℕ) (present : Present) : Type 0 where
-  pub driver : IsBehind cards minute present.driver
-  pub codriver : IsBehind cards minute present.codriver
+  pub driver : IsReadyFor cards minute present.driver
+  pub codriver : IsReadyFor cards minute present.codriver
   pub apart : AreTwo present.driver present.codriver

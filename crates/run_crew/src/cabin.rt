@@ -5,9 +5,9 @@ ghost use Rattle.card_slots.specs.Calls.{seat_in, card_in, is_card, present_in};
 ghost use Rattle.card_slots.specs.Kept.{IsFree, nothing_yet};
 ghost use Rattle.log_model.specs.Slots.{other_slot};
 ghost use Rattle.run_crew.specs.Cards.{known_of, session_of};
-ghost use Rattle.run_crew.specs.Cabin.{CabinIsSound, SitsNowhere, MayBeKept, KnowsEnded, with_card_in, with_sizes_of};
-ghost use Rattle.run_crew.specs.Cabin.{with_accepted, with_slot_left, with_session_of, torn_out, with_power_lost};
-ghost use Rattle.run_crew.specs.Cabin.{with_minute_ended, slot_with, number_of_seat, crew_of};
+ghost use Rattle.run_crew.specs.Cabin.{CabinIsSound, HoldsHands, SitsNowhere, MayBeKept, KnowsEnded, with_card_in};
+ghost use Rattle.run_crew.specs.Cabin.{with_sizes_of, with_accepted, with_slot_left, with_session_of, torn_out};
+ghost use Rattle.run_crew.specs.Cabin.{with_power_lost, with_minute_ended, slot_with, number_of_seat, crew_of};
 
 use crate::cards::{Accepted, Cards, Crew, Known};
 use activity_codec::Slot;
@@ -73,8 +73,8 @@ impl Cabin {
         requires elsewhere { is_card (seat_in self.old.slots.seats (other_slot slot)) card ≡ false }
         requires sizes { (known_of self.old.cards card).sizes ≡ Ok accepted.session.application }
         ensures kept { self.new ≡ with_accepted slot card number row accepted self.old }
-        ensures stands { (from : ℕ) → self.old.slots.minute ≤ from → CabinIsSound from None self.old
-            → CabinIsSound from None self.new }
+        ensures stands { (from : ℕ) → self.old.slots.minute ≤ from → HoldsHands from accepted
+            → CabinIsSound from None self.old → CabinIsSound from None self.new }
     {
         let newest = accepted.session.newest_minute();
         self.slots.put(slot, card, Some(newest));

@@ -4,14 +4,16 @@ ghost use Rattle.run_crew.specs.Cards.{known_of, session_of, with_session, with_
 
 use card_layout::Application;
 use card_session::CardSession;
+use hand_model::Held;
 use tacho_types::FullCardNumber;
 use trace_model::Card;
 
-/// An accepted card: its session, and the entry that tells of its insertion, by its index and by how many were noted in
-/// the run when it was.
+/// An accepted card: its session, with the entries by hand that it holds until it keeps its first minute, and the entry
+/// that tells of its insertion, by its index and by how many were noted in the run when it was.
 #[derive(Drop)]
 pub struct Accepted {
     pub session: CardSession,
+    pub held: Held,
     pub entry: u32,
     pub noted: u64,
 }

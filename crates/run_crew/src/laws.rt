@@ -2,6 +2,7 @@ ghost use Rattle.std.specs.Prelude.{◌≡◌, ℕ, ◌+◌, ◌<◌, ◌≤◌,
 ghost use Rattle.card_slots.specs.Calls.{present_in};
 ghost use Rattle.card_slots.specs.Kept.{Kept};
 ghost use Rattle.trace_model.specs.declared.Card.{Card};
+ghost use Rattle.hand_model.specs.Holding.{begun_by};
 ghost use Rattle.run_crew.specs.declared.cards.Accepted.{Accepted};
 ghost use Rattle.run_crew.specs.declared.cabin.Cabin.{Cabin};
 ghost use Rattle.run_crew.specs.Cards.{session_of};
@@ -12,7 +13,7 @@ ghost use Rattle.run_crew.specs.Cabin.{CabinIsSound, KnowsEnded, with_session_of
 pub fn a_session_that_kept_its_minute_goes_on()
     ensures { (from minute : ℕ) (leaving : Option Card) (card : Card) (old new : Accepted) (cabin : Cabin)
         → from ≤ minute + 1 → session_of cabin.cards card ≡ Some old → new.session.application ≡ old.session.application
-        → new.session.minute ≤ minute
+        → new.session.minute ≤ minute → new.held ≡ begun_by minute old.held
         → CabinIsSound from leaving cabin → CabinIsSound (minute + 1) leaving (with_session_of card (Some new) cabin) }
 {}
 

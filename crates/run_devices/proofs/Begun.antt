@@ -7,6 +7,7 @@ use Rattle.trace_model.specs.declared.Card.TheVariants.{A, B}
 use Rattle.tach_media.specs.Medium.{State, IsCoherent}
 use Rattle.log_model.specs.declared.lines.Mark.{Mark}
 use Rattle.card_image.specs.Own.{own_view, own_sizes, IsOwnValid}
+use Rattle.hand_model.specs.Written.{Hands}
 use Rattle.card_string.proofs.Since.{later_holds}
 use Rattle.history_model.specs.Book.{Book}
 use Rattle.device_rule.specs.Views.{other}
@@ -41,11 +42,12 @@ number-as f two A = refl
 number-as f two B = refl
 
 -- a string that may go on from here may go on from later
-pub held-later : (f : CardFound) (c : Card) (b : Book) (y z : Standing) (X : State) → ((x : List ℕ) → X.may_leave x → max f.start.word (since y (own_view x).newest) ≤ max f.start.word (since z (own_view x).newest)) → CardHoldsString f c b y X → CardHoldsString f c b z X
-held-later f c b y z X later h = record {
+pub held-later : (f : CardFound) (hd : Hands) (c : Card) (b : Book) (y z : Standing) (X : State) → ((x : List ℕ) → X.may_leave x → max f.start.word (since y (own_view x).newest) ≤ max f.start.word (since z (own_view x).newest)) → CardHoldsString f hd c b y X → CardHoldsString f hd c b z X
+held-later f hd c b y z X later h = record {
   tells = h.tells;
-  now = λ x there. let was = h.now x there in let le = later x there in (was.0, later_holds (own_sizes f.image) f.image (brought_by c f.start b) (bound_of f y x) (bound_of f z x) x (omega (arith, le)) was.1);
+  now = λ x there. let was = h.now x there in let le = later x there in (was.0, later_holds (own_sizes f.image) f.image hd (brought_by c f.start b) (bound_of f y x) (bound_of f z x) x (omega (arith, le)) was.1);
   since = h.since;
+  told = h.told;
   number = h.number;
   still = h.still;
   registered = h.registered;
@@ -53,7 +55,7 @@ held-later f c b y z X later h = record {
 
 -- ---- THE ROW IS BEGUN of a card that was put in, where the calls say this
 
-module _ (f : Found) (w : RunLedger) (cards : Cards) (c : Card) (U V X Y : State) (found : AreFoundCards f cards) (whole : IsCoherent U) (now : ℕ) (a : Accepted) (valid : IsOwnValid (found_of f c).image) (out : w.standing c ≡ Out) (put : IsPutIn (found_of f c) c w.book now a.session X)
+module _ (f : Found) (w : RunLedger) (cards : Cards) (c : Card) (U V X Y : State) (found : AreFoundCards f cards) (whole : IsCoherent U) (now : ℕ) (a : Accepted) (valid : IsOwnValid (found_of f c).image) (out : w.standing c ≡ Out) (put : IsPutIn (found_of f c) (w.hands c) c w.book now a.session X)
     (p : DevicesPowered f w cards (arranged c U X Y)) (late : w.due ≤ now / 60) (number : List ℕ) (spared : Option (List ℕ)) (failed : Bool)
     (holds : (s : Started) (due : ℕ) (b : Book) (marks : List Mark) → IsCards s number → UnitFollowsBook s due b marks U → UnitFollowsBook s due b marks V)
     (mine : (r : Both) (s : Started) (due : ℕ) (b : Book) (marks : List Mark) (newest : ℕ) → number ≡ number_of r c → UnitFollowsBook s due b marks U → due ≤ now / 60 → CardHolds r c b Out [] [] U X → IsEntered (opened r c).start (opened r c).began now newest (card_seen X) → IsRowTaken r c b now newest failed V X)
@@ -62,8 +64,8 @@ module _ (f : Found) (w : RunLedger) (cards : Cards) (c : Card) (U V X Y : State
   parts : AreParts f w cards c U X Y
   parts = parts-of f w cards c U X Y p
 
-  one : CardLit f w.book Out (w.brought c) (session_of cards c) c U X
-  one = subst (λ (z : Standing). CardLit f w.book z (w.brought c) (session_of cards c) c U X) out (parts.mine valid)
+  one : CardLit f w.book Out (w.hands c) (w.firsts c) (w.brought c) (session_of cards c) c U X
+  one = subst (λ (z : Standing). CardLit f w.book z (w.hands c) (w.firsts c) (w.brought c) (session_of cards c) c U X) out (parts.mine valid)
 
   unit-after : UnitFollowsBook (once_mended f.unit) w.due w.book w.marks V
   unit-after = holds (once_mended f.unit) w.due w.book w.marks (subst (IsCards f.unit) (sym named) (found.own c valid)) parts.unit.unit
@@ -84,39 +86,41 @@ module _ (f : Found) (w : RunLedger) (cards : Cards) (c : Card) (U V X Y : State
     rule : CardRule c (found_of f c).start AnyKept (found_of f c).began w.book (In now a.session.minute) [] [] (unit_seen f V) (of_card X)
     rule = of-steps f found.two c w.book (In now a.session.minute) [] [] V X (taken.lit well)
 
-    mine-lit : (ks : List ℕ) → CardLit f w.book (In now a.session.minute) ks (Some a) c V X
+    mine-lit : (ks : List ℕ) → CardLit f w.book (In now a.session.minute) (w.hands c) (w.firsts c) ks (Some a) c V X
     mine-lit ks = record {
       rule = rule;
       valid = one.valid;
       rises = one.rises;
       brought = λ k in_. repaired-in c (found_of f c).start (found_of f c).began now a.session.minute k (unit_seen f V) (of_card X) rule.stands;
-      held = held-later (found_of f c) c w.book Out (In now a.session.minute) X (λ x there. let low = (put.entered.answered (own_view x) (x, there, refl)).0 in omega (arith, low)) one.held;
+      held = held-later (found_of f c) (w.hands c) c w.book Out (In now a.session.minute) X (λ x there. let low = (put.entered.answered (own_view x) (x, there, refl)).0 in omega (arith, low)) one.held;
+      hands = one.hands;
       goes = record {
         has = brought_by c (found_of f c).start w.book;
         all = append-nil (brought_by c (found_of f c).start w.book);
-        goes = record { time = now; stands = refl; sizes = put.sizes; vehicle = put.vehicle; session = put.session; ends = put.ends; goes = put.goes };
+        goes = (record { time = now; stands = refl; sizes = put.sizes; vehicle = put.vehicle; session = put.session; ends = put.ends; goes = put.goes }, λ none. put.shut);
       };
     }
 
-    others-lit : IsOwnValid (found_of f (other c)).image → CardLit f w.book (w.standing (other c)) (w.brought (other c)) (session_of cards (other c)) (other c) V Y
+    others-lit : IsOwnValid (found_of f (other c)).image → CardLit f w.book (w.standing (other c)) (w.hands (other c)) (w.firsts (other c)) (w.brought (other c)) (session_of cards (other c)) (other c) V Y
     others-lit there = record {
       rule = of-steps f found.two (other c) w.book (w.standing (other c)) [] [] V Y ((kept-up there).lit well);
       valid = (parts.others there).valid;
       rises = (parts.others there).rises;
       brought = other-brought there;
       held = (parts.others there).held;
+      hands = (parts.others there).hands;
       goes = (parts.others there).goes;
     }
 
     pub begun-powered : DevicesPowered f (with_acceptance c now a.session.minute kept w) after (arranged c V X Y)
     begun-powered = powered-of f (with_acceptance c now a.session.minute kept w) after c V X Y found_after (record {
       unit = record { tells = tells ∙ parts.unit.tells; works = works; unit = unit-after; none = parts.unit.none };
-      mine = λ there. subst (λ (o : Option Accepted). CardLit f w.book (for_card c (In now a.session.minute) w.standing c) (for_card c (kept ∷ w.brought c) w.brought c) o c V X) (sym has)
-          (at-card c (In now a.session.minute) w.standing (λ (z : Standing). CardLit f w.book z (for_card c (kept ∷ w.brought c) w.brought c) (Some a) c V X)
+      mine = λ there. subst (λ (o : Option Accepted). CardLit f w.book (for_card c (In now a.session.minute) w.standing c) (w.hands c) (w.firsts c) (for_card c (kept ∷ w.brought c) w.brought c) o c V X) (sym has)
+          (at-card c (In now a.session.minute) w.standing (λ (z : Standing). CardLit f w.book z (w.hands c) (w.firsts c) (for_card c (kept ∷ w.brought c) w.brought c) (Some a) c V X)
           (mine-lit (for_card c (kept ∷ w.brought c) w.brought c)));
-      others = λ there. subst (λ (o : Option Accepted). CardLit f w.book (for_card c (In now a.session.minute) w.standing (other c)) (for_card c (kept ∷ w.brought c) w.brought (other c)) o (other c) V Y) (sym same)
-          (at-other c (In now a.session.minute) w.standing (λ (z : Standing). CardLit f w.book z (for_card c (kept ∷ w.brought c) w.brought (other c)) (session_of cards (other c)) (other c) V Y)
-          (at-other c (kept ∷ w.brought c) w.brought (λ (ks : List ℕ). CardLit f w.book (w.standing (other c)) ks (session_of cards (other c)) (other c) V Y) (others-lit there)));
+      others = λ there. subst (λ (o : Option Accepted). CardLit f w.book (for_card c (In now a.session.minute) w.standing (other c)) (w.hands (other c)) (w.firsts (other c)) (for_card c (kept ∷ w.brought c) w.brought (other c)) o (other c) V Y) (sym same)
+          (at-other c (In now a.session.minute) w.standing (λ (z : Standing). CardLit f w.book z (w.hands (other c)) (w.firsts (other c)) (for_card c (kept ∷ w.brought c) w.brought (other c)) (session_of cards (other c)) (other c) V Y)
+          (at-other c (kept ∷ w.brought c) w.brought (λ (ks : List ℕ). CardLit f w.book (w.standing (other c)) (w.hands (other c)) (w.firsts (other c)) ks (session_of cards (other c)) (other c) V Y) (others-lit there)));
       marks_mine = parts.marks_mine;
       marks_others = parts.marks_others;
     })
@@ -127,7 +131,7 @@ module _ (f : Found) (w : RunLedger) (cards : Cards) (c : Card) (U V X Y : State
     tells = tells ∙ parts.unit.tells;
     unit = holds-dark f.unit w.due w.book w.marks V unit-after;
     none = parts.unit.none;
-    mine = λ there. subst (λ (z : Standing). CardOff f w.book z (w.brought c) c V X) (sym out)
+    mine = λ there. subst (λ (z : Standing). CardOff f w.book z (w.hands c) (w.firsts c) (w.brought c) c V X) (sym out)
         (let rests = of-rests f found.two c w.book Out V X taken.dark in
         record {
           rests = rests;
@@ -135,6 +139,7 @@ module _ (f : Found) (w : RunLedger) (cards : Cards) (c : Card) (U V X Y : State
           rises = one.rises;
           brought = λ k in_. brought-on f c k w.book Out Out (once_mended f.unit) w.due w.marks U V X whole parts.unit.tells parts.unit.unit parts.unit.none one.rule.dark rests (one.brought k in_);
           held = one.held;
+          hands = one.hands;
         });
     others = λ there. record {
       rests = of-rests f found.two (other c) w.book (w.standing (other c)) V Y (kept-up there).dark;
@@ -142,6 +147,7 @@ module _ (f : Found) (w : RunLedger) (cards : Cards) (c : Card) (U V X Y : State
       rises = (parts.others there).rises;
       brought = other-brought there;
       held = (parts.others there).held;
+      hands = (parts.others there).hands;
     };
     marks_mine = parts.marks_mine;
     marks_others = parts.marks_others;
@@ -153,13 +159,13 @@ module _ (f : Found) (w : RunLedger) (cards after : Cards) (c : Card) (U X Y : S
   before : AreParts f w cards c U X Y
   before = parts-of f w cards c U X Y p
 
-  pub stood-powered : (z : Standing) → (IsOwnValid (found_of f c).image → CardLit f w.book z (w.brought c) None c U X) → DevicesPowered f (with_standing c z w) after (arranged c U X Y)
+  pub stood-powered : (z : Standing) → (IsOwnValid (found_of f c).image → CardLit f w.book z (w.hands c) (w.firsts c) (w.brought c) None c U X) → DevicesPowered f (with_standing c z w) after (arranged c U X Y)
   stood-powered z lit = powered-of f (with_standing c z w) after c U X Y found_after (record {
     unit = record { tells = before.unit.tells; works = before.unit.works; unit = before.unit.unit; none = before.unit.none };
-    mine = λ valid. subst (λ (o : Option Accepted). CardLit f w.book (for_card c z w.standing c) (w.brought c) o c U X) (sym none)
-        (at-card c z w.standing (λ (y : Standing). CardLit f w.book y (w.brought c) None c U X) (lit valid));
-    others = λ valid. subst (λ (o : Option Accepted). CardLit f w.book (for_card c z w.standing (other c)) (w.brought (other c)) o (other c) U Y) (sym same)
-        (at-other c z w.standing (λ (y : Standing). CardLit f w.book y (w.brought (other c)) (session_of cards (other c)) (other c) U Y) (before.others valid));
+    mine = λ valid. subst (λ (o : Option Accepted). CardLit f w.book (for_card c z w.standing c) (w.hands c) (w.firsts c) (w.brought c) o c U X) (sym none)
+        (at-card c z w.standing (λ (y : Standing). CardLit f w.book y (w.hands c) (w.firsts c) (w.brought c) None c U X) (lit valid));
+    others = λ valid. subst (λ (o : Option Accepted). CardLit f w.book (for_card c z w.standing (other c)) (w.hands (other c)) (w.firsts (other c)) (w.brought (other c)) o (other c) U Y) (sym same)
+        (at-other c z w.standing (λ (y : Standing). CardLit f w.book y (w.hands (other c)) (w.firsts (other c)) (w.brought (other c)) (session_of cards (other c)) (other c) U Y) (before.others valid));
     marks_mine = before.marks_mine;
     marks_others = before.marks_others;
   })
@@ -168,15 +174,16 @@ module _ (f : Found) (w : RunLedger) (cards after : Cards) (c : Card) (U X Y : S
   pub tear-powered : (a : Accepted) → session_of cards c ≡ Some a → (time floor : ℕ) → (IsOwnValid (found_of f c).image → w.standing c ≡ In time a.session.minute) → AreFoundCards f cards → DevicesPowered f (with_standing c (Torn time a.session.minute floor) w) after (arranged c U X Y)
   tear-powered a has time floor stands found = stood-powered (Torn time a.session.minute floor) lit
     where
-      lit : IsOwnValid (found_of f c).image → CardLit f w.book (Torn time a.session.minute floor) (w.brought c) None c U X
+      lit : IsOwnValid (found_of f c).image → CardLit f w.book (Torn time a.session.minute floor) (w.hands c) (w.firsts c) (w.brought c) None c U X
       lit valid =
-          let one : CardLit f w.book (In time a.session.minute) (w.brought c) (session_of cards c) c U X = subst (λ (z : Standing). CardLit f w.book z (w.brought c) (session_of cards c) c U X) (stands valid) (before.mine valid) in
+          let one : CardLit f w.book (In time a.session.minute) (w.hands c) (w.firsts c) (w.brought c) (session_of cards c) c U X = subst (λ (z : Standing). CardLit f w.book z (w.hands c) (w.firsts c) (w.brought c) (session_of cards c) c U X) (stands valid) (before.mine valid) in
           record {
             rule = of-steps f found.two c w.book (Torn time a.session.minute floor) [] [] U X (torn (both_of f found.two) c w.book U X time a.session.minute floor (as-steps f found.two c w.book (In time a.session.minute) [] [] U X one.rule));
             valid = one.valid;
             rises = one.rises;
             brought = one.brought;
-            held = held-later (found_of f c) c w.book (In time a.session.minute) (Torn time a.session.minute floor) X (λ x there. omega arith) one.held;
+            held = held-later (found_of f c) (w.hands c) c w.book (In time a.session.minute) (Torn time a.session.minute floor) X (λ x there. omega arith) one.held;
+            hands = one.hands;
             goes = record { has = brought_by c (found_of f c).start w.book; all = append-nil (brought_by c (found_of f c).start w.book); goes = tt };
           }
 
@@ -184,7 +191,7 @@ module _ (f : Found) (w : RunLedger) (cards after : Cards) (c : Card) (U X Y : S
   pub out-powered : AreFoundCards f cards → IsCoherent U → DevicesPowered f (with_standing c Out w) after (arranged c U X Y)
   out-powered found whole = stood-powered Out lit
     where
-      lit : IsOwnValid (found_of f c).image → CardLit f w.book Out (w.brought c) None c U X
+      lit : IsOwnValid (found_of f c).image → CardLit f w.book Out (w.hands c) (w.firsts c) (w.brought c) None c U X
       lit valid =
           let one = before.mine valid in
           let u = left-one U whole before.unit.tells in
@@ -193,7 +200,7 @@ module _ (f : Found) (w : RunLedger) (cards after : Cards) (c : Card) (U X Y : S
             valid = one.valid;
             rises = one.rises;
             brought = one.brought;
-            held = held-out f c w.book (w.standing c) U X (record {
+            held = held-out f (w.hands c) c w.book (w.standing c) U X (record {
               sizes = found.sizes c valid;
               entries = found.entries c valid;
               held = one.held;
@@ -203,5 +210,6 @@ module _ (f : Found) (w : RunLedger) (cards after : Cards) (c : Card) (U X Y : S
               sure = λ v on. ((before.unit.unit.unit_holds f.card_a.number f.card_b.number).now v on).sure;
               rests = one.rule.dark;
             }) u.0 u.1;
+            hands = one.hands;
             goes = record { has = brought_by c (found_of f c).start w.book; all = append-nil (brought_by c (found_of f c).start w.book); goes = tt };
           }

@@ -31,14 +31,16 @@ use Rattle.card_session.proofs.Ended.{open_ends, none_ends}
 use Rattle.card_session.proofs.Ends.{closed_end, inserted_moment}
 use Rattle.card_session.proofs.InsertingAgain.{inserting_keeps, number_again}
 use Rattle.card_session.proofs.InsertingUse.{use_inside}
-use Rattle.card_session.proofs.Renewing.{newest_first, closed_renews}
+use Rattle.card_session.proofs.Renewing.{newest_first, closed_renews, ends_shut, closed_shut}
 use Rattle.card_session.proofs.Revalid.{again_valid}
 use Rattle.card_session.proofs.Unclosed.{none_valid}
 use Rattle.card_session.proofs.Valid.{above_zero}
-use Rattle.card_string.specs.Since.{GoesSince, HoldsSince}
+use Rattle.card_by_hand.specs.First.{IsShutAt}
+use Rattle.card_string.specs.Since.{HoldsSince, SitsSince}
 use Rattle.card_string.proofs.Lists.{up_back, follow_behind}
 use Rattle.card_string.proofs.Since.{holds_up, goes_up}
 use Rattle.card_string.proofs.Start.{ends_card}
+use Rattle.hand_model.specs.Written.{Hands, entries_of}
 use Rattle.unit_owed.specs.Owed.{Row, owed_to, row_view}
 use Rattle.unit_model.specs.Image.{last_kept}
 use Rattle.history_model.specs.Minutes.{HistoryMinute, card_history, up_to}
@@ -73,7 +75,7 @@ use Rattle.run_crew.specs.declared.cards.Cards.{Cards}
 use Rattle.run_crew.specs.Cards.{session_of}
 use Rattle.unit_rule.specs.Rule.{once_mended}
 use Rattle.run_promise.specs.Found.{CardFound, Found, found_of, unit_seen, AnyKept}
-use Rattle.run_promise.specs.Cards.{brought_by, IsCardHeld}
+use Rattle.run_promise.specs.Cards.{brought_by, IsCardHeld, HandMarksHold}
 use Rattle.run_promise.specs.Between.{RunLedger}
 use Rattle.run_promise.proofs.OwedRises.{owed-rises}
 use Rattle.run_devices.specs.Strung.{CardHoldsString, HasSameHolder}
@@ -84,7 +86,7 @@ use Rattle.run_devices.specs.Registered.{AreRegistered, IsUsedSo}
 use Rattle.run_devices.proofs.Registered.{MayBe, inserting-on}
 use Rattle.run_devices.proofs.Used.{inserting-used}
 use Rattle.card_session.specs.Sessions.{book_of}
-use Rattle.run_devices.proofs.OnCards.{valid-own, valid-or, no-marks, number-own, own-holder-still, Rises, rises-run, none-falls, marks-on, brought-card, bound_of, held-on, held-read, valid-on}
+use Rattle.run_devices.proofs.OnCards.{valid-own, valid-or, no-marks, number-own, own-holder-still, Rises, rises-run, none-falls, marks-on, brought-card, bound_of, held-on, held-read, hands-on, hands-read, valid-on}
 use Rattle.run_devices.proofs.StringMore.{mark-own}
 use Rattle.run_devices.proofs.Power.{follow-of}
 use Rattle.run_devices.proofs.Opened.{owed-none}
@@ -132,11 +134,11 @@ newest-all mark newest lack now is follow first up = by first.rest refl
 
 -- ---- AN INSERTION OF A CARD that was valid, by the images of unit and card that were told before
 
-module _ (f : Found) (b : Book) (c : Card) (u x : List ℕ) (sound : IsApplication (own_sizes (found_of f c).image)) (registration : Registration) (long : length registration.0 ≡ 15) (odometer now : ℕ) (few : now < 2 ^ 32) (fits : image_size_of (own_sizes (found_of f c).image) ≤ length x)
+module _ (f : Found) (hd : Hands) (b : Book) (c : Card) (u x : List ℕ) (sound : IsApplication (own_sizes (found_of f c).image)) (registration : Registration) (long : length registration.0 ≡ 15) (odometer now : ℕ) (few : now < 2 ^ 32) (fits : image_size_of (own_sizes (found_of f c).image) ≤ length x)
     (is-sizes : own_sizes x ≡ own_sizes (found_of f c).image) (numbered : own_number x ≡ (found_of f c).number) (valid : IsValid (own_sizes (found_of f c).image) x) (none-book : b.maybe ≡ None)
     (sure : All (λ i. i.minute ≤ (unit_view f.card_a.number f.card_b.number u).last) b.sure)
     (meets : Meets c (found_of f c).start AnyKept (all b) Out (unit_view f.card_a.number f.card_b.number u) (own_view x))
-    (holds : HoldsSince (own_sizes (found_of f c).image) (found_of f c).image (brought_by c (found_of f c).start b) (bound_of (found_of f c) Out x) x) where
+    (holds : HoldsSince (own_sizes (found_of f c).image) (found_of f c).image hd (brought_by c (found_of f c).start b) (bound_of (found_of f c) Out x) x) where
   abbrev app : Application
   app = own_sizes (found_of f c).image
 
@@ -207,33 +209,33 @@ module _ (f : Found) (b : Book) (c : Card) (u x : List ℕ) (sound : IsApplicati
     abbrev next : ℕ
     next = suc (max g.start.word (newest_behind (card_view app x).newest (lacked_by app x given)))
 
-    before : HoldsSince app g.image (meets.more ++ lacked_by app x given) (bound_of g Out x) x
-    before = subst (λ (es : List Entry). HoldsSince app g.image es (bound_of g Out x) x) (sym lies-lacked) holds
+    before : HoldsSince app g.image hd (meets.more ++ lacked_by app x given) (bound_of g Out x) x
+    before = subst (λ (es : List Entry). HoldsSince app g.image hd es (bound_of g Out x) x) (sym lies-lacked) holds
 
     low : lacked_by app x given ≡ [] → bound_of g Out x ≤ next
     low none = omega (arith, ap (λ (k : CardView). k.newest) old-view, ap (newest_behind (card_view app x).newest) none)
 
-    moment-open : (y : List ℕ) → InsertingOpen app registration odometer given now x y → HoldsSince app g.image lies next y
-    moment-open y inserting = subst (λ (es : List Entry). HoldsSince app g.image es next y) lies-lacked
-        (replays app registration odometer now given g.image meets.more (bound_of g Out x) x sound fits long are valid session up-more before next low (omega arith) y inserting)
+    moment-open : (y : List ℕ) → InsertingOpen app registration odometer given now x y → HoldsSince app g.image hd lies next y
+    moment-open y inserting = subst (λ (es : List Entry). HoldsSince app g.image hd es next y) lies-lacked
+        (replays app registration odometer now given g.image hd meets.more (bound_of g Out x) x sound fits long are valid session up-more before next low (omega arith) y inserting)
 
-    pub open-holds : (y : List ℕ) → own_view y ≡ card_view app y → InsertingOpen app registration odometer given now x y → HoldsSince app g.image lies (bound_of g Out y) y
+    pub open-holds : (y : List ℕ) → own_view y ≡ card_view app y → InsertingOpen app registration odometer given now x y → HoldsSince app g.image hd lies (bound_of g Out y) y
     open-holds y view inserting =
         let k = moment-open y inserting in
-        holds-any app g.image lies next (bound_of g Out y) y k (λ none.
-        let up : AllUpTo (end_mark app y) lies = subst (AllUpTo (end_mark app y)) (sym (k.split ∙ ap (λ (es : List Entry). k.more ++ es) none ∙ append-nil k.more)) (holds_up app g.image lies next y k) in
+        holds-any app g.image hd lies next (bound_of g Out y) y k (λ none.
+        let up : AllUpTo (end_mark app y) lies = subst (AllUpTo (end_mark app y)) (sym (k.split ∙ ap (λ (es : List Entry). entries_of k.written ++ es) none ∙ append-nil (entries_of k.written))) (holds_up app g.image hd lies next y k) in
         let up-lack : AllUpTo (end_mark app y) (lacked_by app x given) = up_back (end_mark app y) meets.more (lacked_by app x given) (subst (AllUpTo (end_mark app y)) (sym lies-lacked) up) in
         let first = (newest_first app sound x fits registration long odometer now given are valid (above_zero (session_time app x) session) y inserting).0 in
         let at : (card_view app y).newest ≡ newest_behind (card_view app x).newest (lacked_by app x given) =
         newest-all (end_mark app x) (card_view app x).newest (lacked_by app x given) (end_mark app y) (card_view app y).newest (subst (Follow (end_mark app x)) (sym lack) follows) first up-lack in
         omega (arith, at, ap (λ (k : CardView). k.newest) view))
 
-    pub open-goes : (y : List ℕ) (t : Session) → InsertsOpen app registration odometer given now x y → t.application ≡ app → IsSession t y → GoesSince app g.image lies (suc (max g.start.word t.minute)) y
+    pub open-goes : (y : List ℕ) (t : Session) → InsertsOpen app registration odometer given now x y → t.application ≡ app → IsSession t y → SitsSince app g.image hd lies (suc (max g.start.word t.minute)) y
     open-goes y t inserts same knows =
-        let at = replayed-minute app registration odometer now given g.image meets.more (bound_of g Out x) x sound fits long are valid session up-more before next low (omega arith) y t inserts same knows in
-        subst (λ (m : ℕ). GoesSince app g.image lies (suc (max g.start.word m)) y) (sym at)
-        (subst (λ (es : List Entry). GoesSince app g.image es next y) lies-lacked
-        (replayed-goes app registration odometer now given g.image meets.more (bound_of g Out x) x sound fits long are valid session up-more before next low (omega arith) y inserts))
+        let at = replayed-minute app registration odometer now given g.image hd meets.more (bound_of g Out x) x sound fits long are valid session up-more before next low (omega arith) y t inserts same knows in
+        subst (λ (m : ℕ). SitsSince app g.image hd lies (suc (max g.start.word m)) y) (sym at)
+        (subst (λ (es : List Entry). SitsSince app g.image hd es next y) lies-lacked
+        (replayed-goes app registration odometer now given g.image hd meets.more (bound_of g Out x) x sound fits long are valid session up-more before next low (omega arith) y inserts))
 
   -- where it has none
   module _ (none : session_time app x ≡ 0) where
@@ -249,19 +251,19 @@ module _ (f : Found) (b : Book) (c : Card) (u x : List ℕ) (sound : IsApplicati
     low-words : newest_minute (end_mark app x) (card_days app x) ≤ max g.start.word (card_view app x).newest
     low-words = newest-low app x g.start.word days (ends_card app x days valid none) (subst (λ (k : CardView). k.word ≤ max g.start.word k.newest) old-view (meets.words shut))
 
-    pub closed-holds : (y : List ℕ) → own_view y ≡ card_view app y → InsertingClosed app registration now x y → HoldsSince app g.image lies (bound_of g Out y) y
+    pub closed-holds : (y : List ℕ) → own_view y ≡ card_view app y → InsertingClosed app registration now x y → HoldsSince app g.image hd lies (bound_of g Out y) y
     closed-holds y view inserting =
         let same = (closed_renews app sound x fits registration long now valid none y inserting).newest in
-        shut-holds app registration now g.image lies (bound_of g Out x) x sound fits long valid none up-lies holds (bound_of g Out y) (omega (arith, same, ap (λ (k : CardView). k.newest) view, ap (λ (k : CardView). k.newest) old-view))
+        shut-holds app registration now g.image hd lies (bound_of g Out x) x sound fits long valid none up-lies holds (bound_of g Out y) (omega (arith, same, ap (λ (k : CardView). k.newest) view, ap (λ (k : CardView). k.newest) old-view))
         (omega (arith, low-words, same, ap (λ (k : CardView). k.newest) view)) y inserting
 
-    pub closed-goes : (y : List ℕ) (m : ℕ) → (card_view app x).newest ≤ m → InsertsClosed app registration now x y → GoesSince app g.image lies (suc (max g.start.word m)) y
+    pub closed-goes : (y : List ℕ) (m : ℕ) → (card_view app x).newest ≤ m → InsertsClosed app registration now x y → SitsSince app g.image hd lies (suc (max g.start.word m)) y
     closed-goes y m le inserts =
-        shut-goes app registration now g.image lies (bound_of g Out x) x sound fits long valid none up-lies holds (suc (max g.start.word m)) (omega (arith, le, ap (λ (k : CardView). k.newest) old-view)) (omega (arith, low-words, le)) y inserts
+        shut-goes app registration now g.image hd lies (bound_of g Out x) x sound fits long valid none up-lies holds (suc (max g.start.word m)) (omega (arith, le, ap (λ (k : CardView). k.newest) old-view)) (omega (arith, low-words, le)) y inserts
 
   -- AT EACH MOMENT
   module _ (are : AreOwed now given) (y : List ℕ) (moment : IsCardInserting app registration odometer given now x y) where
-    pub put-holds : HoldsSince app g.image lies (bound_of g Out y) y
+    pub put-holds : HoldsSince app g.image hd lies (bound_of g Out y) y
     put-holds = ⊎_elim (λ closed. closed-holds closed.0 y (new-view y moment) closed.1) (λ open_. open-holds are (positive (session_time app x) open_.0) y (new-view y moment) open_.1) moment
 
     pub put-valid : IsValid app y
@@ -278,10 +280,16 @@ module _ (f : Found) (b : Book) (c : Card) (u x : List ℕ) (sound : IsApplicati
 
   -- AT ITS END
   module _ (are : AreOwed now given) (y : List ℕ) (done : IsCardInserted app registration odometer given now x y) where
-    pub put-goes : (t : Session) → (card_view app x).newest ≤ t.minute ⊎ (session_time app x ≢ 0) → t.application ≡ app → IsSession t y → GoesSince app g.image lies (suc (max g.start.word t.minute)) y
+    pub put-goes : (t : Session) → (card_view app x).newest ≤ t.minute ⊎ (session_time app x ≢ 0) → t.application ≡ app → IsSession t y → SitsSince app g.image hd lies (suc (max g.start.word t.minute)) y
     put-goes t newest same knows = ⊎_elim
         (λ closed. closed-goes closed.0 y t.minute (⊎_elim (λ le. le) (λ some. absurd (some closed.0)) newest) closed.1)
         (λ open_. open-goes are (positive (session_time app x) open_.0) y t open_.1 same knows) done
+
+    -- and no entry is open at its end mark
+    pub put-shut : IsShutAt app y
+    put-shut = ⊎_elim
+        (λ closed. closed_shut app sound x fits registration long now valid closed.0 y closed.1)
+        (λ open_. ends_shut app sound x fits registration long odometer now given are valid (above_zero (session_time app x) (positive (session_time app x) open_.0)) y open_.1) done
 
     pub put-ends : MayEnd app y
     put-ends = ⊎_elim
@@ -291,7 +299,7 @@ module _ (f : Found) (b : Book) (c : Card) (u x : List ℕ) (sound : IsApplicati
 -- ---- A CARD IS PUT IN, over the devices: what is carried of it stands at each exit
 
 module _ (f : Found) (w : RunLedger) (c : Card) (U V X Y : State) (two : f.card_a.number ≢ f.card_b.number) (sound : IsApplication (own_sizes (found_of f c).image)) (unit_whole : IsCoherent U) (unit_after : IsCoherent V) (whole : IsCoherent X) (after : IsCoherent Y)
-    (registration : Registration) (long : length registration.0 ≡ 15) (vehicle : registration ≡ (found_of f c).vehicle) (odometer now : ℕ) (few : now < 2 ^ 32) (answer : Result Entered NotEntered) (unit : UnitLit f w U) (ks : List ℕ) (one : CardLit f w.book Out ks None c U X) (late : w.due ≤ now / 60)
+    (registration : Registration) (long : length registration.0 ≡ 15) (vehicle : registration ≡ (found_of f c).vehicle) (odometer now : ℕ) (few : now < 2 ^ 32) (answer : Result Entered NotEntered) (unit : UnitLit f w U) (ks : List ℕ) (one : CardLit f w.book Out (w.hands c) (w.firsts c) ks None c U X) (late : w.due ≤ now / 60)
     (room : image_size_of (own_sizes (found_of f c).image) ≤ X.size) (enters : IsEntering (own_sizes (found_of f c).image) registration odometer now U V X Y answer) where
   is-asked : IfSome X.image (IsAsked (both_of f two) c (own_sizes (found_of f c).image))
   is-asked = if_told X.image (IsAsked (both_of f two) c (own_sizes (found_of f c).image)) (λ x is. record { sizes = (one.held.now x (whole.is_left x is)).0; number = one.held.number x (whole.is_left x is) ∙ number-as f two c })
@@ -319,14 +327,16 @@ module _ (f : Found) (w : RunLedger) (c : Card) (U V X Y : State) (two : f.card_
     -- the card was read, or an insertion began
     pub record IsPutSo : Type 0 where
       pub views : LeavesViews (of_card X) (of_card Y) Rises
-      pub held : CardHoldsString (found_of f c) c w.book Out Y
+      pub held : CardHoldsString (found_of f c) (w.hands c) c w.book Out Y
       pub valid : (y : List ℕ) → Y.left_since (found_of f c).began y → IsOwnValid y
+      pub hands : HandMarksHold (found_of f c) (w.hands c) (w.firsts c) Y
 
     only-read : LeavesOnly X Y Unchanged → IsPutSo
     only-read run = record {
       views = rises-run Unchanged X Y whole run (λ a b t never. absurd never);
-      held = held-read (found_of f c) c w.book Out X Y one.rule.dark.later run one.held;
+      held = held-read (found_of f c) (w.hands c) c w.book Out X Y one.rule.dark.later run one.held;
       valid = valid-on (found_of f c).began Unchanged X Y one.rule.dark.later run (λ a b t never. absurd never) one.valid;
+      hands = hands-read (found_of f c) (w.hands c) (w.firsts c) X Y run one.hands;
     }
 
     module _ (valid : IsValid (own_sizes (found_of f c).image) x) (are : AreOwed now (owed_on (own_sizes (found_of f c).image) u x)) (run : LeavesOnly X Y (IsCardInserting (own_sizes (found_of f c).image) registration odometer (owed_on (own_sizes (found_of f c).image) u x) now)) where
@@ -340,20 +350,20 @@ module _ (f : Found) (w : RunLedger) (c : Card) (U V X Y : State) (two : f.card_
       moment-at a y t m = subst (λ (l : List ℕ). IsCardInserting (own_sizes (found_of f c).image) registration odometer (owed_on (own_sizes (found_of f c).image) u x) now l y) (sym (this a t)) m
 
       sizes-at : (y : List ℕ) → IsCardInserting (own_sizes (found_of f c).image) registration odometer (owed_on (own_sizes (found_of f c).image) u x) now x y → own_sizes y ≡ own_sizes x
-      sizes-at y m = same-sizes f w.book c u x sound registration long odometer now few fits sizes (one.held.number x there) valid unit.none sure meets (one.held.now x there).1 y m
+      sizes-at y m = same-sizes f (w.hands c) w.book c u x sound registration long odometer now few fits sizes (one.held.number x there) valid unit.none sure meets (one.held.now x there).1 y m
 
       inserted-so : IsPutSo
       inserted-so = record {
         views = rises-run (IsCardInserting (own_sizes (found_of f c).image) registration odometer (owed_on (own_sizes (found_of f c).image) u x) now) X Y whole run
             (λ a y t m. subst (λ (l : List ℕ). (own_view l).mark ≤ (own_view y).mark) (this a t)
-            (put-rises f w.book c u x sound registration long odometer now few fits sizes (one.held.number x there) valid unit.none sure meets (one.held.now x there).1 are y (moment-at a y t m)));
-        held = held-on (found_of f c) c w.book sound Out Out (IsCardInserting (own_sizes (found_of f c).image) registration odometer (owed_on (own_sizes (found_of f c).image) u x) now) X Y one.rule.dark.later run
+            (put-rises f (w.hands c) w.book c u x sound registration long odometer now few fits sizes (one.held.number x there) valid unit.none sure meets (one.held.now x there).1 are y (moment-at a y t m)));
+        held = held-on (found_of f c) (w.hands c) c w.book sound Out Out (IsCardInserting (own_sizes (found_of f c).image) registration odometer (owed_on (own_sizes (found_of f c).image) u x) now) X Y one.rule.dark.later run
             (λ a left h. h)
             (λ a y t m h. (
               sizes-at y (moment-at a y t m) ∙ sizes,
-              put-holds f w.book c u x sound registration long odometer now few fits sizes (one.held.number x there) valid unit.none sure meets (one.held.now x there).1 are y (moment-at a y t m),
+              put-holds f (w.hands c) w.book c u x sound registration long odometer now few fits sizes (one.held.number x there) valid unit.none sure meets (one.held.now x there).1 are y (moment-at a y t m),
             ))
-            (λ a y t m. subst (λ (l : List ℕ). HasSameHolder l y) (this a t) (same-holder f w.book c u x sound registration long odometer now few fits sizes (one.held.number x there) valid unit.none sure meets (one.held.now x there).1 y (moment-at a y t m)))
+            (λ a y t m. subst (λ (l : List ℕ). HasSameHolder l y) (this a t) (same-holder f (w.hands c) w.book c u x sound registration long odometer now few fits sizes (one.held.number x there) valid unit.none sure meets (one.held.now x there).1 y (moment-at a y t m)))
             (λ a y t m own told. record {
               entries = inserting-on (MayBe (found_of f c).vehicle (book_of (own_sizes (found_of f c).image) (found_of f c).image).vehicles) (own_sizes (found_of f c).image) sound registration (inl vehicle) long now x fits
                   (subst (AreRegistered (own_sizes (found_of f c).image) (found_of f c).vehicle (found_of f c).image) (sym (this a t)) told.entries) odometer (owed_on (own_sizes (found_of f c).image) u x) y (moment-at a y t m);
@@ -364,7 +374,12 @@ module _ (f : Found) (w : RunLedger) (c : Card) (U V X Y : State) (two : f.card_
             }) whole one.held;
         valid = valid-on (found_of f c).began (IsCardInserting (own_sizes (found_of f c).image) registration odometer (owed_on (own_sizes (found_of f c).image) u x) now) X Y one.rule.dark.later run
             (λ a y t m. valid-own (own_sizes (found_of f c).image) y (sizes-at y (moment-at a y t m) ∙ sizes)
-            (put-valid f w.book c u x sound registration long odometer now few fits sizes (one.held.number x there) valid unit.none sure meets (one.held.now x there).1 are y (moment-at a y t m))) one.valid;
+            (put-valid f (w.hands c) w.book c u x sound registration long odometer now few fits sizes (one.held.number x there) valid unit.none sure meets (one.held.now x there).1 are y (moment-at a y t m))) one.valid;
+        hands = hands-on (found_of f c) (w.hands c) c w.book sound (w.firsts c) Out Out (IsCardInserting (own_sizes (found_of f c).image) registration odometer (owed_on (own_sizes (found_of f c).image) u x) now) X Y run
+            (λ a y t m h. (
+              sizes-at y (moment-at a y t m) ∙ sizes,
+              put-holds f (w.hands c) w.book c u x sound registration long odometer now few fits sizes (one.held.number x there) valid unit.none sure meets (one.held.now x there).1 are y (moment-at a y t m),
+            )) whole one.held one.hands;
       }
 
     put-so : IsPutSo
@@ -406,26 +421,30 @@ module _ (f : Found) (w : RunLedger) (c : Card) (U V X Y : State) (two : f.card_
           let moment = closed_end (own_sizes (found_of f c).image) registration odometer now (owed_on (own_sizes (found_of f c).image) u x) x y closed.1 in
           let same = (closed_renews (own_sizes (found_of f c).image) sound x fits registration long now was-valid closed.0 y moment).newest in
           let answered = (entered-now.answered (own_view y) (y, after.is_left y now_is, refl)).0 in
-          let view = new-view f w.book c u x sound registration long odometer now few fits sizes (one.held.number x there) was-valid unit.none sure meets (one.held.now x there).1 y (inl (closed.0, moment)) in
+          let view = new-view f (w.hands c) w.book c u x sound registration long odometer now few fits sizes (one.held.number x there) was-valid unit.none sure meets (one.held.now x there).1 y (inl (closed.0, moment)) in
           inl (omega (arith, same, answered, ap (λ (k : CardView). k.newest) view)))
           (λ open_. inr open_.0) done-at
 
-      put-at : (IsSession e.session y) × MayEnd e.session.application y × GoesSince e.session.application (found_of f c).image (brought_by c (found_of f c).start w.book) (suc (max (found_of f c).start.word e.session.minute)) y
+      put-at : (IsSession e.session y) × MayEnd e.session.application y × SitsSince e.session.application (found_of f c).image (w.hands c) (brought_by c (found_of f c).start w.book) (suc (max (found_of f c).start.word e.session.minute)) y
       put-at = (
         knows-at,
-        subst (λ (p : Application). MayEnd p y) (sym took.sizes) (put-ends f w.book c u x sound registration long odometer now few fits sizes (one.held.number x there) was-valid unit.none sure meets (one.held.now x there).1 are-owed y done-at),
-        subst (λ (p : Application). GoesSince p (found_of f c).image (brought_by c (found_of f c).start w.book) (suc (max (found_of f c).start.word e.session.minute)) y) (sym took.sizes)
-            (put-goes f w.book c u x sound registration long odometer now few fits sizes (one.held.number x there) was-valid unit.none sure meets (one.held.now x there).1 are-owed y done-at e.session newest-kept took.sizes knows-at),
+        subst (λ (p : Application). MayEnd p y) (sym took.sizes) (put-ends f (w.hands c) w.book c u x sound registration long odometer now few fits sizes (one.held.number x there) was-valid unit.none sure meets (one.held.now x there).1 are-owed y done-at),
+        subst (λ (p : Application). SitsSince p (found_of f c).image (w.hands c) (brought_by c (found_of f c).start w.book) (suc (max (found_of f c).start.word e.session.minute)) y) (sym took.sizes)
+            (put-goes f (w.hands c) w.book c u x sound registration long odometer now few fits sizes (one.held.number x there) was-valid unit.none sure meets (one.held.now x there).1 are-owed y done-at e.session newest-kept took.sizes knows-at),
       )
+
+      shut-at : IsShutAt e.session.application y
+      shut-at = subst (λ (p : Application). IsShutAt p y) (sym took.sizes)
+          (put-shut f (w.hands c) w.book c u x sound registration long odometer now few fits sizes (one.held.number x there) was-valid unit.none sure meets (one.held.now x there).1 are-owed y done-at)
 
       -- of what was owed: it is sure, and the card has it
       put-sure : (d : Entry) → Contains e.owed.items d → Contains ((found_of f c).start.owed ++ card_history c w.book.sure) d
       put-sure d in_ = subst (λ (es : List Entry). Contains es d)
-          (whole-entries f w.book c u x sound registration long odometer now few fits sizes (one.held.number x there) was-valid unit.none sure meets (one.held.now x there).1 ∙ ap (λ (is : List HistoryMinute). (found_of f c).start.owed ++ card_history c is) (all-none w.book unit.none))
+          (whole-entries f (w.hands c) w.book c u x sound registration long odometer now few fits sizes (one.held.number x there) was-valid unit.none sure meets (one.held.now x there).1 ∙ ap (λ (is : List HistoryMinute). (found_of f c).start.owed ++ card_history c is) (all-none w.book unit.none))
           (Contains-append_right meets.more (owed_on (own_sizes (found_of f c).image) u x) d (subst (λ (es : List Entry). Contains es d) owed-are in_))
 
       owed-view : e.owed.items ≡ owed c (unit_view f.card_a.number f.card_b.number u) (own_view x)
-      owed-view = owed-are ∙ owes f w.book c u x sound registration long odometer now few fits sizes (one.held.number x there) was-valid unit.none sure meets (one.held.now x there).1
+      owed-view = owed-are ∙ owes f (w.hands c) w.book c u x sound registration long odometer now few fits sizes (one.held.number x there) was-valid unit.none sure meets (one.held.now x there).1
 
       -- each was later than the end mark
       put-later : (m : ℕ) → m ≤ (own_view x).mark → (d : Entry) → Contains e.owed.items d → m < d.minute
@@ -437,14 +456,14 @@ module _ (f : Found) (w : RunLedger) (c : Card) (U V X Y : State) (two : f.card_
       put-marked : (d : Entry) → Contains e.owed.items d → d.minute ≤ (own_view y).mark
       put-marked d in_ =
           let goes = put-at.2 in
-          let up = goes_up e.session.application (found_of f c).image (brought_by c (found_of f c).start w.book) (suc (max (found_of f c).start.word e.session.minute)) y goes in
-          let among = subst (λ (es : List Entry). Contains es d) (whole-entries f w.book c u x sound registration long odometer now few fits sizes (one.held.number x there) was-valid unit.none sure meets (one.held.now x there).1)
+          let up : AllUpTo (end_mark e.session.application y) (brought_by c (found_of f c).start w.book) = subst (AllUpTo (end_mark e.session.application y)) goes.has_all (goes_up e.session.application (found_of f c).image goes.written (suc (max (found_of f c).start.word e.session.minute)) y goes.goes) in
+          let among = subst (λ (es : List Entry). Contains es d) (whole-entries f (w.hands c) w.book c u x sound registration long odometer now few fits sizes (one.held.number x there) was-valid unit.none sure meets (one.held.now x there).1)
           (Contains-append_right meets.more (owed_on (own_sizes (found_of f c).image) u x) d (subst (λ (es : List Entry). Contains es d) owed-are in_)) in
           let low = up-contains (end_mark e.session.application y) (brought_by c (found_of f c).start w.book) d up among in
           omega (arith, low, mark-own e.session.application y (own-y ∙ sym took.sizes))
         where
           own-y : own_sizes y ≡ own_sizes (found_of f c).image
-          own-y = same-sizes f w.book c u x sound registration long odometer now few fits sizes (one.held.number x there) was-valid unit.none sure meets (one.held.now x there).1 y (inserted_moment (own_sizes (found_of f c).image) registration odometer now (owed_on (own_sizes (found_of f c).image) u x) x y done-at) ∙ sizes
+          own-y = same-sizes f (w.hands c) w.book c u x sound registration long odometer now few fits sizes (one.held.number x there) was-valid unit.none sure meets (one.held.now x there).1 y (inserted_moment (own_sizes (found_of f c).image) registration odometer now (owed_on (own_sizes (found_of f c).image) u x) x y done-at) ∙ sizes
 
       -- so many entries were put on it: all that was owed to it
       put-number : e.replayed ≡ length (owed c (unit_view f.card_a.number f.card_b.number u) (own_view x))
@@ -458,7 +477,7 @@ module _ (f : Found) (w : RunLedger) (c : Card) (U V X Y : State) (two : f.card_
 
           lacks : lacked (end_mark (own_sizes (found_of f c).image) x) e.owed.items ≡ e.owed.items
           lacks = lacks-all (end_mark (own_sizes (found_of f c).image) x) e.owed.items
-              (subst (Follow (end_mark (own_sizes (found_of f c).image) x)) (sym owed-are) (follows f w.book c u x sound registration long odometer now few fits sizes (one.held.number x there) was-valid unit.none sure meets (one.held.now x there).1))
+              (subst (Follow (end_mark (own_sizes (found_of f c).image) x)) (sym owed-are) (follows f (w.hands c) w.book c u x sound registration long odometer now few fits sizes (one.held.number x there) was-valid unit.none sure meets (one.held.now x there).1))
 
           by : (n : ℕ) → session_time (own_sizes (found_of f c).image) x ≡ n → replayed_count (session_time (own_sizes (found_of f c).image) x) (end_mark (own_sizes (found_of f c).image) x) e.owed.items ≡ length (owed c (unit_view f.card_a.number f.card_b.number u) (own_view x))
           by zero none = ap (λ (s : ℕ). replayed_count s (end_mark (own_sizes (found_of f c).image) x) e.owed.items) none
@@ -475,13 +494,14 @@ module _ (f : Found) (w : RunLedger) (c : Card) (U V X Y : State) (two : f.card_
   so : IsPutSo told-u.0 told-x.0 told-u.1 told-x.1
   so = put-so told-u.0 told-x.0 told-u.1 told-x.1
 
-  pub entered-lit : CardLit f w.book Out ks None c V Y
+  pub entered-lit : CardLit f w.book Out (w.hands c) (w.firsts c) ks None c V Y
   entered-lit = record {
     rule = rule-after;
     valid = so.valid;
     rises = one.rises;
     brought = λ k in_. brought-card f c k w.book Out Out (once_mended f.unit) w.due w.marks U V X Y unit_whole unit.tells unit.unit unit.none one.rule.dark rule-after.dark (none-falls X Y so.views) (one.brought k in_);
     held = so.held;
+    hands = so.hands;
     goes = record { has = brought_by c (found_of f c).start w.book; all = append-nil (brought_by c (found_of f c).start w.book); goes = tt };
   }
 
@@ -489,7 +509,7 @@ module _ (f : Found) (w : RunLedger) (c : Card) (U V X Y : State) (two : f.card_
   entered-marks h = marks-on (found_of f c) c w.book w.marks X Y whole so.views h
 
   -- it is accepted: its session and its string are known
-  pub entered-put : (e : Entered) → answer ≡ Ok e → IsPutIn (found_of f c) c w.book now e.session Y
+  pub entered-put : (e : Entered) → answer ≡ Ok e → IsPutIn (found_of f c) (w.hands c) c w.book now e.session Y
   entered-put e ok =
       let y = told-one Y.image so.held.tells in
       record {
@@ -498,7 +518,8 @@ module _ (f : Found) (w : RunLedger) (c : Card) (U V X Y : State) (two : f.card_
         vehicle = (took told-u.0 told-x.0 told-u.1 told-x.1 e y.0 ok y.1).vehicle ∙ vehicle;
         session = if_told Y.image (IsSession e.session) (λ n is. (put-at told-u.0 told-x.0 told-u.1 told-x.1 e n ok is).0);
         ends = if_told Y.image (MayEnd e.session.application) (λ n is. (put-at told-u.0 told-x.0 told-u.1 told-x.1 e n ok is).1);
-        goes = if_told Y.image (GoesSince e.session.application (found_of f c).image (brought_by c (found_of f c).start w.book) (suc (max (found_of f c).start.word e.session.minute))) (λ n is. (put-at told-u.0 told-x.0 told-u.1 told-x.1 e n ok is).2);
+        goes = if_told Y.image (SitsSince e.session.application (found_of f c).image (w.hands c) (brought_by c (found_of f c).start w.book) (suc (max (found_of f c).start.word e.session.minute))) (λ n is. (put-at told-u.0 told-x.0 told-u.1 told-x.1 e n ok is).2);
+        shut = if_told Y.image (IsShutAt e.session.application) (λ n is. shut-at told-u.0 told-x.0 told-u.1 told-x.1 e n ok is);
       }
 
   -- what was owed to it
@@ -569,14 +590,14 @@ module _ (f : Found) (w : RunLedger) (cards : Cards) (c : Card) (U V X Y Z : Sta
   parts : AreParts f w cards c U X Z
   parts = parts-of f w cards c U X Z p
 
-  one-before : IsOwnValid (found_of f c).image → CardLit f w.book Out (w.brought c) None c U X
-  one-before valid = subst (λ (o : Option Accepted). CardLit f w.book Out (w.brought c) o c U X) bare (subst (λ (z : Standing). CardLit f w.book z (w.brought c) (session_of cards c) c U X) out (parts.mine valid))
+  one-before : IsOwnValid (found_of f c).image → CardLit f w.book Out (w.hands c) (w.firsts c) (w.brought c) None c U X
+  one-before valid = subst (λ (o : Option Accepted). CardLit f w.book Out (w.hands c) (w.firsts c) (w.brought c) o c U X) bare (subst (λ (z : Standing). CardLit f w.book z (w.hands c) (w.firsts c) (w.brought c) (session_of cards c) c U X) out (parts.mine valid))
 
-  one-after : IsOwnValid (found_of f c).image → CardLit f w.book (w.standing c) (w.brought c) (session_of cards c) c V Y
-  one-after valid = subst (λ (z : Standing). CardLit f w.book z (w.brought c) (session_of cards c) c V Y) (sym out) (subst (λ (o : Option Accepted). CardLit f w.book Out (w.brought c) o c V Y) (sym bare)
+  one-after : IsOwnValid (found_of f c).image → CardLit f w.book (w.standing c) (w.hands c) (w.firsts c) (w.brought c) (session_of cards c) c V Y
+  one-after valid = subst (λ (z : Standing). CardLit f w.book z (w.hands c) (w.firsts c) (w.brought c) (session_of cards c) c V Y) (sym out) (subst (λ (o : Option Accepted). CardLit f w.book Out (w.hands c) (w.firsts c) (w.brought c) o c V Y) (sym bare)
       (entered-lit f w c U V X Y found.two (found.sizes c valid) unit_whole unit_after whole after registration long vehicle odometer now few answer parts.unit (w.brought c) (one-before valid) late (room valid) (enters valid)))
 
-  others-after : IsOwnValid (found_of f (other c)).image → CardLit f w.book (w.standing (other c)) (w.brought (other c)) (session_of cards (other c)) (other c) V Z
+  others-after : IsOwnValid (found_of f (other c)).image → CardLit f w.book (w.standing (other c)) (w.hands (other c)) (w.firsts (other c)) (w.brought (other c)) (session_of cards (other c)) (other c) V Z
   others-after valid =
       let was = parts.others valid in
       let rule = of-steps f found.two (other c) w.book (w.standing (other c)) [] [] V Z (unit-read (both_of f found.two) (other c) w.book (w.standing (other c)) [] [] U V Z unit_whole told.unit.leaves (as-steps f found.two (other c) w.book (w.standing (other c)) [] [] U Z was.rule)) in
@@ -586,6 +607,7 @@ module _ (f : Found) (w : RunLedger) (cards : Cards) (c : Card) (U V X Y Z : Sta
         rises = was.rises;
         brought = λ k in_. brought-on f (other c) k w.book (w.standing (other c)) (w.standing (other c)) (once_mended f.unit) w.due w.marks U V Z unit_whole parts.unit.tells parts.unit.unit parts.unit.none was.rule.dark rule.dark (was.brought k in_);
         held = was.held;
+        hands = was.hands;
         goes = was.goes;
       }
 
@@ -615,14 +637,14 @@ module _ (f : Found) (w : RunLedger) (cards : Cards) (c : Card) (U V X Y Z : Sta
     tells = told.unit.leaves.tells ∙ parts.unit.tells;
     unit = holds-dark f.unit w.due w.book w.marks V unit-after;
     none = parts.unit.none;
-    mine = λ valid. off-of f w.book (w.standing c) (w.brought c) (session_of cards c) c V Y (one-after valid);
-    others = λ valid. off-of f w.book (w.standing (other c)) (w.brought (other c)) (session_of cards (other c)) (other c) V Z (others-after valid);
+    mine = λ valid. off-of f w.book (w.standing c) (w.hands c) (w.firsts c) (w.brought c) (session_of cards c) c V Y (one-after valid);
+    others = λ valid. off-of f w.book (w.standing (other c)) (w.hands (other c)) (w.firsts (other c)) (w.brought (other c)) (session_of cards (other c)) (other c) V Z (others-after valid);
     marks_mine = marks-after;
     marks_others = parts.marks_others;
   })
 
   -- a card that is accepted
-  pub accepted-put-by : IsOwnValid (found_of f c).image → (e : Entered) → answer ≡ Ok e → IsPutIn (found_of f c) c w.book now e.session Y
+  pub accepted-put-by : IsOwnValid (found_of f c).image → (e : Entered) → answer ≡ Ok e → IsPutIn (found_of f c) (w.hands c) c w.book now e.session Y
   accepted-put-by valid e ok = entered-put f w c U V X Y found.two (found.sizes c valid) unit_whole unit_after whole after registration long vehicle odometer now few answer parts.unit (w.brought c) (one-before valid) late (room valid) (enters valid) e ok
 
   -- and the entries that were put on it are marked, where its clock has not stopped
@@ -652,7 +674,7 @@ module _ (f : Found) (w : RunLedger) (cards : Cards) (c : Card) (U V X Y Z : Sta
   pub entered-powerless : DevicesUnpowered f w (arranged c V Y Z)
   entered-powerless = entered-powerless-by f w cards c U V X Y Z found unit_whole unit_after whole after registration long vehicle odometer now few answer out bare p late (own_sizes (found_of f c).image) (λ valid. refl) room enters
 
-  pub accepted-put : IsOwnValid (found_of f c).image → (e : Entered) → answer ≡ Ok e → IsPutIn (found_of f c) c w.book now e.session Y
+  pub accepted-put : IsOwnValid (found_of f c).image → (e : Entered) → answer ≡ Ok e → IsPutIn (found_of f c) (w.hands c) c w.book now e.session Y
   accepted-put = accepted-put-by f w cards c U V X Y Z found unit_whole unit_after whole after registration long vehicle odometer now few answer out bare p late (own_sizes (found_of f c).image) (λ valid. refl) room enters
 
   pub accepted-marked : IsOwnValid (found_of f c).image → (e : Entered) → answer ≡ Ok e → V.works ≡ true → IsSettled Y → DevicesPowered f (with_marks (card_marks c Y.clock e.owed.items) w) cards (arranged c V Y Z)

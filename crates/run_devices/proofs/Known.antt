@@ -1,13 +1,20 @@
 -- What is known of the cards, as their sessions, their sizes and their numbers change; and the minutes of acceptances.
-use Rattle.std.proofs.Common.{◌≡◌, ℕ, ◌<◌, ◌∷◌, true, Option, IfSome, is_some, [], Contains, refl, ap, subst, ◌∙◌, sym, arith, ⊎_elim}
-use Rattle.std.specs.Prelude.{Result}
+use Rattle.std.proofs.Common.{◌≡◌, ℕ, zero, suc, ◌<◌, ◌≤◌, List, ◌∷◌, Bool, true, cond, Option, IfSome, is_some, [], Contains, refl, ap, subst, ◌∙◌, sym, arith, ⊎_elim}
+use Rattle.std.specs.Prelude.{Result, nat_eq, nat_lt}
+use Rattle.std.proofs.lemmas.Bool.Decides.{nat_tests}
 use Rattle.std.proofs.lemmas.List.Elements.{Contains-push_cases, Contains-append_cases}
 use Rattle.trace_model.specs.declared.Card.{Card}
 use Rattle.trace_model.specs.declared.Card.TheVariants.{A, B}
 use Rattle.tacho_types.specs.CardNumber.{card_number_bytes}
 use Rattle.tacho_types.specs.declared.card_number.FullCardNumber.{FullCardNumber}
 use Rattle.card_layout.specs.declared.files.Application.{Application}
-use Rattle.card_image.specs.Own.{IsOwnValid}
+use Rattle.card_model.specs.Days.{Day}
+use Rattle.card_model.specs.Changes.{trimmed}
+use Rattle.card_retention.specs.Entries.{newest_word}
+use Rattle.card_image.specs.Fields.{card_days, end_mark, session_time}
+use Rattle.card_image.specs.View.{card_view}
+use Rattle.card_image.specs.Own.{own_view, own_sizes, own_covered, IsOwnValid}
+use Rattle.device_rule.specs.Views.{beyond}
 use Rattle.run_crew.specs.declared.cards.Accepted.{Accepted}
 use Rattle.run_crew.specs.declared.cards.Cards.{Cards}
 use Rattle.run_crew.specs.Cards.{known_of, session_of, with_session, with_number, with_sizes}
@@ -23,6 +30,19 @@ session-sized A B sizes cards = refl
 session-sized B A sizes cards = refl
 session-sized B B sizes cards = refl
 
+-- ---- the words at the start behind an end mark, of a card without a session, count
+
+word-low : (n : ℕ) (days cut : List Day) → cond (nat_lt 0 n) 0 (newest_word days) ≤ newest_word (cond (nat_eq n 0) days cut)
+word-low zero days cut = omega arith
+word-low (suc n) days cut = subst (λ (b : Bool). cond b 0 (newest_word days) ≤ newest_word (cond (nat_eq (suc n) 0) days cut)) (sym (above n)) (omega arith)
+  where
+    above : (n : ℕ) → nat_lt 0 (suc n) ≡ true
+    above n = grind (arith, nat_tests)
+
+pub word-covered : (x : List ℕ) → beyond (own_view x) ≤ own_covered x
+unfolding own_view card_view
+word-covered x = word-low (session_time (own_sizes x) x) (card_days (own_sizes x) x) (trimmed (end_mark (own_sizes x) x) (card_days (own_sizes x) x))
+
 -- ---- what was found of the cards is so still
 
 -- where their numbers are the same
@@ -34,6 +54,7 @@ found-still f cards after same found = record {
   own = found.own;
   sizes = found.sizes;
   entries = found.entries;
+  word = found.word;
 }
 
 pub found-session : (f : Found) (c : Card) (s : Option Accepted) (cards : Cards) → AreFoundCards f cards → AreFoundCards f (with_session c s cards)
@@ -56,7 +77,7 @@ found-sizes f c sizes cards = found-still f cards (with_sizes c sizes cards) (sa
 
 -- and where one tells its own
 pub found-number : (f : Found) (c : Card) (n : FullCardNumber) (row : ℕ) (cards : Cards) → (IsOwnValid (found_of f c).image → card_number_bytes n ≡ (found_of f c).number) → AreFoundCards f cards → AreFoundCards f (with_number c n row cards)
-found-number f A n row cards own found = record { two = found.two; named = named; told = told; own = found.own; sizes = found.sizes; entries = found.entries }
+found-number f A n row cards own found = record { two = found.two; named = named; told = told; own = found.own; sizes = found.sizes; entries = found.entries; word = found.word }
   where
     named : (c : Card) → IsOwnValid (found_of f c).image → IfSome (known_of (with_number A n row cards) c).number (λ n. card_number_bytes n ≡ (found_of f c).number)
     named A valid = own valid
@@ -65,7 +86,7 @@ found-number f A n row cards own found = record { two = found.two; named = named
     told : (c : Card) → IsOwnValid (found_of f c).image → is_some (known_of (with_number A n row cards) c).number ≡ true
     told A valid = refl
     told B valid = found.told B valid
-found-number f B n row cards own found = record { two = found.two; named = named; told = told; own = found.own; sizes = found.sizes; entries = found.entries }
+found-number f B n row cards own found = record { two = found.two; named = named; told = told; own = found.own; sizes = found.sizes; entries = found.entries; word = found.word }
   where
     named : (c : Card) → IsOwnValid (found_of f c).image → IfSome (known_of (with_number B n row cards) c).number (λ n. card_number_bytes n ≡ (found_of f c).number)
     named A valid = found.named A valid

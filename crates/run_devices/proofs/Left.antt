@@ -30,7 +30,7 @@ use Rattle.card_session.proofs.Ended.{closed_ends}
 use Rattle.card_session.proofs.Valid.{flat_of, close_valid, above_zero}
 use Rattle.card_session.proofs.Stopping.{days_there}
 use Rattle.card_image.proofs.Beside.{number_same}
-use Rattle.card_string.specs.Since.{GoesSince, HoldsSince}
+use Rattle.card_string.specs.Since.{SitsSince, HoldsSince}
 use Rattle.card_string.proofs.Since.{later_holds}
 use Rattle.card_string.proofs.OfCards.{card_close_holds}
 use Rattle.device_rule.specs.Views.{UnitView, unit_view, other, newest_with}
@@ -55,7 +55,7 @@ use Rattle.run_devices.specs.Registered.{AreIn, IsUsedSo, TellsOfTwo}
 use Rattle.run_devices.proofs.Registered.{MayBe, close-on}
 use Rattle.run_devices.proofs.Used.{close-used}
 use Rattle.tacho_types.specs.declared.texts.Registration.{Registration}
-use Rattle.run_devices.proofs.OnCards.{own-valid, valid-own, valid-or, no-marks, own-holder-still, Rises, rises-run, none-falls, marks-on, brought-card, held-on, valid-on, bound_of as place_on}
+use Rattle.run_devices.proofs.OnCards.{own-valid, valid-own, valid-or, no-marks, own-holder-still, Rises, rises-run, none-falls, marks-on, brought-card, held-on, hands-on, valid-on, bound_of as place_on}
 
 pub own-sizes-same : (app : Application) (x y : List ℕ) → HaveSameSizes app x y → own_sizes y ≡ own_sizes x
 unfolding own_sizes files_of
@@ -90,9 +90,9 @@ newest-low app x word are ends low = by (is_open (end_mark app x) (card_days app
 -- ---- A CARD IN ITS SLOT is taken out
 
 module _ (f : Found) (w : RunLedger) (c : Card) (U X Y : State) (two : f.card_a.number ≢ f.card_b.number) (unit_whole : IsCoherent U) (whole : IsCoherent X) (unit : UnitLit f w U) (sound : IsApplication (own_sizes (found_of f c).image)) (a : Accepted) (act : Activity)
-    (room : image_size_of (own_sizes (found_of f c).image) ≤ X.size) (one : CardLit f w.book (w.standing c) (w.brought c) (Some a) c U X) (run : LeavesOnly X Y (λ x n. IsSession a.session x → IsCardClosing a.session act x n)) where
-  abbrev on : SessionIsOnCard (found_of f c) one.goes.has (w.standing c) a.session X
-  on = one.goes.goes
+    (room : image_size_of (own_sizes (found_of f c).image) ≤ X.size) (one : CardLit f w.book (w.standing c) (w.hands c) (w.firsts c) (w.brought c) (Some a) c U X) (run : LeavesOnly X Y (λ x n. IsSession a.session x → IsCardClosing a.session act x n)) where
+  abbrev on : SessionIsOnCard (found_of f c) (w.hands c) one.goes.has (w.standing c) a.session X
+  on = one.goes.goes.0
 
   sound-s : IsApplication a.session.application
   sound-s = subst IsApplication (sym on.sizes) sound
@@ -176,21 +176,21 @@ module _ (f : Found) (w : RunLedger) (c : Card) (U X Y : State) (two : f.card_a.
           (λ done. closed_ends a.session.application sound-s x long was-valid (above_zero (session_time a.session.application x) opened) (days_there a.session x knows) act done.before y knows.card.points knows.book
           (at_image (MayEnd a.session.application) is on.ends) done.card done.session) closing
 
-      string : HoldsSince (own_sizes (found_of f c).image) (found_of f c).image (brought_by c (found_of f c).start w.book) (place_on (found_of f c) Out y) y
+      string : HoldsSince (own_sizes (found_of f c).image) (found_of f c).image (w.hands c) (brought_by c (found_of f c).start w.book) (place_on (found_of f c) Out y) y
       string =
-          subst (λ (p : Application). HoldsSince p (found_of f c).image (brought_by c (found_of f c).start w.book) (place_on (found_of f c) Out y) y) on.sizes
-          (subst (λ (es : List Entry). HoldsSince a.session.application (found_of f c).image es (place_on (found_of f c) Out y) y) (sym (append-nil one.goes.has) ∙ one.goes.all)
-          (card_close_holds a.session act (found_of f c).image one.goes.has (suc (max (found_of f c).start.word a.session.minute)) (place_on (found_of f c) Out y) x y sound-s long knows opened
+          subst (λ (p : Application). HoldsSince p (found_of f c).image (w.hands c) (brought_by c (found_of f c).start w.book) (place_on (found_of f c) Out y) y) on.sizes
+          (subst (λ (es : List Entry). HoldsSince a.session.application (found_of f c).image (w.hands c) es (place_on (found_of f c) Out y) y) (sym (append-nil one.goes.has) ∙ one.goes.all)
+          (card_close_holds a.session act (found_of f c).image (w.hands c) one.goes.has (suc (max (found_of f c).start.word a.session.minute)) (place_on (found_of f c) Out y) x y sound-s long knows opened
           (omega (arith, minute-low x there, step.newest)) (omega (arith, newest-here, step.newest))
-          (at_image (GoesSince a.session.application (found_of f c).image one.goes.has (suc (max (found_of f c).start.word a.session.minute))) is on.goes) closing))
+          (at_image (SitsSince a.session.application (found_of f c).image (w.hands c) one.goes.has (suc (max (found_of f c).start.word a.session.minute))) is on.goes) closing))
 
   -- and it tells of no other vehicle
   closed-named : (x : List ℕ) (is : X.image ≡ Some x) (y : List ℕ) → IsCardClosing a.session act x y → TellsOfTwo (own_sizes (found_of f c).image) (found_of f c).vehicle (found_of f c).image x → TellsOfTwo (own_sizes (found_of f c).image) (found_of f c).vehicle (found_of f c).image y
   closed-named x is y k told =
       let May : Registration → Type 0 = MayBe (found_of f c).vehicle (book_of (own_sizes (found_of f c).image) (found_of f c).image).vehicles in
       record {
-        entries = subst (λ (p : Application). AreIn May (book_of p y).vehicles) on.sizes
-            (close-on May a.session act x y sound-s (long x is) (subst (λ (p : Application). AreIn May (book_of p x).vehicles) (sym on.sizes) told.entries) k);
+        entries = subst (λ (p : Application). AreIn (λ v. May v.registration) (book_of p y).vehicles) on.sizes
+            (close-on May a.session act x y sound-s (long x is) (subst (λ (p : Application). AreIn (λ v. May v.registration) (book_of p x).vehicles) (sym on.sizes) told.entries) k);
         session = subst (λ (p : Application). IsUsedSo p (found_of f c).vehicle (found_of f c).image y) on.sizes
             (close-used a.session (found_of f c).vehicle (found_of f c).image act x y (long x is) (subst (λ (p : Application). IsUsedSo p (found_of f c).vehicle (found_of f c).image x) (sym on.sizes) told.session) k);
       }
@@ -206,21 +206,22 @@ module _ (f : Found) (w : RunLedger) (c : Card) (U X Y : State) (two : f.card_a.
       (if_told X.image (λ x. (own_sizes x ≡ a.session.application) × IsSession a.session x) (λ x is. (own x is, knows x is))) run
       (as-steps f two c w.book (In on.time a.session.minute) [] [] U X rule))
 
-  pub left-lit : CardLit f w.book Out (w.brought c) None c U Y
+  pub left-lit : CardLit f w.book Out (w.hands c) (w.firsts c) (w.brought c) None c U Y
   left-lit = record {
     rule = rule-after;
     valid = valid-on (found_of f c).began (IsCardClosing a.session act) X Y one.rule.dark.later closes (λ x y is k. valid-own a.session.application y (same-sizes x is y k ∙ own x is) (is-valid x is y k)) one.valid;
     rises = one.rises;
     brought = λ k in_. brought-card f c k w.book (w.standing c) Out (once_mended f.unit) w.due w.marks U U X Y unit_whole unit.tells unit.unit unit.none one.rule.dark rule-after.dark (none-falls X Y views) (one.brought k in_);
-    held = held-on (found_of f c) c w.book sound (w.standing c) Out (IsCardClosing a.session act) X Y one.rule.dark.later closes
+    held = held-on (found_of f c) (w.hands c) c w.book sound (w.standing c) Out (IsCardClosing a.session act) X Y one.rule.dark.later closes
         (λ x there h. (
           h.0,
-          later_holds (own_sizes (found_of f c).image) (found_of f c).image (brought_by c (found_of f c).start w.book) (place_on (found_of f c) (w.standing c) x) (place_on (found_of f c) Out x) x
+          later_holds (own_sizes (found_of f c).image) (found_of f c).image (w.hands c) (brought_by c (found_of f c).start w.book) (place_on (found_of f c) (w.standing c) x) (place_on (found_of f c) Out x) x
               (omega (arith, minute-low x there, ap (λ (z : Standing). since z (own_view x).newest) on.stands)) h.1,
         ))
         (λ x y is k h. (same-sizes x is y k ∙ h.0, string x is y k))
         (λ x y is k. own-holder-still a.session.application x y (own x is) (same-sizes x is y k ∙ own x is) (same-number x is y k) (same-rest x is y k))
         (λ x y is k own told. closed-named x is y k told) whole one.held;
+    hands = hands-on (found_of f c) (w.hands c) c w.book sound (w.firsts c) (w.standing c) Out (IsCardClosing a.session act) X Y closes (λ x y is k h. (same-sizes x is y k ∙ h.0, string x is y k)) whole one.held one.hands;
     goes = record { has = brought_by c (found_of f c).start w.book; all = append-nil (brought_by c (found_of f c).start w.book); goes = tt };
   }
 
@@ -233,8 +234,8 @@ module _ (f : Found) (w : RunLedger) (cards : Cards) (c : Card) (U X Y Z : State
   parts : AreParts f w cards c U X Z
   parts = parts-of f w cards c U X Z p
 
-  mine : IsOwnValid (found_of f c).image → CardLit f w.book (w.standing c) (w.brought c) (Some a) c U X
-  mine valid = subst (λ (o : Option Accepted). CardLit f w.book (w.standing c) (w.brought c) o c U X) has (parts.mine valid)
+  mine : IsOwnValid (found_of f c).image → CardLit f w.book (w.standing c) (w.hands c) (w.firsts c) (w.brought c) (Some a) c U X
+  mine valid = subst (λ (o : Option Accepted). CardLit f w.book (w.standing c) (w.hands c) (w.firsts c) (w.brought c) o c U X) has (parts.mine valid)
 
   marks : MarksLit f w c Y
   marks = by (valid-or (found_of f c).image)
@@ -246,11 +247,11 @@ module _ (f : Found) (w : RunLedger) (cards : Cards) (c : Card) (U X Y Z : State
   pub left-powered : (after : Cards) → AreFoundCards f after → session_of after c ≡ None → session_of after (other c) ≡ session_of cards (other c) → DevicesPowered f (with_standing c Out w) after (arranged c U Y Z)
   left-powered after found_after none same = powered-of f (with_standing c Out w) after c U Y Z found_after (record {
     unit = record { tells = parts.unit.tells; works = parts.unit.works; unit = parts.unit.unit; none = parts.unit.none };
-    mine = λ valid. subst (λ (o : Option Accepted). CardLit f w.book (for_card c Out w.standing c) (w.brought c) o c U Y) (sym none)
-        (at-card c Out w.standing (λ (z : Standing). CardLit f w.book z (w.brought c) None c U Y)
+    mine = λ valid. subst (λ (o : Option Accepted). CardLit f w.book (for_card c Out w.standing c) (w.hands c) (w.firsts c) (w.brought c) o c U Y) (sym none)
+        (at-card c Out w.standing (λ (z : Standing). CardLit f w.book z (w.hands c) (w.firsts c) (w.brought c) None c U Y)
         (left-lit f w c U X Y found.two unit_whole whole parts.unit (found.sizes c valid) a act room (mine valid) run));
-    others = λ valid. subst (λ (o : Option Accepted). CardLit f w.book (for_card c Out w.standing (other c)) (w.brought (other c)) o (other c) U Z) (sym same)
-        (at-other c Out w.standing (λ (z : Standing). CardLit f w.book z (w.brought (other c)) (session_of cards (other c)) (other c) U Z) (parts.others valid));
+    others = λ valid. subst (λ (o : Option Accepted). CardLit f w.book (for_card c Out w.standing (other c)) (w.hands (other c)) (w.firsts (other c)) (w.brought (other c)) o (other c) U Z) (sym same)
+        (at-other c Out w.standing (λ (z : Standing). CardLit f w.book z (w.hands (other c)) (w.firsts (other c)) (w.brought (other c)) (session_of cards (other c)) (other c) U Z) (parts.others valid));
     marks_mine = marks;
     marks_others = parts.marks_others;
   })

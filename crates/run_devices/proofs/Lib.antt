@@ -4,7 +4,9 @@ pub mod Parts
 pub mod Holders
 pub mod OnCards
 pub mod NotedCard
+pub mod Entries
 pub mod Registered
+pub mod Measured
 pub mod CardUse
 pub mod Used
 pub mod Noted
@@ -19,5 +21,6 @@ pub mod Marked
 pub mod Entered
 pub mod Woken
 pub mod Known
+pub mod HandsCome
 pub mod Travelled
 pub mod Putting

@@ -14,7 +14,8 @@ use Rattle.card_image.specs.View.{CardView}
 use Rattle.card_image.specs.Own.{own_view, own_sizes, IsOwnValid}
 use Rattle.card_session.specs.Sessions.{IsSession, IsValue}
 use Rattle.card_session.specs.Cards.{MayEnd}
-use Rattle.card_string.specs.Since.{GoesSince, HoldsSince}
+use Rattle.card_by_hand.specs.First.{IsShutAt}
+use Rattle.card_string.specs.Since.{SitsSince, HoldsSince}
 use Rattle.card_string.proofs.Since.{beside_holds}
 use Rattle.device_calls.specs.Journal.{LeavesJournal}
 use Rattle.device_rule.specs.Views.{other}
@@ -32,7 +33,7 @@ use Rattle.run_crew.specs.Cards.{session_of}
 use Rattle.unit_rule.specs.Rule.{once_mended}
 use Rattle.unit_rule.proofs.Marking.{holds-dark}
 use Rattle.run_promise.specs.Found.{Found, found_of, unit_seen, AnyKept}
-use Rattle.run_promise.specs.Cards.{brought_by, CardMarksHold}
+use Rattle.run_promise.specs.Cards.{brought_by, CardMarksHold, HandMarksHold}
 use Rattle.run_promise.specs.Between.{RunLedger, devices}
 use Rattle.run_devices.specs.Strung.{CardHoldsString}
 use Rattle.run_devices.specs.Told.{AreFoundCards, SessionIsOnCard, GoesOwing, owes_nothing, AllGo, IsLitWith, DevicesPowered, DevicesUnpowered, arranged, with_standing}
@@ -41,8 +42,8 @@ use Rattle.run_devices.proofs.Holders.{note-rest}
 use Rattle.run_devices.proofs.Registered.{MayBe, note-on}
 use Rattle.run_devices.proofs.Used.{note-used}
 use Rattle.card_session.specs.Sessions.{book_of}
-use Rattle.run_devices.proofs.OnCards.{own-holder-still, own-valid, valid-own, valid-or, no-marks, time-of, Rises, rises-run, none-falls, marks-on, brought-card, bound_of, held-on, valid-on, told-on}
-use Rattle.run_devices.proofs.NotedCard.{note-ends, note-number, note-book, note-session_time, note-goes, note-session}
+use Rattle.run_devices.proofs.OnCards.{own-holder-still, own-valid, valid-own, valid-or, no-marks, time-of, Rises, rises-run, none-falls, marks-on, brought-card, bound_of, held-on, hands-on, valid-on, told-on}
+use Rattle.run_devices.proofs.NotedCard.{note-ends, note-number, note-book, note-session_time, note-sits, note-shut, note-session}
 
 -- ---- ON THE UNIT, whatever is put or owed
 
@@ -67,6 +68,10 @@ module _ (f : Found) (two : f.card_a.number ≢ f.card_b.number) (w : RunLedger)
   marks-still A = h.marks A
   marks-still B = h.marks B
 
+  hands-still : (c : Card) → IsOwnValid (found_of f c).image → HandMarksHold (found_of f c) (w.hands c) (w.firsts c) (card_of (devices V X Y) c)
+  hands-still A valid = h.hands A valid
+  hands-still B valid = h.hands B valid
+
   pub noted-with : V.works ≡ true → IsLitWith f w puts owes (devices V X Y)
   noted-with works = record {
     tells = run.tells ∙ h.tells;
@@ -78,17 +83,18 @@ module _ (f : Found) (two : f.card_a.number ≢ f.card_b.number) (w : RunLedger)
     rises = h.rises;
     brought = brought;
     marks = marks-still;
+    hands = hands-still;
   }
 
 -- the strings and the sessions of the cards do not ask of the unit
 pub go-unit : (f : Found) (w : RunLedger) (owes : Card → List Entry) (cards : Cards) (U V X Y : State) → AllGo f w owes cards (devices U X Y) → AllGo f w owes cards (devices V X Y)
 go-unit f w owes cards U V X Y go = record { held = held; goes = goes }
   where
-    held : (c : Card) → IsOwnValid (found_of f c).image → CardHoldsString (found_of f c) c w.book (w.standing c) (card_of (devices V X Y) c)
+    held : (c : Card) → IsOwnValid (found_of f c).image → CardHoldsString (found_of f c) (w.hands c) c w.book (w.standing c) (card_of (devices V X Y) c)
     held A = go.held A
     held B = go.held B
 
-    goes : (c : Card) → IsOwnValid (found_of f c).image → GoesOwing (found_of f c) c w.book (owes c) (w.standing c) (session_of cards c) (card_of (devices V X Y) c)
+    goes : (c : Card) → IsOwnValid (found_of f c).image → GoesOwing (found_of f c) (w.hands c) c w.book (owes c) (w.standing c) (session_of cards c) (card_of (devices V X Y) c)
     goes A = go.goes A
     goes B = go.goes B
 
@@ -96,7 +102,7 @@ module _ (f : Found) (w : RunLedger) (cards : Cards) (U V X Y : State) (found : 
   abbrev before : AreParts f w cards A U X Y
   before = parts-of f w cards A U X Y p
 
-  lit-card : (c : Card) (session : Option Accepted) (Z : State) → CardLit f w.book (w.standing c) (w.brought c) session c U Z → CardLit f w.book (w.standing c) (w.brought c) session c V Z
+  lit-card : (c : Card) (session : Option Accepted) (Z : State) → CardLit f w.book (w.standing c) (w.hands c) (w.firsts c) (w.brought c) session c U Z → CardLit f w.book (w.standing c) (w.hands c) (w.firsts c) (w.brought c) session c V Z
   lit-card c session Z one =
       let rule = rule-on f found.two w owes_nothing owes_nothing U V X Y whole (owing-of f w (devices U X Y) p.lit) run c Z [] [] one.rule in
       record {
@@ -105,6 +111,7 @@ module _ (f : Found) (w : RunLedger) (cards : Cards) (U V X Y : State) (found : 
         rises = one.rises;
         brought = λ k in_. brought-on f c k w.book (w.standing c) (w.standing c) (once_mended f.unit) w.due w.marks U V Z whole p.lit.tells p.lit.unit p.lit.none one.rule.dark rule.dark (one.brought k in_);
         held = one.held;
+        hands = one.hands;
         goes = one.goes;
       }
 
@@ -127,17 +134,17 @@ module _ (f : Found) (w : RunLedger) (cards : Cards) (U V X Y : State) (found : 
     tells = run.tells ∙ p.lit.tells;
     unit = holds-dark f.unit w.due w.book w.marks V (noted-holds (once_mended f.unit) w.due w.book w.marks whole run p.lit.unit);
     none = p.lit.none;
-    mine = λ valid. off-of f w.book (w.standing A) (w.brought A) (session_of cards A) A V X (lit-card A (session_of cards A) X (before.mine valid));
-    others = λ valid. off-of f w.book (w.standing B) (w.brought B) (session_of cards B) B V Y (lit-card B (session_of cards B) Y (before.others valid));
+    mine = λ valid. off-of f w.book (w.standing A) (w.hands A) (w.firsts A) (w.brought A) (session_of cards A) A V X (lit-card A (session_of cards A) X (before.mine valid));
+    others = λ valid. off-of f w.book (w.standing B) (w.hands B) (w.firsts B) (w.brought B) (session_of cards B) B V Y (lit-card B (session_of cards B) Y (before.others valid));
     marks_mine = p.lit.marks A;
     marks_others = p.lit.marks B;
   })
 
 -- ---- ON A CARD IN ITS SLOT, of these sizes, with this session
 module _ (f : Found) (w : RunLedger) (c : Card) (U X Y : State) (two : f.card_a.number ≢ f.card_b.number) (unit_whole : IsCoherent U) (whole : IsCoherent X) (after : IsCoherent Y) (unit : UnitLit f w U) (sound : IsApplication (own_sizes (found_of f c).image)) (a : Accepted) (value : IsValue a.session)
-    (one : CardLit f w.book (w.standing c) (w.brought c) (Some a) c U X) (run : LeavesOnly X Y (IsNote (own_sizes (found_of f c).image))) where
-  abbrev on : SessionIsOnCard (found_of f c) one.goes.has (w.standing c) a.session X
-  on = one.goes.goes
+    (one : CardLit f w.book (w.standing c) (w.hands c) (w.firsts c) (w.brought c) (Some a) c U X) (run : LeavesOnly X Y (IsNote (own_sizes (found_of f c).image))) where
+  abbrev on : SessionIsOnCard (found_of f c) (w.hands c) one.goes.has (w.standing c) a.session X
+  on = one.goes.goes.0
 
   -- its image is valid, by its sizes
   sound-at : (x : List ℕ) → X.image ≡ Some x → IsSound (own_sizes (found_of f c).image) x
@@ -158,21 +165,30 @@ module _ (f : Found) (w : RunLedger) (c : Card) (U X Y : State) (two : f.card_a.
   views = rises-run (IsNote (own_sizes (found_of f c).image)) X Y whole run (λ x n is note. omega (arith, ap (λ (v : CardView). v.mark) (same-view x n is note)))
 
   -- the string, where a card that stands otherwise takes its entries no earlier
-  held : (z : Standing) → ((n : ℕ) → since (w.standing c) n ≤ since z n) → ((n : ℕ) → since z n ≤ since (w.standing c) n) → CardHoldsString (found_of f c) c w.book z Y
-  held z le ge = held-on (found_of f c) c w.book sound (w.standing c) z (IsNote (own_sizes (found_of f c).image)) X Y one.rule.dark.later run
-      (λ x there h. (h.0, subst (λ (n : ℕ). HoldsSince (own_sizes (found_of f c).image) (found_of f c).image (brought_by c (found_of f c).start w.book) (suc (max (found_of f c).start.word n)) x) (both (le (own_view x).newest) (ge (own_view x).newest)) h.1))
+  held : (z : Standing) → ((n : ℕ) → since (w.standing c) n ≤ since z n) → ((n : ℕ) → since z n ≤ since (w.standing c) n) → CardHoldsString (found_of f c) (w.hands c) c w.book z Y
+  held z le ge = held-on (found_of f c) (w.hands c) c w.book sound (w.standing c) z (IsNote (own_sizes (found_of f c).image)) X Y one.rule.dark.later run
+      (λ x there h. (h.0, subst (λ (n : ℕ). HoldsSince (own_sizes (found_of f c).image) (found_of f c).image (w.hands c) (brought_by c (found_of f c).start w.book) (suc (max (found_of f c).start.word n)) x) (both (le (own_view x).newest) (ge (own_view x).newest)) h.1))
       (λ x n is note h. (
         same-sizes x n is note ∙ h.0,
-        subst (λ (v : CardView). HoldsSince (own_sizes (found_of f c).image) (found_of f c).image (brought_by c (found_of f c).start w.book) (suc (max (found_of f c).start.word (since z v.newest))) n) (sym (same-view x n is note))
-            (subst (λ (k : ℕ). HoldsSince (own_sizes (found_of f c).image) (found_of f c).image (brought_by c (found_of f c).start w.book) (suc (max (found_of f c).start.word k)) n) (both (le (own_view x).newest) (ge (own_view x).newest))
+        subst (λ (v : CardView). HoldsSince (own_sizes (found_of f c).image) (found_of f c).image (w.hands c) (brought_by c (found_of f c).start w.book) (suc (max (found_of f c).start.word (since z v.newest))) n) (sym (same-view x n is note))
+            (subst (λ (k : ℕ). HoldsSince (own_sizes (found_of f c).image) (found_of f c).image (w.hands c) (brought_by c (found_of f c).start w.book) (suc (max (found_of f c).start.word k)) n) (both (le (own_view x).newest) (ge (own_view x).newest))
             (beside_holds (own_sizes (found_of f c).image) (found_of f c).image x n (note-book (own_sizes (found_of f c).image) sound x (sound-at x is).1 n note)
-            (brought_by c (found_of f c).start w.book) (bound_of (found_of f c) (w.standing c) x) (note-session_time (own_sizes (found_of f c).image) sound x (sound-at x is).1 n note) h.1)),
+            (w.hands c) (brought_by c (found_of f c).start w.book) (bound_of (found_of f c) (w.standing c) x) (note-session_time (own_sizes (found_of f c).image) sound x (sound-at x is).1 n note) h.1)),
       ))
       (λ x n is note. own-holder-still (own_sizes (found_of f c).image) x n (sound-at x is).0 (same-sizes x n is note ∙ (sound-at x is).0) (note-number (own_sizes (found_of f c).image) sound x (sound-at x is).1 n note) (note-rest (own_sizes (found_of f c).image) x n note))
       (λ x n is note own told. record { entries = note-on (MayBe (found_of f c).vehicle (book_of (own_sizes (found_of f c).image) (found_of f c).image).vehicles) (own_sizes (found_of f c).image) sound x (sound-at x is).1 n note told.entries; session = note-used (own_sizes (found_of f c).image) (found_of f c).vehicle (found_of f c).image x n note told.session }) whole one.held
     where
       both : {m n : ℕ} → m ≤ n → n ≤ m → m ≡ n
       both {m} {n} low high = omega (arith, low, high)
+
+  hands-behind : HandMarksHold (found_of f c) (w.hands c) (w.firsts c) Y
+  hands-behind = hands-on (found_of f c) (w.hands c) c w.book sound (w.firsts c) (w.standing c) (w.standing c) (IsNote (own_sizes (found_of f c).image)) X Y run
+      (λ x n is note h. (
+        same-sizes x n is note ∙ h.0,
+        subst (λ (v : CardView). HoldsSince (own_sizes (found_of f c).image) (found_of f c).image (w.hands c) (brought_by c (found_of f c).start w.book) (suc (max (found_of f c).start.word (since (w.standing c) v.newest))) n) (sym (same-view x n is note))
+            (beside_holds (own_sizes (found_of f c).image) (found_of f c).image x n (note-book (own_sizes (found_of f c).image) sound x (sound-at x is).1 n note)
+            (w.hands c) (brought_by c (found_of f c).start w.book) (bound_of (found_of f c) (w.standing c) x) (note-session_time (own_sizes (found_of f c).image) sound x (sound-at x is).1 n note) h.1),
+      )) whole one.held one.hands
 
   valid-all : (n : List ℕ) → Y.left_since (found_of f c).began n → IsOwnValid n
   valid-all = valid-on (found_of f c).began (IsNote (own_sizes (found_of f c).image)) X Y one.rule.dark.later run
@@ -195,15 +211,15 @@ module _ (f : Found) (w : RunLedger) (c : Card) (U X Y : State) (two : f.card_a.
     long-after : {n : List ℕ} → Y.image ≡ Some n → image_size_of a.session.application ≤ length n
     long-after {n} is = subst (λ (p : Application). image_size_of p ≤ length n) (sym on.sizes) (omega (arith, room, run.size, after.sized n is))
 
-    session-told : (n : List ℕ) → Y.image ≡ Some n → IsSession a.session n × MayEnd a.session.application n × GoesSince a.session.application (found_of f c).image one.goes.has (suc (max (found_of f c).start.word a.session.minute)) n
+    session-told : (n : List ℕ) → Y.image ≡ Some n → IsSession a.session n × MayEnd a.session.application n × SitsSince a.session.application (found_of f c).image (w.hands c) one.goes.has (suc (max (found_of f c).start.word a.session.minute)) n
     session-told n is = by (told-on (IsNote (own_sizes (found_of f c).image)) X Y whole after works run n is)
       where
-        by : (x : List ℕ) × (X.image ≡ Some x) × ((n ≡ x) ⊎ IsNote (own_sizes (found_of f c).image) x n) → IsSession a.session n × MayEnd a.session.application n × GoesSince a.session.application (found_of f c).image one.goes.has (suc (max (found_of f c).start.word a.session.minute)) n
+        by : (x : List ℕ) × (X.image ≡ Some x) × ((n ≡ x) ⊎ IsNote (own_sizes (found_of f c).image) x n) → IsSession a.session n × MayEnd a.session.application n × SitsSince a.session.application (found_of f c).image (w.hands c) one.goes.has (suc (max (found_of f c).start.word a.session.minute)) n
         by (x, was, inl same) = (
           subst (IsSession a.session) (sym same) (at_image (IsSession a.session) was on.session),
           subst (MayEnd a.session.application) (sym same) (at_image (MayEnd a.session.application) was on.ends),
-          subst (GoesSince a.session.application (found_of f c).image one.goes.has (suc (max (found_of f c).start.word a.session.minute))) (sym same)
-              (at_image (GoesSince a.session.application (found_of f c).image one.goes.has (suc (max (found_of f c).start.word a.session.minute))) was on.goes),
+          subst (SitsSince a.session.application (found_of f c).image (w.hands c) one.goes.has (suc (max (found_of f c).start.word a.session.minute))) (sym same)
+              (at_image (SitsSince a.session.application (found_of f c).image (w.hands c) one.goes.has (suc (max (found_of f c).start.word a.session.minute))) was on.goes),
         )
         by (x, was, inr note) =
             let note_s = subst (λ (p : Application). IsNote p x n) (sym on.sizes) note in
@@ -211,11 +227,21 @@ module _ (f : Found) (w : RunLedger) (c : Card) (U X Y : State) (two : f.card_a.
             let sound_s = subst IsApplication (sym on.sizes) sound in (
               note-session a.session value.days sound_s x valid_s n note_s (at_image (IsSession a.session) was on.session),
               note-ends a.session.application sound_s x n (long was) (long-after is) valid_s note_s (at_image (MayEnd a.session.application) was on.ends),
-              note-goes a.session.application sound_s x valid_s n note_s (found_of f c).image one.goes.has (suc (max (found_of f c).start.word a.session.minute))
-                  (at_image (GoesSince a.session.application (found_of f c).image one.goes.has (suc (max (found_of f c).start.word a.session.minute))) was on.goes),
+              note-sits a.session.application sound_s x valid_s n note_s (found_of f c).image (w.hands c) one.goes.has (suc (max (found_of f c).start.word a.session.minute))
+                  (at_image (SitsSince a.session.application (found_of f c).image (w.hands c) one.goes.has (suc (max (found_of f c).start.word a.session.minute))) was on.goes),
             )
 
-    pub note-lit : CardLit f w.book (w.standing c) (w.brought c) (Some a) c U Y
+    -- as long as it has kept no minute no entry is open
+    shut-told : a.held.begun ≡ None → (n : List ℕ) → Y.image ≡ Some n → IsShutAt a.session.application n
+    shut-told none n is = by (told-on (IsNote (own_sizes (found_of f c).image)) X Y whole after works run n is)
+      where
+        by : (x : List ℕ) × (X.image ≡ Some x) × ((n ≡ x) ⊎ IsNote (own_sizes (found_of f c).image) x n) → IsShutAt a.session.application n
+        by (x, was, inl same) = subst (IsShutAt a.session.application) (sym same) (at_image (IsShutAt a.session.application) was (one.goes.goes.1 none))
+        by (x, was, inr note) =
+            note-shut a.session.application (subst IsApplication (sym on.sizes) sound) x (subst (λ (p : Application). IsValid p x) (sym on.sizes) (sound-at x was).1) n (subst (λ (p : Application). IsNote p x n) (sym on.sizes) note)
+            (at_image (IsShutAt a.session.application) was (one.goes.goes.1 none))
+
+    pub note-lit : CardLit f w.book (w.standing c) (w.hands c) (w.firsts c) (w.brought c) (Some a) c U Y
     note-lit =
         let rule = of-steps f two c w.book (w.standing c) [] [] U Y (card-noted (both_of f two) c w.book (own_sizes (found_of f c).image) sound whole known run U (w.standing c) [] [] (inr well) holds) in
         record {
@@ -224,23 +250,27 @@ module _ (f : Found) (w : RunLedger) (c : Card) (U X Y : State) (two : f.card_a.
           rises = one.rises;
           brought = behind (w.standing c) rule.dark;
           held = held (w.standing c) (λ n. omega arith) (λ n. omega arith);
+          hands = hands-behind;
           goes = record {
             has = one.goes.has;
             all = one.goes.all;
-            goes = record {
-              time = on.time;
-              stands = on.stands;
-              sizes = on.sizes;
-              vehicle = on.vehicle;
-              session = if_told Y.image (IsSession a.session) (λ n is. (session-told n is).0);
-              ends = if_told Y.image (MayEnd a.session.application) (λ n is. (session-told n is).1);
-              goes = if_told Y.image (GoesSince a.session.application (found_of f c).image one.goes.has (suc (max (found_of f c).start.word a.session.minute))) (λ n is. (session-told n is).2);
-            };
+            goes = (
+              record {
+                time = on.time;
+                stands = on.stands;
+                sizes = on.sizes;
+                vehicle = on.vehicle;
+                session = if_told Y.image (IsSession a.session) (λ n is. (session-told n is).0);
+                ends = if_told Y.image (MayEnd a.session.application) (λ n is. (session-told n is).1);
+                goes = if_told Y.image (SitsSince a.session.application (found_of f c).image (w.hands c) one.goes.has (suc (max (found_of f c).start.word a.session.minute))) (λ n is. (session-told n is).2);
+              },
+              λ none. if_told Y.image (IsShutAt a.session.application) (λ n is. shut-told none n is),
+            );
           };
         }
 
   -- or it failed, and is torn out
-  pub note-torn : (floor : ℕ) → CardLit f w.book (Torn on.time a.session.minute floor) (w.brought c) None c U Y
+  pub note-torn : (floor : ℕ) → CardLit f w.book (Torn on.time a.session.minute floor) (w.hands c) (w.firsts c) (w.brought c) None c U Y
   note-torn floor =
       let rule = of-steps f two c w.book (Torn on.time a.session.minute floor) [] [] U Y (noted-tears (both_of f two) c w.book (own_sizes (found_of f c).image) sound whole known run U on.time a.session.minute floor
       (subst (λ (z : Standing). CardHolds (both_of f two) c w.book z [] [] U X) on.stands holds)) in
@@ -250,6 +280,7 @@ module _ (f : Found) (w : RunLedger) (c : Card) (U X Y : State) (two : f.card_a.
         rises = one.rises;
         brought = behind (Torn on.time a.session.minute floor) rule.dark;
         held = held (Torn on.time a.session.minute floor) (λ n. omega (arith, is n)) (λ n. omega (arith, is n));
+        hands = hands-behind;
         goes = record { has = brought_by c (found_of f c).start w.book; all = append-nil (brought_by c (found_of f c).start w.book); goes = tt };
       }
     where
@@ -263,8 +294,8 @@ module _ (f : Found) (w : RunLedger) (cards : Cards) (c : Card) (U X Y Z : State
   parts : AreParts f w cards c U X Z
   parts = parts-of f w cards c U X Z p
 
-  mine : IsOwnValid (found_of f c).image → CardLit f w.book (w.standing c) (w.brought c) (Some a) c U X
-  mine valid = subst (λ (o : Option Accepted). CardLit f w.book (w.standing c) (w.brought c) o c U X) has (parts.mine valid)
+  mine : IsOwnValid (found_of f c).image → CardLit f w.book (w.standing c) (w.hands c) (w.firsts c) (w.brought c) (Some a) c U X
+  mine valid = subst (λ (o : Option Accepted). CardLit f w.book (w.standing c) (w.hands c) (w.firsts c) (w.brought c) o c U X) has (parts.mine valid)
 
   -- one that was not valid has acknowledged nothing
   marks : MarksLit f w c Y
@@ -277,7 +308,7 @@ module _ (f : Found) (w : RunLedger) (cards : Cards) (c : Card) (U X Y Z : State
   pub noted-on : X.works ≡ true → Y.works ≡ true → image_size_of (own_sizes (found_of f c).image) ≤ X.size → DevicesPowered f w cards (arranged c U Y Z)
   noted-on works well room = powered-of f w cards c U Y Z found (record {
     unit = parts.unit;
-    mine = λ valid. subst (λ (o : Option Accepted). CardLit f w.book (w.standing c) (w.brought c) o c U Y) (sym has)
+    mine = λ valid. subst (λ (o : Option Accepted). CardLit f w.book (w.standing c) (w.hands c) (w.firsts c) (w.brought c) o c U Y) (sym has)
         (note-lit f w c U X Y found.two unit_whole whole after parts.unit (found.sizes c valid) a value (mine valid) run works well room);
     others = parts.others;
     marks_mine = marks;
@@ -288,17 +319,17 @@ module _ (f : Found) (w : RunLedger) (cards : Cards) (c : Card) (U X Y Z : State
   pub noted-off : (time floor : ℕ) (left : Cards) → AreFoundCards f left → session_of left c ≡ None → session_of left (other c) ≡ session_of cards (other c) → ((valid : IsOwnValid (found_of f c).image) → w.standing c ≡ In time a.session.minute) → DevicesPowered f (with_standing c (Torn time a.session.minute floor) w) left (arranged c U Y Z)
   noted-off time floor left found_left none same stands = powered-of f (with_standing c (Torn time a.session.minute floor) w) left c U Y Z found_left (record {
     unit = record { tells = parts.unit.tells; works = parts.unit.works; unit = parts.unit.unit; none = parts.unit.none };
-    mine = λ valid. subst (λ (o : Option Accepted). CardLit f w.book ((with_standing c (Torn time a.session.minute floor) w).standing c) (w.brought c) o c U Y) (sym none)
-        (at-card c (Torn time a.session.minute floor) w.standing (λ (z : Standing). CardLit f w.book z (w.brought c) None c U Y) (torn valid));
-    others = λ valid. subst (λ (o : Option Accepted). CardLit f w.book ((with_standing c (Torn time a.session.minute floor) w).standing (other c)) (w.brought (other c)) o (other c) U Z) (sym same)
-        (at-other c (Torn time a.session.minute floor) w.standing (λ (z : Standing). CardLit f w.book z (w.brought (other c)) (session_of cards (other c)) (other c) U Z) (parts.others valid));
+    mine = λ valid. subst (λ (o : Option Accepted). CardLit f w.book ((with_standing c (Torn time a.session.minute floor) w).standing c) (w.hands c) (w.firsts c) (w.brought c) o c U Y) (sym none)
+        (at-card c (Torn time a.session.minute floor) w.standing (λ (z : Standing). CardLit f w.book z (w.hands c) (w.firsts c) (w.brought c) None c U Y) (torn valid));
+    others = λ valid. subst (λ (o : Option Accepted). CardLit f w.book ((with_standing c (Torn time a.session.minute floor) w).standing (other c)) (w.hands (other c)) (w.firsts (other c)) (w.brought (other c)) o (other c) U Z) (sym same)
+        (at-other c (Torn time a.session.minute floor) w.standing (λ (z : Standing). CardLit f w.book z (w.hands (other c)) (w.firsts (other c)) (w.brought (other c)) (session_of cards (other c)) (other c) U Z) (parts.others valid));
     marks_mine = marks;
     marks_others = parts.marks_others;
   })
     where
-      torn : (valid : IsOwnValid (found_of f c).image) → CardLit f w.book (Torn time a.session.minute floor) (w.brought c) None c U Y
+      torn : (valid : IsOwnValid (found_of f c).image) → CardLit f w.book (Torn time a.session.minute floor) (w.hands c) (w.firsts c) (w.brought c) None c U Y
       torn valid =
-          let on : SessionIsOnCard (found_of f c) (mine valid).goes.has (w.standing c) a.session X = (mine valid).goes.goes in
+          let on : SessionIsOnCard (found_of f c) (w.hands c) (mine valid).goes.has (w.standing c) a.session X = (mine valid).goes.goes.0 in
           let one = time-of on.time time a.session.minute (sym on.stands ∙ stands valid) in
-          subst (λ (t : ℕ). CardLit f w.book (Torn t a.session.minute floor) (w.brought c) None c U Y) one
+          subst (λ (t : ℕ). CardLit f w.book (Torn t a.session.minute floor) (w.hands c) (w.firsts c) (w.brought c) None c U Y) one
           (note-torn f w c U X Y found.two unit_whole whole after parts.unit (found.sizes c valid) a value (mine valid) run floor)

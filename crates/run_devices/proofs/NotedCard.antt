@@ -10,7 +10,7 @@ use Rattle.gated_ring.proofs.Places.{place_high}
 use Rattle.card_layout.specs.declared.files.Application.{Application}
 use Rattle.card_layout.specs.Application.{IsApplication, first_bad_field, place_of_field}
 use Rattle.card_model.specs.Days.{Day}
-use Rattle.card_image.specs.Fields.{file, card_number, place_ring, day_string, vehicle_ring, card_days, last_use, session_time}
+use Rattle.card_image.specs.Fields.{file, card_number, place_ring, day_string, vehicle_ring, card_days, end_mark, last_use, session_time}
 use Rattle.card_image.specs.Judging.{word_checks, IsValid}
 use Rattle.card_image.specs.Beside.{HaveSameIdentification}
 use Rattle.card_image.proofs.Beside.{days_same, session_same, last_use_same, number_same}
@@ -18,10 +18,14 @@ use Rattle.gated_ring.specs.Ring.{place_of as entry_place, PointsInside, size_of
 use Rattle.gated_ring.proofs.Elsewhere.{points_elsewhere, newest_elsewhere}
 use Rattle.card_days.proofs.Elsewhere.{knows_elsewhere}
 use Rattle.card_days.specs.Held.{Knows}
-use Rattle.card_session.specs.Books.{Book}
+use Rattle.card_retention.specs.Shown.{is_open}
+use Rattle.activity_codec.specs.declared.entries.Entry.{Entry}
+use Rattle.card_session.specs.Books.{Book, mark_of}
 use Rattle.card_session.specs.Sessions.{Session, IsSession, IsOpenBook, newest_in, book_of}
 use Rattle.card_session.proofs.OnCard.{ring_shape}
-use Rattle.card_string.specs.Since.{GoesSince}
+use Rattle.hand_model.specs.Written.{Hands}
+use Rattle.card_by_hand.specs.First.{IsShutAt}
+use Rattle.card_string.specs.Since.{SitsSince}
 use Rattle.card_string.proofs.SameBook.{same_book}
 use Rattle.card_string.proofs.Since.{goes_still}
 use Rattle.device_calls.specs.CardNotes.{IsNote}
@@ -33,7 +37,8 @@ use Rattle.card_model.proofs.Elsewhere.{oldest_elsewhere, bad_elsewhere}
 use Rattle.card_session.specs.Cards.{ended, MayEnd}
 use Rattle.card_session.proofs.InsertingAgain.{ended_keeps}
 use Rattle.card_session.proofs.InsertingUse.{use_inside}
-use Rattle.card_session.proofs.Stopping.{ended_same}
+use Rattle.card_session.proofs.Marks.{mark_told}
+use Rattle.card_session.proofs.Stopping.{ended_same, book_days}
 
 -- the number lies behind
 module _ (app : Application) where
@@ -71,8 +76,14 @@ module _ (app : Application) (sound : IsApplication app) (x : List ℕ) (valid :
   pub note-number : card_number app c ≡ card_number app x
   note-number = number_same app x c leaves.sizes (note-identification app x c note)
 
-  pub note-goes : (image : List ℕ) → (more : _) → (next : ℕ) → GoesSince app image more next x → GoesSince app image more next c
-  note-goes image more next goes = goes_still app image x c note-book more next goes
+  pub note-sits : (image : List ℕ) (h : Hands) (has : List Entry) (next : ℕ) → SitsSince app image h has next x → SitsSince app image h has next c
+  note-sits image h has next s = record { written = s.written; has_all = s.has_all; lie = s.lie; goes = goes_still app image x c note-book s.written next s.goes }
+
+  -- no entry is open where none was
+  pub note-shut : IsShutAt app x → IsShutAt app c
+  note-shut shut =
+      ap (λ (m : ℕ). is_open m (card_days app c)) (mark_told app c ∙ ap (λ (b : Book). mark_of b) note-book ∙ sym (mark_told app x))
+      ∙ ap (λ (ds : List Day). is_open (end_mark app x) ds) (sym (book_days app c) ∙ ap (λ (b : Book). b.days) note-book ∙ book_days app x) ∙ shut
 
 -- ---- a card that would be valid, were its session ended
 

@@ -1,6 +1,7 @@
 -- A call on a card, by what it leaves of its images: what it has acknowledged, what was brought, its string.
-use Rattle.std.proofs.Common.{◌≡◌, ◌⊎◌, inl, inr, ⊎_elim, ℕ, suc, max, ◌≤◌, true, Option, Some, None, is_some, List, All, refl, ap, subst, ◌∙◌, sym, arith}
-use Rattle.std.proofs.lemmas.List.Elements.{All-weaker, All-nil}
+use Rattle.std.proofs.Common.{◌≡◌, ◌⊎◌, inl, inr, ⊎_elim, ℕ, suc, max, ◌/◌, ◌≤◌, true, Option, Some, None, is_some, List, [], ◌∷◌, All, Contains, refl, ap, subst, ◌∙◌, sym, arith}
+use Rattle.std.proofs.lemmas.List.Elements.{All-weaker, All-nil, All-cons, All-head, All-tail}
+use Rattle.activity_codec.specs.declared.entries.Manual.{Manual}
 use Rattle.trace_model.specs.declared.Card.{Card}
 use Rattle.tach_media.specs.Medium.{State, IsCoherent, LeavesOnly, Unchanged}
 use Rattle.tach_media.proofs.Runs.{weaken}
@@ -11,10 +12,17 @@ use Rattle.card_layout.specs.declared.files.Fid.{Fid}
 use Rattle.card_layout.specs.Application.{IsApplication}
 use Rattle.card_image.specs.View.{CardView}
 use Rattle.card_image.specs.Judging.{IsValid}
-use Rattle.card_image.specs.Fields.{card_number, file_bytes}
+use Rattle.card_retention.specs.Retains.{is_day}
+use Rattle.card_retention.specs.Shown.{sizes}
+use Rattle.card_image.specs.Fields.{card_days, card_number, file_bytes}
 use Rattle.card_image.specs.Own.{own_view, own_sizes, own_number, own_bad_file, IsOwnValid}
 use Rattle.card_string.specs.Since.{HoldsSince}
+use Rattle.card_string.proofs.Images.{holds_part, holds_sure}
 use Rattle.card_string.proofs.Kept.{holds_kept}
+use Rattle.hand_model.specs.AtStart.{HasDayOf}
+use Rattle.hand_model.specs.ByHand.{by_hand_in}
+use Rattle.hand_model.specs.Holding.{AreOfDay}
+use Rattle.hand_model.specs.Written.{Hands}
 use Rattle.history_model.specs.Book.{Book}
 use Rattle.device_rule.specs.Device.{LeavesViews}
 use Rattle.device_rule.specs.Rules.{Standing, In, since, CardDark}
@@ -25,7 +33,7 @@ use Rattle.unit_rule.specs.Unit.{marks_of}
 use Rattle.unit_rule.specs.Rule.{Started}
 use Rattle.unit_rule.specs.Marks.{UnitFollowsBook}
 use Rattle.run_promise.specs.Found.{CardFound, Found, found_of, unit_seen, AnyKept}
-use Rattle.run_promise.specs.Cards.{brought_by, IsCardHeld, CardMarksHold}
+use Rattle.run_promise.specs.Cards.{brought_by, IsCardHeld, CardMarksHold, FirstKeep, IsFirstHeld, HandMarksHold}
 use Rattle.run_devices.specs.Registered.{TellsOfTwo}
 use Rattle.run_devices.specs.Strung.{HasSameRest, CardHoldsString, HasSameHolder}
 use Rattle.run_promise.specs.Stays.{NoMarkFalls}
@@ -132,19 +140,21 @@ brought-card f c k b y z s due marks U V X Y whole tells h none before behind ri
 abbrev pub bound_of : CardFound → Standing → List ℕ → ℕ
 bound_of f z x = suc (max f.start.word (since z (own_view x).newest))
 
-module _ (f : CardFound) (c : Card) (b : Book) (sound : IsApplication (own_sizes f.image)) where
+module _ (f : CardFound) (hd : Hands) (c : Card) (b : Book) (sound : IsApplication (own_sizes f.image)) where
   abbrev Holds_at : Standing → List ℕ → Type 0
-  Holds_at z x = (own_sizes x ≡ own_sizes f.image) × HoldsSince (own_sizes f.image) f.image (brought_by c f.start b) (bound_of f z x) x
+  Holds_at z x = (own_sizes x ≡ own_sizes f.image) × HoldsSince (own_sizes f.image) f.image hd (brought_by c f.start b) (bound_of f z x) x
 
   pub held-on : (y z : Standing) (R : List ℕ → List ℕ → Type 0) (X Y : State) → f.began ≤ X.clock → LeavesOnly X Y R → ((x : List ℕ) → X.may_leave x → Holds_at y x → Holds_at z x) → ((x n : List ℕ) → X.image ≡ Some x → R x n → Holds_at y x → Holds_at z n)
       → ((x n : List ℕ) → X.image ≡ Some x → R x n → HasSameHolder x n)
       → ((x n : List ℕ) → X.image ≡ Some x → R x n → own_sizes x ≡ own_sizes f.image → TellsOfTwo (own_sizes f.image) f.vehicle f.image x → TellsOfTwo (own_sizes f.image) f.vehicle f.image n)
-      → IsCoherent X → CardHoldsString f c b y X → CardHoldsString f c b z Y
+      → IsCoherent X → CardHoldsString f hd c b y X → CardHoldsString f hd c b z Y
   held-on y z R X Y began run still made same names whole h = record {
     tells = run.tells ∙ h.tells;
     now = λ n there. ⊎_elim (λ was. still n was (h.now n was)) (λ one. made one.0 n one.1 one.2 (h.now one.0 (whole.is_left one.0 one.1))) (run.now n there);
     since = λ n left. ⊎_elim (h.since n)
-        (λ one. let is = made one.0 n one.1 one.2 (h.now one.0 (whole.is_left one.0 one.1)) in (is.0, holds_kept (own_sizes f.image) sound f.image n refl is.0 (brought_by c f.start b) (bound_of f z n) is.1)) (run.since f.began n began left);
+        (λ one. let is = made one.0 n one.1 one.2 (h.now one.0 (whole.is_left one.0 one.1)) in (is.0, holds_kept (own_sizes f.image) sound f.image n refl is.0 hd (brought_by c f.start b) (bound_of f z n) is.1)) (run.since f.began n began left);
+    told = λ n left. ⊎_elim (h.told n)
+        (λ one. holds_part (own_sizes f.image) f.image hd (brought_by c f.start b) (bound_of f z n) n (made one.0 n one.1 one.2 (h.now one.0 (whole.is_left one.0 one.1))).1) (run.since f.began n began left);
     number = λ n there. ⊎_elim (h.number n) (λ one. (same one.0 n one.1 one.2).number ∙ h.number one.0 (whole.is_left one.0 one.1)) (run.now n there);
     still = λ n left. ⊎_elim (h.still n) (λ one. then-holder f.image one.0 n (h.still one.0 (whole.counts_now f.began one.0 began (whole.is_left one.0 one.1))) (same one.0 n one.1 one.2)) (run.since f.began n began left);
     registered = λ n left. ⊎_elim (h.registered n)
@@ -152,12 +162,43 @@ module _ (f : CardFound) (c : Card) (b : Book) (sound : IsApplication (own_sizes
         (run.since f.began n began left);
   }
 
+  -- a session's first keep that was acknowledged: each image since its mark that has its day tells its entries by hand
+  pub hands-on : (firsts : List FirstKeep) (y z : Standing) (R : List ℕ → List ℕ → Type 0) (X Y : State) → LeavesOnly X Y R → ((x n : List ℕ) → X.image ≡ Some x → R x n → Holds_at y x → Holds_at z n) → IsCoherent X → CardHoldsString f hd c b y X → HandMarksHold f hd firsts X
+      → HandMarksHold f hd firsts Y
+  hands-on firsts y z R X Y run made whole h marks = All-weaker (IsFirstHeld f hd X) (IsFirstHeld f hd Y) (λ k one. record {
+    clock = omega (arith, one.clock, run.later);
+    day = one.day;
+    sure = one.sure;
+    told = λ n left day. ⊎_elim
+        (λ was. one.told n was day)
+        (λ new. told-sure k.hands k.mark.minute n one.day one.sure (made new.0 n new.1 new.2 (h.now new.0 (whole.is_left new.0 new.1))) day)
+        (run.since k.mark.clock n one.clock left);
+  }) firsts marks
+    where
+      same-day : (m n : ℕ) (x : List ℕ) → n / 1440 ≡ m / 1440 → HasDayOf m (own_sizes f.image) x → HasDayOf n (own_sizes f.image) x
+      same-day m n x is has = subst (λ (k : ℕ). is_day k (sizes (card_days (own_sizes f.image) x)) ≡ true) (sym is) has
+
+      told-sure : (es : List Manual) (m : ℕ) (n : List ℕ) → AreOfDay (m / 1440) es → All (λ e. Contains hd.sure e) es → Holds_at z n → HasDayOf m (own_sizes f.image) n → All (λ e. Contains (by_hand_in (own_sizes f.image) n) e) es
+      told-sure [] m n days sure holds day = All-nil (λ (e : Manual). Contains (by_hand_in (own_sizes f.image) n) e)
+      told-sure (e ∷ es) m n days sure holds day = All-cons (λ (e : Manual). Contains (by_hand_in (own_sizes f.image) n) e) e es
+          (holds_sure (own_sizes f.image) f.image hd (brought_by c f.start b) (bound_of f z n) n e holds.1 (All-head (λ (d : Manual). Contains hd.sure d) e es sure) (same-day m e.minute n days.0 day))
+          (told-sure es m n days.1 (All-tail (λ (d : Manual). Contains hd.sure d) e es sure) holds day)
+
 -- a card that was only read
-pub held-read : (f : CardFound) (c : Card) (b : Book) (z : Standing) (X Y : State) → f.began ≤ X.clock → LeavesOnly X Y Unchanged → CardHoldsString f c b z X → CardHoldsString f c b z Y
-held-read f c b z X Y began run h = record {
+pub hands-read : (f : CardFound) (hd : Hands) (firsts : List FirstKeep) (X Y : State) → LeavesOnly X Y Unchanged → HandMarksHold f hd firsts X → HandMarksHold f hd firsts Y
+hands-read f hd firsts X Y run marks = All-weaker (IsFirstHeld f hd X) (IsFirstHeld f hd Y) (λ k one. record {
+  clock = omega (arith, one.clock, run.later);
+  day = one.day;
+  sure = one.sure;
+  told = λ n left day. ⊎_elim (λ was. one.told n was day) (λ new. absurd new.2) (run.since k.mark.clock n one.clock left);
+}) firsts marks
+
+pub held-read : (f : CardFound) (hd : Hands) (c : Card) (b : Book) (z : Standing) (X Y : State) → f.began ≤ X.clock → LeavesOnly X Y Unchanged → CardHoldsString f hd c b z X → CardHoldsString f hd c b z Y
+held-read f hd c b z X Y began run h = record {
   tells = run.tells ∙ h.tells;
   now = λ n there. ⊎_elim (h.now n) (λ one. absurd one.2) (run.now n there);
   since = λ n left. ⊎_elim (h.since n) (λ one. absurd one.2) (run.since f.began n began left);
+  told = λ n left. ⊎_elim (h.told n) (λ one. absurd one.2) (run.since f.began n began left);
   number = λ n there. ⊎_elim (h.number n) (λ one. absurd one.2) (run.now n there);
   still = λ n left. ⊎_elim (h.still n) (λ one. absurd one.2) (run.since f.began n began left);
   registered = λ n left. ⊎_elim (h.registered n) (λ one. absurd one.2) (run.since f.began n began left);

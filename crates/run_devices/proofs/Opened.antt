@@ -15,6 +15,9 @@ use Rattle.card_image.specs.View.{CardView, card_view}
 use Rattle.card_image.specs.Own.{own_view, own_sizes, own_number, IsOwnValid}
 use Rattle.card_session.specs.Inserting.{Follow}
 use Rattle.card_session.specs.Repairs.{first_minute}
+use Rattle.hand_model.specs.AtStart.{hands_at}
+use Rattle.hand_model.specs.ByHand.{by_hand_in}
+use Rattle.hand_model.specs.Written.{IsPartOf, no_hands}
 use Rattle.card_string.specs.Since.{HoldsSince}
 use Rattle.card_string.specs.Each.{KeepsSince}
 use Rattle.card_string.proofs.Kept.{holds_kept}
@@ -33,6 +36,7 @@ use Rattle.run_promise.specs.Found.{Found, found_of}
 use Rattle.run_promise.specs.Cards.{brought_by}
 use Rattle.run_promise.specs.Between.{LedgerStands}
 use Rattle.run_promise.specs.Opening.{BeginsAs, IsLookedAt, carried_first}
+use Rattle.run_promise.proofs.Opening.{own-told}
 use Rattle.run_promise.proofs.OwedRises.{owed-rises}
 use Rattle.run_devices.specs.Registered.{TellsOfTwo}
 use Rattle.run_devices.proofs.Registered.{registered-first}
@@ -77,13 +81,13 @@ module _ (f : Found) (c : Card) (u x : List ℕ) (card : State) (whole : IsCoher
   word : (found_of f c).start.word ≡ beyond (own_view x)
   word = ap (λ (s : CardStart). s.word) looked.start
 
-  starts : HoldsSince (own_sizes x) x (owed c view (own_view x)) (bound_of (found_of f c) Out x) x
+  starts : HoldsSince (own_sizes x) x no_hands (owed c view (own_view x)) (bound_of (found_of f c) Out x) x
   starts = by (session_time (own_sizes x) x) refl
     where
       session : (own_view x).session ≡ session_time (own_sizes x) x
       session = ap (λ (v : CardView). v.session) (own-is (own_sizes x) x refl) ∙ session-is (own_sizes x) x
 
-      by : (n : ℕ) → session_time (own_sizes x) x ≡ n → HoldsSince (own_sizes x) x (owed c view (own_view x)) (bound_of (found_of f c) Out x) x
+      by : (n : ℕ) → session_time (own_sizes x) x ≡ n → HoldsSince (own_sizes x) x no_hands (owed c view (own_view x)) (bound_of (found_of f c) Out x) x
       by zero none =
           let shut : (own_view x).session ≡ 0 = session ∙ none in
           starts_shut x (owed c view (own_view x)) (bound_of (found_of f c) Out x) follows looked.days (own-valid (own_sizes x) x refl valid) none
@@ -101,29 +105,31 @@ module _ (f : Found) (c : Card) (u x : List ℕ) (card : State) (whole : IsCoher
   only-now y there = begins.only y (whole.counts_now card.clock y (omega arith) there)
 
   -- with the words of a run
-  found-starts : HoldsSince (own_sizes (found_of f c).image) (found_of f c).image (brought_by c (found_of f c).start not_begun) (bound_of (found_of f c) Out x) x
+  found-starts : HoldsSince (own_sizes (found_of f c).image) (found_of f c).image no_hands (brought_by c (found_of f c).start not_begun) (bound_of (found_of f c) Out x) x
   found-starts =
-      subst (λ (i : List ℕ). HoldsSince (own_sizes i) i (brought_by c (found_of f c).start not_begun) (bound_of (found_of f c) Out x) x) (sym looked.image)
-      (subst (λ (es : List Entry). HoldsSince (own_sizes x) x es (bound_of (found_of f c) Out x) x) (sym said) starts)
+      subst (λ (i : List ℕ). HoldsSince (own_sizes i) i no_hands (brought_by c (found_of f c).start not_begun) (bound_of (found_of f c) Out x) x) (sym looked.image)
+      (subst (λ (es : List Entry). HoldsSince (own_sizes x) x no_hands es (bound_of (found_of f c) Out x) x) (sym said) starts)
 
   same-sizes : own_sizes x ≡ own_sizes (found_of f c).image
   same-sizes = ap own_sizes (sym looked.image)
 
-  pub opened-held : CardHoldsString (found_of f c) c not_begun Out card
+  pub opened-held : CardHoldsString (found_of f c) no_hands c not_begun Out card
   opened-held = record {
     tells = ap is_some begins.tells;
-    now = λ y there. subst (λ (k : List ℕ). (own_sizes k ≡ own_sizes (found_of f c).image) × HoldsSince (own_sizes (found_of f c).image) (found_of f c).image (brought_by c (found_of f c).start not_begun) (bound_of (found_of f c) Out k) k) (sym (only-now y there))
+    now = λ y there. subst (λ (k : List ℕ). (own_sizes k ≡ own_sizes (found_of f c).image) × HoldsSince (own_sizes (found_of f c).image) (found_of f c).image no_hands (brought_by c (found_of f c).start not_begun) (bound_of (found_of f c) Out k) k) (sym (only-now y there))
         (same-sizes, found-starts);
-    since = λ y left. subst (λ (k : List ℕ). (own_sizes k ≡ own_sizes (found_of f c).image) × KeepsSince (found_of f c).image (brought_by c (found_of f c).start not_begun) k) (sym (only y left))
-        (same-sizes, holds_kept (own_sizes (found_of f c).image) (subst (λ (i : List ℕ). IsApplication (own_sizes i)) (sym looked.image) sound) (found_of f c).image x refl same-sizes (brought_by c (found_of f c).start not_begun) (bound_of (found_of f c) Out x) found-starts);
+    since = λ y left. subst (λ (k : List ℕ). (own_sizes k ≡ own_sizes (found_of f c).image) × KeepsSince (found_of f c).image [] (brought_by c (found_of f c).start not_begun) k) (sym (only y left))
+        (same-sizes, holds_kept (own_sizes (found_of f c).image) (subst (λ (i : List ℕ). IsApplication (own_sizes i)) (sym looked.image) sound) (found_of f c).image x refl same-sizes no_hands (brought_by c (found_of f c).start not_begun) (bound_of (found_of f c) Out x) found-starts);
+    told = λ y left. subst (λ (k : List ℕ). IsPartOf (by_hand_in (own_sizes (found_of f c).image) k) (hands_at (found_of f c).image ++ [])) (sym (only y left))
+        (subst (λ (i : List ℕ). IsPartOf (by_hand_in (own_sizes i) x) (hands_at i ++ [])) (sym looked.image) (own-told x));
     number = λ y there. ap own_number (only-now y there) ∙ sym number;
     still = λ y left. subst (HasSameHolder (found_of f c).image) (looked.image ∙ sym (only y left)) (same-holder (found_of f c).image);
     registered = λ y left. subst (TellsOfTwo (own_sizes (found_of f c).image) (found_of f c).vehicle (found_of f c).image) (looked.image ∙ sym (only y left)) (record { entries = registered-first (own_sizes (found_of f c).image) (found_of f c).vehicle (found_of f c).image; session = first-used (own_sizes (found_of f c).image) (found_of f c).vehicle (found_of f c).image });
   }
 
-  pub opened-wait : CardHoldsStringUnpowered (found_of f c) c not_begun Out card
-  opened-wait = held-dark (found_of f c) c not_begun Out card refl opened-held
+  pub opened-wait : CardHoldsStringUnpowered (found_of f c) no_hands c not_begun Out card
+  opened-wait = held-dark (found_of f c) no_hands c not_begun Out card refl opened-held
 
 -- so all that the opening found is carried, before there is power
-pub opened-powerless : (f : Found) (due : ℕ) (d : Devices) → LedgerStands f (carried_first due) d → ((c : Card) → IsOwnValid (found_of f c).image → CardHoldsStringUnpowered (found_of f c) c not_begun Out (card_of d c)) → DevicesUnpowered f (carried_first due) d
+pub opened-powerless : (f : Found) (due : ℕ) (d : Devices) → LedgerStands f (carried_first due) d → ((c : Card) → IsOwnValid (found_of f c).image → CardHoldsStringUnpowered (found_of f c) no_hands c not_begun Out (card_of d c)) → DevicesUnpowered f (carried_first due) d
 opened-powerless f due d carried wait = record { carried = carried; wait = wait }

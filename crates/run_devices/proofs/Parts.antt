@@ -13,6 +13,7 @@ use Rattle.card_string.specs.Since.{HoldsSince}
 use Rattle.card_string.specs.Each.{KeepsSince}
 use Rattle.history_model.specs.Minutes.{HistoryMinute, card_history}
 use Rattle.history_model.specs.Presence.{CardStart}
+use Rattle.hand_model.specs.Written.{Hands}
 use Rattle.history_model.specs.Book.{Book}
 use Rattle.history_model.proofs.Books.{history-none}
 use Rattle.device_rule.specs.Views.{UnitView, other}
@@ -27,7 +28,7 @@ use Rattle.run_crew.specs.declared.cards.Cards.{Cards}
 use Rattle.run_crew.specs.Cards.{session_of}
 use Rattle.unit_rule.proofs.Marking.{holds-dark}
 use Rattle.run_promise.specs.Found.{CardFound, Found, found_of, unit_seen, AnyKept}
-use Rattle.run_promise.specs.Cards.{brought_by, CardMarksHold, IsStrung}
+use Rattle.run_promise.specs.Cards.{brought_by, FirstKeep, HandMarksHold, CardMarksHold, IsStrung}
 use Rattle.run_promise.specs.Between.{RunLedger, LedgerStandsPowered, LedgerStands, devices}
 use Rattle.run_devices.specs.Strung.{CardHoldsString, EachIsStrung}
 use Rattle.run_devices.proofs.Strung.{strung}
@@ -79,11 +80,12 @@ left-one s whole tells = let one = told-one s.image tells in (one.0, whole.is_le
 -- ---- THE STRING
 
 -- by the entries alone
-pub held-same : (f : CardFound) (c : Card) (b d : Book) (z : Standing) (X : State) → brought_by c f.start b ≡ brought_by c f.start d → CardHoldsString f c b z X → CardHoldsString f c d z X
-held-same f c b d z X same h = record {
+pub held-same : (f : CardFound) (hd : Hands) (c : Card) (b d : Book) (z : Standing) (X : State) → brought_by c f.start b ≡ brought_by c f.start d → CardHoldsString f hd c b z X → CardHoldsString f hd c d z X
+held-same f hd c b d z X same h = record {
   tells = h.tells;
-  now = λ x there. subst (λ (es : List Entry). (own_sizes x ≡ own_sizes f.image) × HoldsSince (own_sizes f.image) f.image es (suc (max f.start.word (since z (own_view x).newest))) x) same (h.now x there);
-  since = λ x left. subst (λ (es : List Entry). (own_sizes x ≡ own_sizes f.image) × KeepsSince f.image es x) same (h.since x left);
+  now = λ x there. subst (λ (es : List Entry). (own_sizes x ≡ own_sizes f.image) × HoldsSince (own_sizes f.image) f.image hd es (suc (max f.start.word (since z (own_view x).newest))) x) same (h.now x there);
+  since = λ x left. subst (λ (es : List Entry). (own_sizes x ≡ own_sizes f.image) × KeepsSince f.image hd.given es x) same (h.since x left);
+  told = h.told;
   number = h.number;
   still = h.still;
   registered = h.registered;
@@ -96,14 +98,14 @@ sure-same c start b none = ap (λ (o : Option HistoryMinute). start.owed ++ card
 none-comes : (P : Entry → Type 0) (c : Card) (b : Book) → b.maybe ≡ None → All P (card_history c (option_to_list b.maybe))
 none-comes P c b none = subst (All P) (sym (ap (λ (o : Option HistoryMinute). card_history c (option_to_list o)) none ∙ history-none c)) (All-nil P)
 
-pub held-dark : (f : CardFound) (c : Card) (b : Book) (z : Standing) (X : State) → b.maybe ≡ None → CardHoldsString f c b z X → CardHoldsStringUnpowered f c b z X
-held-dark f c b z X none h = record {
-  held = held-same f c b (sure_of b) z X (sure-same c f.start b none) h;
+pub held-dark : (f : CardFound) (hd : Hands) (c : Card) (b : Book) (z : Standing) (X : State) → b.maybe ≡ None → CardHoldsString f hd c b z X → CardHoldsStringUnpowered f hd c b z X
+held-dark f hd c b z X none h = record {
+  held = held-same f hd c b (sure_of b) z X (sure-same c f.start b none) h;
   comes = λ x there. none-comes (λ (e : Entry). suc (max f.start.word (since z (own_view x).newest)) ≤ e.minute) c b none;
 }
 
-pub held-lit : (f : CardFound) (c : Card) (b : Book) (z : Standing) (X : State) → b.maybe ≡ None → CardHoldsStringUnpowered f c b z X → CardHoldsString f c b z X
-held-lit f c b z X none h = held-same f c (sure_of b) b z X (sym (sure-same c f.start b none)) h.held
+pub held-lit : (f : CardFound) (hd : Hands) (c : Card) (b : Book) (z : Standing) (X : State) → b.maybe ≡ None → CardHoldsStringUnpowered f hd c b z X → CardHoldsString f hd c b z X
+held-lit f hd c b z X none h = held-same f hd c (sure_of b) b z X (sym (sure-same c f.start b none)) h.held
 
 -- ---- ALL THAT IS CARRIED, from its parts
 
@@ -112,8 +114,8 @@ module _ (f : Found) (w : RunLedger) (cards : Cards) (d : Devices) (found : AreF
   sure-here s due b marks U h u on = ((h.unit_holds f.card_a.number f.card_b.number).now u on).sure
 
   module _ (none : w.book.maybe ≡ None) (unit : UnitFollowsBook f.unit w.due w.book w.marks d.unit) where
-    pub strung-of : (c : Card) (z : Standing) (X : State) → IsOwnValid (found_of f c).image → CardHoldsString (found_of f c) c w.book z X → ((x : List ℕ) → X.left_since (found_of f c).began x → IsOwnValid x) → Rise (brought_by c (found_of f c).start w.book)
-        → CardDark c (found_of f c).start AnyKept (found_of f c).began w.book z (unit_seen f d.unit) (of_card X) → EachIsStrung f c w.book z d.unit X
+    pub strung-of : (c : Card) (z : Standing) (X : State) → IsOwnValid (found_of f c).image → CardHoldsString (found_of f c) (w.hands c) c w.book z X → ((x : List ℕ) → X.left_since (found_of f c).began x → IsOwnValid x) → Rise (brought_by c (found_of f c).start w.book)
+        → CardDark c (found_of f c).start AnyKept (found_of f c).began w.book z (unit_seen f d.unit) (of_card X) → EachIsStrung f (w.hands c) c w.book z d.unit X
     strung-of c z X valid held each rises rests = record {
       sizes = found.sizes c valid;
       entries = found.entries c valid;
@@ -126,9 +128,9 @@ module _ (f : Found) (w : RunLedger) (cards : Cards) (d : Devices) (found : AreF
     }
 
   -- whatever is put or owed
-  pub strung-with : (puts owes : Card → List Entry) → IsLitWith f w puts owes d → (c : Card) → IsOwnValid (found_of f c).image → CardHoldsString (found_of f c) c w.book (w.standing c) (card_of d c) → IsStrung f c w.book (w.standing c) d.unit (card_of d c)
+  pub strung-with : (puts owes : Card → List Entry) → IsLitWith f w puts owes d → (c : Card) → IsOwnValid (found_of f c).image → CardHoldsString (found_of f c) (w.hands c) c w.book (w.standing c) (card_of d c) → IsStrung f (w.hands c) c w.book (w.standing c) d.unit (card_of d c)
   strung-with puts owes lit c valid held =
-      strung f c w.book (w.standing c) d.unit (card_of d c) (strung-of lit.none (holds-dark f.unit w.due w.book w.marks d.unit lit.unit) c (w.standing c) (card_of d c) valid held (lit.valid c valid) (lit.rises c valid) (lit.rules c valid).dark)
+      strung f (w.hands c) c w.book (w.standing c) d.unit (card_of d c) (strung-of lit.none (holds-dark f.unit w.due w.book w.marks d.unit lit.unit) c (w.standing c) (card_of d c) valid held (lit.valid c valid) (lit.rises c valid) (lit.rules c valid).dark)
 
   -- while nothing is put and nothing owed
   pub lit-of : IsLitOwing f w owes_nothing d → AllGo f w owes_nothing cards d → LedgerStandsPowered f w d
@@ -141,6 +143,7 @@ module _ (f : Found) (w : RunLedger) (cards : Cards) (d : Devices) (found : AreF
         let s = strung-with owes_nothing owes_nothing lit c valid (go.held c valid) in
         record { holds = lit.rules c valid; string = s.string; comes = s.comes; brought = lit.brought c valid };
     marks = lit.marks;
+    hands = lit.hands;
   }
 
   -- whatever is put or owed
@@ -152,10 +155,11 @@ module _ (f : Found) (w : RunLedger) (cards : Cards) (d : Devices) (found : AreF
         let s = strung-with puts owes lit c valid (go.held c valid) in
         record { rests = (lit.rules c valid).dark; string = s.string; comes = s.comes; brought = lit.brought c valid };
     marks = lit.marks;
+    hands = lit.hands;
   }
 
   pub wait-of : (owes : Card → List Entry) → w.book.maybe ≡ None → AllGo f w owes cards d → AllWait f w d
-  wait-of owes none go = λ c valid. held-dark (found_of f c) c w.book (w.standing c) (card_of d c) none (go.held c valid)
+  wait-of owes none go = λ c valid. held-dark (found_of f c) (w.hands c) c w.book (w.standing c) (card_of d c) none (go.held c valid)
 
 pub owing-of : (f : Found) (w : RunLedger) (d : Devices) → LedgerStandsPowered f w d → IsLitOwing f w owes_nothing d
 owing-of f w d lit = record {
@@ -168,6 +172,7 @@ owing-of f w d lit = record {
   rises = λ c valid. (lit.cards c valid).string.rises;
   brought = λ c valid. (lit.cards c valid).brought;
   marks = lit.marks;
+  hands = lit.hands;
 }
 
 -- POWER IS LOST: nothing of what is carried is
@@ -187,24 +192,26 @@ pub record UnitLit (f : Found) (w : RunLedger) (U : State) : Type 0 where
   pub none : w.book.maybe ≡ None
 
 -- of a card that was valid, as it stands and with what was brought, while the unit has power and nothing is owed
-pub record CardLit (f : Found) (b : Book) (z : Standing) (ks : List ℕ) (session : Option Accepted) (c : Card) (U X : State) : Type 0 where
+pub record CardLit (f : Found) (b : Book) (z : Standing) (hd : Hands) (firsts : List FirstKeep) (ks : List ℕ) (session : Option Accepted) (c : Card) (U X : State) : Type 0 where
   pub rule : CardRule c (found_of f c).start AnyKept (found_of f c).began b z [] [] (unit_seen f U) (of_card X)
   pub valid : (x : List ℕ) → X.left_since (found_of f c).began x → IsOwnValid x
   pub rises : Rise (brought_by c (found_of f c).start b)
   pub brought : (k : ℕ) → Contains ks k → HasBrought f.card_a.number f.card_b.number c k U X
-  pub held : CardHoldsString (found_of f c) c b z X
-  pub goes : GoesOwing (found_of f c) c b [] z session X
+  pub held : CardHoldsString (found_of f c) hd c b z X
+  pub hands : HandMarksHold (found_of f c) hd firsts X
+  pub goes : GoesOwing (found_of f c) hd c b [] z session X
 
 -- and where it has none
-pub record CardOff (f : Found) (b : Book) (z : Standing) (ks : List ℕ) (c : Card) (U X : State) : Type 0 where
+pub record CardOff (f : Found) (b : Book) (z : Standing) (hd : Hands) (firsts : List FirstKeep) (ks : List ℕ) (c : Card) (U X : State) : Type 0 where
   pub rests : CardDark c (found_of f c).start AnyKept (found_of f c).began b z (unit_seen f U) (of_card X)
   pub valid : (x : List ℕ) → X.left_since (found_of f c).began x → IsOwnValid x
   pub rises : Rise (brought_by c (found_of f c).start b)
   pub brought : (k : ℕ) → Contains ks k → HasBrought f.card_a.number f.card_b.number c k U X
-  pub held : CardHoldsString (found_of f c) c b z X
+  pub held : CardHoldsString (found_of f c) hd c b z X
+  pub hands : HandMarksHold (found_of f c) hd firsts X
 
-pub off-of : (f : Found) (b : Book) (z : Standing) (ks : List ℕ) (session : Option Accepted) (c : Card) (U X : State) → CardLit f b z ks session c U X → CardOff f b z ks c U X
-off-of f b z ks session c U X one = record { rests = one.rule.dark; valid = one.valid; rises = one.rises; brought = one.brought; held = one.held }
+pub off-of : (f : Found) (b : Book) (z : Standing) (hd : Hands) (firsts : List FirstKeep) (ks : List ℕ) (session : Option Accepted) (c : Card) (U X : State) → CardLit f b z hd firsts ks session c U X → CardOff f b z hd firsts ks c U X
+off-of f b z hd firsts ks session c U X one = record { rests = one.rule.dark; valid = one.valid; rises = one.rises; brought = one.brought; held = one.held; hands = one.hands }
 
 abbrev pub MarksLit : (f : Found) (w : RunLedger) (c : Card) (X : State) → Type 0
 MarksLit f w c X = CardMarksHold (found_of f c) c w.book w.marks X
@@ -212,8 +219,8 @@ MarksLit f w c X = CardMarksHold (found_of f c) c w.book w.marks X
 -- all of it, by the card that a call is about
 pub record AreParts (f : Found) (w : RunLedger) (cards : Cards) (c : Card) (U X Y : State) : Type 0 where
   pub unit : UnitLit f w U
-  pub mine : IsOwnValid (found_of f c).image → CardLit f w.book (w.standing c) (w.brought c) (session_of cards c) c U X
-  pub others : IsOwnValid (found_of f (other c)).image → CardLit f w.book (w.standing (other c)) (w.brought (other c)) (session_of cards (other c)) (other c) U Y
+  pub mine : IsOwnValid (found_of f c).image → CardLit f w.book (w.standing c) (w.hands c) (w.firsts c) (w.brought c) (session_of cards c) c U X
+  pub others : IsOwnValid (found_of f (other c)).image → CardLit f w.book (w.standing (other c)) (w.hands (other c)) (w.firsts (other c)) (w.brought (other c)) (session_of cards (other c)) (other c) U Y
   pub marks_mine : MarksLit f w c X
   pub marks_others : MarksLit f w (other c) Y
 
@@ -221,18 +228,19 @@ pub record AreOff (f : Found) (w : RunLedger) (c : Card) (U X Y : State) : Type 
   pub tells : is_some U.image ≡ true
   pub unit : UnitFollowsBook f.unit w.due w.book w.marks U
   pub none : w.book.maybe ≡ None
-  pub mine : IsOwnValid (found_of f c).image → CardOff f w.book (w.standing c) (w.brought c) c U X
-  pub others : IsOwnValid (found_of f (other c)).image → CardOff f w.book (w.standing (other c)) (w.brought (other c)) (other c) U Y
+  pub mine : IsOwnValid (found_of f c).image → CardOff f w.book (w.standing c) (w.hands c) (w.firsts c) (w.brought c) c U X
+  pub others : IsOwnValid (found_of f (other c)).image → CardOff f w.book (w.standing (other c)) (w.hands (other c)) (w.firsts (other c)) (w.brought (other c)) (other c) U Y
   pub marks_mine : MarksLit f w c X
   pub marks_others : MarksLit f w (other c) Y
 
-one-lit : (f : Found) (w : RunLedger) (cards : Cards) (d : Devices) → DevicesPowered f w cards d → (c : Card) → IsOwnValid (found_of f c).image → CardLit f w.book (w.standing c) (w.brought c) (session_of cards c) c d.unit (card_of d c)
+one-lit : (f : Found) (w : RunLedger) (cards : Cards) (d : Devices) → DevicesPowered f w cards d → (c : Card) → IsOwnValid (found_of f c).image → CardLit f w.book (w.standing c) (w.hands c) (w.firsts c) (w.brought c) (session_of cards c) c d.unit (card_of d c)
 one-lit f w cards d p c valid = record {
   rule = (p.lit.cards c valid).holds;
   valid = (p.lit.cards c valid).string.valid;
   rises = (p.lit.cards c valid).string.rises;
   brought = (p.lit.cards c valid).brought;
   held = p.go.held c valid;
+  hands = p.lit.hands c valid;
   goes = p.go.goes c valid;
 }
 
@@ -255,7 +263,7 @@ parts-of f w cards B U X Y p = record {
   marks_others = p.lit.marks A;
 }
 
-whole-lit : (f : Found) (w : RunLedger) (cards : Cards) (d : Devices) → AreFoundCards f cards → UnitLit f w d.unit → ((c : Card) → IsOwnValid (found_of f c).image → CardLit f w.book (w.standing c) (w.brought c) (session_of cards c) c d.unit (card_of d c)) → ((c : Card) → MarksLit f w c (card_of d c)) → DevicesPowered f w cards d
+whole-lit : (f : Found) (w : RunLedger) (cards : Cards) (d : Devices) → AreFoundCards f cards → UnitLit f w d.unit → ((c : Card) → IsOwnValid (found_of f c).image → CardLit f w.book (w.standing c) (w.hands c) (w.firsts c) (w.brought c) (session_of cards c) c d.unit (card_of d c)) → ((c : Card) → MarksLit f w c (card_of d c)) → DevicesPowered f w cards d
 whole-lit f w cards d found unit one marks =
     let go : AllGo f w owes_nothing cards d = record { held = λ c valid. (one c valid).held; goes = λ c valid. (one c valid).goes } in
     record {
@@ -269,6 +277,7 @@ whole-lit f w cards d found unit one marks =
         rises = λ c valid. (one c valid).rises;
         brought = λ c valid. (one c valid).brought;
         marks = marks;
+        hands = λ c valid. (one c valid).hands;
       }) go;
       go = go;
     }
@@ -276,7 +285,7 @@ whole-lit f w cards d found unit one marks =
 pub powered-of : (f : Found) (w : RunLedger) (cards : Cards) (c : Card) (U X Y : State) → AreFoundCards f cards → AreParts f w cards c U X Y → DevicesPowered f w cards (arranged c U X Y)
 powered-of f w cards A U X Y found p = whole-lit f w cards (devices U X Y) found p.unit one marks
   where
-    one : (c : Card) → IsOwnValid (found_of f c).image → CardLit f w.book (w.standing c) (w.brought c) (session_of cards c) c U (card_of (devices U X Y) c)
+    one : (c : Card) → IsOwnValid (found_of f c).image → CardLit f w.book (w.standing c) (w.hands c) (w.firsts c) (w.brought c) (session_of cards c) c U (card_of (devices U X Y) c)
     one A = p.mine
     one B = p.others
 
@@ -285,7 +294,7 @@ powered-of f w cards A U X Y found p = whole-lit f w cards (devices U X Y) found
     marks B = p.marks_others
 powered-of f w cards B U X Y found p = whole-lit f w cards (devices U Y X) found p.unit one marks
   where
-    one : (c : Card) → IsOwnValid (found_of f c).image → CardLit f w.book (w.standing c) (w.brought c) (session_of cards c) c U (card_of (devices U Y X) c)
+    one : (c : Card) → IsOwnValid (found_of f c).image → CardLit f w.book (w.standing c) (w.hands c) (w.firsts c) (w.brought c) (session_of cards c) c U (card_of (devices U Y X) c)
     one A = p.others
     one B = p.mine
 
@@ -293,7 +302,7 @@ powered-of f w cards B U X Y found p = whole-lit f w cards (devices U Y X) found
     marks A = p.marks_others
     marks B = p.marks_mine
 
-whole-off : (f : Found) (w : RunLedger) (cards : Cards) (d : Devices) → AreFoundCards f cards → is_some d.unit.image ≡ true → UnitFollowsBook f.unit w.due w.book w.marks d.unit → w.book.maybe ≡ None → ((c : Card) → IsOwnValid (found_of f c).image → CardOff f w.book (w.standing c) (w.brought c) c d.unit (card_of d c))
+whole-off : (f : Found) (w : RunLedger) (cards : Cards) (d : Devices) → AreFoundCards f cards → is_some d.unit.image ≡ true → UnitFollowsBook f.unit w.due w.book w.marks d.unit → w.book.maybe ≡ None → ((c : Card) → IsOwnValid (found_of f c).image → CardOff f w.book (w.standing c) (w.hands c) (w.firsts c) (w.brought c) c d.unit (card_of d c))
     → ((c : Card) → MarksLit f w c (card_of d c)) → DevicesUnpowered f w d
 whole-off f w cards d found tells unit none one marks = record {
   carried = record {
@@ -301,17 +310,18 @@ whole-off f w cards d found tells unit none one marks = record {
     unit = unit;
     cards = λ c valid.
         let o = one c valid in
-        let s = strung f c w.book (w.standing c) d.unit (card_of d c) (strung-of f w cards d found none unit c (w.standing c) (card_of d c) valid o.held o.valid o.rises o.rests) in
+        let s = strung f (w.hands c) c w.book (w.standing c) d.unit (card_of d c) (strung-of f w cards d found none unit c (w.standing c) (card_of d c) valid o.held o.valid o.rises o.rests) in
         record { rests = o.rests; string = s.string; comes = s.comes; brought = o.brought };
     marks = marks;
+    hands = λ c valid. (one c valid).hands;
   };
-  wait = λ c valid. held-dark (found_of f c) c w.book (w.standing c) (card_of d c) none (one c valid).held;
+  wait = λ c valid. held-dark (found_of f c) (w.hands c) c w.book (w.standing c) (card_of d c) none (one c valid).held;
 }
 
 pub powerless-of : (f : Found) (w : RunLedger) (cards : Cards) (c : Card) (U X Y : State) → AreFoundCards f cards → AreOff f w c U X Y → DevicesUnpowered f w (arranged c U X Y)
 powerless-of f w cards A U X Y found p = whole-off f w cards (devices U X Y) found p.tells p.unit p.none one marks
   where
-    one : (c : Card) → IsOwnValid (found_of f c).image → CardOff f w.book (w.standing c) (w.brought c) c U (card_of (devices U X Y) c)
+    one : (c : Card) → IsOwnValid (found_of f c).image → CardOff f w.book (w.standing c) (w.hands c) (w.firsts c) (w.brought c) c U (card_of (devices U X Y) c)
     one A = p.mine
     one B = p.others
 
@@ -320,7 +330,7 @@ powerless-of f w cards A U X Y found p = whole-off f w cards (devices U X Y) fou
     marks B = p.marks_others
 powerless-of f w cards B U X Y found p = whole-off f w cards (devices U Y X) found p.tells p.unit p.none one marks
   where
-    one : (c : Card) → IsOwnValid (found_of f c).image → CardOff f w.book (w.standing c) (w.brought c) c U (card_of (devices U Y X) c)
+    one : (c : Card) → IsOwnValid (found_of f c).image → CardOff f w.book (w.standing c) (w.hands c) (w.firsts c) (w.brought c) c U (card_of (devices U Y X) c)
     one A = p.others
     one B = p.mine
 

@@ -18,6 +18,7 @@ use Rattle.history_model.specs.Minutes.{HistoryMinute, card_history, up_to}
 use Rattle.history_model.specs.Book.{Book, found}
 use Rattle.history_model.proofs.Books.{history-append, all-found, up_to-all, up_to-one}
 use Rattle.history_model.proofs.Filters.{all-back}
+use Rattle.hand_model.specs.Written.{Hands}
 use Rattle.device_rule.specs.Views.{unit_view}
 use Rattle.device_rule.specs.Device.{LeavesViews, Nothing}
 use Rattle.device_rule.specs.Rules.{Standing, Out}
@@ -41,7 +42,7 @@ use Rattle.run_crew.specs.declared.cards.Accepted.{Accepted}
 use Rattle.run_crew.specs.declared.cards.Cards.{Cards}
 use Rattle.run_crew.specs.Cards.{session_of}
 use Rattle.run_promise.specs.Found.{CardFound, Found, found_of, unit_seen, AnyKept}
-use Rattle.run_promise.specs.Cards.{brought_by, CardWaits, IsCardHeld, CardMarksHold}
+use Rattle.run_promise.specs.Cards.{brought_by, CardWaits, IsCardHeld, CardMarksHold, HandMarksHold}
 use Rattle.run_promise.specs.Between.{RunLedger, devices}
 use Rattle.run_promise.proofs.Waiting.{comes-beside, strung-found}
 use Rattle.run_devices.specs.Strung.{CardHoldsString}
@@ -61,8 +62,8 @@ first-late : (n : ℕ) (es : List Entry) → All (λ e. n ≤ e.minute) es → n
 first-late n [] each = omega arith
 first-late n (e ∷ es) each = All-head (λ (d : Entry). n ≤ d.minute) e es each
 
-module _ (f : CardFound) (c : Card) (b : Book) (k : ℕ) (z : Standing) (X : State) (whole : IsCoherent X) (sure : All (λ i. i.minute ≤ k) b.sure) (began : f.began ≤ X.clock) (rises : Rise (brought_by c f.start b)) (lacks : (x : List ℕ) → X.left_since f.began x → All (λ e. (own_view x).mark < e.minute) (card_history c (option_to_list b.maybe)))
-    (dark : CardHoldsStringUnpowered f c b z X) where
+module _ (f : CardFound) (hd : Hands) (c : Card) (b : Book) (k : ℕ) (z : Standing) (X : State) (whole : IsCoherent X) (sure : All (λ i. i.minute ≤ k) b.sure) (began : f.began ≤ X.clock) (rises : Rise (brought_by c f.start b)) (lacks : (x : List ℕ) → X.left_since f.began x → All (λ e. (own_view x).mark < e.minute) (card_history c (option_to_list b.maybe)))
+    (dark : CardHoldsStringUnpowered f hd c b z X) where
   with-more : brought_by c f.start b ≡ brought_by c f.start (sure_of b) ++ card_history c (option_to_list b.maybe)
   with-more =
       ap (λ (es : List Entry). f.start.owed ++ es) (history-append c b.sure (option_to_list b.maybe) ∙ ap (λ (is : List HistoryMinute). card_history c is ++ card_history c (option_to_list b.maybe)) (sym (append-nil b.sure)))
@@ -77,10 +78,10 @@ module _ (f : CardFound) (c : Card) (b : Book) (k : ℕ) (z : Standing) (X : Sta
   settled : brought_by c f.start (found k b) ≡ f.start.owed ++ card_history c (b.sure ++ up_to k (option_to_list b.maybe))
   settled = ap (λ (is : List HistoryMinute). f.start.owed ++ card_history c is) (all-found k b ∙ up_to-all b k sure)
 
-  pub held-found : CardHoldsString f c (found k b) z X
+  pub held-found : CardHoldsString f hd c (found k b) z X
   held-found = ⊎_elim
-      (λ none. held-same f c (sure_of b) (found k b) z X (sym (settled ∙ ap (λ (is : List HistoryMinute). f.start.owed ++ card_history c (b.sure ++ is)) none)) dark.held)
-      (λ same. held-more f c (sure_of b) (found k b) z X (card_history c (option_to_list b.maybe)) (settled ∙ ap (λ (is : List HistoryMinute). f.start.owed ++ card_history c (b.sure ++ is)) same ∙ with-more) rises-more
+      (λ none. held-same f hd c (sure_of b) (found k b) z X (sym (settled ∙ ap (λ (is : List HistoryMinute). f.start.owed ++ card_history c (b.sure ++ is)) none)) dark.held)
+      (λ same. held-more f hd c (sure_of b) (found k b) z X (card_history c (option_to_list b.maybe)) (settled ∙ ap (λ (is : List HistoryMinute). f.start.owed ++ card_history c (b.sure ++ is)) same ∙ with-more) rises-more
       (λ x left. follows x left)
       (λ x there. (follows x (whole.counts_now f.began x began there), first-late (bound_of f z x) (card_history c (option_to_list b.maybe)) (dark.comes x there))) dark.held)
       (up_to-one k b.maybe)
@@ -120,10 +121,10 @@ module _ (f : Found) (w : RunLedger) (d : Devices) (V : State) (two : f.card_a.n
   sure = sure-found (FillsDays f.unit.days) f.unit.first {U = seen_unit [] [] d.unit} {V = seen_unit [] [] V} f.unit.began w.due (last_kept x) w.book (unit_view [] [] x) (p.carried.unit.unit_holds [] [])
       (seen-same [] []) (x, after.is_left x is, refl) (shown-last [] [] x)
 
-  one : (c : Card) → IsOwnValid (found_of f c).image → CardWaits f c (found (last_kept x) w.book) (w.standing c) (w.brought c) V (card_of d c)
+  one : (c : Card) → IsOwnValid (found_of f c).image → CardWaits f (w.hands c) c (found (last_kept x) w.book) (w.standing c) (w.brought c) V (card_of d c)
   one c valid =
       let was = p.carried.cards c valid in
-      let string = strung-found f c w.book (last_kept x) (w.standing c) d.unit V (card_of d c) (wholes c) sure was.rests (seen-same f.card_a.number f.card_b.number) (record { string = was.string; comes = was.comes }) in
+      let string = strung-found f (w.hands c) c w.book (last_kept x) (w.standing c) d.unit V (card_of d c) (wholes c) sure was.rests (seen-same f.card_a.number f.card_b.number) (record { string = was.string; comes = was.comes }) in
       record {
         rests = of-rests f two c (found (last_kept x) w.book) (w.standing c) V (card_of d c) (found-rests (both_of f two) c f.unit w.due w.book w.marks (w.standing c) d.unit V (card_of d c) before after p.carried.unit run works x is
             (as-rests f two c w.book (w.standing c) d.unit (card_of d c) was.rests));
@@ -132,10 +133,10 @@ module _ (f : Found) (w : RunLedger) (d : Devices) (V : State) (two : f.card_a.n
         brought = λ n in_. note-stays c (unit_seen f d.unit) (unit_seen f V) (of_card (card_of d c)) (beside-nothing d.unit V f.card_a.number f.card_b.number (seen-same f.card_a.number f.card_b.number)) n (was.brought n in_);
       }
 
-  held-one : (c : Card) → IsOwnValid (found_of f c).image → CardHoldsString (found_of f c) c (found (last_kept x) w.book) (w.standing c) (card_of d c)
+  held-one : (c : Card) → IsOwnValid (found_of f c).image → CardHoldsString (found_of f c) (w.hands c) c (found (last_kept x) w.book) (w.standing c) (card_of d c)
   held-one c valid =
       let was = p.carried.cards c valid in
-      held-found (found_of f c) c w.book (last_kept x) (w.standing c) (card_of d c) (wholes c) sure was.rests.later was.string.rises
+      held-found (found_of f c) (w.hands c) c w.book (last_kept x) (w.standing c) (card_of d c) (wholes c) sure was.rests.later was.string.rises
       (λ y left. let had = was.rests.since (own_view y) (y, left, refl) in all-back (λ (e : Entry). (own_view y).mark < e.minute) had.rest (card_history c (option_to_list w.book.maybe)) had.lacks) (p.wait c valid)
 
   pub found-powerless : DevicesUnpowered f (carried_found (last_kept x) w) (devices V d.card_a d.card_b)
@@ -145,11 +146,16 @@ module _ (f : Found) (w : RunLedger) (d : Devices) (V : State) (two : f.card_a.n
       unit = holds-found f.unit w.due w.book w.marks p.carried.unit before (last_kept x) run (λ y left. ap last_kept (one-image V x after works is y left)) sure;
       cards = cards;
       marks = marks;
+      hands = hands;
     };
     wait = wait;
   }
     where
-      cards : (c : Card) → IsOwnValid (found_of f c).image → CardWaits f c (found (last_kept x) w.book) (w.standing c) (w.brought c) V (card_of (devices V d.card_a d.card_b) c)
+      hands : (c : Card) → IsOwnValid (found_of f c).image → HandMarksHold (found_of f c) (w.hands c) (w.firsts c) (card_of (devices V d.card_a d.card_b) c)
+      hands A valid = p.carried.hands A valid
+      hands B valid = p.carried.hands B valid
+
+      cards : (c : Card) → IsOwnValid (found_of f c).image → CardWaits f (w.hands c) c (found (last_kept x) w.book) (w.standing c) (w.brought c) V (card_of (devices V d.card_a d.card_b) c)
       cards A valid = one A valid
       cards B valid = one B valid
 
@@ -158,8 +164,8 @@ module _ (f : Found) (w : RunLedger) (d : Devices) (V : State) (two : f.card_a.n
       marks B = marks-found f.card_b B w.book (last_kept x) w.marks d.card_b sure (p.carried.marks B)
 
       wait : AllWait f (carried_found (last_kept x) w) (devices V d.card_a d.card_b)
-      wait A valid = held-dark f.card_a A (found (last_kept x) w.book) (w.standing A) d.card_a refl (held-one A valid)
-      wait B valid = held-dark f.card_b B (found (last_kept x) w.book) (w.standing B) d.card_b refl (held-one B valid)
+      wait A valid = held-dark f.card_a (w.hands A) A (found (last_kept x) w.book) (w.standing A) d.card_a refl (held-one A valid)
+      wait B valid = held-dark f.card_b (w.hands B) B (found (last_kept x) w.book) (w.standing B) d.card_b refl (held-one B valid)
 
 -- ---- THE UNIT IS READ, and that failed: nothing is found
 
@@ -167,23 +173,27 @@ module _ (f : Found) (w : RunLedger) (d : Devices) (V : State) (two : f.card_a.n
   unread : LeavesViews (unit_seen f d.unit) (unit_seen f V) Nothing
   unread = seen-run (unit_view f.card_a.number f.card_b.number) Unchanged Nothing d.unit V before run (λ y e never. absurd never)
 
-  waits : (c : Card) → IsOwnValid (found_of f c).image → CardWaits f c w.book (w.standing c) (w.brought c) V (card_of d c)
+  waits : (c : Card) → IsOwnValid (found_of f c).image → CardWaits f (w.hands c) c w.book (w.standing c) (w.brought c) V (card_of d c)
   waits c valid =
       let was = p.carried.cards c valid in
       record {
         rests = dark-beside c (found_of f c).start AnyKept {U = unit_seen f d.unit} {V = unit_seen f V} {X = of_card (card_of d c)} Nothing (found_of f c).began w.book (w.standing c) unread (λ u v never. absurd never) was.rests;
         string = was.string;
-        comes = comes-beside f c Nothing w.book (w.standing c) d.unit V (card_of d c) (λ u v never. absurd never) unread was.comes;
+        comes = comes-beside f (w.hands c) c Nothing w.book (w.standing c) d.unit V (card_of d c) (λ u v never. absurd never) unread was.comes;
         brought = λ n in_. note-stays c (unit_seen f d.unit) (unit_seen f V) (of_card (card_of d c)) (beside-nothing d.unit V f.card_a.number f.card_b.number unread) n (was.brought n in_);
       }
 
   pub unread-powerless : DevicesUnpowered f w (devices V d.card_a d.card_b)
   unread-powerless = record {
-    carried = record { tells = run.tells ∙ p.carried.tells; unit = holds-read f.unit w.due w.book w.marks p.carried.unit before run; cards = cards; marks = marks };
+    carried = record { tells = run.tells ∙ p.carried.tells; unit = holds-read f.unit w.due w.book w.marks p.carried.unit before run; cards = cards; marks = marks; hands = hands };
     wait = wait;
   }
     where
-      cards : (c : Card) → IsOwnValid (found_of f c).image → CardWaits f c w.book (w.standing c) (w.brought c) V (card_of (devices V d.card_a d.card_b) c)
+      hands : (c : Card) → IsOwnValid (found_of f c).image → HandMarksHold (found_of f c) (w.hands c) (w.firsts c) (card_of (devices V d.card_a d.card_b) c)
+      hands A valid = p.carried.hands A valid
+      hands B valid = p.carried.hands B valid
+
+      cards : (c : Card) → IsOwnValid (found_of f c).image → CardWaits f (w.hands c) c w.book (w.standing c) (w.brought c) V (card_of (devices V d.card_a d.card_b) c)
       cards A valid = waits A valid
       cards B valid = waits B valid
 
@@ -205,11 +215,11 @@ module _ (f : Found) (w : RunLedger) (cards : Cards) (U V X Y : State) (found_ca
   mended-unit = holds f.unit w.due w.book w.marks p.carried.unit
 
   -- a card behind it, as the call says of it
-  module _ (c : Card) (Z : State) (valid : IsOwnValid (found_of f c).image) (was : CardWaits f c w.book (w.standing c) (w.brought c) U Z) (wait : CardHoldsStringUnpowered (found_of f c) c w.book (w.standing c) Z) (taken : IsTakenUp (both_of f found_cards.two) c w.book (w.standing c) failed V Z) where
-    still : CardHoldsString (found_of f c) c w.book (w.standing c) Z
-    still = held-lit (found_of f c) c w.book (w.standing c) Z none wait
+  module _ (c : Card) (Z : State) (valid : IsOwnValid (found_of f c).image) (was : CardWaits f (w.hands c) c w.book (w.standing c) (w.brought c) U Z) (wait : CardHoldsStringUnpowered (found_of f c) (w.hands c) c w.book (w.standing c) Z) (hands : HandMarksHold (found_of f c) (w.hands c) (w.firsts c) Z) (taken : IsTakenUp (both_of f found_cards.two) c w.book (w.standing c) failed V Z) where
+    still : CardHoldsString (found_of f c) (w.hands c) c w.book (w.standing c) Z
+    still = held-lit (found_of f c) (w.hands c) c w.book (w.standing c) Z none wait
 
-    mended-off : CardOff f w.book (w.standing c) (w.brought c) c V Z
+    mended-off : CardOff f w.book (w.standing c) (w.hands c) (w.firsts c) (w.brought c) c V Z
     mended-off =
         let rests = of-rests f found_cards.two c w.book (w.standing c) V Z taken.dark in
         record {
@@ -218,9 +228,10 @@ module _ (f : Found) (w : RunLedger) (cards : Cards) (U V X Y : State) (found_ca
           rises = was.string.rises;
           brought = λ n in_. brought-on f c n w.book (w.standing c) (w.standing c) f.unit w.due w.marks U V Z whole p.carried.tells p.carried.unit none was.rests rests (was.brought n in_);
           held = still;
+          hands = hands;
         }
 
-    mended-lit : failed ≡ false → CardLit f w.book Out (w.brought c) None c V Z
+    mended-lit : failed ≡ false → CardLit f w.book Out (w.hands c) (w.firsts c) (w.brought c) None c V Z
     mended-lit well =
         let rule = of-steps f found_cards.two c w.book Out [] [] V Z (taken.lit well) in
         let u = left-one U whole p.carried.tells in
@@ -229,7 +240,7 @@ module _ (f : Found) (w : RunLedger) (cards : Cards) (U V X Y : State) (found_ca
           valid = was.string.valid;
           rises = was.string.rises;
           brought = λ n in_. brought-on f c n w.book (w.standing c) Out f.unit w.due w.marks U V Z whole p.carried.tells p.carried.unit none was.rests rule.dark (was.brought n in_);
-          held = held-out f c w.book (w.standing c) U Z (record {
+          held = held-out f (w.hands c) c w.book (w.standing c) U Z (record {
             sizes = found_cards.sizes c valid;
             entries = found_cards.entries c valid;
             held = still;
@@ -239,6 +250,7 @@ module _ (f : Found) (w : RunLedger) (cards : Cards) (U V X Y : State) (found_ca
             sure = λ v on. ((p.carried.unit.unit_holds f.card_a.number f.card_b.number).now v on).sure;
             rests = was.rests;
           }) u.0 u.1;
+          hands = hands;
           goes = record { has = brought_by c (found_of f c).start w.book; all = append-nil (brought_by c (found_of f c).start w.book); goes = tt };
         }
 
@@ -251,8 +263,8 @@ module _ (f : Found) (w : RunLedger) (cards : Cards) (U V X Y : State) (found_ca
   pub mended-powered : failed ≡ false → V.works ≡ true → ((c : Card) → session_of cards c ≡ None) → DevicesPowered f (all_out w) cards (devices V X Y)
   mended-powered well works bare = powered-of f (all_out w) cards A V X Y found_cards (record {
     unit = record { tells = tells ∙ p.carried.tells; works = works; unit = mended-unit.lit works; none = none };
-    mine = λ valid. subst (λ (o : Option Accepted). CardLit f w.book Out (w.brought A) o A V X) (sym (bare A)) (mended-lit A X valid (p.carried.cards A valid) (p.wait A valid) (taken_a valid) well);
-    others = λ valid. subst (λ (o : Option Accepted). CardLit f w.book Out (w.brought B) o B V Y) (sym (bare B)) (mended-lit B Y valid (p.carried.cards B valid) (p.wait B valid) (taken_b valid) well);
+    mine = λ valid. subst (λ (o : Option Accepted). CardLit f w.book Out (w.hands A) (w.firsts A) (w.brought A) o A V X) (sym (bare A)) (mended-lit A X valid (p.carried.cards A valid) (p.wait A valid) (p.carried.hands A valid) (taken_a valid) well);
+    others = λ valid. subst (λ (o : Option Accepted). CardLit f w.book Out (w.hands B) (w.firsts B) (w.brought B) o B V Y) (sym (bare B)) (mended-lit B Y valid (p.carried.cards B valid) (p.wait B valid) (p.carried.hands B valid) (taken_b valid) well);
     marks_mine = p.carried.marks A;
     marks_others = p.carried.marks B;
   })
@@ -263,8 +275,8 @@ module _ (f : Found) (w : RunLedger) (cards : Cards) (U V X Y : State) (found_ca
     tells = tells ∙ p.carried.tells;
     unit = mended-unit.dark;
     none = none;
-    mine = λ valid. mended-off A X valid (p.carried.cards A valid) (p.wait A valid) (taken_a valid);
-    others = λ valid. mended-off B Y valid (p.carried.cards B valid) (p.wait B valid) (taken_b valid);
+    mine = λ valid. mended-off A X valid (p.carried.cards A valid) (p.wait A valid) (p.carried.hands A valid) (taken_a valid);
+    others = λ valid. mended-off B Y valid (p.carried.cards B valid) (p.wait B valid) (p.carried.hands B valid) (taken_b valid);
     marks_mine = p.carried.marks A;
     marks_others = p.carried.marks B;
   })

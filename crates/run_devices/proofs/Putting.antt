@@ -58,7 +58,7 @@ module _ (f : Found) (w : RunLedger) (cards : Cards) (c : Card) (U V X Y Z : Sta
 
   module _ (valid : IsOwnValid (found_of f c).image) (e : Entered) (ok : answer ≡ Ok e) where
     -- all that is asked of a card that is seated
-    pub put-in : IsPutIn (found_of f c) c w.book now e.session Y
+    pub put-in : IsPutIn (found_of f c) (w.hands c) c w.book now e.session Y
     put-in = accepted-put-by f (with_standing c Out w) cards c U V X Y Z found unit_whole unit_after whole after registration long vehicle odometer now few answer (out-now c w) bare was-out late app measured size enters valid e ok
 
     pub put-marked : V.works ≡ true → IsSettled Y → DevicesPowered f (with_marks (card_marks c Y.clock e.owed.items) (with_standing c Out w)) cards (arranged c V Y Z)

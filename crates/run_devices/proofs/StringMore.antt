@@ -11,6 +11,7 @@ use Rattle.card_image.specs.View.{card_view}
 use Rattle.card_image.specs.Own.{own_view, own_sizes, KeepsOf}
 use Rattle.card_session.specs.Inserting.{Follow}
 use Rattle.card_session.specs.Repairs.{first_minute}
+use Rattle.hand_model.specs.Written.{Hands, Written, entries_of}
 use Rattle.card_string.specs.Inserts.{IsOnDay}
 use Rattle.card_string.specs.Since.{all_since, IsTied, HoldsSince}
 use Rattle.card_string.specs.Each.{KeepsSince}
@@ -54,43 +55,46 @@ on-first : (mark : ℕ) (rest es : List Entry) → IsOnDay mark rest → IsOnDay
 on-first mark [] es on = absurd on
 on-first mark (e ∷ rest) es on = on
 
-more-holds : (app : Application) (image : List ℕ) (brought es : List Entry) (n : ℕ) (x : List ℕ) → Rise (brought ++ es) → n ≤ first_minute n es → Follow (end_mark app x) es → HoldsSince app image brought n x → HoldsSince app image (brought ++ es) n x
-more-holds app image brought es n x rise after late h =
-    let split : brought ++ es ≡ h.more ++ (h.rest ++ es) = ap (λ (l : List Entry). l ++ es) h.split ∙ append_assoc h.more h.rest es in
+more-holds : (app : Application) (image : List ℕ) (hd : Hands) (brought es : List Entry) (n : ℕ) (x : List ℕ) → Rise (brought ++ es) → n ≤ first_minute n es → Follow (end_mark app x) es → HoldsSince app image hd brought n x → HoldsSince app image hd (brought ++ es) n x
+more-holds app image hd brought es n x rise after late h =
+    let split : brought ++ es ≡ entries_of h.written ++ (h.rest ++ es) = ap (λ (l : List Entry). l ++ es) h.split ∙ append_assoc (entries_of h.written) h.rest es in
     record {
-      more = h.more;
+      written = h.written;
       rest = h.rest ++ es;
       split = split;
-      behind = follow-both (end_mark app x) h.rest es (rise-back h.more (h.rest ++ es) (subst Rise split rise)) h.behind late;
+      lie = h.lie;
+      behind = follow-both (end_mark app x) h.rest es (rise-back (entries_of h.written) (h.rest ++ es) (subst Rise split rise)) h.behind late;
       stands = ⊎_elim
-          (λ goes. inl (record { from = goes.from; later = omega (arith, goes.later, first-on n h.rest es after); goes = goes.goes; tied = goes.tied }))
+          (λ goes. inl (record { from = goes.from; later = omega (arith, goes.later, first-on n h.rest es after); goes = goes.goes; tied = goes.tied; marked = goes.marked; hands = goes.hands }))
           (λ broke. inr (record {
             session = broke.session;
             from = broke.from;
             later = omega (arith, broke.later, first-on n h.rest es after);
             left = ⊎_elim (λ old. inl old) (λ begun. inr (begun.0, on-first (end_mark app x) h.rest es begun.1)) broke.left;
-            tied = subst (λ (l : List Entry). IsTied app image h.more l x) (append_assoc h.more h.rest es) (tied_wider app image h.more (h.more ++ h.rest) es x broke.tied);
+            tied = subst (λ (l : List Entry). IsTied app image h.written l x) (append_assoc (entries_of h.written) h.rest es) (tied_wider app image h.written (entries_of h.written ++ h.rest) es x broke.tied);
+            marked = broke.marked;
           })) h.stands;
     }
 
 -- THE STRING, with entries more that each image lacks
-pub held-more : (f : CardFound) (c : Card) (b d : Book) (z : Standing) (X : State) (es : List Entry) → brought_by c f.start d ≡ brought_by c f.start b ++ es → Rise (brought_by c f.start b ++ es)
+pub held-more : (f : CardFound) (hd : Hands) (c : Card) (b d : Book) (z : Standing) (X : State) (es : List Entry) → brought_by c f.start d ≡ brought_by c f.start b ++ es → Rise (brought_by c f.start b ++ es)
     → ((x : List ℕ) → X.left_since f.began x → Follow (own_view x).mark es)
-    → ((x : List ℕ) → X.may_leave x → Follow (own_view x).mark es × (suc (max f.start.word (since z (own_view x).newest)) ≤ first_minute (suc (max f.start.word (since z (own_view x).newest))) es)) → CardHoldsString f c b z X → CardHoldsString f c d z X
-held-more f c b d z X es same rise late comes h = record {
+    → ((x : List ℕ) → X.may_leave x → Follow (own_view x).mark es × (suc (max f.start.word (since z (own_view x).newest)) ≤ first_minute (suc (max f.start.word (since z (own_view x).newest))) es)) → CardHoldsString f hd c b z X → CardHoldsString f hd c d z X
+held-more f hd c b d z X es same rise late comes h = record {
   tells = h.tells;
   now = λ x there.
       let is = (h.now x there).0 in (
         is,
-        subst (λ (all : List Entry). HoldsSince (own_sizes f.image) f.image all (suc (max f.start.word (since z (own_view x).newest))) x) (sym same)
-            (more-holds (own_sizes f.image) f.image (brought_by c f.start b) es (suc (max f.start.word (since z (own_view x).newest))) x rise (comes x there).1 (subst (λ (m : ℕ). Follow m es) (mark-own (own_sizes f.image) x is) (comes x there).0) (h.now x there).1),
+        subst (λ (all : List Entry). HoldsSince (own_sizes f.image) f.image hd all (suc (max f.start.word (since z (own_view x).newest))) x) (sym same)
+            (more-holds (own_sizes f.image) f.image hd (brought_by c f.start b) es (suc (max f.start.word (since z (own_view x).newest))) x rise (comes x there).1 (subst (λ (m : ℕ). Follow m es) (mark-own (own_sizes f.image) x is) (comes x there).0) (h.now x there).1),
       );
   since = λ x left.
       let was = h.since x left in (
         was.0,
-        subst (λ (all : List Entry). KeepsSince f.image all x) (sym same)
-            (subst (λ (all : List Entry). KeepsOf f.image (all_since f.image all) (own_view x).held) (sym (counted-more (own_view x).mark (brought_by c f.start b) es (follow-later (own_view x).mark es (late x left)))) was.1),
+        subst (λ (all : List Entry). KeepsSince f.image hd.given all x) (sym same)
+            (subst (λ (all : List Entry). KeepsOf f.image hd.given (all_since f.image all) (own_view x).held) (sym (counted-more (own_view x).mark (brought_by c f.start b) es (follow-later (own_view x).mark es (late x left)))) was.1),
       );
+  told = h.told;
   number = h.number;
   still = h.still;
   registered = h.registered;

@@ -9,6 +9,7 @@ use Rattle.card_image.specs.Own.{own_view, own_sizes, KeepsFrom, KeepsOf}
 use Rattle.card_session.specs.Repairs.{first_minute}
 use Rattle.card_image.specs.Fields.{end_mark}
 use Rattle.card_session.specs.Inserting.{Follow}
+use Rattle.hand_model.specs.Written.{Hands, entries_of}
 use Rattle.card_string.specs.Since.{GoesSince, BrokeSince, HoldsSince}
 use Rattle.card_string.proofs.Since.{later_holds}
 use Rattle.card_string.proofs.Kept.{holds_counted, holds_from}
@@ -30,7 +31,7 @@ first-low : (start : CardStart) (z : Standing) (n : ℕ) (due : List Entry) (x :
 first-low start z n [] x le = le
 first-low start z n (e ∷ due) x le = omega arith
 
-module _ (f : Found) (c : Card) (b : Book) (z : Standing) (unit card : State) (s : EachIsStrung f c b z unit card) where
+module _ (f : Found) (hd : Hands) (c : Card) (b : Book) (z : Standing) (unit card : State) (s : EachIsStrung f hd c b z unit card) where
   abbrev g : CardFound
   g = found_of f c
 
@@ -57,28 +58,29 @@ module _ (f : Found) (c : Card) (b : Book) (z : Standing) (unit card : State) (s
     counted : counted_to (own_view x).mark lies ≡ meets.more
     counted = ap (counted_to (own_view x).mark) (sym whole) ∙ counted-front (own_view x).mark meets.more due (all-back (λ (e : Entry). e.minute ≤ (own_view x).mark) g.start.entries meets.more meets.had) (owed-above c v (own_view x))
 
-    held : HoldsSince (own_sizes g.image) g.image lies n x
+    held : HoldsSince (own_sizes g.image) g.image hd lies n x
     held = (s.held.now x there).1
 
-    more-same : held.more ≡ counted_to (own_view x).mark lies
-    more-same = sym (holds_counted (own_sizes g.image) s.sizes g.image x refl (s.held.now x there).0 lies n held)
+    more-same : entries_of held.written ≡ counted_to (own_view x).mark lies
+    more-same = sym (holds_counted (own_sizes g.image) s.sizes g.image x refl (s.held.now x there).0 hd lies n held)
 
     -- what the string lacks is what is owed
     rest-same : held.rest ≡ due
-    rest-same = append_cancel_left held.more held.rest due (sym held.split ∙ sym whole ∙ ap (λ (es : List Entry). es ++ due) (sym counted ∙ sym more-same))
+    rest-same = append_cancel_left (entries_of held.written) held.rest due (sym held.split ∙ sym whole ∙ ap (λ (es : List Entry). es ++ due) (sym counted ∙ sym more-same))
 
-    goes : StringGoesOn g c b z due x
+    goes : StringGoesOn g hd.given c b z due x
     goes =
-        keeps-later g.image (first_minute n due) (comes_from g.start z due (own_view x)) (g.start.entries ++ counted_to (own_view x).mark lies) (own_view x).held (first-low g.start z n due (own_view x) (omega arith))
-        (subst (λ (es : List Entry). KeepsFrom g.image (first_minute n due) (es ++ counted_to (own_view x).mark lies) (own_view x).held) (sym s.entries)
-        (subst (λ (es : List Entry). KeepsFrom g.image (first_minute n due) ((own_view g.image).held.entries ++ es) (own_view x).held) more-same
-        (subst (λ (es : List Entry). KeepsFrom g.image (first_minute n es) ((own_view g.image).held.entries ++ held.more) (own_view x).held) rest-same
-        (holds_from (own_sizes g.image) s.sizes g.image x refl (s.held.now x there).0 lies n held))))
+        keeps-later g.image hd.given (first_minute n due) (comes_from g.start z due (own_view x)) (g.start.entries ++ counted_to (own_view x).mark lies) (own_view x).held (first-low g.start z n due (own_view x) (omega arith))
+        (subst (λ (es : List Entry). KeepsFrom g.image hd.given (first_minute n due) (es ++ counted_to (own_view x).mark lies) (own_view x).held) (sym s.entries)
+        (subst (λ (es : List Entry). KeepsFrom g.image hd.given (first_minute n due) ((own_view g.image).held.entries ++ es) (own_view x).held) more-same
+        (subst (λ (es : List Entry). KeepsFrom g.image hd.given (first_minute n es) ((own_view g.image).held.entries ++ entries_of held.written) (own_view x).held) rest-same
+        (holds_from (own_sizes g.image) s.sizes g.image x refl (s.held.now x there).0 hd lies n held))))
 
-  pub strung : IsStrung f c b z unit card
+  pub strung : IsStrung f hd c b z unit card
   strung = record {
     string = record {
-      kept = λ x left. subst (λ (es : List Entry). KeepsOf g.image (es ++ counted_to (own_view x).mark lies) (own_view x).held) (sym s.entries) (s.held.since x left).1;
+      kept = λ x left. subst (λ (es : List Entry). KeepsOf g.image hd.given (es ++ counted_to (own_view x).mark lies) (own_view x).held) (sym s.entries) (s.held.since x left).1;
+      told = s.held.told;
       valid = s.valid;
       sizes = λ x left. (s.held.since x left).0;
       number = λ x left. (s.held.still x left).number;
@@ -93,23 +95,24 @@ module _ (f : Found) (c : Card) (b : Book) (z : Standing) (unit card : State) (s
     out x = suc (max g.start.word (own_view x).newest)
 
     -- behind an entry that it lacks no bound matters
-    out-lacking : (e : Entry) (rest : List Entry) (x : List ℕ) (h : HoldsSince (own_sizes g.image) g.image lies (suc (max g.start.word (since z (own_view x).newest))) x) → h.rest ≡ e ∷ rest → HoldsSince (own_sizes g.image) g.image lies (out x) x
+    out-lacking : (e : Entry) (rest : List Entry) (x : List ℕ) (h : HoldsSince (own_sizes g.image) g.image hd lies (suc (max g.start.word (since z (own_view x).newest))) x) → h.rest ≡ e ∷ rest → HoldsSince (own_sizes g.image) g.image hd lies (out x) x
     out-lacking e rest x h is = record {
-      more = h.more;
+      written = h.written;
       rest = e ∷ rest;
-      split = h.split ∙ ap (λ (es : List Entry). h.more ++ es) is;
+      split = h.split ∙ ap (λ (es : List Entry). entries_of h.written ++ es) is;
+      lie = h.lie;
       behind = subst (Follow (end_mark (own_sizes g.image) x)) is h.behind;
-      stands = ⊎_elim (λ goes. inl goes) (λ broke. inr (record { session = broke.session; from = broke.from; later = broke.later; left = broke.left; tied = broke.tied }))
-          (subst (λ (es : List Entry). GoesSince (own_sizes g.image) g.image h.more (first_minute (suc (max g.start.word (since z (own_view x).newest))) es) x
-          ⊎ BrokeSince (own_sizes g.image) g.image h.more es (suc (max g.start.word (since z (own_view x).newest))) x) is h.stands);
+      stands = ⊎_elim (λ goes. inl goes) (λ broke. inr (record { session = broke.session; from = broke.from; later = broke.later; left = broke.left; tied = broke.tied; marked = broke.marked }))
+          (subst (λ (es : List Entry). GoesSince (own_sizes g.image) g.image h.written (first_minute (suc (max g.start.word (since z (own_view x).newest))) es) x
+          ⊎ BrokeSince (own_sizes g.image) g.image h.written es (suc (max g.start.word (since z (own_view x).newest))) x) is h.stands);
     }
 
-    out-image : (x : List ℕ) (there : card.may_leave x) (rest : List Entry) → (held u x on there).rest ≡ rest → HoldsSince (own_sizes g.image) g.image lies (out x) x
+    out-image : (x : List ℕ) (there : card.may_leave x) (rest : List Entry) → (held u x on there).rest ≡ rest → HoldsSince (own_sizes g.image) g.image hd lies (out x) x
     out-image x there [] none =
         let owes : due u x on there ≡ [] = sym (rest-same u x on there) ∙ none in
         let low = subst (λ (es : List Entry). since z (newest_with (own_view x) es) ≤ max g.start.word (newest_with (own_view x) es)) owes (meets u x on there).accepted in
-        later_holds (own_sizes g.image) g.image lies (n u x on there) (out x) x (omega (arith, low)) (held u x on there)
+        later_holds (own_sizes g.image) g.image hd lies (n u x on there) (out x) x (omega (arith, low)) (held u x on there)
     out-image x there (e ∷ rest) some = out-lacking e rest x (held u x on there) some
 
-    pub held-out : CardHoldsString g c b Out card
-    held-out = record { tells = s.held.tells; now = λ x there. ((s.held.now x there).0, out-image x there (held u x on there).rest refl); since = s.held.since; number = s.held.number; still = s.held.still; registered = s.held.registered }
+    pub held-out : CardHoldsString g hd c b Out card
+    held-out = record { tells = s.held.tells; now = λ x there. ((s.held.now x there).0, out-image x there (held u x on there).rest refl); since = s.held.since; told = s.held.told; number = s.held.number; still = s.held.still; registered = s.held.registered }

@@ -25,7 +25,7 @@ use Rattle.run_promise.specs.Cards.{brought_by, IsUntouched}
 use Rattle.run_promise.specs.Between.{RunLedger}
 use Rattle.run_devices.specs.Told.{AreFoundCards, DevicesPowered, DevicesUnpowered, arranged}
 use Rattle.run_devices.proofs.Parts.{both_of, as-steps, of-steps, told-one, CardLit, off-of, AreParts, MarksLit, parts-of, powered-of, powerless-of, brought-on}
-use Rattle.run_devices.proofs.OnCards.{valid-own, rises-run, none-falls, marks-on, brought-card, held-read, valid-on}
+use Rattle.run_devices.proofs.OnCards.{valid-own, rises-run, none-falls, marks-on, brought-card, held-read, hands-read, valid-on}
 
 -- ---- A CARD THAT IS NOT ACCEPTED was only read, or revived
 
@@ -33,9 +33,9 @@ module _ (f : Found) (w : RunLedger) (cards : Cards) (c : Card) (U X Y Z : State
   parts : AreParts f w cards c U X Z
   parts = parts-of f w cards c U X Z p
 
-  lit : IsOwnValid (found_of f c).image → CardLit f w.book Out (w.brought c) None c U Y
+  lit : IsOwnValid (found_of f c).image → CardLit f w.book Out (w.hands c) (w.firsts c) (w.brought c) None c U Y
   lit valid =
-      let one : CardLit f w.book Out (w.brought c) None c U X = subst (λ (o : Option Accepted). CardLit f w.book Out (w.brought c) o c U X) bare (subst (λ (z : Standing). CardLit f w.book z (w.brought c) (session_of cards c) c U X) out (parts.mine valid)) in
+      let one : CardLit f w.book Out (w.hands c) (w.firsts c) (w.brought c) None c U X = subst (λ (o : Option Accepted). CardLit f w.book Out (w.hands c) (w.firsts c) (w.brought c) o c U X) bare (subst (λ (z : Standing). CardLit f w.book z (w.hands c) (w.firsts c) (w.brought c) (session_of cards c) c U X) out (parts.mine valid)) in
       let rule = of-steps f found.two c w.book Out [] [] U Y (card-read (both_of f found.two) c w.book [] U X Y whole run (as-steps f found.two c w.book Out [] [] U X one.rule)) in
       record {
         rule = rule;
@@ -43,7 +43,8 @@ module _ (f : Found) (w : RunLedger) (cards : Cards) (c : Card) (U X Y Z : State
         rises = one.rises;
         brought = λ k in_. brought-card f c k w.book Out Out (once_mended f.unit) w.due w.marks U U X Y unit_whole parts.unit.tells parts.unit.unit parts.unit.none one.rule.dark rule.dark
             (none-falls X Y (rises-run Unchanged X Y whole run (λ a b t never. absurd never))) (one.brought k in_);
-        held = held-read (found_of f c) c w.book Out X Y one.rule.dark.later run one.held;
+        held = held-read (found_of f c) (w.hands c) c w.book Out X Y one.rule.dark.later run one.held;
+        hands = hands-read (found_of f c) (w.hands c) (w.firsts c) X Y run one.hands;
         goes = record { has = brought_by c (found_of f c).start w.book; all = append-nil (brought_by c (found_of f c).start w.book); goes = tt };
       }
 
@@ -53,7 +54,7 @@ module _ (f : Found) (w : RunLedger) (cards : Cards) (c : Card) (U X Y Z : State
   pub read-powered : DevicesPowered f w cards (arranged c U Y Z)
   read-powered = powered-of f w cards c U Y Z found (record {
     unit = parts.unit;
-    mine = λ valid. subst (λ (z : Standing). CardLit f w.book z (w.brought c) (session_of cards c) c U Y) (sym out) (subst (λ (o : Option Accepted). CardLit f w.book Out (w.brought c) o c U Y) (sym bare) (lit valid));
+    mine = λ valid. subst (λ (z : Standing). CardLit f w.book z (w.hands c) (w.firsts c) (w.brought c) (session_of cards c) c U Y) (sym out) (subst (λ (o : Option Accepted). CardLit f w.book Out (w.hands c) (w.firsts c) (w.brought c) o c U Y) (sym bare) (lit valid));
     others = parts.others;
     marks_mine = marks;
     marks_others = parts.marks_others;
@@ -65,7 +66,7 @@ module _ (f : Found) (w : RunLedger) (cards : Cards) (c : Card) (U V X Z : State
   before : AreParts f w cards c U X Z
   before = parts-of f w cards c U X Z p
 
-  card-lit : (d : Card) (session : Option Accepted) (Y : State) → CardLit f w.book (w.standing d) (w.brought d) session d U Y → CardLit f w.book (w.standing d) (w.brought d) session d V Y
+  card-lit : (d : Card) (session : Option Accepted) (Y : State) → CardLit f w.book (w.standing d) (w.hands d) (w.firsts d) (w.brought d) session d U Y → CardLit f w.book (w.standing d) (w.hands d) (w.firsts d) (w.brought d) session d V Y
   card-lit d session Y one =
       let rule = of-steps f found.two d w.book (w.standing d) [] [] V Y (unit-read (both_of f found.two) d w.book (w.standing d) [] [] U V Y unit_whole run (as-steps f found.two d w.book (w.standing d) [] [] U Y one.rule)) in
       record {
@@ -74,6 +75,7 @@ module _ (f : Found) (w : RunLedger) (cards : Cards) (c : Card) (U V X Z : State
         rises = one.rises;
         brought = λ k in_. brought-on f d k w.book (w.standing d) (w.standing d) (once_mended f.unit) w.due w.marks U V Y unit_whole before.unit.tells before.unit.unit before.unit.none one.rule.dark rule.dark (one.brought k in_);
         held = one.held;
+        hands = one.hands;
         goes = one.goes;
       }
 
@@ -94,8 +96,8 @@ module _ (f : Found) (w : RunLedger) (cards : Cards) (c : Card) (U V X Z : State
     tells = run.tells ∙ before.unit.tells;
     unit = holds-dark f.unit w.due w.book w.marks V unit-after;
     none = before.unit.none;
-    mine = λ valid. off-of f w.book (w.standing c) (w.brought c) (session_of cards c) c V X (card-lit c (session_of cards c) X (before.mine valid));
-    others = λ valid. off-of f w.book (w.standing (other c)) (w.brought (other c)) (session_of cards (other c)) (other c) V Z (card-lit (other c) (session_of cards (other c)) Z (before.others valid));
+    mine = λ valid. off-of f w.book (w.standing c) (w.hands c) (w.firsts c) (w.brought c) (session_of cards c) c V X (card-lit c (session_of cards c) X (before.mine valid));
+    others = λ valid. off-of f w.book (w.standing (other c)) (w.hands (other c)) (w.firsts (other c)) (w.brought (other c)) (session_of cards (other c)) (other c) V Z (card-lit (other c) (session_of cards (other c)) Z (before.others valid));
     marks_mine = before.marks_mine;
     marks_others = before.marks_others;
   })

@@ -1,4 +1,5 @@
 pub mod Presence
 pub mod Registered
+pub mod Measured
 pub mod Strung
 pub mod Told

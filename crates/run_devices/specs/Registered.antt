@@ -8,30 +8,35 @@ use Rattle.card_image.specs.Fields.{current_use, session_time}
 use Rattle.card_session.specs.Vehicles.{Vehicles}
 use Rattle.card_session.specs.Sessions.{book_of}
 
--- each of these that stands has such a registration
-abbrev pub RingIn : (R : Registration → Type 0) → List (Option Vehicle) → Type 0
-RingIn R [] = Unit {0}
-RingIn R (None ∷ os) = RingIn R os
-RingIn R (Some v ∷ os) = R v.registration × RingIn R os
+-- each of these that stands is so
+abbrev pub RingIn : (P : Vehicle → Type 0) → List (Option Vehicle) → Type 0
+RingIn P [] = Unit {0}
+RingIn P (None ∷ os) = RingIn P os
+RingIn P (Some v ∷ os) = P v × RingIn P os
 
--- EACH VEHICLE ENTRY has such a registration
-pub record AreIn (R : Registration → Type 0) (v : Vehicles) : Type 0 where
-  pub newest : IfSome v.newest (λ w. R w.registration)
-  pub ring : RingIn R v.ring
+-- EACH VEHICLE ENTRY is so
+pub record AreIn (P : Vehicle → Type 0) (v : Vehicles) : Type 0 where
+  pub newest : IfSome v.newest P
+  pub ring : RingIn P v.ring
 
--- one of these that stands has this registration
-abbrev pub HasOne : Registration → List (Option Vehicle) → Type 0
-HasOne r [] = ⊥
-HasOne r (None ∷ os) = HasOne r os
-HasOne r (Some v ∷ os) = (v.registration ≡ r) ⊎ HasOne r os
+-- one of these that stands is so
+abbrev pub HasOne : (P : Vehicle → Type 0) → List (Option Vehicle) → Type 0
+HasOne P [] = ⊥
+HasOne P (None ∷ os) = HasOne P os
+HasOne P (Some v ∷ os) = P v ⊎ HasOne P os
 
--- some vehicle entry has it
+-- some vehicle entry is so
+abbrev pub SomeIs : (P : Vehicle → Type 0) → Vehicles → Type 0
+SomeIs P v = ((w : Vehicle) × (v.newest ≡ Some w) × P w) ⊎ HasOne P v.ring
+
+-- some vehicle entry has this registration
 abbrev pub IsNamed : Vehicles → Registration → Type 0
-IsNamed v r = ((w : Vehicle) × (v.newest ≡ Some w) × (w.registration ≡ r)) ⊎ HasOne r v.ring
+IsNamed v r = SomeIs (λ w. w.registration ≡ r) v
 
 -- EACH VEHICLE ENTRY OF AN IMAGE, by these sizes, has this registration, or that of an entry of the start.
 abbrev pub AreRegistered : Application → Registration → (start x : List ℕ) → Type 0
-AreRegistered app registration start x = AreIn (λ r. (r ≡ registration) ⊎ IsNamed (book_of app start).vehicles r)
+AreRegistered app registration start x =
+    AreIn (λ v. (v.registration ≡ registration) ⊎ IsNamed (book_of app start).vehicles v.registration)
     (book_of app x).vehicles
 
 -- ITS CURRENT USE, by these sizes, tells of no open session; or it is that of the start, or has this registration.

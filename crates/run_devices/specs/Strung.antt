@@ -1,5 +1,5 @@
 -- What is known of a card's string where each of its images holds it (profile).
-use Rattle.std.specs.Prelude.{◌≡◌, ℕ, suc, max, ◌≤◌, true, None, List, All, is_some}
+use Rattle.std.specs.Prelude.{◌≡◌, ℕ, suc, max, ◌≤◌, true, None, List, ◌++◌, All, is_some}
 use Rattle.trace_model.specs.declared.Card.{Card}
 use Rattle.tach_media.specs.Medium.{State, bytes_at}
 use Rattle.card_layout.specs.declared.files.Application.{Application}
@@ -8,6 +8,9 @@ use Rattle.card_layout.specs.Files.{place_of}
 use Rattle.card_retention.specs.Retains.{Rise}
 use Rattle.card_image.specs.Fields.{file, file_bytes}
 use Rattle.card_image.specs.Own.{own_view, own_sizes, own_number, IsOwnValid}
+use Rattle.hand_model.specs.AtStart.{hands_at}
+use Rattle.hand_model.specs.ByHand.{by_hand_in}
+use Rattle.hand_model.specs.Written.{Hands, IsPartOf}
 use Rattle.card_string.specs.Since.{HoldsSince}
 use Rattle.card_string.specs.Each.{KeepsSince}
 use Rattle.history_model.specs.Book.{Book}
@@ -42,24 +45,27 @@ pub record HasSameHolder (start x : List ℕ) : Type 0 where
 -- THE STRING OF A CARD, which tells its images: each that a stop may leave now holds it, and an entry may come behind
 -- its newest minute as the card stands; and each since the start keeps it. The card has its number and its holder
 -- still, and tells of no other vehicle than the unit's and those of the start.
-pub record CardHoldsString (f : CardFound) (c : Card) (b : Book) (z : Standing) (card : State) : Type 0 where
+pub record CardHoldsString (f : CardFound) (h : Hands) (c : Card) (b : Book) (z : Standing) (card : State) : Type
+    0 where
   pub tells : is_some card.image ≡ true
   pub now : (x : List ℕ) → card.may_leave x →
       (own_sizes x ≡ own_sizes f.image)
-      × HoldsSince (own_sizes f.image) f.image (brought_by c f.start b)
+      × HoldsSince (own_sizes f.image) f.image h (brought_by c f.start b)
       (suc (max f.start.word (since z (own_view x).newest))) x
   pub since : (x : List ℕ) → card.left_since f.began x
-      → (own_sizes x ≡ own_sizes f.image) × KeepsSince f.image (brought_by c f.start b) x
+      → (own_sizes x ≡ own_sizes f.image) × KeepsSince f.image h.given (brought_by c f.start b) x
+  pub told : (x : List ℕ) → card.left_since f.began x
+      → IsPartOf (by_hand_in (own_sizes f.image) x) (hands_at f.image ++ h.given)
   pub number : (x : List ℕ) → card.may_leave x → own_number x ≡ f.number
   pub still : (x : List ℕ) → card.left_since f.began x → HasSameHolder f.image x
   pub registered : (x : List ℕ) → card.left_since f.began x → TellsOfTwo (own_sizes f.image) f.vehicle f.image x
 
 -- So its string is held; each image since the start is valid; the entries rise. Nothing of a minute is half kept, and
 -- the rule that joins unit and card holds.
-pub record EachIsStrung (f : Found) (c : Card) (b : Book) (z : Standing) (unit card : State) : Type 0 where
+pub record EachIsStrung (f : Found) (h : Hands) (c : Card) (b : Book) (z : Standing) (unit card : State) : Type 0 where
   pub sizes : IsApplication (own_sizes (found_of f c).image)
   pub entries : (found_of f c).start.entries ≡ (own_view (found_of f c).image).held.entries
-  pub held : CardHoldsString (found_of f c) c b z card
+  pub held : CardHoldsString (found_of f c) h c b z card
   pub valid : (x : List ℕ) → card.left_since (found_of f c).began x → IsOwnValid x
   pub rises : Rise (brought_by c (found_of f c).start b)
   pub none : b.maybe ≡ None

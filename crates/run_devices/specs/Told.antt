@@ -3,6 +3,7 @@
 use Rattle.std.specs.Prelude.{◌≡◌, ◌≢◌, ℕ, suc, max, ◌<◌, ◌≤◌, true, Option, Some, None, IfSome, List, [], ◌∷◌, ◌++◌}
 use Rattle.std.specs.Prelude.{All, Contains, length, map, is_some, option_to_list}
 use Rattle.activity_codec.specs.declared.entries.Entry.{Entry}
+use Rattle.activity_codec.specs.declared.entries.Manual.{Manual}
 use Rattle.trace_model.specs.declared.Card.{Card}
 use Rattle.trace_model.specs.declared.Card.TheVariants.{A, B}
 use Rattle.tach_media.specs.Medium.{State}
@@ -11,10 +12,12 @@ use Rattle.log_model.specs.declared.lines.Mark.{Mark}
 use Rattle.log_model.specs.Causes.{device_of}
 use Rattle.card_layout.specs.Application.{IsApplication}
 use Rattle.card_retention.specs.Retains.{Rise}
-use Rattle.card_image.specs.Own.{own_view, own_sizes, IsOwnValid}
+use Rattle.card_image.specs.Own.{own_view, own_sizes, own_covered, IsOwnValid}
 use Rattle.card_session.specs.Sessions.{Session, IsSession}
 use Rattle.card_session.specs.Cards.{MayEnd}
-use Rattle.card_string.specs.Since.{GoesSince}
+use Rattle.hand_model.specs.Written.{Hands, and_sure, and_given}
+use Rattle.card_by_hand.specs.First.{IsShutAt}
+use Rattle.card_string.specs.Since.{SitsSince}
 use Rattle.history_model.specs.Minutes.{card_history}
 use Rattle.history_model.specs.Book.{Book, found}
 use Rattle.device_rule.specs.Views.{unit_view, owed}
@@ -28,14 +31,14 @@ use Rattle.run_crew.specs.declared.cards.Accepted.{Accepted}
 use Rattle.run_crew.specs.declared.cards.Cards.{Cards}
 use Rattle.run_crew.specs.Cards.{known_of, session_of}
 use Rattle.run_promise.specs.Found.{CardFound, Found, found_of, unit_seen, AnyKept}
-use Rattle.run_promise.specs.Cards.{brought_by, CardMarksHold}
+use Rattle.run_promise.specs.Cards.{brought_by, CardMarksHold, HandMarksHold}
 use Rattle.run_promise.specs.Between.{RunLedger, LedgerStandsPowered, LedgerStands, devices}
 use Rattle.run_devices.specs.Strung.{CardHoldsString}
 
 -- ---- what was found
 
 -- What was found of the cards: two numbers, which are those that the valid ones have told, and for which owed rows are
--- begun; and of each valid card sizes, and the entries of its image.
+-- begun; and of each valid card sizes, and the entries of its image, which counts the words behind its end mark.
 pub record AreFoundCards (f : Found) (cards : Cards) : Type 0 where
   pub two : f.card_a.number ≢ f.card_b.number
   pub named : (c : Card) → IsOwnValid (found_of f c).image
@@ -45,6 +48,8 @@ pub record AreFoundCards (f : Found) (cards : Cards) : Type 0 where
   pub sizes : (c : Card) → IsOwnValid (found_of f c).image → IsApplication (own_sizes (found_of f c).image)
   pub entries : (c : Card) → IsOwnValid (found_of f c).image
       → (found_of f c).start.entries ≡ (own_view (found_of f c).image).held.entries
+  pub word : (c : Card) → IsOwnValid (found_of f c).image
+      → (found_of f c).start.word ≤ own_covered (found_of f c).image
 
 -- ---- the string
 
@@ -54,8 +59,9 @@ sure_of b = record b { maybe = None }
 
 -- WITHOUT POWER, or behind a failure of the unit: a card holds the string of the sure minutes, and what the minute says
 -- that may be there may come next.
-pub record CardHoldsStringUnpowered (f : CardFound) (c : Card) (b : Book) (z : Standing) (card : State) : Type 0 where
-  pub held : CardHoldsString f c (sure_of b) z card
+pub record CardHoldsStringUnpowered (f : CardFound) (h : Hands) (c : Card) (b : Book) (z : Standing)
+    (card : State) : Type 0 where
+  pub held : CardHoldsString f h c (sure_of b) z card
   pub comes : (x : List ℕ) → card.may_leave x
       → All (λ e. suc (max f.start.word (since z (own_view x).newest)) ≤ e.minute)
       (card_history c (option_to_list b.maybe))
@@ -63,33 +69,38 @@ pub record CardHoldsStringUnpowered (f : CardFound) (c : Card) (b : Book) (z : S
 -- so does each card that was valid
 abbrev pub AllWait : Found → RunLedger → Devices → Type 0
 AllWait f w d = (c : Card) → IsOwnValid (found_of f c).image
-    → CardHoldsStringUnpowered (found_of f c) c w.book (w.standing c) (card_of d c)
+    → CardHoldsStringUnpowered (found_of f c) (w.hands c) c w.book (w.standing c) (card_of d c)
 
 -- ---- the sessions
 
 -- A CARD IN ITS SLOT, with this session, and with these entries since the start: it stands with the session's newest
 -- minute, its image is what the session knows, and would be valid, were the session ended, and its string goes on with
 -- each minute later than that one and than the words at the start.
-pub record SessionIsOnCard (f : CardFound) (has : List Entry) (z : Standing) (s : Session) (card : State) : Type 0 where
+pub record SessionIsOnCard (f : CardFound) (h : Hands) (has : List Entry) (z : Standing) (s : Session)
+    (card : State) : Type 0 where
   pub time : ℕ
   pub stands : z ≡ In time s.minute
   pub sizes : s.application ≡ own_sizes f.image
   pub vehicle : s.registration ≡ f.vehicle
   pub session : IfSome card.image (IsSession s)
   pub ends : IfSome card.image (MayEnd s.application)
-  pub goes : IfSome card.image (GoesSince s.application f.image has (suc (max f.start.word s.minute)))
+  pub goes : IfSome card.image (SitsSince s.application f.image h has (suc (max f.start.word s.minute)))
+
+-- as long as it has kept no minute no entry is open at its end mark, so its first keep may write entries by hand
+abbrev pub IsFree : Accepted → State → Type 0
+IsFree a card = a.held.begun ≡ None → IfSome card.image (IsShutAt a.session.application)
 
 -- a card goes with its session, and is in its slot, accepted, exactly where it has one
-abbrev pub GoesWith : CardFound → (has : List Entry) → Standing → Option Accepted → State → Type 0
-GoesWith f has z None card = IsNotIn z
-GoesWith f has z (Some accepted) card = SessionIsOnCard f has z accepted.session card
+abbrev pub GoesWith : CardFound → Hands → (has : List Entry) → Standing → Option Accepted → State → Type 0
+GoesWith f h has z None card = IsNotIn z
+GoesWith f h has z (Some accepted) card = SessionIsOnCard f h has z accepted.session card × IsFree accepted card
 
 -- while these entries are owed to it: it has all others that it is to have
-pub record GoesOwing (f : CardFound) (c : Card) (b : Book) (owes : List Entry) (z : Standing)
+pub record GoesOwing (f : CardFound) (h : Hands) (c : Card) (b : Book) (owes : List Entry) (z : Standing)
     (session : Option Accepted) (card : State) : Type 0 where
   pub has : List Entry
   pub all : has ++ owes ≡ brought_by c f.start b
-  pub goes : GoesWith f has z session card
+  pub goes : GoesWith f h has z session card
 
 -- nothing is owed
 abbrev pub owes_nothing : Card → List Entry
@@ -98,19 +109,22 @@ owes_nothing c = []
 -- so do all that were valid
 pub record AllGo (f : Found) (w : RunLedger) (owes : Card → List Entry) (cards : Cards) (d : Devices) : Type 0 where
   pub held : (c : Card) → IsOwnValid (found_of f c).image
-      → CardHoldsString (found_of f c) c w.book (w.standing c) (card_of d c)
+      → CardHoldsString (found_of f c) (w.hands c) c w.book (w.standing c) (card_of d c)
   pub goes : (c : Card) → IsOwnValid (found_of f c).image
-      → GoesOwing (found_of f c) c w.book (owes c) (w.standing c) (session_of cards c) (card_of d c)
+      → GoesOwing (found_of f c) (w.hands c) c w.book (owes c) (w.standing c) (session_of cards c) (card_of d c)
 
--- A card that was put in and whose row is not begun yet: so is its image, and so its string goes on.
-pub record IsPutIn (f : CardFound) (c : Card) (b : Book) (now : ℕ) (s : Session) (card : State) : Type 0 where
+-- A card that was put in and whose row is not begun yet: so is its image, so its string goes on, and no entry is open
+-- at its end mark.
+pub record IsPutIn (f : CardFound) (h : Hands) (c : Card) (b : Book) (now : ℕ) (s : Session) (card : State) : Type
+    0 where
   pub entered : IsEntered f.start f.began now s.minute (of_card card)
   pub sizes : s.application ≡ own_sizes f.image
   pub vehicle : s.registration ≡ f.vehicle
   pub session : IfSome card.image (IsSession s)
   pub ends : IfSome card.image (MayEnd s.application)
-  pub goes : IfSome card.image (GoesSince s.application f.image (brought_by c f.start b)
+  pub goes : IfSome card.image (SitsSince s.application f.image h (brought_by c f.start b)
       (suc (max f.start.word s.minute)))
+  pub shut : IfSome card.image (IsShutAt s.application)
 
 -- ---- all of it
 
@@ -130,6 +144,8 @@ pub record IsLitWith (f : Found) (w : RunLedger) (puts owes : Card → List Entr
   pub brought : (c : Card) → IsOwnValid (found_of f c).image → (k : ℕ) → Contains (w.brought c) k
       → HasBrought f.card_a.number f.card_b.number c k d.unit (card_of d c)
   pub marks : (c : Card) → CardMarksHold (found_of f c) c w.book w.marks (card_of d c)
+  pub hands : (c : Card) → IsOwnValid (found_of f c).image
+      → HandMarksHold (found_of f c) (w.hands c) (w.firsts c) (card_of d c)
 
 -- nothing is put any more
 abbrev pub IsLitOwing : Found → RunLedger → (owes : Card → List Entry) → Devices → Type 0
@@ -177,6 +193,17 @@ with_acceptance c now newest kept w = record
 -- the marks of entries that a card has, all at this clock
 abbrev pub card_marks : Card → (clock : ℕ) → List Entry → List Mark
 card_marks c clock es = map (λ e. record { device = device_of c; minute = e.minute; clock = clock }) es
+
+-- a keep with these entries by hand was broken off, or acknowledged with this mark
+abbrev pub with_given : Card → List Manual → RunLedger → RunLedger
+with_given c hands w = record w { hands = for_card c (and_given hands (w.hands c)) w.hands }
+
+abbrev pub with_first : Card → Mark → List Manual → RunLedger → RunLedger
+with_first c m hands w = record w {
+  hands = for_card c (and_sure hands (w.hands c)) w.hands;
+  firsts = for_card c
+      (w.firsts c ++ record { mark = m; hands = hands } ∷ []) w.firsts;
+}
 
 -- marks more
 abbrev pub with_marks : List Mark → RunLedger → RunLedger

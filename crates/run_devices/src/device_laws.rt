@@ -84,7 +84,7 @@ pub fn a_card_that_is_put_in_leaves_what_is_carried<
         (N.state unit_after.now) (C.state mine.now) (D.state mine_after.now) answer.now →
         DevicesPowered f w cards (arranged c (M.state unit.now) (C.state mine.now) (E.state others.now))
         → IsOwnValid (found_of f c).image → (e : CardEntered) → answer.now ≡ Ok e →
-        IsPutIn (found_of f c) c w.book now e.session (D.state mine_after.now)
+        IsPutIn (found_of f c) (w.hands c) c w.book now e.session (D.state mine_after.now)
         × ((N.state unit_after.now).works ≡ true → IsSettled (D.state mine_after.now)
         → DevicesPowered f (with_marks (card_marks c (D.state mine_after.now).clock e.owed.items) w) cards
         (arranged c (N.state unit_after.now) (D.state mine_after.now) (E.state others.now))) }

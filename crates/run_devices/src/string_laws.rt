@@ -1,5 +1,6 @@
 ghost use Rattle.std.specs.Prelude.{ℕ, List};
 ghost use Rattle.trace_model.specs.declared.Card.{Card};
+ghost use Rattle.hand_model.specs.Written.{Hands};
 ghost use Rattle.history_model.specs.Book.{Book};
 ghost use Rattle.device_rule.specs.Rules.{Standing, Out};
 ghost use Rattle.run_promise.specs.Found.{Found, found_of};
@@ -12,10 +13,10 @@ use tach_media::{Chip, Medium};
 /// owed to it may come next, since it is what the string lacks. And so is its string held where the card is not
 /// accepted any more.
 pub fn a_string_that_each_image_holds_is_strung<M: Medium, C: Chip>(unit: &M, card: &C)
-    ensures strung { (f : Found) (c : Card) (b : Book) (z : Standing)
-        → EachIsStrung f c b z (M.state unit.now) (C.state card.now)
-        → IsStrung f c b z (M.state unit.now) (C.state card.now) }
-    ensures out { (f : Found) (c : Card) (b : Book) (z : Standing) (u : List ℕ) → (M.state unit.now).may_leave u
-        → EachIsStrung f c b z (M.state unit.now) (C.state card.now)
-        → CardHoldsString (found_of f c) c b Out (C.state card.now) }
+    ensures strung { (f : Found) (hd : Hands) (c : Card) (b : Book) (z : Standing)
+        → EachIsStrung f hd c b z (M.state unit.now) (C.state card.now)
+        → IsStrung f hd c b z (M.state unit.now) (C.state card.now) }
+    ensures out { (f : Found) (hd : Hands) (c : Card) (b : Book) (z : Standing) (u : List ℕ)
+        → (M.state unit.now).may_leave u → EachIsStrung f hd c b z (M.state unit.now) (C.state card.now)
+        → CardHoldsString (found_of f c) hd c b Out (C.state card.now) }
 {}

@@ -62,8 +62,8 @@ powered-as f w cards after c U X Y found mine others p =
     let parts : AreParts f w cards c U X Y = parts-of f w cards c U X Y p in
     powered-of f w after c U X Y found (record {
       unit = parts.unit;
-      mine = λ valid. subst (λ (o : Option Accepted). CardLit f w.book (w.standing c) (w.brought c) o c U X) (sym mine) (parts.mine valid);
-      others = λ valid. subst (λ (o : Option Accepted). CardLit f w.book (w.standing (other c)) (w.brought (other c)) o (other c) U Y) (sym others) (parts.others valid);
+      mine = λ valid. subst (λ (o : Option Accepted). CardLit f w.book (w.standing c) (w.hands c) (w.firsts c) (w.brought c) o c U X) (sym mine) (parts.mine valid);
+      others = λ valid. subst (λ (o : Option Accepted). CardLit f w.book (w.standing (other c)) (w.hands (other c)) (w.firsts (other c)) (w.brought (other c)) o (other c) U Y) (sym others) (parts.others valid);
       marks_mine = parts.marks_mine;
       marks_others = parts.marks_others;
     })
@@ -180,7 +180,7 @@ module _ (app : Application) (e : Entering) (k : Keeper) (U V X M Z : State) (un
 
     -- the newest minute that it answered: nothing is owed to it any more
     module _ (works : V.works ≡ true) (low : M.clock < last_count) where
-      put-lit : CardLit f w.book (w.standing e.which) (w.brought e.which) (session_of k.cabin.cards e.which) e.which V M
+      put-lit : CardLit f w.book (w.standing e.which) (w.hands e.which) (w.firsts e.which) (w.brought e.which) (session_of k.cabin.cards e.which) e.which V M
       put-lit = (parts-of f w k.cabin.cards e.which V M Z (judged-powered works)).mine valid
 
       put-entered : IsEntered (found_of f e.which).start (found_of f e.which).began e.at.second entered.session.minute (of_card M)

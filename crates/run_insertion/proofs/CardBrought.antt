@@ -1,5 +1,5 @@
 -- The events that a card shows once it was judged.
-use Rattle.std.proofs.Common.{◌≡◌, ◌≢◌, ◌⊎◌, ◌∙◌, inl, inr, ⊎_elim, ℕ, ◌+◌, ◌≤◌, Bool, true, false, cond, Some, IfSome, List, [], ◌∷◌, ◌++◌, length, refl, sym, ap, subst, arith}
+use Rattle.std.proofs.Common.{◌≡◌, ◌≢◌, ◌⊎◌, ◌∙◌, inl, inr, ⊎_elim, ℕ, ◌+◌, ◌/◌, ◌≤◌, Bool, true, false, cond, Some, IfSome, List, [], ◌∷◌, ◌++◌, length, refl, sym, ap, subst, arith}
 use Rattle.std.specs.Prelude.{nat_lt, nat_eq}
 use Rattle.std.proofs.lemmas.List.Elements.{filter-append}
 use Rattle.tach_media.specs.Medium.{State, IsCoherent, LeavesOnly, Unchanged}
@@ -16,6 +16,7 @@ use Rattle.run_insertion.specs.declared.lines.Entering.{Entering}
 use Rattle.trace_model.specs.declared.Card.{Card}
 use Rattle.trace_model.specs.declared.Card.TheVariants.{A, B}
 use Rattle.card_layout.specs.declared.command.CardState.{CardState}
+use Rattle.hand_model.specs.Holding.{none_held}
 use Rattle.run_crew.specs.Cards.{known_of}
 use Rattle.run_crew.specs.Cabin.{with_accepted}
 use Rattle.run_minutes.specs.declared.keeper.Keeper.{Keeper}
@@ -184,7 +185,7 @@ sits-works e k v noted (Unnoted entered clock) chip Y is ready sitting = absurd 
 sits-works e k v noted (Seated entered clock entry) chip Y is ready sitting =
     at e.which (subst (λ (w : Keeper). CardMayBeCalled (known_of w.cabin.cards e.which) chip Y) is ready)
   where
-    at : (card : Card) → CardMayBeCalled (known_of (with_accepted e.slot card entered.look.number entered.row (record { session = entered.session; entry = entry; noted = and_one noted }) k.cabin).cards card) chip Y → Y.works ≡ true
+    at : (card : Card) → CardMayBeCalled (known_of (with_accepted e.slot card entered.look.number entered.row (record { session = entered.session; held = none_held (e.at.second / 60); entry = entry; noted = and_one noted }) k.cabin).cards card) chip Y → Y.works ≡ true
     at A now = now.works
     at B now = now.works
 sits-works e k v noted (Lost entered clock entry) chip Y is ready sitting = absurd sitting

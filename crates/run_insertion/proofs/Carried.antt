@@ -18,6 +18,7 @@ use Rattle.card_image.specs.Judging.{IsValid}
 use Rattle.card_image.specs.Own.{own_sizes, IsOwnValid}
 use Rattle.card_validity.specs.declared.looking.CardLook.{CardLook}
 use Rattle.card_session.specs.Sessions.{Session, IsValue}
+use Rattle.hand_model.specs.Holding.{none_held}
 use Rattle.log_model.specs.declared.lines.Mark.{Mark}
 use Rattle.history_model.specs.Book.{Book}
 use Rattle.history_model.proofs.Books.{mark-earlier}
@@ -72,11 +73,12 @@ found-same f cards after same found = record {
   own = found.own;
   sizes = found.sizes;
   entries = found.entries;
+  word = found.word;
 }
 
 -- a card that is accepted told the number that it had
 pub found-seated : (f : Found) (slot : Slot) (which : Card) (number : FullCardNumber) (row : ℕ) (accepted : Accepted) (cabin : Cabin) → card_number_bytes number ≡ (found_of f which).number → AreFoundCards f cabin.cards → AreFoundCards f (with_accepted slot which number row accepted cabin).cards
-found-seated f slot A number row accepted cabin is found = record { two = found.two; named = named; told = told; own = found.own; sizes = found.sizes; entries = found.entries }
+found-seated f slot A number row accepted cabin is found = record { two = found.two; named = named; told = told; own = found.own; sizes = found.sizes; entries = found.entries; word = found.word }
   where
     named : (c : Card) → IsOwnValid (found_of f c).image → IfSome (known_of (with_accepted slot A number row accepted cabin).cards c).number (λ n. card_number_bytes n ≡ (found_of f c).number)
     named A valid = is
@@ -85,7 +87,7 @@ found-seated f slot A number row accepted cabin is found = record { two = found.
     told : (c : Card) → IsOwnValid (found_of f c).image → is_some (known_of (with_accepted slot A number row accepted cabin).cards c).number ≡ true
     told A valid = refl
     told B valid = found.told B valid
-found-seated f slot B number row accepted cabin is found = record { two = found.two; named = named; told = told; own = found.own; sizes = found.sizes; entries = found.entries }
+found-seated f slot B number row accepted cabin is found = record { two = found.two; named = named; told = told; own = found.own; sizes = found.sizes; entries = found.entries; word = found.word }
   where
     named : (c : Card) → IsOwnValid (found_of f c).image → IfSome (known_of (with_accepted slot B number row accepted cabin).cards c).number (λ n. card_number_bytes n ≡ (found_of f c).number)
     named A valid = found.named A valid
@@ -130,9 +132,9 @@ module _ (f : Found) (w : RunLedger) (cards : Cards) (c : Card) (U X Z : State) 
     unit = record { tells = put-parts.unit.tells; works = put-parts.unit.works; unit = put-parts.unit.unit; none = put-parts.unit.none };
     mine = λ valid.
         let one = put-parts.mine valid in
-        at-card c (kept ∷ w.brought c) w.brought (λ (ks : List ℕ). CardLit f w.book (w.standing c) ks (session_of cards c) c U X)
-        (record { rule = one.rule; valid = one.valid; rises = one.rises; brought = λ k in_. nothing-owed k; held = one.held; goes = one.goes });
-    others = λ valid. at-other c (kept ∷ w.brought c) w.brought (λ (ks : List ℕ). CardLit f w.book (w.standing (other c)) ks (session_of cards (other c)) (other c) U Z) (put-parts.others valid);
+        at-card c (kept ∷ w.brought c) w.brought (λ (ks : List ℕ). CardLit f w.book (w.standing c) (w.hands c) (w.firsts c) ks (session_of cards c) c U X)
+        (record { rule = one.rule; valid = one.valid; rises = one.rises; brought = λ k in_. nothing-owed k; held = one.held; hands = one.hands; goes = one.goes });
+    others = λ valid. at-other c (kept ∷ w.brought c) w.brought (λ (ks : List ℕ). CardLit f w.book (w.standing (other c)) (w.hands (other c)) (w.firsts (other c)) ks (session_of cards (other c)) (other c) U Z) (put-parts.others valid);
     marks_mine = put-parts.marks_mine;
     marks_others = put-parts.marks_others;
   })
@@ -146,7 +148,7 @@ module _ (f : Found) (w : RunLedger) (k : Keeper) (e : Entering) (look : CardLoo
     → IsRowTaken r e.which b e.at.second newest failed W X)
     (others : (r : Both) (s : Started) (due : ℕ) (b : Book) (marks : List Mark) (z : Standing) (n d : List Entry) → card_number_bytes look.number ≡ number_of r e.which → spared ≡ Some (number_of r (other e.which)) → CardHolds r (other e.which) b z n d V Z → IsKeptUp r (other e.which) b z n d failed W Z) where
   abbrev accepted : Accepted
-  accepted = record { session = session; entry = entry; noted = and_one noted }
+  accepted = record { session = session; held = none_held (e.at.second / 60); entry = entry; noted = and_one noted }
 
   noted-so : DevicesPowered f w k.cabin.cards (arranged e.which V X Z)
   noted-so = noted-carried e.which f w k.cabin.cards U V X Z false m.found whole m.powered run cause
@@ -188,8 +190,8 @@ module _ (f : Found) (w : RunLedger) (app : Application) (a : Accepted) (e : Ent
   on-sizes : app ≡ own_sizes (found_of f e.which).image
   on-sizes =
       let one = (parts-of f w k.cabin.cards e.which U X Z m.powered).mine m.valid in
-      let on = subst (λ (o : Option Accepted). GoesOwing (found_of f e.which) e.which w.book [] (w.standing e.which) o X) m.has one.goes in
-      sym m.sizes ∙ on.goes.sizes
+      let on = subst (λ (o : Option Accepted). GoesOwing (found_of f e.which) (w.hands e.which) e.which w.book [] (w.standing e.which) o X) m.has one.goes in
+      sym m.sizes ∙ on.goes.0.sizes
 
   module _ (cause : HasCause U V false) (after : IsCoherent V) (before : IsCoherent X) (Y : State) (behind : IsCoherent Y) (event : CardEvent) (noting : LeavesOnly X Y (IsNotingEvent app event)) where
     on-card : DevicesPowered f w k.cabin.cards (arranged e.which V X Z)
@@ -247,7 +249,7 @@ pub seat-found : (look : CardLook) (session : Session) (row : ℕ) (e : Entering
     → AreFoundCards f k.cabin.cards → AreFoundCards f v.cabin.cards
 seat-found look session row e failed k v noted noted_after unit None s f named found = subst (λ (q : Keeper). AreFoundCards f q.cabin.cards) (sym s.1) found
 seat-found look session row e failed k v noted noted_after unit (Some entry) s f named found =
-    subst (λ (q : Keeper). AreFoundCards f q.cabin.cards) (sym s.1) (found-seated f e.slot e.which look.number row (record { session = session; entry = entry; noted = and_one noted }) k.cabin named found)
+    subst (λ (q : Keeper). AreFoundCards f q.cabin.cards) (sym s.1) (found-seated f e.slot e.which look.number row (record { session = session; held = none_held (e.at.second / 60); entry = entry; noted = and_one noted }) k.cabin named found)
 
 -- ---- A CARD IS TAKEN IN
 
@@ -276,7 +278,7 @@ module _ (app : Application) (e : Entering) (entered : Entered) (clock : ℕ) (k
       → TimesNotes app e k1 (arranged e.which V X Z) X Y → BooksTaken entered (taken_as fell entered clock entry) e failed k v U W X Y Z
   taken-notes is None s sizes seat value notes times = absurd (not_failed s.0)
   taken-notes is (Some entry) s sizes seat value notes times = λ f w m.
-      let a : Accepted = record { session = entered.session; entry = entry; noted = and_one noted } in
+      let a : Accepted = record { session = entered.session; held = none_held (e.at.second / 60); entry = entry; noted = and_one noted } in
       let may : MayNote f (carried_seated entered.session e k.journal.kept w) k1.cabin.cards e app a (arranged e.which V X Z) = record {
         found = subst (λ (q : Keeper). AreFoundCards f q.cabin.cards) (sym s.1) (found-seated f e.slot e.which entered.look.number entered.row a k.cabin m.named m.found);
         powered = seat f w m;

@@ -1,5 +1,6 @@
 -- What becomes of a card that was put into a slot, or meets power there, by value (profile).
-use Rattle.std.specs.Prelude.{ℕ, ◌+◌, ◌-◌, ◌^◌, min, Bool, true, false, Option, Some, None, Result, Ok, Err, List, []}
+use Rattle.std.specs.Prelude.{ℕ, ◌+◌, ◌-◌, ◌/◌, ◌^◌, min, Bool, true, false, Option, Some, None, Result, Ok, Err, List}
+use Rattle.std.specs.Prelude.{[]}
 use Rattle.std.specs.Prelude.{◌∷◌, length, drop, nat_lt, replicate, if◌then◌else◌}
 use Rattle.activity_codec.specs.declared.entries.Entry.{Entry}
 use Rattle.activity_codec.specs.declared.values.Slot.{Slot}
@@ -20,6 +21,7 @@ use Rattle.log_model.specs.declared.lines.Verdict.{Verdict}
 use Rattle.log_model.specs.declared.lines.Verdict.TheVariants as verdict
 use Rattle.log_model.specs.Causes.{device_of}
 use Rattle.device_calls.specs.declared.entering.Entered.{Entered}
+use Rattle.hand_model.specs.Holding.{none_held}
 use Rattle.run_crew.specs.declared.cards.Accepted.{Accepted}
 use Rattle.run_crew.specs.declared.cabin.Cabin.{Cabin}
 use Rattle.run_crew.specs.Cabin.{torn_out, with_sizes_of, with_accepted}
@@ -134,8 +136,8 @@ noted_by (Lost entered clock entry) noted = and_one noted
 -- the card is accepted in its slot
 abbrev pub seated : CardLook → Session → (row entry noted : ℕ) → Entering → Cabin → Cabin
 seated look session row entry noted e cabin =
-    with_accepted e.slot e.which look.number row (record { session = session; entry = entry; noted = and_one noted })
-    cabin
+    with_accepted e.slot e.which look.number row
+    (record { session = session; held = none_held (e.at.second / 60); entry = entry; noted = and_one noted }) cabin
 
 abbrev pub cabin_by : Ending → Entering → (noted : ℕ) → Cabin → Cabin
 cabin_by (Unfit fid place) e noted cabin = cabin

@@ -42,7 +42,7 @@ pub record MaySeat (f : Found) (w : RunLedger) (k : Keeper) (e : Entering) (look
   pub powered : DevicesPowered f w k.cabin.cards (arranged e.which unit card others)
   pub valid : IsOwnValid (found_of f e.which).image
   pub out : w.standing e.which ≡ Out
-  pub put : IsPutIn (found_of f e.which) e.which w.book e.at.second session card
+  pub put : IsPutIn (found_of f e.which) (w.hands e.which) e.which w.book e.at.second session card
   pub late : w.due ≤ e.at.second / 60
   pub named : card_number_bytes look.number ≡ (found_of f e.which).number
 

@@ -1,12 +1,9 @@
 //! A card that was put into a slot, or meets power there, is accepted or turned away.
-ghost use Rattle.std.specs.Prelude.{◌≡◌, ◌≢◌, ◌+◌, ◌/◌, ◌<◌, ◌≤◌, ◌^◌, true, false, Some, None, Ok, IfSome, OnOk};
+ghost use Rattle.std.specs.Prelude.{◌≡◌, ◌≢◌, ◌+◌, ◌/◌, ◌<◌, ◌≤◌, ◌^◌, IfSome, OnOk};
 ghost use Rattle.std.specs.Prelude.{length, is_err};
 ghost use Rattle.trace_model.specs.declared.Card.{Card};
 ghost use Rattle.tach_media.specs.Medium.{LeavesOnly, HasCause};
 ghost use Rattle.unit_notes.specs.Journal.{LeavesJournal};
-ghost use Rattle.card_commands.specs.Ports.{IsPort};
-ghost use Rattle.card_slots.specs.Calls.{seat_in, is_card};
-ghost use Rattle.log_model.specs.Slots.{other_slot};
 ghost use Rattle.run_crew.specs.Cards.{known_of, session_of};
 ghost use Rattle.run_minutes.specs.Keeping.{UnitMayBeCalled, HasItsRow};
 ghost use Rattle.card_layout.specs.declared.files.TheConstants.{LARGEST_IMAGE};
@@ -14,11 +11,10 @@ ghost use Rattle.card_image.specs.Own.{own_sizes};
 ghost use Rattle.card_validity.specs.Judged.{TellsSizes};
 ghost use Rattle.run_insertion.specs.Told.{BooksJudged, BooksEntered, IsEarly, WasInTime};
 ghost use Rattle.card_model.specs.declared.lengths.TheConstants.{DAYS_MOST};
-ghost use Rattle.card_session.specs.declared.words.TheConstants.{LATEST_MINUTE};
 ghost use Rattle.run_insertion.specs.Entering.{Ending, Way, Unfit, Ahead, outcome_by, most_owed};
 ghost use Rattle.run_insertion.specs.Noted.{HasNoted, IsOnUnit, IsComing, notes_by};
 ghost use Rattle.run_insertion.specs.Entered.{IsJudgedSo, HasEntered};
-ghost use Rattle.run_insertion.specs.Calls.{EnteringGoes, StandsEntered};
+ghost use Rattle.run_insertion.specs.Calls.{CardGoesBy, EnteringGoes, MayBeJudged, StandsEntered};
 
 use crate::lines::{Entering, find, other_card};
 use crate::noting::{note_not_valid, note_overlap};
@@ -105,23 +101,11 @@ fn accept_by<M: Medium, C: Chip, D: Chip>(
     outcome: &mut Outcome,
 ) -> Result<(), Failed>
     requires ready { UnitMayBeCalled keeper.old (M.state unit.old) }
-    requires seat { seat_in keeper.old.cabin.slots.seats entering.slot
-        ≡ Some (record { card = entering.which; newest = None }) }
-    requires elsewhere { is_card (seat_in keeper.old.cabin.slots.seats (other_slot entering.slot)) entering.which
-        ≡ false }
-    requires minute { keeper.old.cabin.slots.minute ≤ entering.at.second / 60 }
-    requires second { entering.at.second ≢ 0 }
-    requires late { keeper.old.journal.kept < entering.at.second / 60 }
-    requires last { entering.at.second / 60 < LATEST_MINUTE }
-    requires fits { entering.odometer.0 < 2 ^ 24 }
-    requires sizes { (known_of keeper.old.cabin.cards entering.which).sizes ≡ Ok app }
-    requires bare { session_of keeper.old.cabin.cards entering.which ≡ None }
-    requires port { IsPort app None (C.card card.old) (C.state card.old) }
+    requires may { MayBeJudged entering keeper.old outcome.old }
+    requires card { CardGoesBy app (known_of keeper.old.cabin.cards entering.which) (C.card card.old)
+        (C.state card.old) }
     requires told { IfSome (C.state card.old).image (TellsSizes app) }
     requires sized { IfSome (C.state card.old).image (λ x. own_sizes x ≡ app) }
-    requires works { (C.state card.old).works ≡ true }
-    requires breaks { length outcome.old.breaks.items < outcome.old.breaks.room }
-    requires finds { length outcome.old.finds.items < outcome.old.finds.room }
     ensures marks { (outcome.new.marks.room ≡ outcome.old.marks.room)
         × (length outcome.new.marks.items ≤ length outcome.old.marks.items + most_owed) }
     ensures ended { (ending : Ending)
@@ -129,7 +113,8 @@ fn accept_by<M: Medium, C: Chip, D: Chip>(
         (M.state unit.old) (M.state unit.new) (C.state card.old) (C.state card.new) ending
         × BooksJudged ending entering (is_err result) keeper.old keeper.new (M.state unit.old) (M.state unit.new)
         (C.state card.old) (C.state card.new) (D.state others.now) }
-    ensures behind { StandsEntered entering.which result keeper.old keeper.new (M.state unit.old) (M.state unit.new)
+    ensures behind { StandsEntered entering.which (entering.at.second / 60) result keeper.old keeper.new
+        (M.state unit.old) (M.state unit.new)
         (C.state card.old) (C.state card.new) (C.card card.new) }
     ensures row { IfSome (session_of keeper.new.cabin.cards entering.which)
         (λ a. OnOk result (HasItsRow keeper.new.cabin.cards (M.state unit.new) entering.which)) }
@@ -192,26 +177,16 @@ pub fn accept<M: Medium, C: Chip, D: Chip>(
     outcome: &mut Outcome,
 ) -> Result<(), Failed>
     requires ready { UnitMayBeCalled keeper.old (M.state unit.old) }
-    requires seat { seat_in keeper.old.cabin.slots.seats entering.slot
-        ≡ Some (record { card = entering.which; newest = None }) }
-    requires elsewhere { is_card (seat_in keeper.old.cabin.slots.seats (other_slot entering.slot)) entering.which
-        ≡ false }
-    requires minute { keeper.old.cabin.slots.minute ≤ entering.at.second / 60 }
-    requires second { entering.at.second ≢ 0 }
-    requires late { keeper.old.journal.kept < entering.at.second / 60 }
-    requires last { entering.at.second / 60 < LATEST_MINUTE }
-    requires fits { entering.odometer.0 < 2 ^ 24 }
-    requires bare { session_of keeper.old.cabin.cards entering.which ≡ None }
+    requires may { MayBeJudged entering keeper.old outcome.old }
     requires size { LARGEST_IMAGE ≤ (C.state card.old).size }
-    requires breaks { length outcome.old.breaks.items < outcome.old.breaks.room }
-    requires finds { length outcome.old.finds.items < outcome.old.finds.room }
     ensures marks { (outcome.new.marks.room ≡ outcome.old.marks.room)
         × (length outcome.new.marks.items ≤ length outcome.old.marks.items + most_owed) }
     ensures entered { (way : Way) × HasEntered entering (is_err result) keeper.old keeper.new noted.old noted.new
         outcome.old outcome.new (M.state unit.old) (M.state unit.new) (C.state card.old) (C.state card.new) way
         × BooksEntered way entering (is_err result) keeper.old keeper.new (M.state unit.old) (M.state unit.new)
         (C.state card.old) (C.state card.new) (D.state others.now) }
-    ensures behind { StandsEntered entering.which result keeper.old keeper.new (M.state unit.old) (M.state unit.new)
+    ensures behind { StandsEntered entering.which (entering.at.second / 60) result keeper.old keeper.new
+        (M.state unit.old) (M.state unit.new)
         (C.state card.old) (C.state card.new) (C.card card.new) }
     ensures row { IfSome (session_of keeper.new.cabin.cards entering.which)
         (λ a. OnOk result (HasItsRow keeper.new.cabin.cards (M.state unit.new) entering.which)) }

@@ -1,23 +1,20 @@
 //! A card that is found to be accepted is so: its insertion is noted, its row begins, and what comes with it is noted.
 ghost use Rattle.std.specs.Prelude.{◌≡◌, ◌≢◌, ℕ, ◌+◌, ◌/◌, ◌<◌, ◌≤◌, ◌^◌, Bool, true, false, Option, Some, None, Ok};
 ghost use Rattle.std.specs.Prelude.{IfSome, OnOk, length, is_err, option_map};
-ghost use Rattle.trace_model.specs.declared.Card.{Card};
-ghost use Rattle.tach_media.specs.Medium.{HasCause};
 ghost use Rattle.tacho_types.specs.CardNumber.{card_number_bytes};
 ghost use Rattle.unit_owed.specs.Rows.{IsRowFor};
 ghost use Rattle.device_rule.specs.Views.{other};
-ghost use Rattle.card_commands.specs.Ports.{IsPort};
 ghost use Rattle.card_slots.specs.Calls.{seat_in, is_card};
 ghost use Rattle.log_model.specs.Slots.{other_slot};
 ghost use Rattle.run_crew.specs.Cards.{known_of, session_of};
-ghost use Rattle.run_crew.specs.Cabin.{CabinIsSound};
 ghost use Rattle.run_minutes.specs.Keeping.{UnitMayBeCalled, CardMayBeCalled, HasItsRow};
 ghost use Rattle.run_insertion.specs.Entering.{taken_as, most_owed};
 ghost use Rattle.card_session.specs.Sessions.{IsValue};
 ghost use Rattle.run_devices.specs.Told.{arranged};
 ghost use Rattle.run_insertion.specs.Told.{BooksSeat, BooksNotes, TimesNotes, BooksTaken};
 ghost use Rattle.run_insertion.specs.Entered.{FitsInsertion, IsSeated, IsMoved, IsNotedOn, IsEntry, IsTaken};
-ghost use Rattle.run_insertion.specs.Calls.{EnteringGoes, IsWithinBounds, StandsEntered};
+ghost use Rattle.run_insertion.specs.Calls.{CardGoesBy, EnteringGoes, IsWithinBounds, MayComeIn, StandsEntered};
+ghost use Rattle.run_insertion.specs.Calls.{StandsSeated};
 
 use crate::lines::{Entering, find, insertion_of, other_card, tell_replayed};
 use crate::noting::{note_driving, note_unclosed};
@@ -25,6 +22,7 @@ use card_layout::Application;
 use card_session::CardSession;
 use card_validity::CardLook;
 use device_calls::{Entered, begin, note_event_on};
+use hand_model::Held;
 use log_model::{Break, Verdict};
 use run_crew::Accepted;
 use run_events::{card_driving, on_card};
@@ -63,13 +61,7 @@ fn seat<M: Medium, C: Chip, D: Chip>(
     ensures value { IsValue session }
     ensures booked { BooksSeat look.now session entering (is_err result) keeper.old keeper.new (M.state unit.old)
         (M.state unit.new) (C.state card.now) (D.state others.now) }
-    ensures ready { OnOk result (UnitMayBeCalled keeper.new (M.state unit.new)) }
-    ensures rows { (card : Card) → HasItsRow keeper.old.cabin.cards (M.state unit.old) card
-        → OnOk result (HasItsRow keeper.new.cabin.cards (M.state unit.new) card) }
-    ensures row { OnOk result (HasItsRow keeper.new.cabin.cards (M.state unit.new) entering.which) }
-    ensures stands { (from : ℕ) → keeper.old.cabin.slots.minute ≤ from → CabinIsSound from None keeper.old.cabin
-        → CabinIsSound from None keeper.new.cabin }
-    ensures cause { HasCause (M.state unit.old) (M.state unit.new) (is_err result) }
+    ensures behind { StandsSeated entering result keeper.old keeper.new (M.state unit.old) (M.state unit.new) }
     ensures most { (M.state unit.new).clock ≤ (M.state unit.old).clock + 12 }
 {
     let begin_second = entering.at.second;
@@ -80,6 +72,7 @@ fn seat<M: Medium, C: Chip, D: Chip>(
     let spared = keeper.cabin.cards.of(other_card(entering.which)).number;
     let accepted = Accepted {
         session,
+        held: Held::new(begin_second / 60),
         entry,
         noted: *noted,
     };
@@ -125,7 +118,8 @@ fn note_moving<M: Medium, C: Chip, D: Chip>(
     ensures timed { TimesNotes app entering keeper.old
         (arranged entering.which (M.state unit.old) (C.state card.old) (D.state others.now)) (C.state card.old)
         (C.state card.new) }
-    ensures behind { StandsEntered entering.which result keeper.old keeper.new (M.state unit.old) (M.state unit.new)
+    ensures behind { StandsEntered entering.which keeper.old.cabin.slots.minute result keeper.old keeper.new
+        (M.state unit.old) (M.state unit.new)
         (C.state card.old) (C.state card.new) (C.card card.new) }
     ensures most { ((M.state unit.new).clock ≤ (M.state unit.old).clock + 8)
         × ((C.state card.new).clock ≤ (C.state card.old).clock + 4) }
@@ -171,7 +165,8 @@ fn note_entered<M: Medium, C: Chip, D: Chip>(
     ensures timed { TimesNotes app entering keeper.old
         (arranged entering.which (M.state unit.old) (C.state card.old) (D.state others.now)) (C.state card.old)
         (C.state card.new) }
-    ensures behind { StandsEntered entering.which result keeper.old keeper.new (M.state unit.old) (M.state unit.new)
+    ensures behind { StandsEntered entering.which keeper.old.cabin.slots.minute result keeper.old keeper.new
+        (M.state unit.old) (M.state unit.new)
         (C.state card.old) (C.state card.new) (C.card card.new) }
     ensures most { ((M.state unit.new).clock ≤ (M.state unit.old).clock + 12)
         × ((C.state card.new).clock ≤ (C.state card.old).clock + 4) }
@@ -208,20 +203,10 @@ pub(crate) fn take_in<M: Medium, C: Chip, D: Chip>(
     outcome: &mut Outcome,
 ) -> Result<(), Failed>
     requires ready { UnitMayBeCalled keeper.old (M.state unit.old) }
-    requires seat { seat_in keeper.old.cabin.slots.seats entering.slot
-        ≡ Some (record { card = entering.which; newest = None }) }
-    requires elsewhere { is_card (seat_in keeper.old.cabin.slots.seats (other_slot entering.slot)) entering.which
-        ≡ false }
-    requires minute { keeper.old.cabin.slots.minute ≤ entering.at.second / 60 }
-    requires second { entering.at.second ≢ 0 }
-    requires fits { entering.odometer.0 < 2 ^ 24 }
-    requires sizes { (known_of keeper.old.cabin.cards entering.which).sizes ≡ Ok app }
+    requires come { MayComeIn entering keeper.old outcome.old }
+    requires card { CardGoesBy app (known_of keeper.old.cabin.cards entering.which) (C.card card.old)
+        (C.state card.old) }
     requires session { entered.session.application ≡ app }
-    requires bare { session_of keeper.old.cabin.cards entering.which ≡ None }
-    requires port { IsPort app None (C.card card.old) (C.state card.old) }
-    requires works { (C.state card.old).works ≡ true }
-    requires breaks { length outcome.old.breaks.items < outcome.old.breaks.room }
-    requires finds { length outcome.old.finds.items < outcome.old.finds.room }
     requires low { entered.row < 8 }
     requires row { IfSome (M.state unit.old).image
         (IsRowFor entered.row (card_number_bytes entered.look.number)
@@ -234,7 +219,8 @@ pub(crate) fn take_in<M: Medium, C: Chip, D: Chip>(
         (taken_as fell entered (C.state card.old).clock entry)
         × BooksTaken entered (taken_as fell entered (C.state card.old).clock entry) entering (is_err result) keeper.old
         keeper.new (M.state unit.old) (M.state unit.new) (C.state card.old) (C.state card.new) (D.state others.now) }
-    ensures behind { StandsEntered entering.which result keeper.old keeper.new (M.state unit.old) (M.state unit.new)
+    ensures behind { StandsEntered entering.which (entering.at.second / 60) result keeper.old keeper.new
+        (M.state unit.old) (M.state unit.new)
         (C.state card.old) (C.state card.new) (C.card card.new) }
     ensures row { IfSome (session_of keeper.new.cabin.cards entering.which)
         (λ a. OnOk result (HasItsRow keeper.new.cabin.cards (M.state unit.new) entering.which)) }

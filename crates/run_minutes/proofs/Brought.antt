@@ -9,6 +9,7 @@ use Rattle.tacho_types.specs.CardNumber.{card_number_bytes}
 use Rattle.log_model.specs.declared.lines.Mark.{Mark}
 use Rattle.card_image.specs.Own.{IsOwnValid}
 use Rattle.card_session.specs.declared.session.Kept.{Kept}
+use Rattle.hand_model.specs.Holding.{Holding}
 use Rattle.unit_notes.specs.Journal.{LeavesJournal}
 use Rattle.device_rule.specs.Rules.{CardDark, CardRule}
 use Rattle.device_rule.specs.Marked.{of_card, HasBrought}
@@ -22,14 +23,14 @@ use Rattle.run_crew.specs.declared.cards.Cards.{Cards}
 use Rattle.run_crew.specs.declared.cabin.Cabin.{Cabin}
 use Rattle.run_crew.specs.Cards.{known_of, session_of, with_session}
 use Rattle.run_promise.specs.Found.{Found, found_of, unit_seen, AnyKept}
-use Rattle.run_promise.specs.Cards.{CardMarksHold}
+use Rattle.run_promise.specs.Cards.{CardMarksHold, HandMarksHold}
 use Rattle.run_promise.specs.Between.{RunLedger, devices}
 use Rattle.run_devices.specs.Strung.{CardHoldsString}
 use Rattle.run_devices.specs.Told.{AreFoundCards, GoesOwing, AllGo, IsLitOwing, DevicesUnpowered, arranged, owes_nothing}
 use Rattle.run_devices.proofs.Parts.{both_of, as-rests, of-rests, brought-on, CardOff, powerless-of}
 use Rattle.run_devices.proofs.Noted.{noted-with, go-unit}
-use Rattle.run_minutes.specs.Keeping.{Fate, Still, Has, Fell, cabin_by, marks_by}
-use Rattle.run_minutes.specs.Books.{StaysOn, AreTimedOn, standing_by}
+use Rattle.run_minutes.specs.Keeping.{Fate, Still, Has, Fell, cabin_by, marks_by, held_in}
+use Rattle.run_minutes.specs.Books.{StaysOn, AreTimedOn, standing_by, hands_by, firsts_by}
 use Rattle.run_minutes.specs.Deeds.{KeepsOn, AllKeep, kept_for}
 use Rattle.run_minutes.proofs.Deeds.{keep-by, keep-none}
 use Rattle.run_minutes.proofs.CardEvents.{stays-self}
@@ -40,7 +41,7 @@ use Rattle.run_minutes.proofs.CardBooked.{session-set}
 -- ---- the card's part
 
 of-card : (f : Found) (w : RunLedger) (owes : Card → List Entry) (cards : Cards) (d : Devices) (c : Card) → IsLitOwing f w owes d → AllGo f w owes cards d → IsOwnValid (found_of f c).image
-    → CardOwing f c w.book (w.standing c) (w.brought c) w.marks (owes c) (session_of cards c) d.unit (card_of d c)
+    → CardOwing f c w.book (w.standing c) (w.hands c) (w.firsts c) (w.brought c) w.marks (owes c) (session_of cards c) d.unit (card_of d c)
 of-card f w owes cards d c lit go valid = record {
   rule = lit.rules c valid;
   valid = lit.valid c valid;
@@ -48,11 +49,12 @@ of-card f w owes cards d c lit go valid = record {
   held = go.held c valid;
   goes = go.goes c valid;
   hold = lit.marks c;
+  hands = lit.hands c valid;
 }
 
-brought-lit : (f : Found) (w : RunLedger) (owes : Card → List Entry) (cards : Cards) (c : Card) (fate : Fate) (m : ℕ) (session : Option Accepted) (U X Y Z : State) → IsLitOwing f w owes (arranged c U X Z)
-    → CardOwing f c w.book (standing_by fate m (w.standing c)) (w.brought c) (w.marks ++ marks_by fate (Some c) m) [] session U Y → IsLitOwing f (carried_brought fate (Some c) m w) (but_to (Some c) owes) (arranged c U Y Z)
-brought-lit f w owes cards A fate m session U X Y Z lit one = record {
+brought-lit : (f : Found) (w : RunLedger) (owes : Card → List Entry) (cards : Cards) (c : Card) (fate : Fate) (by_hand : Holding) (m : ℕ) (session : Option Accepted) (U X Y Z : State) → IsLitOwing f w owes (arranged c U X Z)
+    → CardOwing f c w.book (standing_by fate m (w.standing c)) (hands_by fate by_hand m (w.hands c)) (firsts_by fate c by_hand m (w.firsts c)) (w.brought c) (w.marks ++ marks_by fate (Some c) m) [] session U Y → IsLitOwing f (carried_brought fate by_hand (Some c) m w) (but_to (Some c) owes) (arranged c U Y Z)
+brought-lit f w owes cards A fate by_hand m session U X Y Z lit one = record {
   tells = lit.tells;
   works = lit.works;
   unit = holds-beside (once_mended f.unit) w.due w.book w.marks (marks_by fate (Some A) m) U (unit-none fate A m) lit.unit;
@@ -62,9 +64,10 @@ brought-lit f w owes cards A fate m session U X Y Z lit one = record {
   rises = lit.rises;
   brought = brought;
   marks = marks;
+  hands = hands;
 }
   where
-    rules : (c : Card) → IsOwnValid (found_of f c).image → CardRule c (found_of f c).start AnyKept (found_of f c).began w.book ((carried_brought fate (Some A) m w).standing c) [] (but_to (Some A) owes c) (unit_seen f U) (of_card (card_of (devices U Y Z) c))
+    rules : (c : Card) → IsOwnValid (found_of f c).image → CardRule c (found_of f c).start AnyKept (found_of f c).began w.book ((carried_brought fate by_hand (Some A) m w).standing c) [] (but_to (Some A) owes c) (unit_seen f U) (of_card (card_of (devices U Y Z) c))
     rules A v = one.rule
     rules B v = lit.rules B v
 
@@ -79,7 +82,11 @@ brought-lit f w owes cards A fate m session U X Y Z lit one = record {
     marks : (c : Card) → CardMarksHold (found_of f c) c w.book (w.marks ++ marks_by fate (Some A) m) (card_of (devices U Y Z) c)
     marks A = one.hold
     marks B = others-hold f.card_b w.book w.marks fate A m Z (lit.marks B)
-brought-lit f w owes cards B fate m session U X Y Z lit one = record {
+
+    hands : (c : Card) → IsOwnValid (found_of f c).image → HandMarksHold (found_of f c) ((carried_brought fate by_hand (Some A) m w).hands c) ((carried_brought fate by_hand (Some A) m w).firsts c) (card_of (devices U Y Z) c)
+    hands A v = one.hands
+    hands B v = lit.hands B v
+brought-lit f w owes cards B fate by_hand m session U X Y Z lit one = record {
   tells = lit.tells;
   works = lit.works;
   unit = holds-beside (once_mended f.unit) w.due w.book w.marks (marks_by fate (Some B) m) U (unit-none fate B m) lit.unit;
@@ -89,9 +96,10 @@ brought-lit f w owes cards B fate m session U X Y Z lit one = record {
   rises = lit.rises;
   brought = brought;
   marks = marks;
+  hands = hands;
 }
   where
-    rules : (c : Card) → IsOwnValid (found_of f c).image → CardRule c (found_of f c).start AnyKept (found_of f c).began w.book ((carried_brought fate (Some B) m w).standing c) [] (but_to (Some B) owes c) (unit_seen f U) (of_card (card_of (devices U Z Y) c))
+    rules : (c : Card) → IsOwnValid (found_of f c).image → CardRule c (found_of f c).start AnyKept (found_of f c).began w.book ((carried_brought fate by_hand (Some B) m w).standing c) [] (but_to (Some B) owes c) (unit_seen f U) (of_card (card_of (devices U Z Y) c))
     rules A v = lit.rules A v
     rules B v = one.rule
 
@@ -107,27 +115,31 @@ brought-lit f w owes cards B fate m session U X Y Z lit one = record {
     marks A = others-hold f.card_a w.book w.marks fate B m Z (lit.marks A)
     marks B = one.hold
 
-brought-go : (f : Found) (w : RunLedger) (owes : Card → List Entry) (cards : Cards) (c : Card) (fate : Fate) (m : ℕ) (session : Option Accepted) (U X Y Z : State) → AllGo f w owes cards (arranged c U X Z)
-    → CardOwing f c w.book (standing_by fate m (w.standing c)) (w.brought c) (w.marks ++ marks_by fate (Some c) m) [] session U Y
-    → AllGo f (carried_brought fate (Some c) m w) (but_to (Some c) owes) (with_session c session cards) (arranged c U Y Z)
-brought-go f w owes cards A fate m session U X Y Z go one = record { held = held; goes = goes }
+    hands : (c : Card) → IsOwnValid (found_of f c).image → HandMarksHold (found_of f c) ((carried_brought fate by_hand (Some B) m w).hands c) ((carried_brought fate by_hand (Some B) m w).firsts c) (card_of (devices U Z Y) c)
+    hands A v = lit.hands A v
+    hands B v = one.hands
+
+brought-go : (f : Found) (w : RunLedger) (owes : Card → List Entry) (cards : Cards) (c : Card) (fate : Fate) (by_hand : Holding) (m : ℕ) (session : Option Accepted) (U X Y Z : State) → AllGo f w owes cards (arranged c U X Z)
+    → CardOwing f c w.book (standing_by fate m (w.standing c)) (hands_by fate by_hand m (w.hands c)) (firsts_by fate c by_hand m (w.firsts c)) (w.brought c) (w.marks ++ marks_by fate (Some c) m) [] session U Y
+    → AllGo f (carried_brought fate by_hand (Some c) m w) (but_to (Some c) owes) (with_session c session cards) (arranged c U Y Z)
+brought-go f w owes cards A fate by_hand m session U X Y Z go one = record { held = held; goes = goes }
   where
-    held : (c : Card) → IsOwnValid (found_of f c).image → CardHoldsString (found_of f c) c w.book ((carried_brought fate (Some A) m w).standing c) (card_of (devices U Y Z) c)
+    held : (c : Card) → IsOwnValid (found_of f c).image → CardHoldsString (found_of f c) ((carried_brought fate by_hand (Some A) m w).hands c) c w.book ((carried_brought fate by_hand (Some A) m w).standing c) (card_of (devices U Y Z) c)
     held A v = one.held
     held B v = go.held B v
 
     goes : (c : Card) → IsOwnValid (found_of f c).image
-        → GoesOwing (found_of f c) c w.book (but_to (Some A) owes c) ((carried_brought fate (Some A) m w).standing c) (session_of (with_session A session cards) c) (card_of (devices U Y Z) c)
+        → GoesOwing (found_of f c) ((carried_brought fate by_hand (Some A) m w).hands c) c w.book (but_to (Some A) owes c) ((carried_brought fate by_hand (Some A) m w).standing c) (session_of (with_session A session cards) c) (card_of (devices U Y Z) c)
     goes A v = one.goes
     goes B v = go.goes B v
-brought-go f w owes cards B fate m session U X Y Z go one = record { held = held; goes = goes }
+brought-go f w owes cards B fate by_hand m session U X Y Z go one = record { held = held; goes = goes }
   where
-    held : (c : Card) → IsOwnValid (found_of f c).image → CardHoldsString (found_of f c) c w.book ((carried_brought fate (Some B) m w).standing c) (card_of (devices U Z Y) c)
+    held : (c : Card) → IsOwnValid (found_of f c).image → CardHoldsString (found_of f c) ((carried_brought fate by_hand (Some B) m w).hands c) c w.book ((carried_brought fate by_hand (Some B) m w).standing c) (card_of (devices U Z Y) c)
     held A v = go.held A v
     held B v = one.held
 
     goes : (c : Card) → IsOwnValid (found_of f c).image
-        → GoesOwing (found_of f c) c w.book (but_to (Some B) owes c) ((carried_brought fate (Some B) m w).standing c) (session_of (with_session B session cards) c) (card_of (devices U Z Y) c)
+        → GoesOwing (found_of f c) ((carried_brought fate by_hand (Some B) m w).hands c) c w.book (but_to (Some B) owes c) ((carried_brought fate by_hand (Some B) m w).standing c) (session_of (with_session B session cards) c) (card_of (devices U Z Y) c)
     goes A v = go.goes A v
     goes B v = one.goes
 
@@ -139,13 +151,14 @@ module _ (f : Found) (w : RunLedger) (owes : Card → List Entry) (cards : Cards
   rests-on c Z due rule =
       of-rests f found.two c w.book (w.standing c) V Z (noted-rests (both_of f found.two) c (once_mended f.unit) w.due w.book w.marks (w.standing c) Z whole lit.unit run (as-rests f found.two c w.book (w.standing c) U Z rule.dark))
 
-  off-on : (c : Card) (Z : State) → CardOwing f c w.book (w.standing c) (w.brought c) w.marks (owes c) (session_of cards c) U Z → IsOwnValid (found_of f c).image → CardOff f w.book (w.standing c) (w.brought c) c V Z
+  off-on : (c : Card) (Z : State) → CardOwing f c w.book (w.standing c) (w.hands c) (w.firsts c) (w.brought c) w.marks (owes c) (session_of cards c) U Z → IsOwnValid (found_of f c).image → CardOff f w.book (w.standing c) (w.hands c) (w.firsts c) (w.brought c) c V Z
   off-on c Z one valid = record {
     rests = rests-on c Z (owes c) one.rule;
     valid = one.valid;
     rises = lit.rises c valid;
     brought = λ k at. brought-on f c k w.book (w.standing c) (w.standing c) (once_mended f.unit) w.due w.marks U V Z whole lit.tells lit.unit lit.none one.rule.dark (rests-on c Z (owes c) one.rule) (one.brought k at);
     held = one.held;
+    hands = one.hands;
   }
 
   pub noted-off : DevicesUnpowered f w (devices V X Y)
@@ -184,7 +197,7 @@ cards-by Fell c second cabin = refl
 
 -- the cards that were found are those
 pub found-session : (f : Found) (c : Card) (s : Option Accepted) (cards : Cards) → AreFoundCards f cards → AreFoundCards f (with_session c s cards)
-found-session f A s cards found = record { two = found.two; named = named; told = told; own = found.own; sizes = found.sizes; entries = found.entries }
+found-session f A s cards found = record { two = found.two; named = named; told = told; own = found.own; sizes = found.sizes; entries = found.entries; word = found.word }
   where
     named : (c : Card) → IsOwnValid (found_of f c).image → IfSome (known_of (with_session A s cards) c).number (λ n. card_number_bytes n ≡ (found_of f c).number)
     named A = found.named A
@@ -193,7 +206,7 @@ found-session f A s cards found = record { two = found.two; named = named; told 
     told : (c : Card) → IsOwnValid (found_of f c).image → is_some (known_of (with_session A s cards) c).number ≡ true
     told A = found.told A
     told B = found.told B
-found-session f B s cards found = record { two = found.two; named = named; told = told; own = found.own; sizes = found.sizes; entries = found.entries }
+found-session f B s cards found = record { two = found.two; named = named; told = told; own = found.own; sizes = found.sizes; entries = found.entries; word = found.word }
   where
     named : (c : Card) → IsOwnValid (found_of f c).image → IfSome (known_of (with_session B s cards) c).number (λ n. card_number_bytes n ≡ (found_of f c).number)
     named A = found.named A
@@ -204,11 +217,11 @@ found-session f B s cards found = record { two = found.two; named = named; told 
     told B = found.told B
 
 -- the other card is as it was
-timed-by : (f : Found) (c : Card) (U V X Y Z : State) → StaysOn (found_of f c) X Y → AreTimedOn f (arranged c U X Z) (arranged c V Y Z)
-timed-by f A U V X Y Z on A valid = on
-timed-by f A U V X Y Z on B valid = stays-self (found_of f B) Z
-timed-by f B U V X Y Z on A valid = stays-self (found_of f A) Z
-timed-by f B U V X Y Z on B valid = on
+timed-by : (f : Found) (values : List ℕ) (c : Card) (U V X Y Z : State) → StaysOn (found_of f c) values X Y → AreTimedOn f values (arranged c U X Z) (arranged c V Y Z)
+timed-by f values A U V X Y Z on A valid = on
+timed-by f values A U V X Y Z on B valid = stays-self (found_of f B) values Z
+timed-by f values B U V X Y Z on A valid = stays-self (found_of f A) values Z
+timed-by f values B U V X Y Z on B valid = on
 
 -- ---- ALL OF IT
 
@@ -217,7 +230,7 @@ time-of A V Y Z time = time
 time-of B V Y Z time = time
 
 card-before : (f : Found) (w : RunLedger) (owes : Card → List Entry) (cards : Cards) (c : Card) (U X Z : State) → IsLitOwing f w owes (arranged c U X Z) → AllGo f w owes cards (arranged c U X Z) → IsOwnValid (found_of f c).image
-    → CardOwing f c w.book (w.standing c) (w.brought c) w.marks (owes c) (session_of cards c) U X
+    → CardOwing f c w.book (w.standing c) (w.hands c) (w.firsts c) (w.brought c) w.marks (owes c) (session_of cards c) U X
 card-before f w owes cards A U X Z lit go valid = of-card f w owes cards (devices U X Z) A lit go valid
 card-before f w owes cards B U X Z lit go valid = of-card f w owes cards (devices U Z X) B lit go valid
 
@@ -240,16 +253,22 @@ module _ (c : Card) (said : Kept) (fate : Fate) (k v : Cabin) (second : ℕ) (U 
   same : v.cards ≡ with_session c session k.cards
   same = ap (λ (q : Cabin). q.cards) keeper ∙ cards-by fate c second k
 
+  abbrev by_hand : Holding
+  by_hand = held_in (session_of k.cards c)
+
+  abbrev m : ℕ
+  m = said.entry.minute
+
   pub brought-booked : (failed : Bool) → V.works ≡ not failed → BooksCard c said fate k.cards v.cards U X Y → BooksBrought (Some c) said failed fate k.cards v.cards (arranged c U X Z) (arranged c V Y Z)
   brought-booked failed works booked = λ f w owes found may lit go time.
-      let before = subst (λ (es : List Entry). CardOwing f c w.book (w.standing c) (w.brought c) w.marks es (session_of k.cards c) U X) may.1 (card-before f w owes k.cards c U X Z lit go may.0) in
+      let before = subst (λ (es : List Entry). CardOwing f c w.book (w.standing c) (w.hands c) (w.firsts c) (w.brought c) w.marks es (session_of k.cards c) U X) may.1 (card-before f w owes k.cards c U X Z lit go may.0) in
       let card = booked f w found (unit-tells f w owes c U X Z lit) (unit-holds f w owes c U X Z lit) (unit-shut f w owes c U X Z lit) (time-of c V Y Z time) may.0 may.2 before in
-      let one = subst (λ (o : Option Accepted). CardOwing f c w.book (standing_by fate said.entry.minute (w.standing c)) (w.brought c) (w.marks ++ marks_by fate (Some c) said.entry.minute) [] o U Y)
+      let one = subst (λ (o : Option Accepted). CardOwing f c w.book (standing_by fate m (w.standing c)) (hands_by fate by_hand m (w.hands c)) (firsts_by fate c by_hand m (w.firsts c)) (w.brought c) (w.marks ++ marks_by fate (Some c) m) [] o U Y)
       (ap (λ (q : Cards). session_of q c) same ∙ session-set c session k.cards) card.0 in
-      let behind = subst (λ (q : Cards). AllGo f (carried_brought fate (Some c) said.entry.minute w) (but_to (Some c) owes) q (arranged c U Y Z)) (sym same) (brought-go f w owes k.cards c fate said.entry.minute session U X Y Z go one) in (
-        behind-note-of c f (carried_brought fate (Some c) said.entry.minute w) (but_to (Some c) owes) v.cards U V Y Z (subst (AreFoundCards f) (sym same) (found-session f c session k.cards found)) whole
-            (brought-lit f w owes k.cards c fate said.entry.minute session U X Y Z lit one) behind run failed works,
-        timed-by f c U V X Y Z card.1,
+      let behind = subst (λ (q : Cards). AllGo f (carried_brought fate by_hand (Some c) m w) (but_to (Some c) owes) q (arranged c U Y Z)) (sym same) (brought-go f w owes k.cards c fate by_hand m session U X Y Z go one) in (
+        behind-note-of c f (carried_brought fate by_hand (Some c) m w) (but_to (Some c) owes) v.cards U V Y Z (subst (AreFoundCards f) (sym same) (found-session f c session k.cards found)) whole
+            (brought-lit f w owes k.cards c fate by_hand m session U X Y Z lit one) behind run failed works,
+        timed-by f (said.odometer.0 ∷ []) c U V X Y Z card.1,
         subst (λ (q : Cards). AllKeep f (kept_for (Some c) said) k.cards q (arranged c U X Z) (arranged c V Y Z)) (sym same)
             (keep-by f c said k.cards session U V X Y Z
             (subst (λ (o : Option Accepted). KeepsOn (found_of f c) (said ∷ []) (session_of k.cards c) o X Y) (ap (λ (q : Cards). session_of q c) same ∙ session-set c session k.cards) card.2)),
@@ -259,6 +278,6 @@ module _ (c : Card) (said : Kept) (fate : Fate) (k v : Cabin) (second : ℕ) (U 
 pub nobody-booked : (said : Kept) (cards : Cards) (d : Devices) → BooksBrought None said false Still cards cards d d
 nobody-booked said cards d = λ f w owes found may lit go time. (
   (subst (λ (ms : List Mark). IsLitOwing f (record w { marks = ms }) owes d) (sym (append-nil w.marks)) lit, record { held = go.held; goes = go.goes }),
-  λ c valid. stays-self (found_of f c) (card_of d c),
+  λ c valid. stays-self (found_of f c) (said.odometer.0 ∷ []) (card_of d c),
   keep-none f cards d,
 )

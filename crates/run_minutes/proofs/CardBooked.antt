@@ -14,7 +14,11 @@ use Rattle.card_layout.proofs.Sizes.{largest_image}
 use Rattle.card_commands.specs.Ports.{IsPort}
 use Rattle.card_session.specs.declared.session.Kept.{Kept}
 use Rattle.card_session.specs.Sessions.{IsSession}
-use Rattle.card_session.specs.Cards.{IsCardKept, IsCardKeeping}
+use Rattle.activity_codec.specs.declared.entries.Manual.{Manual}
+use Rattle.hand_model.specs.Holding.{Holding, begun_by}
+use Rattle.hand_model.specs.Written.{Hands}
+use Rattle.card_by_hand.specs.First.{IsFirstKept, IsFirstKeeping}
+use Rattle.device_calls.specs.OnCard.{hands_for}
 use Rattle.card_image.specs.Own.{own_sizes}
 use Rattle.device_calls.proofs.TimedCalls.{keeping-timed}
 use Rattle.history_model.specs.Book.{Book}
@@ -22,12 +26,14 @@ use Rattle.device_rule.specs.Rules.{Standing}
 use Rattle.run_crew.specs.declared.cards.Accepted.{Accepted}
 use Rattle.run_crew.specs.declared.cards.Cards.{Cards}
 use Rattle.run_crew.specs.Cards.{known_of, session_of, with_session}
-use Rattle.run_crew.specs.Cabin.{IsBehind}
+use Rattle.run_crew.specs.Cabin.{IsReadyFor, MayKeepAt}
 use Rattle.run_promise.specs.Found.{Found, found_of}
-use Rattle.run_minutes.specs.Keeping.{Still, Has, Fell, CardMayBeCalled, marks_by}
-use Rattle.run_minutes.specs.Books.{StaysOn, standing_by}
+use Rattle.run_promise.specs.Cards.{FirstKeep}
+use Rattle.run_minutes.specs.Keeping.{Still, Has, Fell, CardMayBeCalled, marks_by, held_in}
+use Rattle.run_minutes.specs.Books.{StaysOn, standing_by, hands_by, firsts_by}
 use Rattle.run_minutes.specs.Owing.{CardOwing, BooksCard}
 use Rattle.run_minutes.proofs.CardEvents.{events-keeping, stays-self}
+use Rattle.run_minutes.proofs.FirstMeasured.{first-measures}
 use Rattle.run_minutes.specs.Deeds.{KeepsOn}
 use Rattle.run_minutes.proofs.CardDeeds.{does-none}
 use Rattle.run_minutes.proofs.Deeds.{keeps-has}
@@ -64,29 +70,37 @@ pub session-unset : (c : Card) (cards : Cards) → session_of cards c ≡ None �
 session-unset A cards gone = ap (λ (o : Option Accepted). record cards { a = record cards.a { accepted = o } }) (sym gone)
 session-unset B cards gone = ap (λ (o : Option Accepted). record cards { b = record cards.b { accepted = o } }) (sym gone)
 
--- a call on a card that has a session leaves what is known of its last use, and its events
-timed-of : (f : Found) (c : Card) (b : Book) (z : Standing) (ks : List ℕ) (marks : List Mark) (owes : List Entry) (a : Accepted) (U X Y : State) (e : Entry) (odometer : ℕ) → IsCoherent X → CardOwing f c b z ks marks owes (Some a) U X
-    → LeavesOnly X Y (λ x y. IsSession a.session x → IsCardKeeping a.session e odometer x y) → StaysOn (found_of f c) X Y
-timed-of f c b z ks marks owes a U X Y e odometer whole one run =
-    let on = one.goes.goes in (
-      λ timed. keeping-timed (found_of f c).image (found_of f c).began X Y one.rule.dark.later whole timed a.session e odometer
+-- a call on a card that has a session leaves what is known of its last use, and its events, and measures with its value alone
+timed-of : (f : Found) (c : Card) (b : Book) (z : Standing) (hd : Hands) (firsts : List FirstKeep) (ks : List ℕ) (marks : List Mark) (owes : List Entry) (a : Accepted) (U X Y : State) (by_hand : List Manual) (e : Entry) (odometer : ℕ) → IsCoherent X → CardOwing f c b z hd firsts ks marks owes (Some a) U X
+    → LeavesOnly X Y (λ x y. IsSession a.session x → IsFirstKeeping a.session by_hand e odometer x y) → StaysOn (found_of f c) (odometer ∷ []) X Y
+timed-of f c b z hd firsts ks marks owes a U X Y by_hand e odometer whole one run =
+    let on = one.goes.goes.0 in (
+      λ timed. keeping-timed (found_of f c).image (found_of f c).began X Y one.rule.dark.later whole timed a.session by_hand e odometer
           (if_told X.image (λ x. own_sizes x ≡ a.session.application) (λ x is. (one.held.now x (whole.is_left x is)).0 ∙ sym on.sizes)) on.session run,
-      events-keeping (own_sizes (found_of f c).image) X Y whole a.session e odometer on.sizes on.session run,
+      events-keeping (own_sizes (found_of f c).image) X Y whole a.session by_hand e odometer on.sizes on.session run,
+      first-measures (own_sizes (found_of f c).image) X Y whole a.session by_hand e odometer on.sizes on.session run,
     )
 
 module _ (c : Card) (said : Kept) (cards : Cards) (U X : State) where
   -- it has no session
   pub booked-still : session_of cards c ≡ None → BooksCard c said Still cards cards U X X
   booked-still gone = λ f w found tells h none time valid present one. (
-    subst (λ (o : Option Accepted). CardOwing f c w.book (w.standing c) (w.brought c) (w.marks ++ []) [] o U X) (sym gone)
-        (card-still f c w.book (w.standing c) (w.brought c) w.marks (said.entry ∷ []) said.entry.minute U X present
-        (subst (λ (o : Option Accepted). CardOwing f c w.book (w.standing c) (w.brought c) w.marks (said.entry ∷ []) o U X) gone one)),
-    stays-self (found_of f c) X,
+    subst (λ (o : Option Accepted). CardOwing f c w.book (w.standing c) (w.hands c) (w.firsts c) (w.brought c) (w.marks ++ []) [] o U X) (sym gone)
+        (card-still f c w.book (w.standing c) (w.hands c) (w.firsts c) (w.brought c) w.marks (said.entry ∷ []) said.entry.minute U X present
+        (subst (λ (o : Option Accepted). CardOwing f c w.book (w.standing c) (w.hands c) (w.firsts c) (w.brought c) w.marks (said.entry ∷ []) o U X) gone one)),
+    stays-self (found_of f c) (said.odometer.0 ∷ []) X,
     subst (λ (o : Option Accepted). KeepsOn (found_of f c) (said ∷ []) o o X X) (sym gone) (does-none (own_sizes (found_of f c).image) X),
   )
 
-  module _ (behind : Cards) (Y : State) (chip : CardState) (a : Accepted) (unit : IsCoherent U) (whole : IsCoherent X) (after : IsCoherent Y) (some : session_of cards c ≡ Some a) (ready : CardMayBeCalled (known_of cards c) chip X) (may : IsBehind cards said.entry.minute (Some c))
-      (run : LeavesOnly X Y (λ x y. IsSession a.session x → IsCardKeeping a.session said.entry said.odometer.0 x y)) where
+  module _ (behind : Cards) (Y : State) (chip : CardState) (a : Accepted) (unit : IsCoherent U) (whole : IsCoherent X) (after : IsCoherent Y) (some : session_of cards c ≡ Some a) (ready : CardMayBeCalled (known_of cards c) chip X) (may : IsReadyFor cards said.entry.minute (Some c))
+      (run : LeavesOnly X Y (λ x y. IsSession a.session x → IsFirstKeeping a.session (hands_for a.held said.entry.minute) said.entry said.odometer.0 x y)) where
+    abbrev m : ℕ
+    m = said.entry.minute
+
+    -- what its session held
+    held-is : held_in (session_of cards c) ≡ a.held
+    held-is = ap held_in some
+
     fits : (x : List ℕ) → X.image ≡ Some x → image_size_of a.session.application ≤ length x
     fits x told =
         let port = port-of c cards a chip X some ready in
@@ -94,30 +108,32 @@ module _ (c : Card) (said : Kept) (cards : Cards) (U X : State) where
         let size = whole.sized x told in
         omega (arith, most, port.size, size)
 
-    late : a.session.minute < said.entry.minute
-    late = subst (λ (o : Option Accepted). IfSome o (λ a. a.session.minute < said.entry.minute)) some may
+    ready-now : MayKeepAt said.entry.minute a
+    ready-now = subst (λ (o : Option Accepted). IfSome o (MayKeepAt said.entry.minute)) some may
 
     -- its call failed
     pub booked-fell : session_of behind c ≡ None → BooksCard c said Fell cards behind U X Y
     booked-fell gone = λ f w found tells h none time valid present one.
-        let before = subst (λ (o : Option Accepted). CardOwing f c w.book (w.standing c) (w.brought c) w.marks (said.entry ∷ []) o U X) some one in (
-          subst (λ (o : Option Accepted). CardOwing f c w.book (standing_by Fell said.entry.minute (w.standing c)) (w.brought c) (w.marks ++ marks_by Fell (Some c) said.entry.minute) [] o U Y) (sym gone)
-              (card-fell f cards found c w.due w.book (w.standing c) (w.brought c) w.marks a said.entry said.odometer.0 U X Y unit whole after tells h none valid present before fits late run),
-          timed-of f c w.book (w.standing c) (w.brought c) w.marks (said.entry ∷ []) a U X Y said.entry said.odometer.0 whole before run,
+        let before = subst (λ (o : Option Accepted). CardOwing f c w.book (w.standing c) (w.hands c) (w.firsts c) (w.brought c) w.marks (said.entry ∷ []) o U X) some one in (
+          subst (λ (g : Holding). CardOwing f c w.book (standing_by Fell m (w.standing c)) (hands_by Fell g m (w.hands c)) (firsts_by Fell c g m (w.firsts c)) (w.brought c) (w.marks ++ marks_by Fell (Some c) m) [] (session_of behind c) U Y) (sym held-is)
+              (subst (λ (o : Option Accepted). CardOwing f c w.book (standing_by Fell m (w.standing c)) (hands_by Fell a.held m (w.hands c)) (firsts_by Fell c a.held m (w.firsts c)) (w.brought c) (w.marks ++ marks_by Fell (Some c) m) [] o U Y) (sym gone)
+              (card-fell f cards found c w.due w.book (w.standing c) (w.hands c) (w.firsts c) (w.brought c) w.marks a said.entry said.odometer.0 U X Y unit whole after tells h none valid present before fits ready-now run)),
+          timed-of f c w.book (w.standing c) (w.hands c) (w.firsts c) (w.brought c) w.marks (said.entry ∷ []) a U X Y (hands_for a.held m) said.entry said.odometer.0 whole before run,
           subst (λ (o : Option Accepted). KeepsOn (found_of f c) (said ∷ []) o (session_of behind c) X Y) (sym some) (subst (λ (o : Option Accepted). KeepsOn (found_of f c) (said ∷ []) (Some a) o X Y) (sym gone) tt),
         )
 
     -- it has the entry
     pub booked-has : (t : Accepted) (n : ℕ) → session_of behind c ≡ Some t → Y.works ≡ true → t.session.application ≡ a.session.application → t.session.minute ≡ said.entry.minute
-        → t.session.registration ≡ a.session.registration → t.session.odometer ≡ Some said.odometer
-        → IfSome X.image (λ x. IfSome Y.image (λ y. IsSession a.session x → IsCardKept a.session t.session said.entry said.odometer.0 x y)) → (Y.clock < last_count → IsSettled Y) → n ≡ Y.clock → BooksCard c said (Has t n) cards behind U X Y
-    booked-has t n is works sizes at vehicle odometer kept settles clock = λ f w found tells h none time valid present one.
-        let before = subst (λ (o : Option Accepted). CardOwing f c w.book (w.standing c) (w.brought c) w.marks (said.entry ∷ []) o U X) some one in (
-          subst (λ (o : Option Accepted). CardOwing f c w.book (standing_by (Has t n) said.entry.minute (w.standing c)) (w.brought c) (w.marks ++ marks_by (Has t n) (Some c) said.entry.minute) [] o U Y) (sym is)
-              (card-has f cards found c w.due w.book (w.standing c) (w.brought c) w.marks a said.entry said.odometer.0 U X Y unit whole after tells h none valid present before fits late run
-              t works sizes vehicle at kept (settles time) n clock),
-          timed-of f c w.book (w.standing c) (w.brought c) w.marks (said.entry ∷ []) a U X Y said.entry said.odometer.0 whole before run,
+        → t.session.registration ≡ a.session.registration → t.session.odometer ≡ Some said.odometer → t.held ≡ begun_by said.entry.minute a.held
+        → IfSome X.image (λ x. IfSome Y.image (λ y. IsSession a.session x → IsFirstKept a.session t.session (hands_for a.held said.entry.minute) said.entry said.odometer.0 x y)) → (Y.clock < last_count → IsSettled Y) → n ≡ Y.clock → BooksCard c said (Has t n) cards behind U X Y
+    booked-has t n is works sizes at vehicle odometer begun kept settles clock = λ f w found tells h none time valid present one.
+        let before = subst (λ (o : Option Accepted). CardOwing f c w.book (w.standing c) (w.hands c) (w.firsts c) (w.brought c) w.marks (said.entry ∷ []) o U X) some one in (
+          subst (λ (g : Holding). CardOwing f c w.book (standing_by (Has t n) m (w.standing c)) (hands_by (Has t n) g m (w.hands c)) (firsts_by (Has t n) c g m (w.firsts c)) (w.brought c) (w.marks ++ marks_by (Has t n) (Some c) m) [] (session_of behind c) U Y) (sym held-is)
+              (subst (λ (o : Option Accepted). CardOwing f c w.book (standing_by (Has t n) m (w.standing c)) (hands_by (Has t n) a.held m (w.hands c)) (firsts_by (Has t n) c a.held m (w.firsts c)) (w.brought c) (w.marks ++ marks_by (Has t n) (Some c) m) [] o U Y) (sym is)
+              (card-has f cards found c w.due w.book (w.standing c) (w.hands c) (w.firsts c) (w.brought c) w.marks a said.entry said.odometer.0 U X Y unit whole after tells h none valid present before fits ready-now run
+              t works sizes vehicle at begun kept (settles time) n clock)),
+          timed-of f c w.book (w.standing c) (w.hands c) (w.firsts c) (w.brought c) w.marks (said.entry ∷ []) a U X Y (hands_for a.held m) said.entry said.odometer.0 whole before run,
           subst (λ (o : Option Accepted). KeepsOn (found_of f c) (said ∷ []) o (session_of behind c) X Y) (sym some)
               (subst (λ (o : Option Accepted). KeepsOn (found_of f c) (said ∷ []) (Some a) o X Y) (sym is)
-              (keeps-has (found_of f c) said a t X Y before.goes.goes.sizes vehicle odometer whole after works run.tells before.goes.goes.session kept)),
+              (keeps-has (found_of f c) said a t X Y before.goes.goes.0.sizes vehicle odometer begun whole after works run.tells before.goes.goes.0.session kept)),
         )

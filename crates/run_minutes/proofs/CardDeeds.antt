@@ -1,10 +1,12 @@
 -- What calls do on a card, deed by deed: none, one after another, a keep, an insertion and a withdrawal.
-use Rattle.std.proofs.Common.{◌≡◌, ◌≢◌, ◌∙◌, inl, inr, ℕ, suc, zero, ◌+◌, ◌<◌, ◌≤◌, ◌^◌, Bool, true, List, [], ◌∷◌, ◌++◌, Option, Some, IfSome, length, refl, ap, sym, subst, arith}
+use Rattle.std.proofs.Common.{◌≡◌, ◌≢◌, ◌∙◌, inl, inr, ℕ, suc, zero, ◌+◌, ◌/◌, ◌<◌, ◌≤◌, ◌^◌, Bool, true, List, [], ◌∷◌, ◌++◌, append_assoc, Option, Some, IfSome, length, refl, ap, sym, subst, arith}
 use Rattle.std.specs.Prelude.{is_some, not, nat_eq}
 use Rattle.std.proofs.Math.Dec.{eqb-suc-zero}
 use Rattle.activity_codec.specs.declared.values.Activity.{Activity}
 use Rattle.activity_codec.specs.declared.values.Activity.TheVariants.{Rest}
 use Rattle.activity_codec.specs.declared.entries.Entry.{Entry}
+use Rattle.activity_codec.specs.declared.entries.Manual.{Manual}
+use Rattle.hand_model.specs.Holding.{of_day}
 use Rattle.tach_media.specs.Medium.{State, IsCoherent}
 use Rattle.tach_media.proofs.Runs.{at_image, told_too}
 use Rattle.tacho_types.specs.declared.numbers.Odometer.{Odometer}
@@ -20,7 +22,8 @@ use Rattle.card_session.specs.declared.session.Kept.{Kept}
 use Rattle.card_session.specs.Books.{Book, mark_of, with_entry, closed}
 use Rattle.card_session.specs.Sessions.{Session, IsSession, book_of}
 use Rattle.card_session.specs.Moments.{IsBook}
-use Rattle.card_session.specs.Cards.{IsCardKept, IsCardClosed, ended, grown}
+use Rattle.card_session.specs.Cards.{IsCardClosed, ended, grown}
+use Rattle.card_by_hand.specs.First.{IsFirstKept}
 use Rattle.card_session.specs.Inserting.{lacked, with_cut, with_owed, repaired, InsertsClosed, InsertsOpen, IsCardInserted}
 use Rattle.card_session.proofs.Composing.{told_book}
 use Rattle.card_session.proofs.InsertingCards.{noted_same, use_same}
@@ -30,8 +33,9 @@ use Rattle.card_session.proofs.InsertingAgain.{noted_keeps}
 use Rattle.card_session.proofs.Stopping.{ended_same}
 use Rattle.card_string.specs.Deeds.{Deed, Keep, Close, after}
 use Rattle.card_string.proofs.SameBook.{same_book}
-use Rattle.run_minutes.specs.CardDeeds.{made_by, is_open_in, ShowsBook, DoesOn, keeps, last_odometer, owed_keeps, opens, begun_use, ended_use, OpensOn, ClosesOn}
+use Rattle.run_minutes.specs.CardDeeds.{made_by, is_open_in, ShowsBook, DoesOn, enters, keeps, holds_after, last_odometer, owed_keeps, opens, begun_use, ended_use, OpensOn, ClosesOn}
 use Rattle.run_devices.proofs.CardUse.{opened-use, ended-use}
+use Rattle.run_minutes.proofs.FirstEnds.{first-book}
 
 -- ---- deeds
 
@@ -51,27 +55,44 @@ does-then app ds es X Y Z first next b held shows =
 abbrev one_keep : Registration → Option Odometer → Kept → Deed
 one_keep vehicle before k = Keep (record { entry = k.entry; registration = vehicle; odometer = k.odometer.0; km = grown before k.odometer.0 })
 
-pub keeps-append : (vehicle : Registration) (before : Option Odometer) (ks ls : List Kept) → keeps vehicle before (ks ++ ls) ≡ keeps vehicle before ks ++ keeps vehicle (last_odometer before ks) ls
-keeps-append vehicle before [] ls = refl
-keeps-append vehicle before (k ∷ ks) ls = ap (λ (ds : List Deed). one_keep vehicle before k ∷ ds) (keeps-append vehicle (Some k.odometer) ks ls)
+-- behind keeps none is held that was not before
+holds-none : (ks : List Kept) → holds_after [] ks ≡ []
+holds-none [] = refl
+holds-none (k ∷ ks) = refl
+
+pub holds-append : (holds : List Manual) (ks ls : List Kept) → holds_after holds (ks ++ ls) ≡ holds_after (holds_after holds ks) ls
+holds-append holds [] ls = refl
+holds-append holds (k ∷ ks) ls = sym (holds-none ls)
+
+pub keeps-append : (vehicle : Registration) (before : Option Odometer) (holds : List Manual) (ks ls : List Kept)
+    → keeps vehicle before holds (ks ++ ls) ≡ keeps vehicle before holds ks ++ keeps vehicle (last_odometer before ks) (holds_after holds ks) ls
+keeps-append vehicle before holds [] ls = refl
+keeps-append vehicle before holds (k ∷ ks) ls =
+    let hs : List Deed = enters (of_day (k.entry.minute / 1440) holds) in
+    let first : List Deed = keeps vehicle (Some k.odometer) [] ks in
+    let last : Option Odometer = last_odometer (Some k.odometer) ks in
+    ap (λ (ds : List Deed). hs ++ one_keep vehicle before k ∷ ds) (keeps-append vehicle (Some k.odometer) [] ks ls ∙ ap (λ (h : List Manual). first ++ keeps vehicle last h ls) (holds-none ks))
+    ∙ sym (append_assoc hs (one_keep vehicle before k ∷ first) (keeps vehicle last [] ls))
 
 pub last-append : (before : Option Odometer) (ks ls : List Kept) → last_odometer before (ks ++ ls) ≡ last_odometer (last_odometer before ks) ls
 last-append before [] ls = refl
 last-append before (k ∷ ks) ls = last-append (Some k.odometer) ks ls
 
--- a keep of a card in its slot, which did not fail
-pub does-keep : (s t : Session) (e : Entry) (odometer : ℕ) (X Y : State) → IsCoherent X → IsCoherent Y → Y.works ≡ true → is_some Y.image ≡ is_some X.image → IfSome X.image (IsSession s)
-    → IfSome X.image (λ x. IfSome Y.image (λ y. IsSession s x → IsCardKept s t e odometer x y))
-    → DoesOn s.application (Keep (record { entry = e; registration = s.registration; odometer = odometer; km = grown s.odometer odometer }) ∷ []) X Y
-does-keep s t e odometer X Y whole after works tells session kept b held shows y left =
+-- a keep of a card in its slot, with these entries by hand before it, which did not fail
+pub does-keep : (s t : Session) (hands : List Manual) (e : Entry) (odometer : ℕ) (X Y : State) → IsCoherent X → IsCoherent Y → Y.works ≡ true → is_some Y.image ≡ is_some X.image → IfSome X.image (IsSession s)
+    → IfSome X.image (λ x. IfSome Y.image (λ y. IsSession s x → IsFirstKept s t hands e odometer x y))
+    → DoesOn s.application (enters hands ++ Keep (record { entry = e; registration = s.registration; odometer = odometer; km = grown s.odometer odometer }) ∷ []) X Y
+does-keep s t hands e odometer X Y whole after works tells session kept b held shows y left =
+    let size : ℕ = s.application.activity in
+    let keep : Deed = Keep (record { entry = e; registration = s.registration; odometer = odometer; km = grown s.odometer odometer }) in
     let told : Y.image ≡ Some y = after.only y works left in
     let was = told_too Y.image X.image y tells told in
-    let k : IsCardKept s t e odometer was.0 y = at_image (λ (y : List ℕ). IsSession s was.0 → IsCardKept s t e odometer was.0 y) told
-    (at_image (λ (x : List ℕ). IfSome Y.image (λ y. IsSession s x → IsCardKept s t e odometer x y)) was.1 kept) (at_image (IsSession s) was.1 session) in
+    let k : IsFirstKept s t hands e odometer was.0 y = at_image (λ (y : List ℕ). IsSession s was.0 → IsFirstKept s t hands e odometer was.0 y) told
+    (at_image (λ (x : List ℕ). IfSome Y.image (λ y. IsSession s x → IsFirstKept s t hands e odometer x y)) was.1 kept) (at_image (IsSession s) was.1 session) in
     let here = shows was.0 (whole.is_left was.0 was.1) in
-    let full : Book = with_entry s.application.activity s.registration odometer (grown s.odometer odometer) (book_of s.application was.0) e in (
-      told_book s.application full was.0 y k.card ∙ ap (λ (c : Book). with_entry s.application.activity s.registration odometer (grown s.odometer odometer) c e) here.0,
-      use_same s.application (IsBook full) was.0 y k.card ∙ here.1,
+    let made = first-book s t hands e odometer was.0 y k in (
+      made.0 ∙ ap (λ (c : Book). with_entry size s.registration odometer (grown s.odometer odometer) (made_by size (enters hands) c) e) here.0 ∙ sym (made-append size (enters hands) (keep ∷ []) b),
+      made.1 ∙ here.1,
     )
 
 -- ---- a session is opened

@@ -1,19 +1,19 @@
 -- Calls that leave the events of a card as they are: none, one after another, and a keep.
-use Rattle.std.proofs.Common.{◌≡◌, ◌∙◌, ⊎_elim, ℕ, List, Some, IfSome, refl, subst}
+use Rattle.std.proofs.Common.{◌≡◌, ◌∙◌, ⊎_elim, ℕ, List, Some, IfSome, Contains, refl, subst}
 use Rattle.activity_codec.specs.declared.entries.Entry.{Entry}
+use Rattle.activity_codec.specs.declared.entries.Manual.{Manual}
 use Rattle.tach_media.specs.Medium.{State, IsCoherent, LeavesOnly}
 use Rattle.tach_media.proofs.Runs.{at_image}
 use Rattle.card_layout.specs.declared.files.Application.{Application}
 use Rattle.card_image.specs.Fields.{file_bytes}
 use Rattle.card_image.specs.Own.{own_sizes}
-use Rattle.card_session.specs.Sessions.{Session, IsSession, book_of}
-use Rattle.card_session.specs.Moments.{IsKeepMoment}
-use Rattle.card_session.specs.Cards.{IsCardKeeping, grown}
-use Rattle.card_session.proofs.Marks.{events_same, current_same}
+use Rattle.card_session.specs.Sessions.{Session, IsSession}
+use Rattle.card_by_hand.specs.First.{IsFirstKeeping}
 use Rattle.run_promise.specs.Found.{CardFound}
-use Rattle.run_devices.proofs.Holders.{card-places}
+use Rattle.run_devices.proofs.Measured.{measures-self, measures-then, measures-more}
 use Rattle.run_minutes.specs.CardEvents.{LeavesEvents}
 use Rattle.run_minutes.specs.Books.{StaysOn}
+use Rattle.run_minutes.proofs.FirstSame.{HasSameFiles, first-files}
 
 pub events-none : (app : Application) (X : State) → LeavesEvents app X X
 events-none app X c left = (c, left, refl, refl, refl)
@@ -28,19 +28,18 @@ events-then app X Y Z first next c left =
 pub events-run : (app : Application) (X Y : State) → IsCoherent X → (R : List ℕ → List ℕ → Type 0) → LeavesOnly X Y R → ((x c : List ℕ) → X.image ≡ Some x → R x c → (file_bytes app 0x0502 c ≡ file_bytes app 0x0502 x) × (file_bytes app 0x0507 c ≡ file_bytes app 0x0507 x) × (file_bytes app 0x0506 c ≡ file_bytes app 0x0506 x)) → LeavesEvents app X Y
 events-run app X Y whole R run step c left = ⊎_elim (λ was. (c, was, refl, refl, refl)) (λ one. let all = step one.0 c one.1 one.2 in (one.0, whole.is_left one.0 one.1, all.0, all.1, all.2)) (run.now c left)
 
-pub events-keeping : (app : Application) (X Y : State) → IsCoherent X → (s : Session) (e : Entry) (odometer : ℕ) → s.application ≡ app → IfSome X.image (IsSession s) → LeavesOnly X Y (λ x y. IsSession s x → IsCardKeeping s e odometer x y) → LeavesEvents app X Y
-events-keeping app X Y whole s e odometer sizes session run =
-    events-run app X Y whole (λ x y. IsSession s x → IsCardKeeping s e odometer x y) run (λ x c is moment.
-    let moved = (moment (at_image (IsSession s) is session)).card in
-    subst (λ (a : Application). (file_bytes a 0x0502 c ≡ file_bytes a 0x0502 x) × (file_bytes a 0x0507 c ≡ file_bytes a 0x0507 x) × (file_bytes a 0x0506 c ≡ file_bytes a 0x0506 x)) sizes (
-      events_same s.application (IsKeepMoment s.application.activity s.registration odometer (grown s.odometer odometer) e (book_of s.application x)) x c moved,
-      current_same s.application (IsKeepMoment s.application.activity s.registration odometer (grown s.odometer odometer) e (book_of s.application x)) x c moved,
-      card-places s.application x c (IsKeepMoment s.application.activity s.registration odometer (grown s.odometer odometer) e (book_of s.application x)) moved,
-    ))
+pub events-keeping : (app : Application) (X Y : State) → IsCoherent X → (s : Session) (hands : List Manual) (e : Entry) (odometer : ℕ) → s.application ≡ app → IfSome X.image (IsSession s) → LeavesOnly X Y (λ x y. IsSession s x → IsFirstKeeping s hands e odometer x y) → LeavesEvents app X Y
+events-keeping app X Y whole s hands e odometer sizes session run =
+    events-run app X Y whole (λ x y. IsSession s x → IsFirstKeeping s hands e odometer x y) run (λ x c is moment.
+    subst (λ (a : Application). HasSameFiles a x c) sizes (first-files s hands e odometer x c (moment (at_image (IsSession s) is session))))
 
 -- of a card as it was found
-pub stays-self : (f : CardFound) (X : State) → StaysOn f X X
-stays-self f X = ((λ timed. timed), events-none (own_sizes f.image) X)
+pub stays-self : (f : CardFound) (values : List ℕ) (X : State) → StaysOn f values X X
+stays-self f values X = ((λ timed. timed), events-none (own_sizes f.image) X, measures-self (own_sizes f.image) values X)
 
-pub stays-then : (f : CardFound) (X Y Z : State) → StaysOn f X Y → StaysOn f Y Z → StaysOn f X Z
-stays-then f X Y Z first next = ((λ timed. next.0 (first.0 timed)), events-then (own_sizes f.image) X Y Z first.1 next.1)
+pub stays-then : (f : CardFound) (values : List ℕ) (X Y Z : State) → StaysOn f values X Y → StaysOn f values Y Z → StaysOn f values X Z
+stays-then f values X Y Z first next = ((λ timed. next.0 (first.0 timed)), events-then (own_sizes f.image) X Y Z first.1 next.1, measures-then (own_sizes f.image) values X Y Z first.2 next.2)
+
+-- with more values
+pub stays-more : (f : CardFound) (values now : List ℕ) → ((n : ℕ) → Contains values n → Contains now n) → (X Y : State) → StaysOn f values X Y → StaysOn f now X Y
+stays-more f values now more X Y is = (is.0, is.1, measures-more (own_sizes f.image) values now more X Y is.2)

@@ -1,5 +1,5 @@
 -- What the keeping of minutes makes of the cards: none, one after another, and a minute of one card and the other.
-use Rattle.std.proofs.Common.{◌≡◌, ◌∙◌, Bool, true, false, List, [], ◌∷◌, ◌++◌, append_assoc, Option, Some, None, IfSome, refl, ap, sym, subst}
+use Rattle.std.proofs.Common.{◌≡◌, ◌∙◌, Bool, true, false, List, [], ◌∷◌, ◌++◌, append_assoc, Option, Some, None, IfSome, refl, ap, sym, subst, ℕ}
 use Rattle.std.specs.Prelude.{is_some, if◌then◌else◌}
 use Rattle.std.proofs.lemmas.List.{append-nil}
 use Rattle.activity_codec.specs.declared.values.Slot.TheVariants.{Driver, CoDriver}
@@ -13,7 +13,10 @@ use Rattle.card_layout.specs.declared.files.Application.{Application}
 use Rattle.card_image.specs.Own.{own_sizes}
 use Rattle.card_session.specs.declared.session.Kept.{Kept}
 use Rattle.card_session.specs.Sessions.{IsSession}
-use Rattle.card_session.specs.Cards.{IsCardKept}
+use Rattle.activity_codec.specs.declared.entries.Manual.{Manual}
+use Rattle.hand_model.specs.Holding.{Holding, begun_by, first_of}
+use Rattle.card_by_hand.specs.First.{IsFirstKept}
+use Rattle.device_calls.specs.OnCard.{hands_for}
 use Rattle.card_string.specs.Deeds.{Deed}
 use Rattle.unit_minutes.specs.declared.kept.KeptMinute.{KeptMinute}
 use Rattle.safety_model.specs.Safe.{Devices, card_of}
@@ -27,16 +30,16 @@ use Rattle.run_devices.specs.Told.{arranged}
 use Rattle.run_minutes.specs.declared.keeper.Keeper.{Keeper}
 use Rattle.run_minutes.specs.Keeping.{kept_in, is_this}
 use Rattle.run_minutes.specs.Minutes.{present_at, minute_of}
-use Rattle.run_minutes.specs.CardDeeds.{DoesOn, keeps, last_odometer}
+use Rattle.run_minutes.specs.CardDeeds.{DoesOn, keeps, holds_after, last_odometer}
 use Rattle.run_minutes.specs.Deeds.{KeepsOn, AllKeep, kept_for, kept_on, kepts_on}
-use Rattle.run_minutes.proofs.CardDeeds.{does-none, does-then, keeps-append, last-append, does-keep}
+use Rattle.run_minutes.proofs.CardDeeds.{does-none, does-then, holds-append, keeps-append, last-append, does-keep}
 
 -- ---- keeps
 
 -- nothing is kept
 pub keeps-self : (f : CardFound) (s : Option Accepted) (X : State) → KeepsOn f [] s s X X
 keeps-self f None X = does-none (own_sizes f.image) X
-keeps-self f (Some a) X = (refl, refl, does-none (own_sizes f.image) X)
+keeps-self f (Some a) X = (refl, refl, refl, λ none. (none, refl), does-none (own_sizes f.image) X)
 
 -- some and then others
 pub keeps-then : (f : CardFound) (ks ls : List Kept) (s t u : Option Accepted) (X Y Z : State) → KeepsOn f ks s t X Y → KeepsOn f ls t u Y Z → KeepsOn f (ks ++ ls) s u X Z
@@ -50,22 +53,34 @@ keeps-then f ks ls (Some a) (Some b) None X Y Z first next = tt
 keeps-then f ks ls (Some a) (Some b) (Some c) X Y Z first next =
     let v : Registration = a.session.registration in
     let o : Option Odometer = a.session.odometer in
-    let same : keeps b.session.registration b.session.odometer ls ≡ keeps v (last_odometer o ks) ls =
-    ap (λ (r : Registration). keeps r b.session.odometer ls) first.0 ∙ ap (λ (n : Option Odometer). keeps v n ls) first.1 in (
+    let h : List Manual = a.held.entries in
+    let same : keeps b.session.registration b.session.odometer b.held.entries ls ≡ keeps v (last_odometer o ks) (holds_after h ks) ls =
+    ap (λ (r : Registration). keeps r b.session.odometer b.held.entries ls) first.0 ∙ ap (λ (n : Option Odometer). keeps v n b.held.entries ls) first.1 ∙ ap (λ (g : List Manual). keeps v (last_odometer o ks) g ls) first.2 in (
       next.0 ∙ first.0,
       next.1 ∙ ap (λ (n : Option Odometer). last_odometer n ls) first.1 ∙ sym (last-append o ks ls),
-      subst (λ (ds : List Deed). DoesOn (own_sizes f.image) ds X Z) (sym (keeps-append v o ks ls))
-          (does-then (own_sizes f.image) (keeps v o ks) (keeps v (last_odometer o ks) ls) X Y Z first.2 (subst (λ (ds : List Deed). DoesOn (own_sizes f.image) ds Y Z) same next.2)),
+      next.2 ∙ ap (λ (g : List Manual). holds_after g ls) first.2 ∙ sym (holds-append h ks ls),
+      λ none.
+          let y = next.3 none in
+          let x = first.3 y.0 in
+          (x.0, ap (λ (l : List Kept). l ++ ls) x.1 ∙ y.1),
+      subst (λ (ds : List Deed). DoesOn (own_sizes f.image) ds X Z) (sym (keeps-append v o h ks ls))
+          (does-then (own_sizes f.image) (keeps v o h ks) (keeps v (last_odometer o ks) (holds_after h ks) ls) X Y Z first.4 (subst (λ (ds : List Deed). DoesOn (own_sizes f.image) ds Y Z) same next.4)),
     )
 
-pub keeps-has : (f : CardFound) (said : Kept) (a t : Accepted) (X Y : State) → a.session.application ≡ own_sizes f.image → t.session.registration ≡ a.session.registration → t.session.odometer ≡ Some said.odometer
+never : (minute : ℕ) (o : Option ℕ) → first_of minute o ≡ None → ⊥
+never minute None is = absurd (cc)
+never minute (Some first) is = absurd (cc)
+
+pub keeps-has : (f : CardFound) (said : Kept) (a t : Accepted) (X Y : State) → a.session.application ≡ own_sizes f.image → t.session.registration ≡ a.session.registration → t.session.odometer ≡ Some said.odometer → t.held ≡ begun_by said.entry.minute a.held
     → IsCoherent X → IsCoherent Y → Y.works ≡ true → is_some Y.image ≡ is_some X.image → IfSome X.image (IsSession a.session)
-    → IfSome X.image (λ x. IfSome Y.image (λ y. IsSession a.session x → IsCardKept a.session t.session said.entry said.odometer.0 x y)) → KeepsOn f (said ∷ []) (Some a) (Some t) X Y
-keeps-has f said a t X Y sizes vehicle odometer whole after works tells session kept = (
+    → IfSome X.image (λ x. IfSome Y.image (λ y. IsSession a.session x → IsFirstKept a.session t.session (hands_for a.held said.entry.minute) said.entry said.odometer.0 x y)) → KeepsOn f (said ∷ []) (Some a) (Some t) X Y
+keeps-has f said a t X Y sizes vehicle odometer held whole after works tells session kept = (
   vehicle,
   odometer,
-  subst (λ (app : Application). DoesOn app (keeps a.session.registration a.session.odometer (said ∷ [])) X Y) sizes
-      (does-keep a.session t.session said.entry said.odometer.0 X Y whole after works tells session kept),
+  ap (λ (g : Holding). g.entries) held,
+  λ none. absurd (never said.entry.minute a.held.begun (sym (ap (λ (g : Holding). g.begun) held) ∙ none)),
+  subst (λ (app : Application). DoesOn app (keeps a.session.registration a.session.odometer a.held.entries (said ∷ [])) X Y) sizes
+      (does-keep a.session t.session (hands_for a.held said.entry.minute) said.entry said.odometer.0 X Y whole after works tells session kept),
 )
 
 -- ---- both cards

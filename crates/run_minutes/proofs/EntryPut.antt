@@ -134,10 +134,11 @@ module _ (f : Found) (cards : Cards) (found : AreFoundCards f cards) (w : RunLed
     rises = h.rises;
     brought = brought;
     marks = h.marks;
+    hands = h.hands;
   }
 
-  off : (k : Card) → IsOwnValid (found_of f k).image → CardOff f w.book (w.standing k) (w.brought k) k V (card k)
-  off k valid = record { rests = dark k valid; valid = h.valid k valid; rises = h.rises k valid; brought = brought k valid; held = go.held k valid }
+  off : (k : Card) → IsOwnValid (found_of f k).image → CardOff f w.book (w.standing k) (w.hands k) (w.firsts k) (w.brought k) k V (card k)
+  off k valid = record { rests = dark k valid; valid = h.valid k valid; rises = h.rises k valid; brought = brought k valid; held = go.held k valid; hands = h.hands k valid }
 
   cut : DevicesUnpowered f w (devices V X Y)
   cut = powerless-of f w cards A V X Y found (record {

@@ -5,11 +5,16 @@ pub mod Seats
 pub mod Counts
 pub mod Rounds
 pub mod Decided
+pub mod FirstEnds
+pub mod FirstSame
+pub mod FirstTold
+pub mod FirstMeasured
 pub mod OnTheCard
 pub mod EntryPut
 pub mod MinuteOwed
 pub mod MinuteBegun
 pub mod MarksOn
+pub mod HandsOn
 pub mod CardBrought
 pub mod CardEvents
 pub mod CardDeeds

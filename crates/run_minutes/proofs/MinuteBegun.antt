@@ -132,6 +132,7 @@ lit-puts f w p q U X Y same h = record {
   rises = h.rises;
   brought = h.brought;
   marks = h.marks;
+  hands = h.hands;
 }
 
 -- what keeping a minute says of a card

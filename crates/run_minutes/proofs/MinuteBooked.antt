@@ -1,5 +1,5 @@
 -- The unit has a minute, and its entries were brought to the cards that were present: so it is booked.
-use Rattle.std.proofs.Common.{◌≡◌, ◌∙◌, inl, inr, ⊎_elim, ℕ, ◌<◌, Bool, true, false, Option, Some, None, List, [], ◌∷◌, ◌++◌, refl, ap, subst, sym, arith}
+use Rattle.std.proofs.Common.{◌≡◌, ◌∙◌, inl, inr, ⊎_elim, ℕ, ◌<◌, Bool, true, false, Option, Some, None, List, [], ◌∷◌, ◌++◌, Contains, refl, ap, subst, sym, arith}
 use Rattle.std.specs.Prelude.{if◌then◌else◌}
 use Rattle.std.proofs.lemmas.List.{append-nil}
 use Rattle.activity_codec.specs.declared.entries.Entry.{Entry}
@@ -14,6 +14,8 @@ use Rattle.unit_minutes.specs.declared.kept.KeptMinute.{KeptMinute}
 use Rattle.unit_notes.specs.Journal.{LeavesJournal}
 use Rattle.run_unit_course.specs.Legs.{Travel, travelled}
 use Rattle.unit_rule.specs.Odometer.{HasTravelled, odometer_by, odometer_after}
+use Rattle.hand_model.specs.Holding.{Holding, none_held}
+use Rattle.hand_model.specs.Written.{Hands}
 use Rattle.history_model.specs.Minutes.{HistoryMinute, on_card}
 use Rattle.history_model.specs.Book.{kept}
 use Rattle.device_rule.specs.Rules.{Standing, IsPresent, CardRule}
@@ -25,17 +27,18 @@ use Rattle.run_crew.specs.Cards.{session_of}
 use Rattle.run_crew.specs.Cabin.{AreTwo}
 use Rattle.run_outcome.specs.Lines.{Listed}
 use Rattle.run_promise.specs.Found.{Found, found_of, unit_seen, AnyKept}
+use Rattle.run_promise.specs.Cards.{FirstKeep}
 use Rattle.run_promise.specs.Between.{RunLedger, devices}
 use Rattle.run_devices.specs.Told.{AreFoundCards, owes_nothing, GoesOwing, AllGo, IsLitOwing, DevicesPowered, DevicesUnpowered}
 use Rattle.run_devices.proofs.Parts.{lit-of}
 use Rattle.run_devices.proofs.Travelled.{travelled-noted}
 use Rattle.run_minutes.specs.declared.keeper.Keeper.{Keeper}
-use Rattle.run_minutes.specs.Keeping.{Fate, Still, TellsPresent, entry_in, kept_in, cabin_by, is_this}
+use Rattle.run_minutes.specs.Keeping.{Fate, Still, TellsPresent, entry_in, kept_in, cabin_by, is_this, session_at, held_in}
 use Rattle.run_minutes.specs.Minutes.{Round, KeepingState}
-use Rattle.run_minutes.proofs.CardEvents.{stays-then}
+use Rattle.run_minutes.proofs.CardEvents.{stays-then, stays-more}
 use Rattle.run_minutes.specs.Deeds.{AllKeep, kept_for, kept_on}
 use Rattle.run_minutes.proofs.Deeds.{kept-both, keep-at, keep-then}
-use Rattle.run_minutes.specs.Books.{history_minute, standing_by, carried_after, MayCome, MayBook, HaveTime, IsBooked, AreTimedOn, BooksMinute}
+use Rattle.run_minutes.specs.Books.{history_minute, standing_by, hands_by, firsts_by, carried_after, MayCome, MayBook, HaveTime, IsBooked, AreTimedOn, BooksMinute}
 use Rattle.run_minutes.specs.Owing.{owes_minute, but_to, carried_kept, carried_brought, HasTime, MayBring, IsBroughtOrCut, BooksBrought, BooksOwed}
 use Rattle.run_minutes.proofs.Counts.{apart-turned}
 use Rattle.run_minutes.proofs.Rounds.{told-of}
@@ -44,7 +47,7 @@ use Rattle.run_minutes.proofs.MinuteBegun.{told_with, clash, this-card, all-said
 
 -- ---- what is carried, by what became of each entry
 
-ext : (f g : Card → Standing) → ((c : Card) → f c ≡ g c) → f ≡ g
+ext : {T : Type 0} (f g : Card → T) → ((c : Card) → f c ≡ g c) → f ≡ g
 ext f g same = λ i c. same c i
 
 -- a card that was present in one slot was not in the other
@@ -64,30 +67,57 @@ stands-by true false e d m z two = refl
 stands-by false true e d m z two = refl
 stands-by false false e d m z two = refl
 
+-- so it is of its entries by hand, and of its first keeps
+hands-both : (a b : Bool) (e d : Fate) (p q : Holding) (m : ℕ) (h : Hands) → (a ≡ true → b ≡ false) → (if b then hands_by d q m (if a then hands_by e p m h else h) else (if a then hands_by e p m h else h))
+    ≡ hands_by (if a then e else (if b then d else Still)) (if a then p else (if b then q else none_held 0)) m h
+hands-both true true e d p q m h two = clash (two refl)
+hands-both true false e d p q m h two = refl
+hands-both false true e d p q m h two = refl
+hands-both false false e d p q m h two = refl
+
+firsts-both : (a b : Bool) (e d : Fate) (c : Card) (p q : Holding) (m : ℕ) (ks : List FirstKeep) → (a ≡ true → b ≡ false) → (if b then firsts_by d c q m (if a then firsts_by e c p m ks else ks) else (if a then firsts_by e c p m ks else ks))
+    ≡ firsts_by (if a then e else (if b then d else Still)) c (if a then p else (if b then q else none_held 0)) m ks
+firsts-both true true e d c p q m ks two = clash (two refl)
+firsts-both true false e d c p q m ks two = refl
+firsts-both false true e d c p q m ks two = refl
+firsts-both false false e d c p q m ks two = refl
+
 carried-both : (present : Present) (i : HistoryMinute) (round : Round) (w : RunLedger) → AreTwo present.driver present.codriver
-    → carried_brought round.codriver present.codriver i.minute (carried_brought round.driver present.driver i.minute (carried_kept i round.clock w)) ≡ carried_after present i round w
-carried-both present i round w two = ap (λ (s : Card → Standing). record (carried_after present i round w) { standing = s })
-    (ext (carried_brought round.codriver present.codriver i.minute (carried_brought round.driver present.driver i.minute (carried_kept i round.clock w))).standing (carried_after present i round w).standing
-    (λ c. stands-by (is_this present.driver c) (is_this present.codriver c) round.driver round.codriver i.minute (w.standing c) (apart-both present.driver present.codriver two c)))
+    → carried_brought round.codriver round.codriver_held present.codriver i.minute (carried_brought round.driver round.driver_held present.driver i.minute (carried_kept i round.clock w)) ≡ carried_after present i round w
+carried-both present i round w two =
+    let was : RunLedger = carried_brought round.codriver round.codriver_held present.codriver i.minute (carried_brought round.driver round.driver_held present.driver i.minute (carried_kept i round.clock w)) in
+    let all : RunLedger = carried_after present i round w in
+    ap (λ (s : Card → Standing). record all { standing = s; hands = was.hands; firsts = was.firsts })
+    (ext was.standing all.standing (λ c. stands-by (is_this present.driver c) (is_this present.codriver c) round.driver round.codriver i.minute (w.standing c) (apart-both present.driver present.codriver two c)))
+    ∙ ap (λ (h : Card → Hands). record all { hands = h; firsts = was.firsts })
+    (ext was.hands all.hands (λ c. hands-both (is_this present.driver c) (is_this present.codriver c) round.driver round.codriver round.driver_held round.codriver_held i.minute (w.hands c) (apart-both present.driver present.codriver two c)))
+    ∙ ap (λ (ks : Card → List FirstKeep). record all { firsts = ks })
+    (ext was.firsts all.firsts (λ c. firsts-both (is_this present.driver c) (is_this present.codriver c) round.driver round.codriver c round.driver_held round.codriver_held i.minute (w.firsts c) (apart-both present.driver present.codriver two c)))
 
 same-both : {T : Type 0} (b : Bool) (t : T) → (if b then t else t) ≡ t
 same-both true t = refl
 same-both false t = refl
 
 -- of an entry that was not asked for nothing changes
-carried-still : (o : Option Card) (m : ℕ) (w : RunLedger) → carried_brought Still o m w ≡ w
-carried-still None m w = ap (λ (ms : List Mark). record w { marks = ms }) (append-nil w.marks)
-carried-still (Some k) m w =
-    ap (λ (s : Card → Standing). record w { marks = w.marks ++ []; standing = s }) (ext (carried_brought Still (Some k) m w).standing w.standing (λ c. same-both (is_this (Some k) c) (w.standing c)))
+carried-still : (held : Holding) (o : Option Card) (m : ℕ) (w : RunLedger) → carried_brought Still held o m w ≡ w
+carried-still held None m w = ap (λ (ms : List Mark). record w { marks = ms }) (append-nil w.marks)
+carried-still held (Some k) m w =
+    let was : RunLedger = carried_brought Still held (Some k) m w in
+    ap (λ (s : Card → Standing). record was { standing = s }) (ext was.standing w.standing (λ c. same-both (is_this (Some k) c) (w.standing c)))
+    ∙ ap (λ (h : Card → Hands). record w { marks = w.marks ++ []; hands = h; firsts = was.firsts }) (ext was.hands w.hands (λ c. same-both (is_this (Some k) c) (w.hands c)))
+    ∙ ap (λ (ks : Card → List FirstKeep). record w { marks = w.marks ++ []; firsts = ks }) (ext was.firsts w.firsts (λ c. same-both (is_this (Some k) c) (w.firsts c)))
     ∙ ap (λ (ms : List Mark). record w { marks = ms }) (append-nil w.marks)
 
 -- the cards alone tell of their last use, and of their events
-pub timed-at : (f : Found) (U V X Y : State) (e : Devices) → AreTimedOn f (devices V X Y) e → AreTimedOn f (devices U X Y) e
-timed-at f U V X Y e timed A = timed A
-timed-at f U V X Y e timed B = timed B
+pub timed-at : (f : Found) (values : List ℕ) (U V X Y : State) (e : Devices) → AreTimedOn f values (devices V X Y) e → AreTimedOn f values (devices U X Y) e
+timed-at f values U V X Y e timed A = timed A
+timed-at f values U V X Y e timed B = timed B
 
-pub timed-then : (f : Found) (d e g : Devices) → AreTimedOn f d e → AreTimedOn f e g → AreTimedOn f d g
-timed-then f d e g first next c valid = stays-then (found_of f c) (card_of d c) (card_of e c) (card_of g c) (first c valid) (next c valid)
+pub timed-then : (f : Found) (values : List ℕ) (d e g : Devices) → AreTimedOn f values d e → AreTimedOn f values e g → AreTimedOn f values d g
+timed-then f values d e g first next c valid = stays-then (found_of f c) values (card_of d c) (card_of e c) (card_of g c) (first c valid) (next c valid)
+
+pub timed-more : (f : Found) (values now : List ℕ) → ((n : ℕ) → Contains values n → Contains now n) → (d e : Devices) → AreTimedOn f values d e → AreTimedOn f now d e
+timed-more f values now more d e is c valid = stays-more (found_of f c) values now more (card_of d c) (card_of e c) (is c valid)
 
 -- the clock of a card that was not asked
 pub clock-rests : {C : Type 0} (state : C → State) (a b : C) → b ≡ a → (state b).clock ≡ (state a).clock
@@ -129,12 +159,13 @@ lit-owes f w p q U X Y same h = record {
   rises = h.rises;
   brought = h.brought;
   marks = h.marks;
+  hands = h.hands;
 }
 
 go-owes : (f : Found) (w : RunLedger) (p q : Card → List Entry) (cards : Cards) (U X Y : State) → ((c : Card) → p c ≡ q c) → AllGo f w p cards (devices U X Y) → AllGo f w q cards (devices U X Y)
 go-owes f w p q cards U X Y same go = record {
   held = go.held;
-  goes = λ c valid. subst (λ (es : List Entry). GoesOwing (found_of f c) c w.book es (w.standing c) (session_of cards c) (card_of (devices U X Y) c)) (same c) (go.goes c valid);
+  goes = λ c valid. subst (λ (es : List Entry). GoesOwing (found_of f c) (w.hands c) c w.book es (w.standing c) (session_of cards c) (card_of (devices U X Y) c)) (same c) (go.goes c valid);
 }
 
 left-none : (a b : Bool) (e d : Entry) (es : List Entry) → (if b then d ∷ [] else (if a then e ∷ [] else [])) ≡ es → (if b then [] else (if a then [] else es)) ≡ []
@@ -157,8 +188,12 @@ module _ (m : KeptMinute) (present : Present) (says : TellsPresent m present) (t
   abbrev w1 : RunLedger → RunLedger
   w1 w = carried_kept i V.clock w
 
+  -- what the session of the driver's card holds
+  abbrev pe : Holding
+  pe = held_in (session_at k1.cabin.cards present.driver)
+
   abbrev w2 : RunLedger → RunLedger
-  w2 w = carried_brought fe present.driver i.minute (w1 w)
+  w2 w = carried_brought fe pe present.driver i.minute (w1 w)
 
   this-driver : (c : Card) → present.driver ≡ Some c → is_this present.driver c ≡ true
   this-driver c is = ap (λ (o : Option Card). is_this o c) is ∙ this-card c
@@ -187,27 +222,30 @@ module _ (m : KeptMinute) (present : Present) (says : TellsPresent m present) (t
     has : IsLitOwing f (w1 w) (owes_minute i) (devices V X Y) × AllGo f (w1 w) (owes_minute i) k1.cabin.cards (devices V X Y) × HasTravelled start (kept i w.book) (travelled i.minute leg g) V
     has = owed f w start g leg (record { booked = may.booked; comes = may.comes }) gone odometer time
 
-    first : HasTime present.driver (devices V1 X1 Y1) → IsBroughtOrCut failed1 f (w2 w) (but_to present.driver (owes_minute i)) k2.cabin.cards (devices V1 X1 Y1) × AreTimedOn f (devices V X Y) (devices V1 X1 Y1)
+    first : HasTime present.driver (devices V1 X1 Y1) → IsBroughtOrCut failed1 f (w2 w) (but_to present.driver (owes_minute i)) k2.cabin.cards (devices V1 X1 Y1) × AreTimedOn f (m.odometer.0 ∷ []) (devices V X Y) (devices V1 X1 Y1)
         × AllKeep f (kept_for present.driver (kept_in m Driver)) k1.cabin.cards k2.cabin.cards (devices V X Y) (devices V1 X1 Y1)
     first card = one f (w1 w) (owes_minute i) found1
         (may-bring f w i present.driver (kept_in m Driver) (w1 w) (owes_minute i) refl may.comes owes-driver (λ c is. says-some m present says two c (inl (this-driver c is))) (λ c is. refl)) has.0 has.1 card
 
   -- the unit failed as it noted the fault of the driver's card
-  pub booked-cut : failed1 ≡ true → IsCoherent V → LeavesOnly V V1 LeavesJournal → (u : KeepingState) (round : Round) → round.clock ≡ V.clock → round.driver ≡ fe → round.codriver ≡ Still → BooksMinute present m true (Some round) (told-of k ms bs) u (devices U X Y) (devices V1 X1 Y1)
-  booked-cut bad whole run u round at fate still = λ f w start g leg may gone odometer time.
+  pub booked-cut : failed1 ≡ true → IsCoherent V → LeavesOnly V V1 LeavesJournal → (u : KeepingState) (round : Round) → round.clock ≡ V.clock → round.driver ≡ fe → round.codriver ≡ Still → round.driver_held ≡ pe
+      → BooksMinute present m true (Some round) (told-of k ms bs) u (devices U X Y) (devices V1 X1 Y1)
+  booked-cut bad whole run u round at fate still holds = λ f w start g leg may gone odometer time.
       let card = has-time present.driver (devices V1 X1 Y1) time in
       let low = time.unit in
       let later = run.later in
       let short : V.clock < last_count = omega (arith, low, later) in
       let here = first f w start g leg may gone odometer short card in
       let cut : DevicesUnpowered f (w2 w) (devices V1 X1 Y1) = subst (λ (b : Bool). IsBroughtOrCut b f (w2 w) (but_to present.driver (owes_minute i)) k2.cabin.cards (devices V1 X1 Y1)) bad here.0 in
-      let is : w2 w ≡ carried_after present i round w = sym (carried-still present.codriver i.minute (w2 w))
-      ∙ ap (λ (x : Fate). carried_brought Still present.codriver i.minute (carried_brought x present.driver i.minute (w1 w))) (sym fate)
-      ∙ ap (λ (n : ℕ). carried_brought Still present.codriver i.minute (carried_brought round.driver present.driver i.minute (carried_kept i n w))) (sym at)
-      ∙ ap (λ (x : Fate). carried_brought x present.codriver i.minute (carried_brought round.driver present.driver i.minute (carried_kept i round.clock w))) (sym still)
+      let qe : Holding = round.codriver_held in
+      let is : w2 w ≡ carried_after present i round w = sym (carried-still qe present.codriver i.minute (w2 w))
+      ∙ ap (λ (x : Fate). carried_brought Still qe present.codriver i.minute (carried_brought x pe present.driver i.minute (w1 w))) (sym fate)
+      ∙ ap (λ (p : Holding). carried_brought Still qe present.codriver i.minute (carried_brought round.driver p present.driver i.minute (w1 w))) (sym holds)
+      ∙ ap (λ (n : ℕ). carried_brought Still qe present.codriver i.minute (carried_brought round.driver round.driver_held present.driver i.minute (carried_kept i n w))) (sym at)
+      ∙ ap (λ (x : Fate). carried_brought x qe present.codriver i.minute (carried_brought round.driver round.driver_held present.driver i.minute (carried_kept i round.clock w))) (sym still)
       ∙ carried-both present i round w two in (
         (subst (λ (v : RunLedger). DevicesUnpowered f v (devices V1 X1 Y1)) is cut, travelled-noted start (kept i w.book) (travelled i.minute leg g) (has f w start g leg may gone odometer short).2 whole run),
-        timed-at f U V X Y (devices V1 X1 Y1) here.1,
+        timed-at f (m.odometer.0 ∷ []) U V X Y (devices V1 X1 Y1) here.1,
         λ well. clash well,
       )
 
@@ -215,8 +253,12 @@ module _ (m : KeptMinute) (present : Present) (says : TellsPresent m present) (t
       (other : BooksBrought present.codriver (kept_in m CoDriver) failed fd k2.cabin.cards k3.cabin.cards (devices V1 X1 Y1) (devices V2 X2 Y2))
       (rests_a : is_this present.codriver A ≡ false → X2.clock ≡ X1.clock) (rests_b : is_this present.codriver B ≡ false → Y2.clock ≡ Y1.clock)
       (whole1 : IsCoherent V) (run1 : LeavesOnly V V1 LeavesJournal) (whole2 : IsCoherent V1) (run2 : LeavesOnly V1 V2 LeavesJournal) where
+    -- what the session of the co-driver's card holds
+    abbrev pd : Holding
+    pd = held_in (session_at k2.cabin.cards present.codriver)
+
     abbrev w3 : RunLedger → RunLedger
-    w3 w = carried_brought fd present.codriver i.minute (w2 w)
+    w3 w = carried_brought fd pd present.codriver i.minute (w2 w)
 
     -- the clock of the driver's card is what it is at the end
     time-first : HaveTime (devices V2 X2 Y2) → (o : Option Card) → o ≡ present.driver → HasTime o (devices V1 X1 Y1)
@@ -241,7 +283,7 @@ module _ (m : KeptMinute) (present : Present) (says : TellsPresent m present) (t
         omega (arith, low, here, there)
 
     behind : (f : Found) (w : RunLedger) (start : ℕ) (g : Travel) (leg : ℕ) → MayBook f w present m (told-of k ms bs) (devices U X Y) → HasTravelled start w.book g U → m.odometer.0 ≡ odometer_by (odometer_after start g.before) leg → HaveTime (devices V2 X2 Y2)
-        → IsBroughtOrCut failed f (w3 w) (but_to present.codriver (but_to present.driver (owes_minute i))) k3.cabin.cards (devices V2 X2 Y2) × AreTimedOn f (devices U X Y) (devices V2 X2 Y2)
+        → IsBroughtOrCut failed f (w3 w) (but_to present.codriver (but_to present.driver (owes_minute i))) k3.cabin.cards (devices V2 X2 Y2) × AreTimedOn f (m.odometer.0 ∷ []) (devices U X Y) (devices V2 X2 Y2)
         × AllKeep f (kept_on present m) k.cabin.cards k3.cabin.cards (devices U X Y) (devices V2 X2 Y2)
     behind f w start g leg may gone odometer time =
         let here = first f w start g leg may gone odometer (short time) (time-first time present.driver refl) in
@@ -250,7 +292,7 @@ module _ (m : KeptMinute) (present : Present) (says : TellsPresent m present) (t
         (may-bring f w i present.codriver (kept_in m CoDriver) (w2 w) (but_to present.driver (owes_minute i)) refl may.comes owes-codriver (λ c is. says-some m present says two c (inr (this-codriver c is)))
         (λ c is. ap (λ (a : Bool). if a then standing_by fe i.minute (w.standing c) else w.standing c) (not-driver c is))) lit.0 lit.1 (has-time present.codriver (devices V2 X2 Y2) time) in (
           next.0,
-          timed-at f U V X Y (devices V2 X2 Y2) (timed-then f (devices V X Y) (devices V1 X1 Y1) (devices V2 X2 Y2) here.1 next.1),
+          timed-at f (m.odometer.0 ∷ []) U V X Y (devices V2 X2 Y2) (timed-then f (m.odometer.0 ∷ []) (devices V X Y) (devices V1 X1 Y1) (devices V2 X2 Y2) here.1 next.1),
           subst (λ (q : Cards). AllKeep f (kept_on present m) q k3.cabin.cards (devices U X Y) (devices V2 X2 Y2)) same
               (keep-at f (kept_on present m) k1.cabin.cards k3.cabin.cards U V X Y (devices V2 X2 Y2)
               (keep-then f (kept_for present.driver (kept_in m Driver)) (kept_for present.codriver (kept_in m CoDriver)) (kept_on present m) k1.cabin.cards k2.cabin.cards k3.cabin.cards (devices V X Y) (devices V1 X1 Y1) (devices V2 X2 Y2)
@@ -258,11 +300,14 @@ module _ (m : KeptMinute) (present : Present) (says : TellsPresent m present) (t
         )
 
     -- all that there is to it
-    pub booked-whole : (ms3 : Listed Mark) (bs3 : Listed Break) (round : Round) → round.clock ≡ V.clock → round.driver ≡ fe → round.codriver ≡ fd → BooksMinute present m failed (Some round) (told-of k ms bs) (told-of k3 ms3 bs3) (devices U X Y) (devices V2 X2 Y2)
-    booked-whole ms3 bs3 round at first_fate second_fate = λ f w start g leg may gone odometer time.
-        let is : w3 w ≡ carried_after present i round w = ap (λ (x : Fate). carried_brought fd present.codriver i.minute (carried_brought x present.driver i.minute (w1 w))) (sym first_fate)
-        ∙ ap (λ (n : ℕ). carried_brought fd present.codriver i.minute (carried_brought round.driver present.driver i.minute (carried_kept i n w))) (sym at)
-        ∙ ap (λ (x : Fate). carried_brought x present.codriver i.minute (carried_brought round.driver present.driver i.minute (carried_kept i round.clock w))) (sym second_fate)
+    pub booked-whole : (ms3 : Listed Mark) (bs3 : Listed Break) (round : Round) → round.clock ≡ V.clock → round.driver ≡ fe → round.codriver ≡ fd → round.driver_held ≡ pe → round.codriver_held ≡ pd
+        → BooksMinute present m failed (Some round) (told-of k ms bs) (told-of k3 ms3 bs3) (devices U X Y) (devices V2 X2 Y2)
+    booked-whole ms3 bs3 round at first_fate second_fate first_holds second_holds = λ f w start g leg may gone odometer time.
+        let is : w3 w ≡ carried_after present i round w = ap (λ (x : Fate). carried_brought fd pd present.codriver i.minute (carried_brought x pe present.driver i.minute (w1 w))) (sym first_fate)
+        ∙ ap (λ (p : Holding). carried_brought fd pd present.codriver i.minute (carried_brought round.driver p present.driver i.minute (w1 w))) (sym first_holds)
+        ∙ ap (λ (n : ℕ). carried_brought fd pd present.codriver i.minute (carried_brought round.driver round.driver_held present.driver i.minute (carried_kept i n w))) (sym at)
+        ∙ ap (λ (x : Fate). carried_brought x pd present.codriver i.minute (carried_brought round.driver round.driver_held present.driver i.minute (carried_kept i round.clock w))) (sym second_fate)
+        ∙ ap (λ (q : Holding). carried_brought round.codriver q present.codriver i.minute (carried_brought round.driver round.driver_held present.driver i.minute (carried_kept i round.clock w))) (sym second_holds)
         ∙ carried-both present i round w two in
         let found3 = found-by f fd present.codriver second k2 k3 by2 (found2 f w start g leg may gone odometer (short time)) in
         let first_gone = travelled-noted start (kept i w.book) (travelled i.minute leg g) (has f w start g leg may gone odometer (short time)).2 whole1 run1 in

@@ -13,6 +13,7 @@ use Rattle.card_retention.specs.Retains.{Rise}
 use Rattle.card_image.specs.Own.{own_view, IsOwnValid, KeepsOf}
 use Rattle.card_session.specs.Inserting.{Follow}
 use Rattle.card_session.specs.Repairs.{first_minute}
+use Rattle.hand_model.specs.Written.{Hands}
 use Rattle.history_model.specs.Minutes.{HistoryMinute, card_history, on_card, up_to}
 use Rattle.history_model.specs.Presence.{CardStart}
 use Rattle.history_model.specs.Book.{Book, all, kept, broken}
@@ -57,9 +58,10 @@ pub brought-kept : (c : Card) (start : CardStart) (b : Book) (i : HistoryMinute)
 brought-kept c start b i none = ap (λ (is : List HistoryMinute). start.owed ++ card_history c is) (all-kept i b) ∙ brought-broken c start b i none
 
 -- the string where nothing is said
-string-same : (f : CardFound) (c : Card) (b d : Book) (X : State) → brought_by c f.start b ≡ brought_by c f.start d → StringHolds f c b X → StringHolds f c d X
-string-same f c b d X same s = record {
-  kept = λ x left. subst (λ (es : List Entry). KeepsOf f.image (f.start.entries ++ counted_to (own_view x).mark es) (own_view x).held) same (s.kept x left);
+string-same : (f : CardFound) (hd : Hands) (c : Card) (b d : Book) (X : State) → brought_by c f.start b ≡ brought_by c f.start d → StringHolds f hd c b X → StringHolds f hd c d X
+string-same f hd c b d X same s = record {
+  kept = λ x left. subst (λ (es : List Entry). KeepsOf f.image hd.given (f.start.entries ++ counted_to (own_view x).mark es) (own_view x).held) same (s.kept x left);
+  told = s.told;
   valid = s.valid;
   sizes = s.sizes;
   number = s.number;
@@ -167,19 +169,22 @@ module _ (f : Found) (cards : Cards) (found : AreFoundCards f cards) (w : RunLed
         (All-weaker (λ (e : Entry). e.minute ≤ (own_view x.0).mark) (λ e. e.minute < i.minute) (λ e le. omega (arith, le, mark)) m.more (all-back (λ (e : Entry). e.minute ≤ (own_view x.0).mark) g.start.entries m.more m.had))
         (All-weaker (λ (e : Entry). e.minute ≤ v.last) (λ e. e.minute < i.minute) (λ e le. omega (arith, le, low)) (owed c v (own_view x.0)) (owed-until c v (own_view x.0))))
 
-    strung : IsStrung f c w.book z U card
+    abbrev hd : Hands
+    hd = w.hands c
+
+    strung : IsStrung f hd c w.book z U card
     strung = strung-with f w cards (devices U X Y) found (owes_minute i) owes_nothing h c valid (go.held c valid)
 
-    strung-cut : IsStrung f c (broken i w.book) z V card
+    strung-cut : IsStrung f hd c (broken i w.book) z V card
     strung-cut = record {
       string = ⊎_elim
-          (λ none. string-same g c w.book (broken i w.book) card (sym (brought-broken c g.start w.book i h.none ∙ ap (λ (es : List Entry). brought_by c g.start w.book ++ es) none ∙ append-nil (brought_by c g.start w.book))) strung.string)
-          (λ present. string-broken f c w.book i (one c).0 card h.none (one c).1 (later present) ahead strung.string) fits;
-      comes = comes-broken f c w.book z i U V card h.none comes.day last rule fits (λ x there. ahead x (since-now x there)) strung.comes views;
+          (λ none. string-same g hd c w.book (broken i w.book) card (sym (brought-broken c g.start w.book i h.none ∙ ap (λ (es : List Entry). brought_by c g.start w.book ++ es) none ∙ append-nil (brought_by c g.start w.book))) strung.string)
+          (λ present. string-broken f hd c w.book i (one c).0 card h.none (one c).1 (later present) ahead strung.string) fits;
+      comes = comes-broken f hd c w.book z i U V card h.none comes.day last rule fits (λ x there. ahead x (since-now x there)) strung.comes views;
     }
 
-    done : IsStrung f c (kept i w.book) z V card
-    done = strung-kept f c w.book z i V card strung-cut
+    done : IsStrung f hd c (kept i w.book) z V card
+    done = strung-kept f hd c w.book z i V card strung-cut
 
     brought : (k : ℕ) → Contains (w.brought c) k → HasBrought f.card_a.number f.card_b.number c k V card
     brought k in_ = commit-stays c (unit_seen f U) (unit_seen f V) (of_card card) g.start g.began z i k (omega (arith, early c k in_, comes.late)) comes.day last rule.stands rule.cells fits views (h.brought c valid k in_)
@@ -190,9 +195,9 @@ module _ (f : Found) (cards : Cards) (found : AreFoundCards f cards) (w : RunLed
         (λ none. subst (All (λ (e : Entry). suc (max g.start.word (since z n)) ≤ e.minute)) (sym none) (All-nil (λ (e : Entry). suc (max g.start.word (since z n)) ≤ e.minute)))
         (λ present. All-weaker (λ (e : Entry). e.minute ≡ i.minute) (λ e. suc (max g.start.word (since z n)) ≤ e.minute) (λ e is. omega (arith, is, present-late g.start z i.minute n present)) (on_card c i) (on_card-minute c i)) fits
 
-    wait : CardHoldsStringUnpowered g c (broken i w.book) z card
+    wait : CardHoldsStringUnpowered g hd c (broken i w.book) z card
     wait = record {
-      held = held-same g c w.book (sure_of (broken i w.book)) z card (sure-same c g.start w.book h.none) (go.held c valid);
+      held = held-same g hd c w.book (sure_of (broken i w.book)) z card (sure-same c g.start w.book h.none) (go.held c valid);
       comes = λ x there. subst (All (λ (e : Entry). suc (max g.start.word (since z (own_view x).newest)) ≤ e.minute)) (sym (history-one c i)) (behind (own_view x).newest);
     }
 
@@ -211,8 +216,8 @@ module _ (f : Found) (cards : Cards) (found : AreFoundCards f cards) (w : RunLed
     first-behind n [] each = omega arith
     first-behind n (e ∷ es) each = All-head (λ (d : Entry). n ≤ d.minute) e es each
 
-    held : CardHoldsString g c (kept i w.book) z card
-    held = held-more g c w.book (kept i w.book) z card (on_card c i) (brought-kept c g.start w.book i h.none) (subst Rise (brought-kept c g.start w.book i h.none) done.string.rises)
+    held : CardHoldsString g hd c (kept i w.book) z card
+    held = held-more g hd c w.book (kept i w.book) z card (on_card c i) (brought-kept c g.start w.book i h.none) (subst Rise (brought-kept c g.start w.book i h.none) done.string.rises)
         (λ x left. follow-one (own_view x).mark (one c).0 (one c).1 (ahead x left))
         (λ x there. (follow-one (own_view x).mark (one c).0 (one c).1 (ahead x (since-now x there)), first-behind (suc (max g.start.word (since z (own_view x).newest))) (on_card c i) (behind (own_view x).newest)))
         (go.held c valid)
@@ -230,6 +235,7 @@ module _ (f : Found) (cards : Cards) (found : AreFoundCards f cards) (w : RunLed
     rises = λ c valid. (done c valid).string.rises;
     brought = brought;
     marks = λ c. marks-kept (found_of f c) c w.book i V.clock w.marks (card_of (devices U X Y) c) (h.marks c);
+    hands = h.hands;
   }
 
   goes : AllGo f (carried_kept i V.clock w) (owes_minute i) cards (devices V X Y)
@@ -254,6 +260,7 @@ module _ (f : Found) (cards : Cards) (found : AreFoundCards f cards) (w : RunLed
         brought = brought c valid;
       };
       marks = λ c. marks-broken (found_of f c) c w.book i w.marks (card_of (devices U X Y) c) (h.marks c);
+      hands = h.hands;
     };
     wait = wait;
   }

@@ -1,7 +1,6 @@
 -- A call on the unit alone that notes no event, from call to call.
-use Rattle.std.proofs.Common.{◌≡◌, ◌∙◌, ℕ, ◌≤◌, Bool, true, false, not, IfSome, List, [], refl, ap, subst, arith}
+use Rattle.std.proofs.Common.{◌≡◌, ◌∙◌, ℕ, Bool, true, false, not, IfSome, List, [], refl, ap, subst, arith}
 use Rattle.tacho_types.specs.CardNumber.{card_number_bytes}
-use Rattle.trace_model.specs.declared.Card.{Card}
 use Rattle.tach_media.specs.Medium.{State, IsCoherent, LeavesOnly, HasCause}
 use Rattle.tach_media.proofs.Runs.{cause_after, no_reads}
 use Rattle.unit_model.specs.Image.{IsUnit}

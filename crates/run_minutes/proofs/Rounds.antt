@@ -13,8 +13,8 @@ use Rattle.run_crew.specs.declared.cabin.Cabin.{Cabin}
 use Rattle.run_outcome.specs.Lines.{Listed}
 use Rattle.run_minutes.specs.declared.keeper.Keeper.{Keeper}
 use Rattle.run_minutes.specs.declared.keeper.Moment.{Moment}
-use Rattle.run_minutes.specs.Keeping.{Fate, Still, IsBrought, IsFateOf, cabin_by, marks_by, breaks_by, session_at, most_tears, with_lines, kept_in}
-use Rattle.run_minutes.specs.Minutes.{KeepingState, IsRound, told_after, unit_mark}
+use Rattle.run_minutes.specs.Keeping.{Fate, Still, IsBrought, IsFateOf, cabin_by, marks_by, breaks_by, session_at, held_in, most_tears, with_lines, kept_in}
+use Rattle.run_minutes.specs.Minutes.{Round, KeepingState, IsRound, told_after, unit_mark}
 use Rattle.run_minutes.proofs.Fates.{no-lines}
 use Rattle.run_minutes.proofs.Counts.{past-by, minute-by, tears-by, few-marks, lines-length}
 
@@ -60,17 +60,30 @@ told-of k ms bs = record { keeper = k; marks = ms; breaks = bs }
 pub told-same : (k v : Keeper) (ms ns : Listed Mark) (bs cs : Listed Break) → k ≡ v → ms ≡ ns → bs ≡ cs → told-of k ms bs ≡ told-of v ns cs
 told-same k v ms ns bs cs one two three = ap (λ (q : Keeper). told-of q ms bs) one ∙ ap (λ (q : Listed Mark). told-of v q bs) two ∙ ap (λ (q : Listed Break). told-of v ns q) three
 
+-- by what became of its entries, of sessions that held their entries by hand before
+abbrev pub round-of : Present → (second : ℕ) → Cabin → Notes → (clock : ℕ) → (fate more : Fate) → Round
+round-of present second cabin j clock fate more = record {
+  journal = j;
+  clock = clock;
+  driver = fate;
+  codriver = more;
+  driver_held = held_in (session_at cabin.cards present.driver);
+  codriver_held = held_in (session_at (cabin_by fate present.driver second cabin).cards present.codriver);
+}
+
 module _ (present : Present) (m : KeptMinute) (at : Moment) (k : Keeper) (marks : Listed Mark) (breaks : Listed Break) (j : Notes) (clock : ℕ) (kept : j.kept ≡ m.minute) (odometer : j.odometer ≡ m.odometer.0)
     (k1 : Keeper) (is : k1 ≡ record k { journal = j }) (m1 : Listed Mark) (marked : m1 ≡ with_lines (unit_mark m.minute clock ∷ []) marks) where
   -- the driver's card was torn out, and the unit failed as it noted that
   module _ (v : Keeper) (m2 : Listed Mark) (b2 : Listed Break) (fate : Fate) (U V X Y : State) (b : IsBrought present.driver (kept_in m Driver) at true k1 v m1 m2 breaks b2 fate U V X Y) where
-    pub cut-is : IsRound present m at true k (record { journal = j; clock = clock; driver = fate; codriver = Still })
+    pub cut-is : IsRound present m at true k (round-of present at.second k.cabin j clock fate Still)
     cut-is = record {
       kept = kept;
       odometer = odometer;
       driver = subst (λ (q : Keeper). IsFateOf (session_at q.cabin.cards present.driver) (kept_in m Driver) fate) is b.is;
       codriver = inl (record { unit_failed = refl; driver_fell = b.only refl; not_asked = refl });
       only = λ bad. inl (b.only refl);
+      driver_holds = refl;
+      codriver_holds = refl;
     }
 
     still-cabin : (o : Option Card) (second : ℕ) (cabin : Cabin) → cabin_by Still o second cabin ≡ cabin
@@ -81,7 +94,7 @@ module _ (present : Present) (m : KeptMinute) (at : Moment) (k : Keeper) (marks 
     still-marks None minute = refl
     still-marks (Some c) minute = refl
 
-    pub cut-told : told-of v m2 b2 ≡ told_after present m.minute at (record { journal = j; clock = clock; driver = fate; codriver = Still }) (told-of k marks breaks)
+    pub cut-told : told-of v m2 b2 ≡ told_after present m.minute at (round-of present at.second k.cabin j clock fate Still) (told-of k marks breaks)
     cut-told = told-same v _ m2 _ b2 _
         (b.keeper ∙ ap (λ (q : Keeper). record q { cabin = cabin_by fate present.driver at.second q.cabin }) is
         ∙ ap (λ (q : Cabin). record k { journal = j; cabin = q }) (sym (still-cabin present.codriver at.second (cabin_by fate present.driver at.second k.cabin))))
@@ -103,16 +116,18 @@ module _ (present : Present) (m : KeptMinute) (at : Moment) (k : Keeper) (marks 
     pub whole-codriver : IsFateOf (session_at (cabin_by fate present.driver at.second k.cabin).cards present.codriver) (kept_in m CoDriver) more
     whole-codriver = subst (λ (q : Keeper). IsFateOf (session_at q.cabin.cards present.codriver) (kept_in m CoDriver) more) between d.is
 
-    pub whole-is : IsRound present m at failed k (record { journal = j; clock = clock; driver = fate; codriver = more })
+    pub whole-is : IsRound present m at failed k (round-of present at.second k.cabin j clock fate more)
     whole-is = record {
       kept = kept;
       odometer = odometer;
       driver = whole-driver;
       codriver = inr whole-codriver;
       only = λ bad. inr (d.only bad);
+      driver_holds = refl;
+      codriver_holds = refl;
     }
 
-    pub whole-told : told-of v m3 b2 ≡ told_after present m.minute at (record { journal = j; clock = clock; driver = fate; codriver = more }) (told-of k marks breaks)
+    pub whole-told : told-of v m3 b2 ≡ told_after present m.minute at (round-of present at.second k.cabin j clock fate more) (told-of k marks breaks)
     whole-told = told-same v _ m3 _ b2 _
         (d.keeper ∙ ap (λ (q : Keeper). record q { cabin = cabin_by more present.codriver at.second q.cabin }) between)
         (d.marked ∙ ap (with_lines (marks_by more present.codriver m.minute)) (b.marked ∙ ap (with_lines (marks_by fate present.driver m.minute)) marked))

@@ -11,7 +11,7 @@ use Rattle.card_session.specs.declared.session.Kept.{Kept}
 use Rattle.run_crew.specs.declared.cards.Accepted.{Accepted}
 use Rattle.run_crew.specs.declared.cards.Cards.{Cards}
 use Rattle.run_crew.specs.declared.cabin.Cabin.{Cabin}
-use Rattle.run_crew.specs.Cabin.{IsBehind, AreTwo, left_from, slot_with}
+use Rattle.run_crew.specs.Cabin.{IsReadyFor, AreTwo, left_from, slot_with}
 use Rattle.run_minutes.specs.declared.keeper.Keeper.{Keeper}
 use Rattle.run_minutes.specs.Keeping.{AreEmptied, GoesOnFrom, SessionsGoOn, Fate, Still, Has, Fell, IsFateOf, cabin_by, session_at}
 
@@ -82,16 +82,16 @@ brought-sessions fate present kept second k v goes is = subst (λ (q : Keeper). 
 
 -- ---- the other card of a minute can keep it still
 
-pub other-behind : (o p : Option Card) → AreTwo o p → (fate : Fate) (second : ℕ) (cabin : Cabin) (m : ℕ) → IsBehind cabin.cards m p → IsBehind (cabin_by fate o second cabin).cards m p
-other-behind None p two Still second cabin m h = h
-other-behind None p two (Has accepted clock) second cabin m h = h
-other-behind None p two Fell second cabin m h = h
-other-behind (Some c) None two fate second cabin m h = tt
-other-behind (Some A) (Some A) two fate second cabin m h = absurd (cc)
-other-behind (Some B) (Some B) two fate second cabin m h = absurd (cc)
-other-behind (Some A) (Some B) two Still second cabin m h = h
-other-behind (Some A) (Some B) two (Has accepted clock) second cabin m h = h
-other-behind (Some A) (Some B) two Fell second cabin m h = h
-other-behind (Some B) (Some A) two Still second cabin m h = h
-other-behind (Some B) (Some A) two (Has accepted clock) second cabin m h = h
-other-behind (Some B) (Some A) two Fell second cabin m h = h
+pub other-ready : (o p : Option Card) → AreTwo o p → (fate : Fate) (second : ℕ) (cabin : Cabin) (m : ℕ) → IsReadyFor cabin.cards m p → IsReadyFor (cabin_by fate o second cabin).cards m p
+other-ready None p two Still second cabin m h = h
+other-ready None p two (Has accepted clock) second cabin m h = h
+other-ready None p two Fell second cabin m h = h
+other-ready (Some c) None two fate second cabin m h = tt
+other-ready (Some A) (Some A) two fate second cabin m h = absurd (cc)
+other-ready (Some B) (Some B) two fate second cabin m h = absurd (cc)
+other-ready (Some A) (Some B) two Still second cabin m h = h
+other-ready (Some A) (Some B) two (Has accepted clock) second cabin m h = h
+other-ready (Some A) (Some B) two Fell second cabin m h = h
+other-ready (Some B) (Some A) two Still second cabin m h = h
+other-ready (Some B) (Some A) two (Has accepted clock) second cabin m h = h
+other-ready (Some B) (Some A) two Fell second cabin m h = h

@@ -12,7 +12,7 @@ use Rattle.run_crew.specs.declared.cards.Accepted.{Accepted}
 use Rattle.run_crew.specs.declared.cards.Cards.{Cards}
 use Rattle.run_crew.specs.declared.cabin.Cabin.{Cabin}
 use Rattle.run_crew.specs.Cards.{known_of, session_of, with_session}
-use Rattle.run_crew.specs.Cabin.{CabinIsSound, AnswersTo, SeatAnswers, EndedStands, torn_out, left_from, slot_with}
+use Rattle.run_crew.specs.Cabin.{CabinIsSound, AnswersTo, SeatAnswers, EndedStands, torn_out, left_from, slot_with, HoldsBy, HoldsHands}
 use Rattle.run_crew.proofs.Moves.{tear-stands}
 
 -- a session behind another
@@ -54,6 +54,14 @@ module _ (from n : ℕ) (le : from ≤ n) where
     apart = was.apart;
   }
 
+  holds-later : (begun : Option ℕ) (a : Accepted) → HoldsBy from begun a → HoldsBy n begun a
+  holds-later None a was = (let low = was.0 in omega (arith, low, le), was.1, was.2)
+  holds-later (Some first) a was = was
+
+  hands-later : (o : Option Accepted) → IfSome o (HoldsHands from) → IfSome o (HoldsHands n)
+  hands-later None was = tt
+  hands-later (Some a) was = holds-later a.held.begun a was
+
   pub stands-later : (leaving : Option Card) (cabin : Cabin) → CabinIsSound from leaving cabin → CabinIsSound n leaving cabin
   stands-later leaving cabin h = record {
     a = h.a;
@@ -65,6 +73,7 @@ module _ (from n : ℕ) (le : from ≤ n) where
     left = h.left;
     past = All-weaker (EndedStands from cabin.slots.minute cabin.cards) (EndedStands n cabin.slots.minute cabin.cards) (λ e was. ended-later cabin.slots.minute cabin.cards e was) cabin.slots.past h.past;
     newest = h.newest;
+    hands = λ card. hands-later (session_of cabin.cards card) (h.hands card);
   }
 
 -- ---- the other card

@@ -1,5 +1,5 @@
 -- What the keeping of a minute leaves of the detailed speed.
-use Rattle.std.proofs.Common.{◌≡◌, ◌∙◌, ◌+◌, ℕ, List, take, drop, sym, ap, arith}
+use Rattle.std.proofs.Common.{◌∙◌, ℕ, List, take, drop, sym, ap, arith}
 use Rattle.std.proofs.lemmas.List.{drop-drop}
 use Rattle.activity_codec.specs.declared.entries.Entry.{Entry}
 use Rattle.tach_media.specs.Medium.{State, IsCoherent, LeavesOnly}

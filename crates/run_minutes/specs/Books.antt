@@ -1,7 +1,7 @@
 -- What the keeping of a minute leaves of unit and cards, and of what was travelled, over devices that tell their images
 -- (profile).
 use Rattle.std.specs.Prelude.{◌≡◌, ◌⊎◌, ℕ, suc, ◌≤◌, ◌<◌, Bool, true, false, Option, Some, None, List, []}
-use Rattle.std.specs.Prelude.{if◌then◌else◌}
+use Rattle.std.specs.Prelude.{◌∷◌, if◌then◌else◌}
 use Rattle.trace_model.specs.declared.Card.{Card}
 use Rattle.tach_media.specs.Medium.{State, last_count}
 use Rattle.log_model.specs.declared.lines.Mark.{Mark}
@@ -11,13 +11,19 @@ use Rattle.unit_minutes.specs.declared.kept.KeptMinute.{KeptMinute}
 use Rattle.history_model.specs.Minutes.{HistoryMinute, on_card}
 use Rattle.history_model.specs.Book.{kept, broken}
 use Rattle.device_rule.specs.Rules.{Standing, Out, In, Torn, IsPresent}
+use Rattle.hand_model.specs.Holding.{Holding, none_held}
+use Rattle.hand_model.specs.Written.{Hands, and_sure, and_given}
+use Rattle.log_model.specs.Causes.{device_of}
+use Rattle.device_calls.specs.OnCard.{hands_for}
 use Rattle.safety_model.specs.Safe.{Devices, card_of}
 use Rattle.run_unit_course.specs.Legs.{Travel, travelled, stranded}
 use Rattle.unit_rule.specs.Odometer.{HasTravelled, odometer_by, odometer_after}
 use Rattle.card_slots.specs.declared.seats.Present.{Present}
 use Rattle.run_crew.specs.declared.cards.Cards.{Cards}
 use Rattle.run_promise.specs.Found.{CardFound, Found, found_of}
+use Rattle.run_promise.specs.Cards.{FirstKeep, and_first}
 use Rattle.run_promise.specs.Between.{RunLedger}
+use Rattle.run_devices.specs.Measured.{MeasuresOn}
 use Rattle.run_devices.specs.Told.{AreFoundCards, DevicesPowered, DevicesUnpowered, AreEarly}
 use Rattle.run_minutes.specs.CardEvents.{LeavesEvents}
 use Rattle.run_minutes.specs.Deeds.{AllKeep, kept_on}
@@ -61,10 +67,32 @@ standing_by Fell minute Out = Out
 standing_by Fell minute (In time newest) = Torn time minute minute
 standing_by Fell minute (Torn time newest floor) = Torn time newest floor
 
+-- what a card has of entries by hand behind a keep of a minute, before which its session held these: those of the
+-- minute's day were written, or may have been
+abbrev pub hands_by : Fate → Holding → (minute : ℕ) → Hands → Hands
+hands_by Still held minute h = h
+hands_by (Has accepted clock) held minute h = and_sure (hands_for held minute) h
+hands_by Fell held minute h = and_given (hands_for held minute) h
+
+-- and its sessions' first keeps, where it was acknowledged
+abbrev pub firsts_by : Fate → Card → Holding → (minute : ℕ) → List FirstKeep → List FirstKeep
+firsts_by Still c held minute firsts = firsts
+firsts_by (Has accepted clock) c held minute firsts = and_first held.begun
+    (record {
+      mark = record { device = device_of c; minute = minute; clock = clock };
+      hands = hands_for held minute;
+    }) firsts
+firsts_by Fell c held minute firsts = firsts
+
 -- what became of that of a card
 abbrev pub fate_of : Present → Round → Card → Fate
 fate_of present round c = if is_this present.driver c then round.driver
     else (if is_this present.codriver c then round.codriver else Still)
+
+-- what its session held before
+abbrev pub held_of : Present → Round → Card → Holding
+held_of present round c = if is_this present.driver c then round.driver_held
+    else (if is_this present.codriver c then round.codriver_held else none_held 0)
 
 -- what is carried behind a minute that is kept
 abbrev pub carried_after : Present → HistoryMinute → Round → RunLedger → RunLedger
@@ -74,6 +102,8 @@ carried_after present i round w = record {
   marks = (marks_after present i.minute round (record { items = w.marks; room = 0 })).items;
   standing = λ c. standing_by (fate_of present round c) i.minute (w.standing c);
   brought = w.brought;
+  hands = λ c. hands_by (fate_of present round c) (held_of present round c) i.minute (w.hands c);
+  firsts = λ c. firsts_by (fate_of present round c) c (held_of present round c) i.minute (w.firsts c);
 }
 
 -- and behind one that was begun
@@ -119,13 +149,15 @@ pub record HaveTime (d : Devices) : Type 0 where
 abbrev pub IsTimedOn : CardFound → (old new : State) → Type 0
 IsTimedOn f old new = AreTimedSince f.image f.began old → AreTimedSince f.image f.began new
 
--- and its events are those of before
-abbrev pub StaysOn : CardFound → (old new : State) → Type 0
-StaysOn f old new = IsTimedOn f old new × LeavesEvents (own_sizes f.image) old new
+-- its events are those of before, and its vehicle entries were measured with no other values than these
+abbrev pub StaysOn : CardFound → (values : List ℕ) → (old new : State) → Type 0
+StaysOn f values old new = IsTimedOn f old new × LeavesEvents (own_sizes f.image) old new
+    × MeasuresOn (own_sizes f.image) values old new
 
 -- so it is of each card that was valid
-abbrev pub AreTimedOn : Found → (d e : Devices) → Type 0
-AreTimedOn f d e = (c : Card) → IsOwnValid (found_of f c).image → StaysOn (found_of f c) (card_of d c) (card_of e c)
+abbrev pub AreTimedOn : Found → (values : List ℕ) → (d e : Devices) → Type 0
+AreTimedOn f values d e = (c : Card) → IsOwnValid (found_of f c).image
+    → StaysOn (found_of f c) values (card_of d c) (card_of e c)
 
 -- A MINUTE WAS TO BE KEPT, whose odometer is that of the start and of what was travelled up to it, and this came of it:
 -- so it is booked, and the cards keep it.
@@ -134,5 +166,6 @@ abbrev pub BooksMinute : Present → KeptMinute → (failed : Bool) → Option R
 BooksMinute present m failed round t u d e = (f : Found) (w : RunLedger) (start : ℕ) (g : Travel) (leg : ℕ)
     → MayBook f w present m t d → HasTravelled start w.book g d.unit
     → m.odometer.0 ≡ odometer_by (odometer_after start g.before) leg → HaveTime e
-    → IsBooked f start w present (history_minute present m) g leg failed round u.keeper.cabin.cards e × AreTimedOn f d e
+    → IsBooked f start w present (history_minute present m) g leg failed round u.keeper.cabin.cards e
+    × AreTimedOn f (m.odometer.0 ∷ []) d e
     × (failed ≡ false → AllKeep f (kept_on present m) t.keeper.cabin.cards u.keeper.cabin.cards d e)

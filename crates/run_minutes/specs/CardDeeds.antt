@@ -1,9 +1,11 @@
 -- What calls make of a card's days and of its vehicle entries, deed by deed, whichever of its images a stop may leave
 -- (profile).
-use Rattle.std.specs.Prelude.{◌≡◌, ℕ, ◌++◌, Bool, true, false, not, Option, Some, List, [], ◌∷◌, map, nat_eq}
+use Rattle.std.specs.Prelude.{◌≡◌, ℕ, ◌/◌, ◌++◌, Bool, true, false, not, Option, Some, List, [], ◌∷◌, map, nat_eq}
 use Rattle.activity_codec.specs.declared.values.Activity.{Activity}
 use Rattle.activity_codec.specs.declared.values.Activity.TheVariants.{Rest}
 use Rattle.activity_codec.specs.declared.entries.Entry.{Entry}
+use Rattle.activity_codec.specs.declared.entries.Manual.{Manual}
+use Rattle.hand_model.specs.Holding.{of_day}
 use Rattle.tach_media.specs.Medium.{State}
 use Rattle.tacho_types.specs.declared.numbers.Odometer.{Odometer}
 use Rattle.tacho_types.specs.declared.texts.Registration.{Registration}
@@ -15,7 +17,7 @@ use Rattle.card_session.specs.Books.{Book, mark_of}
 use Rattle.card_session.specs.Sessions.{book_of}
 use Rattle.card_session.specs.Cards.{grown}
 use Rattle.card_session.specs.Inserting.{lacked}
-use Rattle.card_string.specs.Deeds.{Deed, Keep, Close, Cut, after}
+use Rattle.card_string.specs.Deeds.{Deed, Keep, Enter, Close, Cut, after}
 
 -- what deeds make of a book, one after another
 abbrev pub made_by : (size : ℕ) → List Deed → Book → Book
@@ -40,12 +42,26 @@ DoesOn app ds old new = (b : Book) (held : CurrentUse) → ShowsBook app b held 
 -- ---- minutes that a session keeps
 
 -- ITS KEEPS of these: each with the odometer value at the end of its minute, and so many km as that has grown since the
--- one before; none at the first of a session
-abbrev pub keeps : Registration → (before : Option Odometer) → List Kept → List Deed
-keeps vehicle before [] = []
-keeps vehicle before (k ∷ ks) =
-    Keep (record { entry = k.entry; registration = vehicle; odometer = k.odometer.0; km = grown before k.odometer.0 })
-    ∷ keeps vehicle (Some k.odometer) ks
+-- one before; none at the first of a session. Before the first one it writes of the entries by hand that it holds those
+-- of the minute's day, and gives up the others.
+abbrev pub enters : List Manual → List Deed
+enters hands = map (λ h. Enter h) hands
+
+abbrev pub keeps : Registration → (before : Option Odometer) → (holds : List Manual) → List Kept → List Deed
+keeps vehicle before holds [] = []
+keeps vehicle before holds (k ∷ ks) =
+    enters (of_day (k.entry.minute / 1440) holds)
+    ++ Keep (record {
+      entry = k.entry;
+      registration = vehicle;
+      odometer = k.odometer.0;
+      km = grown before k.odometer.0;
+    }) ∷ keeps vehicle (Some k.odometer) [] ks
+
+-- what it holds behind them
+abbrev pub holds_after : List Manual → List Kept → List Manual
+holds_after holds [] = holds
+holds_after holds (k ∷ ks) = []
 
 -- the odometer value at the last of them
 abbrev pub last_odometer : (before : Option Odometer) → List Kept → Option Odometer

@@ -19,6 +19,10 @@ use Rattle.run_minutes.specs.Books.{AreBooked, AreTimedOn, HaveTime, IsCutIn, ca
 abbrev pub decided_minute : Keeper → Minute → HistoryMinute
 decided_minute k m = history_minute (present_at k.cabin m.minute) (minute_of m k)
 
+-- the odometer values at the ends of some
+abbrev pub odometers_of : Keeper → List Minute → List ℕ
+odometers_of k decided = map (λ m. (minute_of m k).odometer.0) decided
+
 -- what is carried behind some that are kept
 abbrev pub carried_by : Keeper → List Done → RunLedger → RunLedger
 carried_by k [] w = w
@@ -64,5 +68,5 @@ abbrev pub BooksAll : List Minute → (failed : Bool) → Reach → (t u : Keepi
 BooksAll decided failed reach t u d e = (f : Found) (w : RunLedger) (start : ℕ) (g : Travel)
     → MayBookAll f w decided t d → HasTravelled start w.book g d.unit
     → t.keeper.odometer ≡ odometer_after start g.before → HaveTime e
-    → EndsAll f start w t.keeper failed reach g u e × AreTimedOn f d e
+    → EndsAll f start w t.keeper failed reach g u e × AreTimedOn f (odometers_of t.keeper decided) d e
     × (failed ≡ false → AllKeep f (kepts_on t.keeper decided) t.keeper.cabin.cards u.keeper.cabin.cards d e)

@@ -14,19 +14,22 @@ use Rattle.run_crew.specs.declared.cards.Cards.{Cards}
 use Rattle.run_crew.specs.Cards.{session_of}
 use Rattle.run_promise.specs.Found.{CardFound, Found, found_of}
 use Rattle.run_minutes.specs.declared.keeper.Keeper.{Keeper}
-use Rattle.run_minutes.specs.CardDeeds.{DoesOn, keeps, last_odometer}
+use Rattle.run_minutes.specs.CardDeeds.{DoesOn, keeps, holds_after, last_odometer}
 use Rattle.run_minutes.specs.Keeping.{kept_in, is_this}
 use Rattle.run_minutes.specs.Minutes.{present_at, minute_of}
 
--- A CARD KEEPS THESE, by the session that it has: that goes on with them, and they are done on the card. Without one it
--- shows what it showed; and nothing is said of one that was torn out.
+-- A CARD KEEPS THESE, by the session that it has: that goes on with them, has kept none only where it had kept none and
+-- there are none, and they are done on the card. Without one it shows what it showed; and nothing is said of one that
+-- was torn out.
 abbrev pub KeepsOn : CardFound → List Kept → (before after : Option Accepted) → (old new : State) → Type 0
 KeepsOn f ks None None old new = DoesOn (own_sizes f.image) [] old new
 KeepsOn f ks None (Some b) old new = ⊥
 KeepsOn f ks (Some a) None old new = Unit {0}
 KeepsOn f ks (Some a) (Some b) old new =
     (b.session.registration ≡ a.session.registration) × (b.session.odometer ≡ last_odometer a.session.odometer ks)
-    × DoesOn (own_sizes f.image) (keeps a.session.registration a.session.odometer ks) old new
+    × (b.held.entries ≡ holds_after a.held.entries ks)
+    × (b.held.begun ≡ None → (a.held.begun ≡ None) × (ks ≡ []))
+    × DoesOn (own_sizes f.image) (keeps a.session.registration a.session.odometer a.held.entries ks) old new
 
 -- so does each card that was valid
 abbrev pub AllKeep : Found → (Card → List Kept) → (cards after : Cards) → (d e : Devices) → Type 0

@@ -22,6 +22,7 @@ use Rattle.unit_minutes.specs.Kept.{is_crew}
 use Rattle.event_model.specs.declared.kinds.TheConstants.{CARD_FAULT}
 use Rattle.unit_notes.specs.Entries.{fault_bytes}
 use Rattle.unit_notes.specs.Noting.{IsNotingEvent, IsEventNoted}
+use Rattle.hand_model.specs.Holding.{Holding, none_held, begun_by}
 use Rattle.log_model.specs.declared.lines.Break.{Break}
 use Rattle.log_model.specs.declared.lines.Break.TheVariants.{Tear}
 use Rattle.log_model.specs.declared.lines.Mark.{Mark}
@@ -167,12 +168,13 @@ breaks_by Still slot at = []
 breaks_by (Has accepted clock) slot at = []
 breaks_by Fell slot at = tear_of slot at ∷ []
 
--- a session that kept an entry: it is the same but for that
+-- a session that kept an entry: it is the same but for that, and holds no entry by hand any more
 pub record GoesOnWith (old new : Accepted) (kept : Kept) : Type 0 where
   pub application : new.session.application ≡ old.session.application
   pub registration : new.session.registration ≡ old.session.registration
   pub minute : new.session.minute ≡ kept.entry.minute
   pub odometer : new.session.odometer ≡ Some kept.odometer
+  pub held : new.held ≡ begun_by kept.entry.minute old.held
   pub entry : new.entry ≡ old.entry
   pub noted : new.noted ≡ old.noted
 
@@ -195,6 +197,11 @@ IsOnCard Fell old new = HasCause old new true
 abbrev pub session_at : Cards → Option Card → Option Accepted
 session_at cards None = None
 session_at cards (Some card) = session_of cards card
+
+-- what a session holds of entries by hand, where there is one
+abbrev pub held_in : Option Accepted → Holding
+held_in None = none_held 0
+held_in (Some accepted) = accepted.held
 
 -- the state of that card, by those of both
 abbrev pub state_at : Option Card → (a b : State) → State

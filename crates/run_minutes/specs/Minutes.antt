@@ -9,6 +9,7 @@ use Rattle.card_session.specs.declared.words.TheConstants.{LATEST_MINUTE}
 use Rattle.unit_minutes.specs.declared.kept.KeptMinute.{KeptMinute}
 pub use Rattle.unit_rule.specs.Odometer.{odometer_by}
 use Rattle.unit_minutes.specs.declared.notes.Notes.{Notes}
+use Rattle.hand_model.specs.Holding.{Holding}
 use Rattle.log_model.specs.declared.lines.Break.{Break}
 use Rattle.log_model.specs.declared.lines.Mark.{Mark}
 use Rattle.card_slots.specs.declared.seats.Present.{Present}
@@ -18,17 +19,19 @@ use Rattle.run_outcome.specs.Lines.{Listed}
 use Rattle.run_minutes.specs.declared.keeper.Keeper.{Keeper}
 use Rattle.run_minutes.specs.declared.keeper.Moment.{Moment}
 use Rattle.run_minutes.specs.Keeping.{Fate, Still, has_fallen, cabin_by, marks_by, breaks_by, with_lines, session_at}
-use Rattle.run_minutes.specs.Keeping.{state_at, IsFateOf, IsOnCard, kept_in}
+use Rattle.run_minutes.specs.Keeping.{state_at, held_in, IsFateOf, IsOnCard, kept_in}
 
 -- ---- one minute
 
 -- The unit has kept a minute: what the journal notes of it, the clock of its mark, and what became of the entries on
--- the cards of the driver slot and of the co-driver slot.
+-- the cards of the driver slot and of the co-driver slot; and what their sessions held of entries by hand before.
 pub record Round : Type 0 where
   pub journal : Notes
   pub clock : ℕ
   pub driver : Fate
   pub codriver : Fate
+  pub driver_held : Holding
+  pub codriver_held : Holding
 
 -- the unit's mark of it
 abbrev pub unit_mark : (minute clock : ℕ) → Mark
@@ -71,6 +74,9 @@ pub record IsRound (present : Present) (minute : KeptMinute) (at : Moment) (fail
       ⊎ IsFateOf (session_at (cabin_by round.driver present.driver at.second k.cabin).cards present.codriver)
       (kept_in minute CoDriver) round.codriver
   pub only : failed ≡ true → (has_fallen round.driver ≡ true) ⊎ (has_fallen round.codriver ≡ true)
+  pub driver_holds : round.driver_held ≡ held_in (session_at k.cabin.cards present.driver)
+  pub codriver_holds : round.codriver_held
+      ≡ held_in (session_at (cabin_by round.driver present.driver at.second k.cabin).cards present.codriver)
 
 -- so it went with the cards
 pub record AreOnCards (present : Present) (round : Round) (a a_new b b_new : State) : Type 0 where

@@ -8,6 +8,8 @@ use Rattle.log_model.specs.declared.lines.Mark.{Mark}
 use Rattle.card_image.specs.Own.{IsOwnValid}
 use Rattle.card_session.specs.declared.session.Kept.{Kept}
 use Rattle.unit_minutes.specs.declared.kept.KeptMinute.{KeptMinute}
+use Rattle.hand_model.specs.Holding.{Holding}
+use Rattle.hand_model.specs.Written.{Hands}
 use Rattle.history_model.specs.Minutes.{HistoryMinute, on_card}
 use Rattle.history_model.specs.Book.{Book, kept}
 use Rattle.device_rule.specs.Rules.{Standing, CardRule, IsPresent}
@@ -22,15 +24,16 @@ use Rattle.run_crew.specs.declared.cards.Accepted.{Accepted}
 use Rattle.run_crew.specs.declared.cards.Cards.{Cards}
 use Rattle.run_crew.specs.Cards.{session_of}
 use Rattle.run_promise.specs.Found.{Found, found_of, unit_seen, AnyKept}
-use Rattle.run_promise.specs.Cards.{CardMarksHold}
+use Rattle.run_promise.specs.Cards.{CardMarksHold, FirstKeep, HandMarksHold}
 use Rattle.run_promise.specs.Between.{RunLedger}
 use Rattle.run_devices.specs.Strung.{CardHoldsString}
 use Rattle.run_devices.specs.Told.{GoesOwing, AreFoundCards, AllGo, owes_nothing, IsLitWith, IsLitOwing}
 use Rattle.run_devices.specs.Told.{DevicesUnpowered}
-use Rattle.run_minutes.specs.Keeping.{Fate, is_this, marks_by}
+use Rattle.run_minutes.specs.Keeping.{Fate, is_this, marks_by, session_at, held_in}
 use Rattle.run_minutes.specs.Minutes.{KeepingState, unit_mark}
 use Rattle.run_minutes.specs.Deeds.{KeepsOn, AllKeep, kept_for}
 use Rattle.run_minutes.specs.Books.{MayBook, IsLeftOff, StaysOn, AreTimedOn, history_minute, standing_by}
+use Rattle.run_minutes.specs.Books.{hands_by, firsts_by}
 
 -- an entry more is put, for the card that was present
 abbrev pub and_put : Option Card → Entry → (Card → List Entry) → Card → List Entry
@@ -73,11 +76,13 @@ carried_kept i clock w = record w {
       clock ∷ [];
 }
 
--- and behind what became of the entry of the card that was present
-abbrev pub carried_brought : Fate → Option Card → (minute : ℕ) → RunLedger → RunLedger
-carried_brought fate present minute w = record w {
+-- and behind what became of the entry of the card that was present, whose session held these entries by hand
+abbrev pub carried_brought : Fate → Holding → Option Card → (minute : ℕ) → RunLedger → RunLedger
+carried_brought fate held present minute w = record w {
   marks = w.marks ++ marks_by fate present minute;
   standing = λ c. if is_this present c then standing_by fate minute (w.standing c) else w.standing c;
+  hands = λ c. if is_this present c then hands_by fate held minute (w.hands c) else w.hands c;
+  firsts = λ c. if is_this present c then firsts_by fate c held minute (w.firsts c) else w.firsts c;
 }
 
 -- behind the unit's part: it has the minute, and owes its entries to the cards; or it failed, and the minute was not
@@ -109,14 +114,15 @@ MayBring f (Some c) said w owes = IsOwnValid (found_of f c).image × (owes c ≡
     × IsPresent (found_of f c).start (w.standing c) said.entry.minute
 
 -- of a card that was valid, to which these entries are still owed
-pub record CardOwing (f : Found) (c : Card) (b : Book) (z : Standing) (ks : List ℕ) (marks : List Mark)
-    (owes : List Entry) (session : Option Accepted) (unit card : State) : Type 0 where
+pub record CardOwing (f : Found) (c : Card) (b : Book) (z : Standing) (hd : Hands) (firsts : List FirstKeep)
+    (ks : List ℕ) (marks : List Mark) (owes : List Entry) (session : Option Accepted) (unit card : State) : Type 0 where
   pub rule : CardRule c (found_of f c).start AnyKept (found_of f c).began b z [] owes (unit_seen f unit) (of_card card)
   pub valid : (x : List ℕ) → card.left_since (found_of f c).began x → IsOwnValid x
   pub brought : (k : ℕ) → Contains ks k → HasBrought f.card_a.number f.card_b.number c k unit card
-  pub held : CardHoldsString (found_of f c) c b z card
-  pub goes : GoesOwing (found_of f c) c b owes z session card
+  pub held : CardHoldsString (found_of f c) hd c b z card
+  pub goes : GoesOwing (found_of f c) hd c b owes z session card
   pub hold : CardMarksHold (found_of f c) c b marks card
+  pub hands : HandMarksHold (found_of f c) hd firsts card
 
 -- AN ENTRY WAS TO BE BROUGHT to this card, of which this became (`bring_to`): so it is with it, by the unit as it was
 -- before.
@@ -125,10 +131,13 @@ BooksCard c said fate cards cards_after unit card card_after = (f : Found) (w : 
     → is_some unit.image ≡ true → UnitFollowsBook (once_mended f.unit) w.due w.book w.marks unit → w.book.maybe ≡ None
     → card_after.clock < last_count
     → IsOwnValid (found_of f c).image → IsPresent (found_of f c).start (w.standing c) said.entry.minute
-    → CardOwing f c w.book (w.standing c) (w.brought c) w.marks (said.entry ∷ []) (session_of cards c) unit card
-    → CardOwing f c w.book (standing_by fate said.entry.minute (w.standing c)) (w.brought c)
+    → CardOwing f c w.book (w.standing c) (w.hands c) (w.firsts c) (w.brought c) w.marks (said.entry ∷ [])
+    (session_of cards c) unit card
+    → CardOwing f c w.book (standing_by fate said.entry.minute (w.standing c))
+    (hands_by fate (held_in (session_of cards c)) said.entry.minute (w.hands c))
+    (firsts_by fate c (held_in (session_of cards c)) said.entry.minute (w.firsts c)) (w.brought c)
     (w.marks ++ marks_by fate (Some c) said.entry.minute) [] (session_of cards_after c) unit card_after
-    × StaysOn (found_of f c) card card_after
+    × StaysOn (found_of f c) (said.odometer.0 ∷ []) card card_after
     × KeepsOn (found_of f c) (said ∷ []) (session_of cards c) (session_of cards_after c) card card_after
 
 -- the clock of the card that was present does not stand at its last value
@@ -142,5 +151,7 @@ abbrev pub BooksBrought : Option Card → Kept → (failed : Bool) → Fate → 
 BooksBrought present said failed fate cards cards_after d e = (f : Found) (w : RunLedger) (owes : Card → List Entry)
     → AreFoundCards f cards → MayBring f present said w owes → IsLitOwing f w owes d → AllGo f w owes cards d
     → HasTime present e
-    → IsBroughtOrCut failed f (carried_brought fate present said.entry.minute w) (but_to present owes) cards_after e
-    × AreTimedOn f d e × AllKeep f (kept_for present said) cards cards_after d e
+    → IsBroughtOrCut failed f
+    (carried_brought fate (held_in (session_at cards present)) present said.entry.minute w) (but_to present owes)
+    cards_after e
+    × AreTimedOn f (said.odometer.0 ∷ []) d e × AllKeep f (kept_for present said) cards cards_after d e

@@ -2,6 +2,14 @@
 use Rattle.std.specs.Prelude.{ℕ, ◌+◌, ◌≤◌}
 use Rattle.safety_model.specs.Safe.{Devices}
 
+-- A KEEP of a minute begins so many on its card: 17, and 4 for each of the eight entries by hand that a session's first
+-- one may have before it; and a minute those of two keeps.
+abbrev pub keep_most : ℕ
+keep_most = 49
+
+abbrev pub minute_most : ℕ
+minute_most = 98
+
 -- SO MANY WRITES AT MOST were begun on the unit, and so many on each card.
 pub record WroteAtMost (on_unit on_card : ℕ) (old new : Devices) : Type 0 where
   pub unit : new.unit.clock ≤ old.unit.clock + on_unit

@@ -6,11 +6,11 @@ ghost use Rattle.tach_media.specs.Medium.{LeavesOnly};
 ghost use Rattle.card_session.specs.declared.words.TheConstants.{LATEST_MINUTE};
 ghost use Rattle.unit_notes.specs.Journal.{LeavesJournal};
 ghost use Rattle.run_crew.specs.Cards.{known_of, session_of};
-ghost use Rattle.run_crew.specs.Cabin.{CabinIsSound, IsBehind, crew_of};
+ghost use Rattle.run_crew.specs.Cabin.{CabinIsSound, IsReadyFor, crew_of};
 ghost use Rattle.run_minutes.specs.Owing.{BooksCard, BooksBrought};
 ghost use Rattle.run_minutes.specs.Kept.{IsAnother};
 ghost use Rattle.run_minutes.specs.Stand.{StandsAfter, KeepingGoes, CallsOnly, standing};
-ghost use Rattle.run_minutes.specs.Writes.{WroteAtMost};
+ghost use Rattle.run_minutes.specs.Writes.{WroteAtMost, keep_most};
 ghost use Rattle.run_promise.specs.Between.{devices};
 ghost use Rattle.run_speeds.specs.Speeds.{LeavesSpeeds};
 ghost use Rattle.run_minutes.specs.Keeping.{UnitMayBeCalled, CardMayBeCalled};
@@ -40,7 +40,7 @@ impl Keeper {
     ) -> Result<(), Failed>
         requires ready { UnitMayBeCalled self.old (M.state unit.old) }
         requires card { CardMayBeCalled (known_of self.old.cabin.cards which) (C.card card.old) (C.state card.old) }
-        requires behind { IsBehind self.old.cabin.cards kept.now.entry.minute (Some which) }
+        requires behind { IsReadyFor self.old.cabin.cards kept.now.entry.minute (Some which) }
         requires first { 1440 ≤ kept.now.entry.minute }
         requires last { kept.now.entry.minute ≤ LATEST_MINUTE }
         requires fits { kept.now.odometer.0 < 2 ^ 24 }
@@ -65,7 +65,7 @@ impl Keeper {
             → CabinIsSound from leaving self.old.cabin
             → CabinIsSound (kept.now.entry.minute + 1) leaving self.new.cabin }
         ensures most { ((M.state unit.new).clock ≤ (M.state unit.old).clock + 4)
-            × ((C.state card.new).clock ≤ (C.state card.old).clock + 17) }
+            × ((C.state card.new).clock ≤ (C.state card.old).clock + keep_most) }
     {
         let Ok(app) = self.cabin.cards.of(which).sizes else {
             return Ok(());
@@ -73,7 +73,17 @@ impl Keeper {
         let Some(mut accepted) = self.cabin.cards.take(which) else {
             return Ok(());
         };
-        if keep_on_card(unit, card, app, &mut accepted.session, which, kept).is_err() {
+        if keep_on_card(
+            unit,
+            card,
+            app,
+            &mut accepted.session,
+            &mut accepted.held,
+            which,
+            kept,
+        )
+        .is_err()
+        {
             return self.tear(which, kept.entry.slot, at, unit, breaks);
         }
         self.cabin.cards.set_session(which, Some(accepted));
@@ -125,7 +135,7 @@ impl Keeper {
             (C.card card_a.new) (D.card card_b.new)) }
         ensures speeds { LeavesSpeeds (M.state unit.old) (M.state unit.new) }
         ensures calls { CallsOnly (IsAnother present) self.old.cabin.cards card_a.old card_a.new card_b.old card_b.new }
-        ensures most { WroteAtMost 4 17 (devices (M.state unit.old) (C.state card_a.old) (D.state card_b.old))
+        ensures most { WroteAtMost 4 keep_most (devices (M.state unit.old) (C.state card_a.old) (D.state card_b.old))
             (devices (M.state unit.new) (C.state card_a.new) (D.state card_b.new)) }
         ensures journal { LeavesOnly (M.state unit.old) (M.state unit.new) LeavesJournal }
         ensures cabin { (from : ℕ) (leaving : Option Card) → from ≤ kept.now.entry.minute + 1

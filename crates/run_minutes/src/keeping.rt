@@ -9,7 +9,7 @@ ghost use Rattle.run_minutes.specs.Minutes.{unit_mark};
 ghost use Rattle.run_minutes.specs.Owing.{BooksPut, BooksOwed, TravelsOn};
 ghost use Rattle.run_minutes.specs.Kept.{IsAbsent, MayKeep, Keeps};
 ghost use Rattle.run_minutes.specs.Stand.{UnitGoes, UnitStands, StandsAfter, KeepingGoes, CallsOnly, standing};
-ghost use Rattle.run_minutes.specs.Writes.{WroteAtMost};
+ghost use Rattle.run_minutes.specs.Writes.{WroteAtMost, minute_most};
 ghost use Rattle.run_promise.specs.Between.{devices};
 ghost use Rattle.run_speeds.specs.Speeds.{LeavesSpeeds};
 
@@ -179,7 +179,7 @@ impl Keeper {
             (C.card card_a.old) (D.card card_b.old))
             (standing self.new marks.new breaks.new (M.state unit.new) (C.state card_a.new) (D.state card_b.new)
             (C.card card_a.new) (D.card card_b.new)) }
-        ensures most { WroteAtMost 26 34 (devices (M.state unit.old) (C.state card_a.old) (D.state card_b.old))
+        ensures most { WroteAtMost 26 minute_most (devices (M.state unit.old) (C.state card_a.old) (D.state card_b.old))
             (devices (M.state unit.new) (C.state card_a.new) (D.state card_b.new)) }
         ensures speeds { LeavesSpeeds (M.state unit.old) (M.state unit.new) }
         ensures calls { CallsOnly (IsAbsent present) self.old.cabin.cards card_a.old card_a.new card_b.old card_b.new }

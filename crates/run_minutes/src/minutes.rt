@@ -5,7 +5,7 @@ ghost use Rattle.run_minutes.specs.Keeping.{DevicesMayBeCalled};
 ghost use Rattle.run_minutes.specs.Minutes.{odometer_by, kept_of};
 ghost use Rattle.run_minutes.specs.Kept.{MayKeepAll, KeepsAll};
 ghost use Rattle.run_minutes.specs.Stand.{StandsAfter, KeepingGoes, AreBare, standing};
-ghost use Rattle.run_minutes.specs.Writes.{WroteAtMost};
+ghost use Rattle.run_minutes.specs.Writes.{WroteAtMost, minute_most};
 ghost use Rattle.run_promise.specs.Between.{devices};
 ghost use Rattle.run_speeds.specs.Speeds.{LeavesSpeeds};
 
@@ -90,7 +90,7 @@ impl Keeper {
             (C.card card_a.old) (D.card card_b.old))
             (standing self.new marks.new breaks.new (M.state unit.new) (C.state card_a.new) (D.state card_b.new)
             (C.card card_a.new) (D.card card_b.new)) }
-        ensures most { WroteAtMost (26 * length decided.now) (34 * length decided.now)
+        ensures most { WroteAtMost (26 * length decided.now) (minute_most * length decided.now)
             (devices (M.state unit.old) (C.state card_a.old) (D.state card_b.old))
             (devices (M.state unit.new) (C.state card_a.new) (D.state card_b.new)) }
         ensures speeds { LeavesSpeeds (M.state unit.old) (M.state unit.new) }

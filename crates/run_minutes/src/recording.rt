@@ -3,7 +3,7 @@ ghost use Rattle.std.specs.Prelude.{◌≡◌, ◌*◌, length, is_err};
 ghost use Rattle.run_minutes.specs.Kept.{IsAbsent, MayKeep, Keeps, MayKeepAll, KeepsAll};
 ghost use Rattle.run_speeds.specs.Speeds.{LeavesSpeeds};
 ghost use Rattle.run_minutes.specs.Stand.{IsReadyFor, StandsAfter, KeepingGoes, AreBare, CallsOnly};
-ghost use Rattle.run_minutes.specs.Writes.{WroteAtMost};
+ghost use Rattle.run_minutes.specs.Writes.{WroteAtMost, minute_most};
 ghost use Rattle.run_promise.specs.Between.{devices};
 
 use crate::keeper::Moment;
@@ -33,7 +33,7 @@ impl<U: Medium, C: Chip> Recorder<U, C> {
         ensures goes { KeepingGoes (⟦<Self as Stands>⟧.stand self.old) (⟦<Self as Stands>⟧.stand self.new) }
         ensures kept { Keeps minute.now present at (is_err result)
             (⟦<Self as Stands>⟧.stand self.old) (⟦<Self as Stands>⟧.stand self.new) }
-        ensures most { WroteAtMost 26 34
+        ensures most { WroteAtMost 26 minute_most
             (devices (U.state self.old.unit) (C.state self.old.card_a) (C.state self.old.card_b))
             (devices (U.state self.new.unit) (C.state self.new.card_a) (C.state self.new.card_b)) }
         ensures speeds { LeavesSpeeds (U.state self.old.unit) (U.state self.new.unit) }
@@ -65,7 +65,7 @@ impl<U: Medium, C: Chip> Recorder<U, C> {
         ensures goes { KeepingGoes (⟦<Self as Stands>⟧.stand self.old) (⟦<Self as Stands>⟧.stand self.new) }
         ensures kept { KeepsAll decided.now at (is_err result)
             (⟦<Self as Stands>⟧.stand self.old) (⟦<Self as Stands>⟧.stand self.new) }
-        ensures most { WroteAtMost (26 * length decided.now) (34 * length decided.now)
+        ensures most { WroteAtMost (26 * length decided.now) (minute_most * length decided.now)
             (devices (U.state self.old.unit) (C.state self.old.card_a) (C.state self.old.card_b))
             (devices (U.state self.new.unit) (C.state self.new.card_a) (C.state self.new.card_b)) }
         ensures speeds { LeavesSpeeds (U.state self.old.unit) (U.state self.new.unit) }

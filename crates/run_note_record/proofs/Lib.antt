@@ -34,9 +34,10 @@ pub mod Withdrawn
 pub mod Shown
 pub mod Around
 pub mod Bytes
+pub mod Stored
+pub mod Readings
 pub mod SoFar
 pub mod RingSteps
-pub mod Stored
 pub mod Bases
 pub mod Booked
 pub mod RingsWaking

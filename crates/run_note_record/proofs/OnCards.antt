@@ -21,7 +21,10 @@ use Rattle.run_rings.proofs.Carried.{carries-none, carries-same, carries-more, c
 use Rattle.run_rings.proofs.Standing.{stand-one, stand-unsure}
 use Rattle.run_rings.proofs.Few.{as-many, added-long, adding-long, few-start, few-go, few-as, few-more, few-unsure}
 use Rattle.run_note_record.specs.Origin.{Origin}
-use Rattle.run_note_record.specs.OnCards.{ShowsNotes, has_call_failed_in, places_in, place_width, places_on, IsPlaceOn, is_sure_on, HasPlaces, PlacesOnCards, LeavesPlaces, PlacesStay, TakesPlace, PlaceIsTaken}
+use Rattle.card_layout.specs.declared.files.Application.{Application}
+use Rattle.card_image.specs.Own.{own_sizes}
+use Rattle.run_devices.proofs.Measured.{goes-itself, goes-then, goes-more}
+use Rattle.run_note_record.specs.OnCards.{ShowsNotes, has_call_failed_in, places_in, place_width, places_on, IsPlaceOn, is_sure_on, HasPlaces, PlacesOnCards, LeavesPlaces, PlacesStay, IsReading, GoesByReadings, VehiclesOnCards, VehiclesGo, CardsStay, TakesPlace, PlaceIsTaken}
 use Rattle.run_note_record.specs.RingsSoFar.{HasMoreBreaks}
 use Rattle.run_note_record.proofs.Stands.{Weaker, stand-as, unsure-as, all-of, with-whole, places-more}
 
@@ -128,6 +131,26 @@ places-none o log spans d start c has x left = record {
 -- NONE IS CALLED
 pub places-itself : (o : Origin) (d : Devices) → PlacesStay o d d
 places-itself o d c valid y left = (y, left, refl)
+
+-- ---- the vehicle entries
+pub vehicles-none : (o : Origin) (spans : List SpanFrom) (d : Devices) → ((c : Card) (x : List ℕ) → (card_of d c).may_leave x → x ≡ card_image o.recording c) → VehiclesOnCards o spans d
+vehicles-none o spans d start c valid x left =
+    subst (λ (y : List ℕ). GoesByReadings spans (card_image o.recording c) (card_image o.recording c) y) (sym (start c x left)) (goes-itself (own_sizes (card_image o.recording c)) (IsReading spans) (card_image o.recording c))
+
+pub vehicles-itself : (o : Origin) (spans : List SpanFrom) (d : Devices) → VehiclesGo o spans d d
+vehicles-itself o spans d c valid y left = (y, left, goes-itself (own_sizes (card_image o.recording c)) (IsReading spans) y)
+
+pub stay-itself : (o : Origin) (spans : List SpanFrom) (d : Devices) → CardsStay o spans d d
+stay-itself o spans d = record { places = places-itself o d; vehicles = vehicles-itself o spans d }
+
+-- as the spans go on, and calls measure them
+pub vehicles-go : (o : Origin) (spans now : List SpanFrom) (d e : Devices) → ((n : ℕ) → IsReading spans n → IsReading now n) → VehiclesGo o now d e → VehiclesOnCards o spans d → VehiclesOnCards o now e
+vehicles-go o spans now d e reads goes v c valid y left =
+    let w = goes c valid y left in
+    let app : Application = own_sizes (card_image o.recording c) in
+    goes-then app (IsReading now) (card_image o.recording c) w.0 y (goes-more app (IsReading spans) (IsReading now) reads (card_image o.recording c) w.0 (v c valid w.0 w.1)) w.2
+
+-- ---- the places
 
 -- CALLS THAT LEAVE THEM
 pub places-go : (o : Origin) (log later : RunLog) (spans now : List SpanFrom) (notes : List Note) (d e : Devices) → ((u : ℕ) → has_call_failed_in log u ≡ true → has_call_failed_in later u ≡ true) →

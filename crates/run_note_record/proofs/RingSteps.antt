@@ -19,7 +19,7 @@ use Rattle.run_note_record.specs.Origin.{Origin}
 use Rattle.run_note_record.specs.Ringed.{Seating, Ringed, since_in}
 use Rattle.run_note_record.specs.RingsSoFar.{notes_so_far, RingedBehind, RingedIn}
 use Rattle.run_note_record.specs.Steps.{GoesOnTo, IsCutIn, spans_cut, nobody, AnActionPasses, AnActionIsCut, APlaceIsEntered, APlaceIsCut, ACardIsWithdrawn, AWithdrawalIsCut, ACardIsAccepted, AnAcceptanceIsCut}
-use Rattle.run_note_record.proofs.OnCards.{places-itself}
+use Rattle.run_note_record.proofs.OnCards.{stay-itself}
 use Rattle.run_note_record.proofs.Rings.{fewer-sit}
 use Rattle.run_note_record.proofs.Around.{insertion-around, place-around, withdrawal-around, insertion-cut, place-cut, withdrawal-cut}
 use Rattle.run_note_record.proofs.SoFar.{left-itself, go-on-in, notes-nothing, action-noted, cut-ends}
@@ -27,7 +27,7 @@ use Rattle.run_note_record.proofs.SoFar.{left-itself, go-on-in, notes-nothing, a
 -- the lines alone, before any call
 lines-in : (d : Devices) (o : Origin) (done : List TraceSecond) (s : TraceSecond) (began log later : RunLog) (front : List Action) (spans : List SpanFrom) (base : ℕ) (t : ToldSecond) (seats : Card → Option Seating) →
     RingedIn o done s began front log spans base t seats d → GoesOnTo log later s front → RingedIn o done s began front later spans base t seats d
-lines-in d o done s began log later front spans base t seats v g = go-on-in d d o done s began front log later spans base t seats seats v g.lines g.same (rings-left d.unit) (left-itself o d) (places-itself o d) (λ c. inl refl)
+lines-in d o done s began log later front spans base t seats v g = go-on-in d d o done s began front log later spans base t seats seats v g.lines g.same (rings-left d.unit) (left-itself o d) (stay-itself o (with_second spans base t) d) (λ c. inl refl)
 
 -- AN ACTION NOTES NOTHING
 pub passes : (d e : Devices) → AnActionPasses d e
@@ -49,22 +49,22 @@ action-cut d e o done s began log cut front a rest spans base t seats v c none s
 
 -- A PLACE
 pub place-entered : (d e : Devices) → APlaceIsEntered d e
-place-entered d e o done s began log later front spans base t seats fewer v g slot ending country region x sits accepted head writes long is left own wide on taken_ few =
+place-entered d e o done s began log later front spans base t seats fewer v g slot ending country region x sits accepted head writes long is left own wide on taken_ goes few =
     let now : List SpanFrom = with_second spans base t in
     let w = lines-in d o done s began log later front spans base t seats v g in
     let notes : List Note = notes_so_far began done later s front in
     let p : PlaceNote = record { second = s.number; card = x.card; ending = ending; country = country; region = region } in
-    let r : Ringed (since_in o began done s) later now (notes ++ Enters p ∷ []) seats e = place-around d e (since_in o began done s) later now notes seats w.ringed left p head writes long is own wide on taken_ in
+    let r : Ringed (since_in o began done s) later now (notes ++ Enters p ∷ []) seats e = place-around d e (since_in o began done s) later now notes seats w.ringed left p head writes long is own wide on taken_ goes in
     action-noted d e o done s began front (Place slot ending country region) later spans base t seats fewer (Enters p) w (places later (went began done).before s front g.begun slot ending country region x sits accepted)
     (fewer-sit e (since_in o began done s) later now (notes ++ Enters p ∷ []) seats fewer r few)
 
 pub place-is-cut : (d e : Devices) → APlaceIsCut d e
-place-is-cut d e o done s began log cut front rest spans base t seats v slot ending country region c x sits accepted head writes long is left own wide on taken_ =
+place-is-cut d e o done s began log cut front rest spans base t seats v slot ending country region c x sits accepted head writes long is left own wide on taken_ goes =
     let now : List SpanFrom = with_second spans base t in
     let w = lines-in d o done s began log cut front spans base t seats v c.goes in
     let notes : List Note = notes_so_far began done cut s front in
     let p : PlaceNote = record { second = s.number; card = x.card; ending = ending; country = country; region = region } in
-    let r : Ringed (since_in o began done s) cut now (notes ++ Enters p ∷ []) nobody e = place-cut d e (since_in o began done s) cut now notes seats w.ringed left p head writes long is c.failed own wide on taken_ in
+    let r : Ringed (since_in o began done s) cut now (notes ++ Enters p ∷ []) nobody e = place-cut d e (since_in o began done s) cut now notes seats w.ringed left p head writes long is c.failed own wide on taken_ goes in
     behind-it d e o done s began log cut front (Place slot ending country region) rest spans base t nobody c
     (action-noted d e o done s began front (Place slot ending country region) cut spans base t seats nobody (Enters p) w (places cut (went began done).before s front c.goes.begun slot ending country region x sits accepted) r)
 

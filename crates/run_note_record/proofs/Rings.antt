@@ -28,8 +28,8 @@ use Rattle.run_rings.proofs.Few.{as-many, added-long, few-start, few-go, few-as,
 use Rattle.run_note_record.specs.Origin.{Origin}
 use Rattle.run_note_record.specs.Beside.{HaveLeftMore}
 use Rattle.run_note_record.specs.Ringed.{holder_in, TellsIn, IsInsertionIn, IsPlaceIn, sure_insertion, sure_place, ShowsNotes, Seating, one_behind, LiesBehind, StandsAt, IsSeated, ShowsInsertions, Ringed, GoOn, NoRingIsWritten, RingsStay, FewerSit, IsAddedAt, MayBeAdded, Since}
-use Rattle.run_note_record.specs.OnCards.{place_width, IsPlaceOn, PlacesStay, PlaceIsTaken}
-use Rattle.run_note_record.proofs.OnCards.{whole-head, maybe, places-none, places-go, places-beside, places-taken}
+use Rattle.run_note_record.specs.OnCards.{place_width, IsPlaceOn, VehiclesGo, CardsStay, PlaceIsTaken}
+use Rattle.run_note_record.proofs.OnCards.{whole-head, maybe, places-none, places-go, places-beside, places-taken, vehicles-none, vehicles-go}
 use Rattle.run_note_record.proofs.Stands.{Weaker, stand-as, unsure-as, each-as, each-append, all-parts, all-of, all-each, insertions-more, places-more, insertion-as, place-as}
 
 -- two images have their insertions at the same indices, and the next one comes to the same
@@ -55,6 +55,7 @@ none-noted d o log spans start cards = record {
   };
   places = λ ring x left. record { more = []; carries = subst (λ (y : List ℕ). RingKeeps unit_place_ring o.origin.recording.unit y []) (sym (start x left)) (carries-none unit_place_ring o.origin.recording.unit ring); stand = refl; few = few-start unit_place_ring (sure_place o.origin log spans) o.origin.recording.unit x (start x left) };
   on_cards = places-none o.origin log spans d cards;
+  vehicles = vehicles-none o.origin spans d cards;
 }
 
 -- FEWER CARDS
@@ -63,6 +64,7 @@ fewer-sit d o log spans notes seats fewer v each = record {
   insertions = λ ring x left. let was = v.insertions ring x left in record { shows = was.shows; seated = λ c. by c was (fewer c) (seats c) (each c) (was.seated c) };
   places = v.places;
   on_cards = v.on_cards;
+  vehicles = v.vehicles;
 }
   where
     by : (c : Card) {x : List ℕ} (was : ShowsInsertions o log spans notes seats d x) (q p : Option Seating) → (q ≡ p) ⊎ (q ≡ None) → IfSome p (λ s. IsSeated (sure_insertion o.origin log spans) (IsInsertionIn o log spans d) c s (insertions_of notes) was.shows.more x) →
@@ -144,6 +146,7 @@ go-on log spans notes = record {
   fell = λ u has. has;
   insertions = all-each (λ (i : InsertionNote). (odometer_at i.accepted.second spans ≡ odometer_at i.accepted.second spans) × IfSome i.withdrawn (λ u. odometer_at u spans ≡ odometer_at u spans)) (λ i. (refl, by i.withdrawn)) (insertions_of notes);
   places = all-each (λ (p : PlaceNote). odometer_at p.second spans ≡ odometer_at p.second spans) (λ p. refl) (places_of notes);
+  reads = λ n is. is;
 }
   where
     by : (w : Option ℕ) → IfSome w (λ u. odometer_at u spans ≡ odometer_at u spans)
@@ -170,6 +173,7 @@ come-before d o told later trace now come log spans notes seats v = record {
       };
   places = v.places;
   on_cards = v.on_cards;
+  vehicles = v.vehicles;
 }
 
 -- CALLS THAT WRITE NO RING
@@ -199,7 +203,8 @@ rings-stay d e o log later spans now notes seats v stays more cards on = record 
             (unsure-as (sure_place o.origin log spans) (sure_place o.origin later now) (IsPlaceIn o.origin log spans) (IsPlaceIn o.origin later now) (places_of notes) (places-weaker o log later spans now notes d e more on))
             (as-many unit_place_ring place_shape w.0 y w.2.places was.carries.points) was.few;
       };
-  on_cards = places-go o.origin log later spans now notes d e on.fell on.places cards v.on_cards;
+  on_cards = places-go o.origin log later spans now notes d e on.fell on.places cards.places v.on_cards;
+  vehicles = vehicles-go o.origin spans now d e on.reads cards.vehicles v.vehicles;
 }
 
 -- ---- lists
@@ -221,9 +226,9 @@ none-behind c (k ∷ newer) n none other =
 
 -- ---- A PLACE
 
-pub place-noted : (d e : Devices) (o : Since) (log : RunLog) (spans : List SpanFrom) (notes : List Note) (seats : Card → Option Seating) → Ringed o log spans notes seats d → HaveLeftMore o.origin d e → (p : PlaceNote) (head : List ℕ) → Writes (IsAdded unit_place_ring head) d e → length head ≡ unit_place_ring.width → IsPlaceIn o.origin log spans p head → (own : List ℕ) → length own ≡ place_width → IsPlaceOn spans p own → PlaceIsTaken o.origin log p own d e →
+pub place-noted : (d e : Devices) (o : Since) (log : RunLog) (spans : List SpanFrom) (notes : List Note) (seats : Card → Option Seating) → Ringed o log spans notes seats d → HaveLeftMore o.origin d e → (p : PlaceNote) (head : List ℕ) → Writes (IsAdded unit_place_ring head) d e → length head ≡ unit_place_ring.width → IsPlaceIn o.origin log spans p head → (own : List ℕ) → length own ≡ place_width → IsPlaceOn spans p own → PlaceIsTaken o.origin log p own d e → VehiclesGo o.origin spans d e →
     Ringed o log spans (notes ++ Enters p ∷ []) seats e
-place-noted d e o log spans notes seats v more p head added full is own long on taken_ = record {
+place-noted d e o log spans notes seats v more p head added full is own long on taken_ goes = record {
   insertions = λ ring y left.
       let w = added y left in
       let was = v.insertions ring w.0 w.1 in
@@ -252,12 +257,13 @@ place-noted d e o log spans notes seats v more p head added full is own long on 
             (few-more unit_place_ring (sure_place o.origin log spans) (places_of notes) p o.origin.recording.unit w.0 y (added-long unit_place_ring head w.0 y was.carries.points w.2) was.few);
       };
   on_cards = places-taken o.origin log spans notes p own d e long on taken_ v.on_cards;
+  vehicles = vehicles-go o.origin spans spans d e (λ k is. is) goes v.vehicles;
 }
 
 -- or the unit failed in it
-pub place-broken : (d e : Devices) (o : Since) (log : RunLog) (spans : List SpanFrom) (notes : List Note) (seats : Card → Option Seating) → Ringed o log spans notes seats d → HaveLeftMore o.origin d e → (p : PlaceNote) (head : List ℕ) → Writes (MayBeAdded unit_place_ring head) d e → length head ≡ unit_place_ring.width → IsPlaceIn o.origin log spans p head → has_failed_in log p.second ≡ true → (own : List ℕ) → length own ≡ place_width → IsPlaceOn spans p own → PlaceIsTaken o.origin log p own d e →
+pub place-broken : (d e : Devices) (o : Since) (log : RunLog) (spans : List SpanFrom) (notes : List Note) (seats : Card → Option Seating) → Ringed o log spans notes seats d → HaveLeftMore o.origin d e → (p : PlaceNote) (head : List ℕ) → Writes (MayBeAdded unit_place_ring head) d e → length head ≡ unit_place_ring.width → IsPlaceIn o.origin log spans p head → has_failed_in log p.second ≡ true → (own : List ℕ) → length own ≡ place_width → IsPlaceOn spans p own → PlaceIsTaken o.origin log p own d e → VehiclesGo o.origin spans d e →
     Ringed o log spans (notes ++ Enters p ∷ []) (λ c. None) e
-place-broken d e o log spans notes seats v more p head adding full is has own long on taken_ = record {
+place-broken d e o log spans notes seats v more p head adding full is has own long on taken_ goes = record {
   insertions = λ ring y left.
       let w = adding y left in
       let was = v.insertions ring w.0 w.1 in
@@ -279,6 +285,7 @@ place-broken d e o log spans notes seats v more p head adding full is has own lo
       subst (λ (l : List PlaceNote). ShowsNotes unit_place_ring (sure_place o.origin log spans) (IsPlaceIn o.origin log spans) l o.origin.recording.unit y) (sym (places-more notes (Enters p)))
       (maybe unit_place_ring o.origin.recording.unit w.0 y head (sure_place o.origin log spans) (IsPlaceIn o.origin log spans) (places_of notes) p was full is (ap not has) w.2);
   on_cards = places-taken o.origin log spans notes p own d e long on taken_ v.on_cards;
+  vehicles = vehicles-go o.origin spans spans d e (λ k is. is) goes v.vehicles;
 }
 
 -- ---- AN INSERTION
@@ -329,7 +336,7 @@ seated-more sure Is c (Some s) ns ms x y a head points added other is sits = rec
       sits.there;
 }
 
-pub insertion-noted : (d e : Devices) (o : Since) (log : RunLog) (spans : List SpanFrom) (notes : List Note) (seats now : Card → Option Seating) → Ringed o log spans notes seats d → HaveLeftMore o.origin d e → PlacesStay o.origin d e → (a : Acceptance) (head : List ℕ) (index : ℕ) → Writes (IsAddedAt index head) d e → length head ≡ insertion_ring.width →
+pub insertion-noted : (d e : Devices) (o : Since) (log : RunLog) (spans : List SpanFrom) (notes : List Note) (seats now : Card → Option Seating) → Ringed o log spans notes seats d → HaveLeftMore o.origin d e → CardsStay o.origin spans d e → (a : Acceptance) (head : List ℕ) (index : ℕ) → Writes (IsAddedAt index head) d e → length head ≡ insertion_ring.width →
     IsInsertionIn o log spans e (record { accepted = a; withdrawn = None }) head → ((c : Card) → ((same_card a.card c ≡ false) × (now c ≡ option_map one_behind (seats c))) ⊎ ((same_card a.card c ≡ true) × (now c ≡ Some (record { index = index; behind = 0 })))) →
     Ringed o log spans (notes ++ Accepts a ∷ []) now e
 insertion-noted d e o log spans notes seats now v more cards a head index added full is each = record {
@@ -389,11 +396,12 @@ insertion-noted d e o log spans notes seats now v more cards a head index added 
         stand = was.stand;
         few = few-as unit_place_ring (sure_place o.origin log spans) (places_of notes) o.origin.recording.unit w.0 y (as-many unit_place_ring place_shape w.0 y bytes was.carries.points) was.few;
       });
-  on_cards = places-beside o.origin log spans notes (Accepts a) d e refl cards v.on_cards;
+  on_cards = places-beside o.origin log spans notes (Accepts a) d e refl cards.places v.on_cards;
+  vehicles = vehicles-go o.origin spans spans d e (λ k is. is) cards.vehicles v.vehicles;
 }
 
 -- or the unit failed in it
-pub insertion-broken : (d e : Devices) (o : Since) (log : RunLog) (spans : List SpanFrom) (notes : List Note) (seats : Card → Option Seating) → Ringed o log spans notes seats d → HaveLeftMore o.origin d e → PlacesStay o.origin d e → (a : Acceptance) (head : List ℕ) → Writes (MayBeAdded insertion_ring head) d e → length head ≡ insertion_ring.width →
+pub insertion-broken : (d e : Devices) (o : Since) (log : RunLog) (spans : List SpanFrom) (notes : List Note) (seats : Card → Option Seating) → Ringed o log spans notes seats d → HaveLeftMore o.origin d e → CardsStay o.origin spans d e → (a : Acceptance) (head : List ℕ) → Writes (MayBeAdded insertion_ring head) d e → length head ≡ insertion_ring.width →
     IsInsertionIn o log spans e (record { accepted = a; withdrawn = None }) head → has_failed_in log a.second ≡ true → Ringed o log spans (notes ++ Accepts a ∷ []) (λ c. None) e
 insertion-broken d e o log spans notes seats v more cards a head adding full is has = record {
   insertions = λ ring y left.
@@ -415,5 +423,6 @@ insertion-broken d e o log spans notes seats v more cards a head adding full is 
         stand = was.stand;
         few = few-as unit_place_ring (sure_place o.origin log spans) (places_of notes) o.origin.recording.unit w.0 y (as-many unit_place_ring place_shape w.0 y bytes was.carries.points) was.few;
       });
-  on_cards = places-beside o.origin log spans notes (Accepts a) d e refl cards v.on_cards;
+  on_cards = places-beside o.origin log spans notes (Accepts a) d e refl cards.places v.on_cards;
+  vehicles = vehicles-go o.origin spans spans d e (λ k is. is) cards.vehicles v.vehicles;
 }

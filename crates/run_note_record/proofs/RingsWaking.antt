@@ -30,8 +30,9 @@ use Rattle.run_note_record.specs.Ringed.{Seating, Ringed, StaysInRings, notes_in
 use Rattle.run_note_record.specs.RingsSoFar.{AreEarlier, RingedBehind, notes_so_far, RingedIn, HasMoreBreaks, GoesBehind}
 use Rattle.run_note_record.specs.Steps.{nobody}
 use Rattle.run_note_record.specs.Waking.{NoneFound, PowerBeginsInRings, IsFoundAnew, ASlotIsPassedAnew, ACardIsAcceptedAnew, AnAcceptanceIsCutAnew}
-use Rattle.run_note_record.specs.OnCards.{has_call_failed_in, PlacesStay}
-use Rattle.run_note_record.proofs.OnCards.{call-failed-more, places-itself}
+use Rattle.run_note_record.specs.OnCards.{has_call_failed_in, CardsStay}
+use Rattle.run_note_record.proofs.OnCards.{call-failed-more, stay-itself}
+use Rattle.run_note_record.proofs.Readings.{reads-with}
 use Rattle.run_note_record.proofs.Noted.{notes-alike}
 use Rattle.run_note_record.proofs.Rings.{fewer-sit, rings-stay}
 use Rattle.run_note_record.proofs.Around.{insertion-around, insertion-cut}
@@ -85,8 +86,8 @@ power-begins d o done s began spans base t seats fewer v off none second few =
     let now : List SpanFrom = with_second spans base t in
     let notes : List Note = notes_in began done in
     let are : notes ++ notes_to began (went began done).before s [] ≡ notes = ap (λ (l : List Note). notes ++ l) (nothing-noted began (went began done).before s off none) ∙ append-nil notes in
-    let earlier = goes-earlier began spans now s.number notes v.early (λ u lt. earlier-stay spans base t u (let is = second.number in omega (arith, lt, is))) in
-    let ringed : Ringed (since_in o began done s) began now notes seats d = rings-stay d d (since_in o began done s) began began spans now notes seats (come-in d o began done s spans notes seats v.ringed) (rings-left d.unit) (left-itself o d) (places-itself o d) earlier in
+    let earlier = goes-earlier began spans now s.number notes v.early (λ u lt. earlier-stay spans base t u (let is = second.number in omega (arith, lt, is))) (reads-with spans base t) in
+    let ringed : Ringed (since_in o began done s) began now notes seats d = rings-stay d d (since_in o began done s) began began spans now notes seats (come-in d o began done s spans notes seats v.ringed) (rings-left d.unit) (left-itself o d) (stay-itself o now d) earlier in
     record {
       spans_are = v.spans_are;
       before = v.before;
@@ -101,7 +102,7 @@ module _ (d e : Devices) (o : Origin) (done : List TraceSecond) (s : TraceSecond
   lines-anew =
       let now : List SpanFrom = with_second spans base t in
       let notes : List Note = notes_so_far began done log s [] in
-      rings-stay d d (since_in o began done s) log later now now notes seats v.ringed (rings-left d.unit) (left-itself o d) (places-itself o d) (goes-alike log later now now notes (failed-more log later more) (call-failed-more log later more) (λ u. refl))
+      rings-stay d d (since_in o began done s) log later now now notes seats v.ringed (rings-left d.unit) (left-itself o d) (stay-itself o now d) (goes-alike log later now now notes (failed-more log later more) (call-failed-more log later more) (λ u. refl) (λ n is. is))
 
   -- this is noted
   noted-anew : (fewer : Card → Option Seating) (noted : List Note) → notes_to later (went began done).before s [] ≡ notes_to log (went began done).before s [] ++ noted →
@@ -121,7 +122,7 @@ passed-anew d e o done s began log later spans base t seats fewer v off more slo
     let now : List SpanFrom = with_second spans base t in
     let notes : List Note = notes_so_far began done log s [] in
     let before : Before = (went began done).before in
-    let ringed : Ringed (since_in o began done s) later now notes seats e = rings-stay d e (since_in o began done s) log later now now notes seats v.ringed stays left cards (goes-alike log later now now notes (failed-more log later more) (call-failed-more log later more) (λ u. refl)) in
+    let ringed : Ringed (since_in o began done s) later now notes seats e = rings-stay d e (since_in o began done s) log later now now notes seats v.ringed stays left cards (goes-alike log later now now notes (failed-more log later more) (call-failed-more log later more) (λ u. refl) (λ n is. is)) in
     let noted = slot-notes log later before s off slot found is ∙ ap (λ (l : List Note). notes_to log before s [] ++ l) (none-accepted s.number slot (in_slot before.slots slot) found none) in
     noted-anew d e o done s began log later spans base t seats v more fewer [] noted
     (subst (λ (l : List Note). Ringed (since_in o began done s) later now l fewer e) (sym (append-nil notes)) (fewer-sit e (since_in o began done s) later now notes seats fewer ringed few))
@@ -156,12 +157,12 @@ cut-anew d e o done s began log cut spans base t seats v off more slot x sits ve
 -- ---- BETWEEN TWO SECONDS
 
 -- calls that write no ring leave it
-pub behind-stays : (d e : Devices) (o : Origin) (done : List TraceSecond) (log : RunLog) (next : ℕ) (spans : List SpanFrom) (seats : Card → Option Seating) → RingedBehind o done log next spans seats d → StaysInRings d e → HaveLeftMore o d e → PlacesStay o d e → RingedBehind o done log next spans seats e
+pub behind-stays : (d e : Devices) (o : Origin) (done : List TraceSecond) (log : RunLog) (next : ℕ) (spans : List SpanFrom) (seats : Card → Option Seating) → RingedBehind o done log next spans seats d → StaysInRings d e → HaveLeftMore o d e → CardsStay o spans d e → RingedBehind o done log next spans seats e
 behind-stays d e o done log next spans seats v stays left cards = record {
   spans_are = v.spans_are;
   before = v.before;
   early = v.early;
-  ringed = rings-stay d e (since_behind o log done) log log spans spans (notes_in log done) seats v.ringed stays left cards (goes-alike log log spans spans (notes_in log done) (λ u has. has) (λ u has. has) (λ u. refl));
+  ringed = rings-stay d e (since_behind o log done) log log spans spans (notes_in log done) seats v.ringed stays left cards (goes-alike log log spans spans (notes_in log done) (λ u has. has) (λ u has. has) (λ u. refl) (λ n is. is));
 }
 
 -- and so does another log that tells the same of these seconds
@@ -169,7 +170,7 @@ pub behind-alike : (d : Devices) (o : Origin) (done : List TraceSecond) (log lat
     ((u : ℕ) → has_failed_in log u ≡ true → has_failed_in later u ≡ true) → ((u : ℕ) → has_call_failed_in log u ≡ true → has_call_failed_in later u ≡ true) → RingedBehind o done later next spans seats d
 behind-alike d o done log later next spans seats v behind failed fell =
     let same : notes_in later done ≡ notes_in log done = notes-alike log later done behind.same in
-    let ringed : Ringed (since_behind o log done) later spans (notes_in log done) seats d = rings-stay d d (since_behind o log done) log later spans spans (notes_in log done) seats v.ringed (rings-left d.unit) (left-itself o d) (places-itself o d) (goes-alike log later spans spans (notes_in log done) failed fell (λ u. refl)) in
+    let ringed : Ringed (since_behind o log done) later spans (notes_in log done) seats d = rings-stay d d (since_behind o log done) log later spans spans (notes_in log done) seats v.ringed (rings-left d.unit) (left-itself o d) (stay-itself o spans d) (goes-alike log later spans spans (notes_in log done) failed fell (λ u. refl) (λ n is. is)) in
     record {
       spans_are = v.spans_are ∙ ap (λ (w : Went). spans_of w.told) (sym behind.went_is);
       before = v.before;

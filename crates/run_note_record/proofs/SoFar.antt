@@ -33,8 +33,9 @@ use Rattle.run_note_record.specs.Ringed.{Seating, Ringed, GoOn, notes_in, Since,
 use Rattle.run_note_record.specs.RingsSoFar.{noted_at, AreEarlier, RingedBehind, IsSecond, notes_so_far, RingedIn, AreFewer, HasMoreBreaks, ASecondBeginsInRings, RingsGoOn, AnActionNotesNothing, AnActionIsNoted, GoesBehind, TheSecondEndsInRings, ACutEndsInRings, DarkSecondsNoteNothing}
 use Rattle.run_note_record.proofs.Stands.{all-of, all-each}
 use Rattle.run_note_record.proofs.Noted.{second-notes}
-use Rattle.run_note_record.specs.OnCards.{has_call_failed_in}
-use Rattle.run_note_record.proofs.OnCards.{any-front, call-failed-more, places-itself}
+use Rattle.run_note_record.specs.OnCards.{has_call_failed_in, IsReading}
+use Rattle.run_note_record.proofs.OnCards.{any-front, call-failed-more, stay-itself}
+use Rattle.run_note_record.proofs.Readings.{reads-with, reads-alike}
 use Rattle.run_note_record.proofs.Rings.{fewer-sit, rings-stay, come-before}
 
 -- ---- more breaks
@@ -53,13 +54,14 @@ both-same None f g same = tt
 both-same (Some u) f g same = same u
 
 -- where all odometers are the same
-pub goes-alike : (log later : RunLog) (spans now : List SpanFrom) (notes : List Note) → ((u : ℕ) → has_failed_in log u ≡ true → has_failed_in later u ≡ true) → ((u : ℕ) → has_call_failed_in log u ≡ true → has_call_failed_in later u ≡ true) → ((u : ℕ) → odometer_at u now ≡ odometer_at u spans) → GoOn log later spans now notes
-goes-alike log later spans now notes failed fell same = record {
+pub goes-alike : (log later : RunLog) (spans now : List SpanFrom) (notes : List Note) → ((u : ℕ) → has_failed_in log u ≡ true → has_failed_in later u ≡ true) → ((u : ℕ) → has_call_failed_in log u ≡ true → has_call_failed_in later u ≡ true) → ((u : ℕ) → odometer_at u now ≡ odometer_at u spans) → ((n : ℕ) → IsReading spans n → IsReading now n) → GoOn log later spans now notes
+goes-alike log later spans now notes failed fell same reads = record {
   failed = failed;
   fell = fell;
   insertions = all-each (λ (i : InsertionNote). (odometer_at i.accepted.second now ≡ odometer_at i.accepted.second spans) × IfSome i.withdrawn (λ u. odometer_at u now ≡ odometer_at u spans))
       (λ i. (same i.accepted.second, both-same i.withdrawn (λ u. odometer_at u now) (λ u. odometer_at u spans) same)) (insertions_of notes);
   places = all-each (λ (p : PlaceNote). odometer_at p.second now ≡ odometer_at p.second spans) (λ p. same p.second) (places_of notes);
+  reads = reads;
 }
 
 -- insertions and places of earlier notes are earlier
@@ -91,13 +93,14 @@ early-places u (Withdraws w ∷ notes) all = early-places u notes all.1
 early-places u (Enters p ∷ notes) all = (all.0, early-places u notes all.1)
 
 -- where those of earlier seconds are
-pub goes-earlier : (log : RunLog) (spans now : List SpanFrom) (u : ℕ) (notes : List Note) → AreEarlier u notes → ((v : ℕ) → v < u → odometer_at v now ≡ odometer_at v spans) → GoOn log log spans now notes
-goes-earlier log spans now u notes early same = record {
+pub goes-earlier : (log : RunLog) (spans now : List SpanFrom) (u : ℕ) (notes : List Note) → AreEarlier u notes → ((v : ℕ) → v < u → odometer_at v now ≡ odometer_at v spans) → ((n : ℕ) → IsReading spans n → IsReading now n) → GoOn log log spans now notes
+goes-earlier log spans now u notes early same reads = record {
   failed = λ v has. has;
   fell = λ v has. has;
   insertions = all-of (IsEarly u) (λ (i : InsertionNote). (odometer_at i.accepted.second now ≡ odometer_at i.accepted.second spans) × IfSome i.withdrawn (λ v. odometer_at v now ≡ odometer_at v spans))
       (λ i is. (same i.accepted.second is.0, by i.withdrawn is.1)) (insertions_of notes) (early-fold u notes [] early tt);
   places = all-of (λ (p : PlaceNote). p.second < u) (λ (p : PlaceNote). odometer_at p.second now ≡ odometer_at p.second spans) (λ p lt. same p.second lt) (places_of notes) (early-places u notes early);
+  reads = reads;
 }
   where
     by : (w : Option ℕ) → IfSome w (λ v. v < u) → IfSome w (λ v. odometer_at v now ≡ odometer_at v spans)
@@ -110,7 +113,7 @@ pub left-itself : (o : Origin) (d : Devices) → HaveLeftMore o d d
 left-itself o d = record { unit = λ x left. left; card = λ c x left. left }
 
 along : (o : Since) (d : Devices) (log later : RunLog) (spans now : List SpanFrom) (notes : List Note) (seats : Card → Option Seating) → Ringed o log spans notes seats d → GoOn log later spans now notes → Ringed o later now notes seats d
-along o d log later spans now notes seats v on = rings-stay d d o log later spans now notes seats v (rings-left d.unit) (left-itself o.origin d) (places-itself o.origin d) on
+along o d log later spans now notes seats v on = rings-stay d d o log later spans now notes seats v (rings-left d.unit) (left-itself o.origin d) (stay-itself o.origin now d) on
 
 -- a second more of the trace, and of what is told
 pub come-in : (d : Devices) (o : Origin) (log : RunLog) (done : List TraceSecond) (s : TraceSecond) (spans : List SpanFrom) (notes : List Note) (seats : Card → Option Seating) →
@@ -129,14 +132,14 @@ second-begins d o done s log spans base t seats v runs second =
       second = second;
       ringed = subst (λ (l : List Note). Ringed (since_in o log done s) log (with_second spans base t) l seats d) (sym none)
           (along (since_in o log done s) d log log spans (with_second spans base t) (notes_in log done) seats (come-in d o log done s spans (notes_in log done) seats v.ringed)
-          (goes-earlier log spans (with_second spans base t) s.number (notes_in log done) v.early (λ u lt. earlier-stay spans base t u (let is = second.number in omega (arith, lt, is)))));
+          (goes-earlier log spans (with_second spans base t) s.number (notes_in log done) v.early (λ u lt. earlier-stay spans base t u (let is = second.number in omega (arith, lt, is))) (reads-with spans base t)));
     }
 
 pub go-on-in : (d e : Devices) → RingsGoOn d e
 go-on-in d e o done s began front log later spans base t seats fewer v more same stays left cards fewer_sit =
     let now : List SpanFrom = with_second spans base t in
     let notes : List Note = notes_so_far began done log s front in
-    let on : GoOn log later now now notes = goes-alike log later now now notes (failed-more log later more) (call-failed-more log later more) (λ u. refl) in
+    let on : GoOn log later now now notes = goes-alike log later now now notes (failed-more log later more) (call-failed-more log later more) (λ u. refl) (λ n is. is) in
     let ringed : Ringed (since_in o began done s) later now notes seats e = rings-stay d e (since_in o began done s) log later now now notes seats v.ringed stays left cards on in
     let as_ : notes ≡ notes_so_far began done later s front = ap (λ (l : List Note). notes_in began done ++ l) (sym (later-lines log later (went began done).before s front same)) in
     record {
@@ -334,7 +337,7 @@ module _ (d : Devices) (o : Origin) (done : List TraceSecond) (s : TraceSecond) 
       let number : one.second.number ≡ s.number = told-number later (went later done).before s in
       let so_far : List Note = notes_so_far began done later s front in
       let ringed : Ringed (since_in o began done s) later (with_second spans base one) so_far seats d =
-      along (since_in o began done s) d later later (with_second spans base t) (with_second spans base one) so_far seats v.ringed (goes-alike later later (with_second spans base t) (with_second spans base one) so_far (λ u has. has) (λ u has. has) (alike spans base t one same)) in
+      along (since_in o began done s) d later later (with_second spans base t) (with_second spans base one) so_far seats v.ringed (goes-alike later later (with_second spans base t) (with_second spans base one) so_far (λ u has. has) (λ u has. has) (alike spans base t one same) (reads-alike spans base t one same)) in
       let now : Ringed (since_behind o later (done ++ s ∷ [])) later (with_second spans base one) so_far seats d =
       come-before d o (went began done).told (went later (done ++ s ∷ [])).told (done ++ s ∷ []) (done ++ s ∷ []) (come-told_now began later done (done ++ s ∷ []) s behind.went_is) later (with_second spans base one) so_far seats ringed in
       record {
@@ -369,7 +372,7 @@ dark-ends d o done s log later spans base seats fewer v behind more off fewer_si
     let none : notes_in later (done ++ s ∷ []) ≡ notes_in log done =
     second-notes log later done s behind.same ∙ ap (λ (l : List Note). notes_in log done ++ l) (dark-notes later (went later done).before s there) ∙ append-nil (notes_in log done) in
     let unlit : one.lit ≡ false = dark-lit later (went later done).before s there in
-    let ringed : Ringed (since_behind o log done) later spans (notes_in log done) seats d = along (since_behind o log done) d log later spans spans (notes_in log done) seats v.ringed (goes-alike log later spans spans (notes_in log done) (failed-more log later more) (call-failed-more log later more) (λ u. refl)) in
+    let ringed : Ringed (since_behind o log done) later spans (notes_in log done) seats d = along (since_behind o log done) d log later spans spans (notes_in log done) seats v.ringed (goes-alike log later spans spans (notes_in log done) (failed-more log later more) (call-failed-more log later more) (λ u. refl) (λ n is. is)) in
     let now : Ringed (since_behind o later (done ++ s ∷ [])) later spans (notes_in log done) seats d =
     come-before d o (went log done).told (went later (done ++ s ∷ [])).told (done ++ s ∷ []) (done ++ s ∷ []) (come-told_now log later done (done ++ s ∷ []) s behind.went_is) later spans (notes_in log done) seats
     (come-before d o (went log done).told (went log done).told done (done ++ s ∷ []) (λ c u h. come-trace (went log done).told done (s ∷ []) c u h) later spans (notes_in log done) seats ringed) in

@@ -33,8 +33,8 @@ use Rattle.run_rings.proofs.Standing.{stand-append, withdrawal-of-last}
 use Rattle.run_rings.proofs.Few.{as-many, as-many-at, few-as, few-changed}
 use Rattle.run_note_record.specs.Beside.{HaveLeftMore}
 use Rattle.run_note_record.specs.Ringed.{holder_in, TellsIn, Each, HasSameRings, IsInsertionIn, IsPlaceIn, sure_insertion, sure_place, ShowsNotes, Seating, LiesBehind, StandsAt, IsSeated, Ringed, IsWithdrawnAt, MayBeWithdrawn, Since}
-use Rattle.run_note_record.specs.OnCards.{PlacesStay}
-use Rattle.run_note_record.proofs.OnCards.{places-beside}
+use Rattle.run_note_record.specs.OnCards.{CardsStay}
+use Rattle.run_note_record.proofs.OnCards.{places-beside, vehicles-go}
 use Rattle.run_note_record.proofs.Stands.{each-stand, each-long, each-append, each-split, insertions-more, places-more}
 use Rattle.run_note_record.proofs.Rings.{HasSameTurn, insertion_shape, place_shape, Writes, seated-as, go-on}
 
@@ -280,7 +280,7 @@ carried start x y ms h s olders entry newers are behind there time odometer (inr
     let list-is : length (ring_list insertion_ring y) ≡ length (indices insertion_ring y) = length-map (indices insertion_ring y) (entry_at insertion_ring y) in
     ((rings.1, taken_elsewhere insertion_ring insertion_shape x y same.insertions h.points), carries-gone insertion_ring start y ms still olders entry (with_withdrawal time odometer entry) newers are (omega (arith, few, list-is, many, behind)))
 
-pub withdrawal-noted : (d e : Devices) (o : Since) (log : RunLog) (spans : List SpanFrom) (notes : List Note) (seats now : Card → Option Seating) → Ringed o log spans notes seats d → HaveLeftMore o.origin d e → PlacesStay o.origin d e → (w : Withdrawal) (s : Seating) → seats w.card ≡ Some s → s.index < insertion_ring.count →
+pub withdrawal-noted : (d e : Devices) (o : Since) (log : RunLog) (spans : List SpanFrom) (notes : List Note) (seats now : Card → Option Seating) → Ringed o log spans notes seats d → HaveLeftMore o.origin d e → CardsStay o.origin spans d e → (w : Withdrawal) (s : Seating) → seats w.card ≡ Some s → s.index < insertion_ring.count →
     (time : TimeReal) (odometer : Odometer) → time.0 ≡ w.second → odometer.0 ≡ odometer_at w.second spans → time.0 < 256 ^ 4 → odometer.0 < 256 ^ 3 → Writes (IsWithdrawnAt s time odometer) d e →
     ((c : Card) → ((same_card w.card c ≡ false) × (now c ≡ seats c)) ⊎ ((same_card w.card c ≡ true) × (now c ≡ None))) → Ringed o log spans (notes ++ Withdraws w ∷ []) now e
 withdrawal-noted d e o log spans notes seats now v more cards w s at below time odometer second stood time_fits odometer_fits images each = record {
@@ -319,7 +319,8 @@ withdrawal-noted d e o log spans notes seats now v more cards w s at below time 
         stand = was.stand;
         few = few-as unit_place_ring (sure_place o.origin log spans) (places_of notes) o.origin.recording.unit i.0 y (as-many unit_place_ring place_shape i.0 y (places-same i.0 y s below time odometer i.2) was.carries.points) was.few;
       });
-  on_cards = places-beside o.origin log spans notes (Withdraws w) d e refl cards v.on_cards;
+  on_cards = places-beside o.origin log spans notes (Withdraws w) d e refl cards.places v.on_cards;
+  vehicles = vehicles-go o.origin spans spans d e (λ k is. is) cards.vehicles v.vehicles;
 }
   where
     places-same : (x y : List ℕ) (s : Seating) → s.index < insertion_ring.count → (time : TimeReal) (odometer : Odometer) → (IsWithdrawn s.index time odometer x y × (s.behind < insertion_ring.count)) ⊎ (HasSameRings x y × (insertion_ring.count ≤ s.behind)) →
@@ -343,7 +344,7 @@ timed-now start x y ms h s olders entry newers are behind there time w lt = ⊎_
     (λ gone. absurd (omega (arith, lt, gone)))
     there
 
-pub withdrawal-broken : (d e : Devices) (o : Since) (log : RunLog) (spans : List SpanFrom) (notes : List Note) (seats : Card → Option Seating) → Ringed o log spans notes seats d → HaveLeftMore o.origin d e → PlacesStay o.origin d e → (w : Withdrawal) (s : Seating) → seats w.card ≡ Some s → s.index < insertion_ring.count →
+pub withdrawal-broken : (d e : Devices) (o : Since) (log : RunLog) (spans : List SpanFrom) (notes : List Note) (seats : Card → Option Seating) → Ringed o log spans notes seats d → HaveLeftMore o.origin d e → CardsStay o.origin spans d e → (w : Withdrawal) (s : Seating) → seats w.card ≡ Some s → s.index < insertion_ring.count →
     (time : TimeReal) (odometer : Odometer) → time.0 ≡ w.second → odometer.0 ≡ odometer_at w.second spans → time.0 < 256 ^ 4 → odometer.0 < 256 ^ 3 → Writes (MayBeWithdrawn s time odometer) d e → has_failed_in log w.second ≡ true →
     Ringed o log spans (notes ++ Withdraws w ∷ []) (λ c. None) e
 withdrawal-broken d e o log spans notes seats v more cards w s at below time odometer second stood time_fits odometer_fits images has = record {
@@ -367,7 +368,8 @@ withdrawal-broken d e o log spans notes seats v more cards w s at below time odo
         stand = was.stand;
         few = few-as unit_place_ring (sure_place o.origin log spans) (places_of notes) o.origin.recording.unit i.0 y (as-many unit_place_ring place_shape i.0 y (places-same i.0 y i.2) was.carries.points) was.few;
       });
-  on_cards = places-beside o.origin log spans notes (Withdraws w) d e refl cards v.on_cards;
+  on_cards = places-beside o.origin log spans notes (Withdraws w) d e refl cards.places v.on_cards;
+  vehicles = vehicles-go o.origin spans spans d e (λ k is. is) cards.vehicles v.vehicles;
 }
   where
     places-same : (x y : List ℕ) → MayBeWithdrawn s time odometer x y → bytes_at y unit_place_ring.base (size_of unit_place_ring) ≡ bytes_at x unit_place_ring.base (size_of unit_place_ring)

@@ -1,5 +1,6 @@
 -- THE PLACES OF A RUN ON ITS CARDS (profile): what the ring of places of a card shows of them, and calls that leave it.
-use Rattle.std.specs.Prelude.{◌≡◌, ◌⊎◌, ℕ, Bool, true, false, not, List, filter, nat_eq}
+-- And of which odometer values its vehicle entries tell, and calls that measure them.
+use Rattle.std.specs.Prelude.{◌≡◌, ◌⊎◌, ℕ, Bool, true, false, not, List, ◌∷◌, ◌++◌, filter, nat_eq, sum_by}
 use Rattle.std.specs.List.{list_any}
 use Rattle.trace_model.specs.declared.Card.{Card}
 use Rattle.tacho_types.specs.declared.places.PlaceEntry.{PlaceEntry}
@@ -10,15 +11,20 @@ use Rattle.gated_ring.specs.Ring.{Shape, IsShape, PointsInside, size_of}
 use Rattle.gated_ring.specs.Change.{IsAdded, IsAdding}
 use Rattle.card_files.specs.Rings.{place_ring}
 use Rattle.card_image.specs.Own.{own_sizes, IsOwnValid}
+use Rattle.minute_model.specs.Second.{Second}
 use Rattle.log_model.specs.Log.{RunLog}
 use Rattle.log_model.specs.Causes.{has_failed, second_of}
 use Rattle.log_model.specs.Slots.{same_card}
+use Rattle.log_model.specs.Course.{ToldSecond}
+use Rattle.log_model.specs.Spans.{seconds_in}
+use Rattle.unit_rule.specs.Odometer.{odometer_by}
 use Rattle.note_model.specs.Odometer.{SpanFrom, odometer_at}
 use Rattle.note_model.specs.Noted.{PlaceNote, Note, places_of}
 use Rattle.note_model.specs.Rings.{Stand, AreNoFewer, kind_of}
 use Rattle.safety_model.specs.Recording.{card_image}
 use Rattle.safety_model.specs.Safe.{Devices, card_of}
 use Rattle.run_rings.specs.Carried.{RingKeeps}
+use Rattle.run_devices.specs.Measured.{GoesMeasured}
 use Rattle.run_note_record.specs.Origin.{Origin}
 
 -- ---- rings
@@ -95,6 +101,42 @@ LeavesPlaces start old new = (y : List ℕ) → new.may_leave y → (x : List �
 abbrev pub PlacesStay : Origin → (d e : Devices) → Type 0
 PlacesStay o d e = (c : Card) → IsOwnValid (card_image o.recording c)
     → LeavesPlaces (card_image o.recording c) (card_of d c) (card_of e c)
+
+-- ---- the vehicle entries of a card
+
+-- THE ODOMETER STOOD SO in one of these power spans: where that stood which it began with, and this is the sum of the
+-- speeds of some of its seconds from the front
+pub record IsReading (spans : List SpanFrom) (n : ℕ) : Type 0 where
+  pub earlier : List SpanFrom
+  pub s : SpanFrom
+  pub later : List SpanFrom
+  pub are : spans ≡ earlier ++ s ∷ later
+  pub front : List ToldSecond
+  pub behind : List ToldSecond
+  pub parts : s.span ≡ front ++ behind
+  pub is : n ≡ odometer_by s.base (sum_by (λ (x : Second). x.speed) (seconds_in front))
+
+-- its vehicle entries go on, by the sizes that the card's image at the start tells, measured with readings of these
+-- spans and no other values
+abbrev pub GoesByReadings : List SpanFrom → (start x y : List ℕ) → Type 0
+GoesByReadings spans start x y = GoesMeasured (own_sizes start) (IsReading spans) x y
+
+-- EACH IMAGE that a stop may leave of a card that was valid goes on from that at the start so
+abbrev pub VehiclesOnCards : Origin → List SpanFrom → Devices → Type 0
+VehiclesOnCards o spans d = (c : Card) → IsOwnValid (card_image o.recording c) → (x : List ℕ)
+    → (card_of d c).may_leave x → GoesByReadings spans (card_image o.recording c) (card_image o.recording c) x
+
+-- CALLS MEASURE THEM SO: behind them each image goes on from one before
+abbrev pub VehiclesGo : Origin → List SpanFrom → (d e : Devices) → Type 0
+VehiclesGo o spans d e = (c : Card) → IsOwnValid (card_image o.recording c) → (y : List ℕ) → (card_of e c).may_leave y
+    → (x : List ℕ) × (card_of d c).may_leave x × GoesByReadings spans (card_image o.recording c) x y
+
+-- CALLS leave the places of the cards, and measure their vehicle entries so
+pub record CardsStay (o : Origin) (spans : List SpanFrom) (d e : Devices) : Type 0 where
+  pub places : PlacesStay o d e
+  pub vehicles : VehiclesGo o spans d e
+
+-- ---- a place is noted
 
 -- A PLACE IS NOTED in the ring of a card, by the bytes of its entry; or a call failed in its second, and it may be
 abbrev pub TakesPlace : RunLog → PlaceNote → (head start x y : List ℕ) → Type 0

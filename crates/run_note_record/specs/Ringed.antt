@@ -29,7 +29,8 @@ pub use Rattle.run_note_record.specs.Uses.{notes_in, noted_next}
 use Rattle.run_promise.specs.Found.{found_of}
 pub use Rattle.run_rings.specs.Same.{HasSameRings, LeavesRings}
 pub use Rattle.run_note_record.specs.OnCards.{HasRing, ShowsNotes}
-use Rattle.run_note_record.specs.OnCards.{has_call_failed_in, place_width, IsPlaceOn, PlacesOnCards, PlacesStay}
+use Rattle.run_note_record.specs.OnCards.{has_call_failed_in, place_width, IsPlaceOn, PlacesOnCards, IsReading}
+use Rattle.run_note_record.specs.OnCards.{VehiclesOnCards, VehiclesGo, CardsStay}
 use Rattle.run_note_record.specs.OnCards.{PlaceIsTaken, HasPlaces, places_in, places_on, is_sure_on}
 use Rattle.run_note_record.specs.Origin.{Origin}
 use Rattle.run_note_record.specs.Beside.{HaveLeftMore}
@@ -144,6 +145,7 @@ pub record Ringed (o : Since) (log : RunLog) (spans : List SpanFrom) (notes : Li
       ShowsNotes unit_place_ring (sure_place o.origin log spans) (IsPlaceIn o.origin log spans) (places_of notes)
       o.origin.recording.unit x
   pub on_cards : PlacesOnCards o.origin log spans notes d
+  pub vehicles : VehiclesOnCards o.origin spans d
 
 -- ---- steps
 
@@ -179,8 +181,8 @@ abbrev pub MayBeWithdrawn : Seating → TimeReal → Odometer → List ℕ → L
 MayBeWithdrawn s time odometer p q = (IsWithdrawing s.index time odometer p q × (s.behind < insertion_ring.count))
     ⊎ (HasSameRings p q × (insertion_ring.count ≤ s.behind))
 
--- A LOG AND SPANS THAT GO ON: what failed has failed, on the unit and on a card, and the odometers of what was noted
--- are the same
+-- A LOG AND SPANS THAT GO ON: what failed has failed, on the unit and on a card, the odometers of what was noted are
+-- the same, and each reading is one still
 pub record GoOn (log later : RunLog) (spans now : List SpanFrom) (notes : List Note) : Type 0 where
   pub failed : (u : ℕ) → has_failed_in log u ≡ true → has_failed_in later u ≡ true
   pub fell : (u : ℕ) → has_call_failed_in log u ≡ true → has_call_failed_in later u ≡ true
@@ -189,6 +191,7 @@ pub record GoOn (log later : RunLog) (spans now : List SpanFrom) (notes : List N
       × IfSome i.withdrawn (λ u. odometer_at u now ≡ odometer_at u spans)) (insertions_of notes)
   pub places : AllByRecursion (λ (p : PlaceNote). odometer_at p.second now ≡ odometer_at p.second spans)
       (places_of notes)
+  pub reads : (n : ℕ) → IsReading spans n → IsReading now n
 
 -- NOTHING IS NOTED at the start.
 abbrev pub NoRingIsWritten : Devices → Type 0
@@ -201,7 +204,7 @@ NoRingIsWritten d = (o : Since) (log : RunLog) (spans : List SpanFrom)
 abbrev pub RingsStay : (d e : Devices) → Type 0
 RingsStay d e = (o : Since) (log later : RunLog) (spans now : List SpanFrom) (notes : List Note)
     (seats : Card → Option Seating) → Ringed o log spans notes seats d → StaysInRings d e → HaveLeftMore o.origin d e
-    → PlacesStay o.origin d e → GoOn log later spans now notes →
+    → CardsStay o.origin now d e → GoOn log later spans now notes →
     Ringed o later now notes seats e
 
 -- CARDS leave their slots, or power is lost: fewer are accepted.
@@ -214,7 +217,7 @@ FewerSit d = (o : Since) (log : RunLog) (spans : List SpanFrom) (notes : List No
 abbrev pub AnInsertionIsNoted : (d e : Devices) → Type 0
 AnInsertionIsNoted d e = (o : Since) (log : RunLog) (spans : List SpanFrom) (notes : List Note)
     (seats now : Card → Option Seating) → Ringed o log spans notes seats d → HaveLeftMore o.origin d e
-    → PlacesStay o.origin d e → (a : Acceptance) (head : List ℕ) (index : ℕ) →
+    → CardsStay o.origin spans d e → (a : Acceptance) (head : List ℕ) (index : ℕ) →
     WritesRing (IsAddedAt index head) d e →
     length head ≡ insertion_ring.width → IsInsertionIn o log spans e (record { accepted = a; withdrawn = None }) head →
     ((c : Card) → ((same_card a.card c ≡ false) × (now c ≡ option_map one_behind (seats c)))
@@ -228,7 +231,7 @@ APlaceIsNoted d e = (o : Since) (log : RunLog) (spans : List SpanFrom) (notes : 
     → (p : PlaceNote) (head : List ℕ) →
     WritesRing (IsAdded unit_place_ring head) d e → length head ≡ unit_place_ring.width
     → IsPlaceIn o.origin log spans p head → (own : List ℕ) → length own ≡ place_width → IsPlaceOn spans p own
-    → PlaceIsTaken o.origin log p own d e →
+    → PlaceIsTaken o.origin log p own d e → VehiclesGo o.origin spans d e →
     Ringed o log spans (notes ++ Enters p ∷ []) seats e
 
 -- A WITHDRAWAL IS NOTED, in the entry of the card's last insertion; or as many were added since as the ring has places,
@@ -236,8 +239,8 @@ APlaceIsNoted d e = (o : Since) (log : RunLog) (spans : List SpanFrom) (notes : 
 abbrev pub AWithdrawalIsNoted : (d e : Devices) → Type 0
 AWithdrawalIsNoted d e = (o : Since) (log : RunLog) (spans : List SpanFrom) (notes : List Note)
     (seats now : Card → Option Seating) → Ringed o log spans notes seats d → HaveLeftMore o.origin d e
-    → PlacesStay o.origin d e → (w : Withdrawal) (s : Seating) → seats w.card ≡ Some s → s.index < insertion_ring.count
-    →
+    → CardsStay o.origin spans d e → (w : Withdrawal) (s : Seating) → seats w.card ≡ Some s
+    → s.index < insertion_ring.count →
     (time : TimeReal) (odometer : Odometer) → time.0 ≡ w.second → odometer.0 ≡ odometer_at w.second spans
     → time.0 < 256 ^ 4 → odometer.0 < 256 ^ 3 →
     WritesRing (IsWithdrawnAt s time odometer) d e →
@@ -248,7 +251,7 @@ AWithdrawalIsNoted d e = (o : Since) (log : RunLog) (spans : List SpanFrom) (not
 abbrev pub AnInsertionIsBroken : (d e : Devices) → Type 0
 AnInsertionIsBroken d e = (o : Since) (log : RunLog) (spans : List SpanFrom) (notes : List Note)
     (seats : Card → Option Seating) → Ringed o log spans notes seats d → HaveLeftMore o.origin d e
-    → PlacesStay o.origin d e → (a : Acceptance) (head : List ℕ) →
+    → CardsStay o.origin spans d e → (a : Acceptance) (head : List ℕ) →
     WritesRing (MayBeAdded insertion_ring head) d e → length head ≡ insertion_ring.width →
     IsInsertionIn o log spans e (record { accepted = a; withdrawn = None }) head → has_failed_in log a.second ≡ true
     → Ringed o log spans (notes ++ Accepts a ∷ []) (λ c. None) e
@@ -256,8 +259,8 @@ AnInsertionIsBroken d e = (o : Since) (log : RunLog) (spans : List SpanFrom) (no
 abbrev pub AWithdrawalIsBroken : (d e : Devices) → Type 0
 AWithdrawalIsBroken d e = (o : Since) (log : RunLog) (spans : List SpanFrom) (notes : List Note)
     (seats : Card → Option Seating) → Ringed o log spans notes seats d → HaveLeftMore o.origin d e
-    → PlacesStay o.origin d e → (w : Withdrawal) (s : Seating) → seats w.card ≡ Some s → s.index < insertion_ring.count
-    →
+    → CardsStay o.origin spans d e → (w : Withdrawal) (s : Seating) → seats w.card ≡ Some s
+    → s.index < insertion_ring.count →
     (time : TimeReal) (odometer : Odometer) → time.0 ≡ w.second → odometer.0 ≡ odometer_at w.second spans
     → time.0 < 256 ^ 4 → odometer.0 < 256 ^ 3 → WritesRing (MayBeWithdrawn s time odometer) d e
     → has_failed_in log w.second ≡ true →
@@ -269,7 +272,8 @@ APlaceIsBroken d e = (o : Since) (log : RunLog) (spans : List SpanFrom) (notes :
     → (p : PlaceNote) (head : List ℕ) →
     WritesRing (MayBeAdded unit_place_ring head) d e → length head ≡ unit_place_ring.width
     → IsPlaceIn o.origin log spans p head → has_failed_in log p.second ≡ true → (own : List ℕ)
-    → length own ≡ place_width → IsPlaceOn spans p own → PlaceIsTaken o.origin log p own d e →
+    → length own ≡ place_width → IsPlaceOn spans p own → PlaceIsTaken o.origin log p own d e
+    → VehiclesGo o.origin spans d e →
     Ringed o log spans (notes ++ Enters p ∷ []) (λ c. None) e
 
 -- ---- at the end

@@ -22,7 +22,7 @@ use Rattle.run_rings.specs.Notes.{TellSameTo, NotesMore, course_behind}
 use Rattle.run_rings.specs.Spans.{with_second}
 use Rattle.run_note_record.specs.Origin.{Origin}
 use Rattle.run_note_record.specs.Beside.{HaveLeftMore}
-use Rattle.run_note_record.specs.OnCards.{place_width, IsPlaceOn, PlacesStay, PlaceIsTaken}
+use Rattle.run_note_record.specs.OnCards.{place_width, IsPlaceOn, CardsStay, VehiclesGo, PlaceIsTaken}
 use Rattle.run_note_record.specs.Ringed.{Seating, one_behind, StaysInRings, WritesRing, IsInsertionIn, IsPlaceIn}
 use Rattle.run_note_record.specs.Ringed.{IsAddedAt, MayBeAdded, IsWithdrawnAt, MayBeWithdrawn, since_in}
 use Rattle.run_note_record.specs.RingsSoFar.{RingedBehind, RingedIn, AreFewer, HasMoreBreaks, GoesBehind}
@@ -58,7 +58,7 @@ AnActionPasses d e = (o : Origin) (done : List TraceSecond) (s : TraceSecond) (b
     (seats fewer : Card → Option Seating) →
     RingedIn o done s began front log spans base t seats d → GoesOnTo log later s front
     → NotesMore later (went began done).before s front a [] → StaysInRings d e → HaveLeftMore o d e
-    → PlacesStay o d e → AreFewer seats fewer →
+    → CardsStay o (with_second spans base t) d e → AreFewer seats fewer →
     RingedIn o done s began (front ++ a ∷ []) later spans base t fewer e
 
 abbrev pub AnActionIsCut : (d e : Devices) → Type 0
@@ -66,8 +66,8 @@ AnActionIsCut d e = (o : Origin) (done : List TraceSecond) (s : TraceSecond) (be
     (front : List Action) (a : Action) (rest : List Action) (spans : List SpanFrom) (base : ℕ) (t : ToldSecond)
     (seats : Card → Option Seating) →
     RingedIn o done s began front log spans base t seats d → IsCutIn began log cut done s front a rest
-    → NotesMore cut (went began done).before s front a [] → StaysInRings d e → HaveLeftMore o d e → PlacesStay o d e
-    →
+    → NotesMore cut (went began done).before s front a [] → StaysInRings d e → HaveLeftMore o d e
+    → CardsStay o (with_second spans base t) d e →
     RingedBehind o (done ++ s ∷ []) cut (suc s.number) (spans_cut spans base cut done s) nobody e
 
 -- A PLACE IS ENTERED of the accepted card of a slot;
@@ -90,7 +90,7 @@ APlaceIsEntered d e = (o : Origin) (done : List TraceSecond) (s : TraceSecond) (
       ending = ending;
       country = country;
       region = region;
-    }) own d e → AreFewer seats fewer →
+    }) own d e → VehiclesGo o (with_second spans base t) d e → AreFewer seats fewer →
     RingedIn o done s began (front ++ Place slot ending country region ∷ []) later spans base t fewer e
 
 abbrev pub APlaceIsCut : (d e : Devices) → Type 0
@@ -112,7 +112,7 @@ APlaceIsCut d e = (o : Origin) (done : List TraceSecond) (s : TraceSecond) (bega
       ending = ending;
       country = country;
       region = region;
-    }) own d e →
+    }) own d e → VehiclesGo o (with_second spans base t) d e →
     RingedBehind o (done ++ s ∷ []) cut (suc s.number) (spans_cut spans base cut done s) nobody e
 
 -- A CARD IS WITHDRAWN that was accepted, and is not torn out in that;
@@ -129,7 +129,7 @@ ACardIsWithdrawn d e = (o : Origin) (done : List TraceSecond) (s : TraceSecond) 
     → odometer.0 ≡ odometer_at s.number (with_second spans base t) → time.0 < 256 ^ 4 → odometer.0 < 256 ^ 3
     → WritesRing (IsWithdrawnAt q time odometer) d e →
     ((c : Card) → ((same_card x.card c ≡ false) × (now c ≡ seats c)) ⊎ ((same_card x.card c ≡ true) × (now c ≡ None)))
-    → HaveLeftMore o d e → PlacesStay o d e → AreFewer now fewer →
+    → HaveLeftMore o d e → CardsStay o (with_second spans base t) d e → AreFewer now fewer →
     RingedIn o done s began (front ++ Withdraw slot ∷ []) later spans base t fewer e
 
 abbrev pub AWithdrawalIsCut : (d e : Devices) → Type 0
@@ -142,7 +142,8 @@ AWithdrawalIsCut d e = (o : Origin) (done : List TraceSecond) (s : TraceSecond) 
     → seats x.card ≡ Some q → q.index < insertion_ring.count →
     (time : TimeReal) (odometer : Odometer) → time.0 ≡ s.number
     → odometer.0 ≡ odometer_at s.number (with_second spans base t) → time.0 < 256 ^ 4 → odometer.0 < 256 ^ 3
-    → WritesRing (MayBeWithdrawn q time odometer) d e → HaveLeftMore o d e → PlacesStay o d e →
+    → WritesRing (MayBeWithdrawn q time odometer) d e → HaveLeftMore o d e
+    → CardsStay o (with_second spans base t) d e →
     RingedBehind o (done ++ s ∷ []) cut (suc s.number) (spans_cut spans base cut done s) nobody e
 
 -- A CARD IS PUT IN AND ACCEPTED.
@@ -158,7 +159,7 @@ ACardIsAccepted d e = (o : Origin) (done : List TraceSecond) (s : TraceSecond) (
     (record { accepted = record { second = s.number; slot = slot; card = card }; withdrawn = None }) head →
     ((c : Card) → ((same_card card c ≡ false) × (now c ≡ option_map one_behind (seats c)))
     ⊎ ((same_card card c ≡ true) × (now c ≡ Some (record { index = index; behind = 0 })))) → HaveLeftMore o d e
-    → PlacesStay o d e → AreFewer now fewer →
+    → CardsStay o (with_second spans base t) d e → AreFewer now fewer →
     RingedIn o done s began (front ++ Insert slot card ∷ []) later spans base t fewer e
 
 abbrev pub AnAcceptanceIsCut : (d e : Devices) → Type 0
@@ -171,5 +172,5 @@ AnAcceptanceIsCut d e = (o : Origin) (done : List TraceSecond) (s : TraceSecond)
     (head : List ℕ) → WritesRing (MayBeAdded insertion_ring head) d e → length head ≡ insertion_ring.width →
     IsInsertionIn (since_in o began done s) cut (with_second spans base t) e
     (record { accepted = record { second = s.number; slot = slot; card = card }; withdrawn = None }) head
-    → HaveLeftMore o d e → PlacesStay o d e →
+    → HaveLeftMore o d e → CardsStay o (with_second spans base t) d e →
     RingedBehind o (done ++ s ∷ []) cut (suc s.number) (spans_cut spans base cut done s) nobody e

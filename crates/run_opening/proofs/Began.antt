@@ -32,6 +32,7 @@ use Rattle.run_opening.specs.declared.opening.Opened.{Opened}
 use Rattle.run_opening.specs.Units.{IsLoaded}
 use Rattle.run_opening.specs.Cards.{number_by, IsKnownOfCard, IsFoundOn, AreTwo, HasNumber}
 use Rattle.run_opening.specs.Opening.{IsAsItWas, MayGoOn, IsRefused}
+use Rattle.run_opening.specs.Calls.{DevicesAreFound}
 use Rattle.run_opening.specs.Begun.{Begin, no_number, named_by, name_of, found_in, known_of, RunIsOpened, IsRefusedBy, IsBegun}
 use Rattle.run_opening.proofs.Told.{found-days}
 
@@ -243,11 +244,8 @@ module _ (r : Recording) (start : ℕ) (U V P Q S T : State) (U_whole : IsCohere
   were : (c : Card) → IsAsItWas (card_of (devices U P S) c) (card_of (devices V Q T) c)
   were = each (λ c. IsAsItWas (card_of (devices U P S) c) (card_of (devices V Q T) c)) a_was b_was
 
-  pub begun : (on_a on_b : CardState) (result : Result Opened RunFault) → IfOk result (λ o. IsLoaded V o.unit.journal) → IfOk result (λ o. IfSome V.image (AreFacts o.unit.memory)) → IfOk result (λ o. o.unit.journal.kept < start / 60)
-      → IfOk result (λ o. IsFoundOn o.card_a on_a Q) → IfOk result (λ o. IsFoundOn o.card_b on_b T) → IfOk result (λ o. AreTwo o.card_a.number o.card_b.number) → IfErr result (IsRefused start (devices U P S) (devices V Q T))
-      → IsBegun r start (devices U P S) (devices V Q T) result
-  begun on_a on_b (Ok o) loaded identity later found_a found_b two why =
-      ready r start (devices U P S) (devices V Q T) U_whole V_whole before after unit_was were begins o (on_card on_a on_b) loaded identity later
-      (each (λ c. IsFoundOn (known_of o c) (on_card on_a on_b c) (card_of (devices V Q T) c)) found_a found_b) two
-  begun on_a on_b (Err fault) loaded identity later found_a found_b two why =
-      refused r start (devices U P S) (devices V Q T) U_whole V_whole before after unit_was were begins fault why
+  pub begun : (on_a on_b : CardState) (result : Result Opened RunFault) → IfOk result (DevicesAreFound start V Q T on_a on_b) → IfErr result (IsRefused start (devices U P S) (devices V Q T)) → IsBegun r start (devices U P S) (devices V Q T) result
+  begun on_a on_b (Ok o) finds why =
+      ready r start (devices U P S) (devices V Q T) U_whole V_whole before after unit_was were begins o (on_card on_a on_b) finds.unit.loaded finds.unit.facts finds.unit.later
+      (each (λ c. IsFoundOn (known_of o c) (on_card on_a on_b c) (card_of (devices V Q T) c)) finds.card_a finds.card_b) finds.two
+  begun on_a on_b (Err fault) finds why = refused r start (devices U P S) (devices V Q T) U_whole V_whole before after unit_was were begins fault why

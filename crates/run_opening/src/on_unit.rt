@@ -8,6 +8,7 @@ ghost use Rattle.unit_memory.specs.Identified.{AreFacts};
 ghost use Rattle.run_opening.specs.Opening.{IsAsItWas};
 ghost use Rattle.run_opening.specs.Units.{IsLoaded, IsNotLoaded, HasBrokenDown, IsClockBack, IsUnitRefused};
 ghost use Rattle.run_opening.specs.Units.{opening_fault};
+ghost use Rattle.run_opening.specs.Calls.{UnitIsFound};
 
 use crate::fault::RunFault;
 use run_model::Device;
@@ -85,9 +86,7 @@ pub fn judge_clock(kept: u32, second: u32) -> Result<(), RunFault>
 /// does and the minute of the second is not later than its last-kept one.
 pub fn judge_unit<M: Medium>(unit: &mut M, start: u32) -> Result<OpenedUnit, RunFault>
     requires unit { (M.state unit.old).size ≡ IMAGE_SIZE }
-    ensures loaded { IfOk result (λ opened. IsLoaded (M.state unit.new) opened.journal) }
-    ensures facts { IfOk result (λ opened. IfSome (M.state unit.new).image (AreFacts opened.memory)) }
-    ensures later { IfOk result (λ opened. opened.journal.kept < start / 60) }
+    ensures found { IfOk result (UnitIsFound start (M.state unit.new)) }
     ensures refused { IfErr result (IsUnitRefused start (M.state unit.old) (M.state unit.new)) }
     ensures unit { IsUnit (M.state unit.old) → IsUnit (M.state unit.new) }
     ensures leaves { LeavesOnly (M.state unit.old) (M.state unit.new) Unchanged }

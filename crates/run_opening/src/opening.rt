@@ -1,15 +1,11 @@
 //! The opening of a run.
-ghost use Rattle.std.specs.Prelude.{◌≡◌, ◌≤◌, ◌<◌, ◌/◌, false, IfOk, OnOk, IfErr, IfSome};
-ghost use Rattle.tach_media.specs.Medium.{HasCause, revivable};
+ghost use Rattle.std.specs.Prelude.{◌≡◌, ◌≤◌, IfOk, OnOk, IfErr};
 ghost use Rattle.unit_model.specs.declared.layout.TheConstants.{IMAGE_SIZE};
-ghost use Rattle.unit_model.specs.Image.{IsUnit};
-ghost use Rattle.unit_memory.specs.Identified.{AreFacts};
 ghost use Rattle.safety_model.specs.Recording.{Recording};
 ghost use Rattle.run_promise.specs.Between.{devices};
-ghost use Rattle.run_opening.specs.Units.{IsLoaded};
-ghost use Rattle.run_opening.specs.Cards.{IsFoundOn, AreTwo};
-ghost use Rattle.run_opening.specs.Opening.{IsAsItWas, IsRefused};
+ghost use Rattle.run_opening.specs.Opening.{IsRefused};
 ghost use Rattle.run_opening.specs.Begun.{Begin, IsBegun};
+ghost use Rattle.run_opening.specs.Calls.{DevicesAreAsTheyWere, DevicesAreFound, DevicesWork};
 
 use crate::fault::RunFault;
 use crate::on_card::{judge_card, judge_numbers};
@@ -38,22 +34,15 @@ fn judge_each<M: Medium, C: Chip, D: Chip>(
     requires unit { (M.state unit.old).size ≡ IMAGE_SIZE }
     requires card_a { LARGEST_IMAGE ≤ (C.state card_a.old).size }
     requires card_b { LARGEST_IMAGE ≤ (D.state card_b.old).size }
-    ensures loaded { IfOk result (λ opened. IsLoaded (M.state unit.new) opened.unit.journal) }
-    ensures facts { IfOk result (λ opened. IfSome (M.state unit.new).image (AreFacts opened.unit.memory)) }
-    ensures later { IfOk result (λ opened. opened.unit.journal.kept < start / 60) }
-    ensures found_a { IfOk result (λ opened. IsFoundOn opened.card_a (C.card card_a.new) (C.state card_a.new)) }
-    ensures found_b { IfOk result (λ opened. IsFoundOn opened.card_b (D.card card_b.new) (D.state card_b.new)) }
-    ensures two { IfOk result (λ opened. AreTwo opened.card_a.number opened.card_b.number) }
+    ensures found { IfOk result (DevicesAreFound start (M.state unit.new) (C.state card_a.new) (D.state card_b.new)
+        (C.card card_a.new) (D.card card_b.new)) }
     ensures refused { IfErr result (IsRefused start
         (devices (M.state unit.old) (C.state card_a.old) (D.state card_b.old))
         (devices (M.state unit.new) (C.state card_a.new) (D.state card_b.new))) }
-    ensures unit { IsAsItWas (M.state unit.old) (M.state unit.new) }
-    ensures is_unit { IsUnit (M.state unit.old) → IsUnit (M.state unit.new) }
-    ensures card_a { IsAsItWas (C.state card_a.old) (C.state card_a.new) }
-    ensures card_b { IsAsItWas (D.state card_b.old) (D.state card_b.new) }
-    ensures unit_works { OnOk result (HasCause (revivable (M.state unit.old)) (M.state unit.new) false) }
-    ensures card_a_works { OnOk result (HasCause (revivable (C.state card_a.old)) (C.state card_a.new) false) }
-    ensures card_b_works { OnOk result (HasCause (revivable (D.state card_b.old)) (D.state card_b.new) false) }
+    ensures same { DevicesAreAsTheyWere (devices (M.state unit.old) (C.state card_a.old) (D.state card_b.old))
+        (devices (M.state unit.new) (C.state card_a.new) (D.state card_b.new)) }
+    ensures works { OnOk result (DevicesWork (devices (M.state unit.old) (C.state card_a.old) (D.state card_b.old))
+        (devices (M.state unit.new) (C.state card_a.new) (D.state card_b.new))) }
 {
     let opened = judge_unit(unit, start)?;
     let a = judge_card(card_a, Device::CardA)?;
@@ -83,22 +72,15 @@ pub fn judge<M: Medium, C: Chip, D: Chip>(
     requires unit { (M.state unit.old).size ≡ IMAGE_SIZE }
     requires card_a { LARGEST_IMAGE ≤ (C.state card_a.old).size }
     requires card_b { LARGEST_IMAGE ≤ (D.state card_b.old).size }
-    ensures loaded { IfOk result (λ opened. IsLoaded (M.state unit.new) opened.unit.journal) }
-    ensures facts { IfOk result (λ opened. IfSome (M.state unit.new).image (AreFacts opened.unit.memory)) }
-    ensures later { IfOk result (λ opened. opened.unit.journal.kept < start / 60) }
-    ensures found_a { IfOk result (λ opened. IsFoundOn opened.card_a (C.card card_a.new) (C.state card_a.new)) }
-    ensures found_b { IfOk result (λ opened. IsFoundOn opened.card_b (D.card card_b.new) (D.state card_b.new)) }
-    ensures two { IfOk result (λ opened. AreTwo opened.card_a.number opened.card_b.number) }
+    ensures found { IfOk result (DevicesAreFound start (M.state unit.new) (C.state card_a.new) (D.state card_b.new)
+        (C.card card_a.new) (D.card card_b.new)) }
     ensures refused { IfErr result (IsRefused start
         (devices (M.state unit.old) (C.state card_a.old) (D.state card_b.old))
         (devices (M.state unit.new) (C.state card_a.new) (D.state card_b.new))) }
-    ensures unit { IsAsItWas (M.state unit.old) (M.state unit.new) }
-    ensures is_unit { IsUnit (M.state unit.old) → IsUnit (M.state unit.new) }
-    ensures card_a { IsAsItWas (C.state card_a.old) (C.state card_a.new) }
-    ensures card_b { IsAsItWas (D.state card_b.old) (D.state card_b.new) }
-    ensures unit_works { OnOk result (HasCause (revivable (M.state unit.old)) (M.state unit.new) false) }
-    ensures card_a_works { OnOk result (HasCause (revivable (C.state card_a.old)) (C.state card_a.new) false) }
-    ensures card_b_works { OnOk result (HasCause (revivable (D.state card_b.old)) (D.state card_b.new) false) }
+    ensures same { DevicesAreAsTheyWere (devices (M.state unit.old) (C.state card_a.old) (D.state card_b.old))
+        (devices (M.state unit.new) (C.state card_a.new) (D.state card_b.new)) }
+    ensures works { OnOk result (DevicesWork (devices (M.state unit.old) (C.state card_a.old) (D.state card_b.old))
+        (devices (M.state unit.new) (C.state card_a.new) (D.state card_b.new))) }
     ensures begins { (r : Recording) → Begin r (devices (M.state unit.old) (C.state card_a.old) (D.state card_b.old)) →
         IsBegun r start (devices (M.state unit.old) (C.state card_a.old) (D.state card_b.old))
         (devices (M.state unit.new) (C.state card_a.new) (D.state card_b.new)) result }

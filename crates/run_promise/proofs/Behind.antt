@@ -4,6 +4,7 @@ use Rattle.std.specs.Prelude.{option_to_list, is_some}
 use Rattle.std.proofs.lemmas.Bool.Decides.{nat_tests}
 use Rattle.std.proofs.lemmas.List.Elements.{All-nil, All-cons, All-head, All-tail, All-append, All-weaker, All-map, All-filter, All-contains, All-contains_itself, filter_passes, Contains-append_left, Contains-append_right, Contains-append_cases}
 use Rattle.activity_codec.specs.declared.entries.Entry.{Entry}
+use Rattle.activity_codec.specs.declared.entries.Manual.{Manual}
 use Rattle.activity_codec.specs.declared.values.Slot.{Slot}
 use Rattle.activity_codec.specs.declared.values.Slot.TheVariants.{Driver, CoDriver}
 use Rattle.trace_model.specs.declared.Card.{Card}
@@ -70,8 +71,8 @@ from-within P day (e ∷ es) each = go (nat_le day (e.minute / 1440)) (from-with
     go false rest = rest
 
 -- what overwriting leaves is of what it was
-pub kept-within : (image : List ℕ) (es : List Entry) (x : List ℕ) (e : Entry) → KeepsOf image es (own_view x).held → Contains (own_view x).held.entries e → Contains es e
-kept-within image es x e keeps at =
+pub kept-within : (image : List ℕ) (given : List Manual) (es : List Entry) (x : List ℕ) (e : Entry) → KeepsOf image given es (own_view x).held → Contains (own_view x).held.entries e → Contains es e
+kept-within image given es x e keeps at =
     let r = (keeps.1.keeps keeps.0 (omega arith)).0 in
     All-contains (Contains es) (entries_from r.oldest es) e (from-within (Contains es) r.oldest es (All-contains_itself es)) (subst (λ (zs : List Entry). Contains zs e) r.entries at)
 

@@ -12,13 +12,13 @@ use Rattle.unit_rule.specs.Recording.{Recording, start_of, history_of, lost_of}
 use Rattle.run_promise.specs.Between.{IsFollowed}
 
 -- a split of minutes that rise
-record Splits (from until : ℕ) (xs ys : List HistoryMinute) : Type 0 where
-  at : ℕ
-  behind : Rises at ys until
-  above : from ≤ at
-  before : All (λ (i : HistoryMinute). i.minute < at) xs
+pub record Splits (from until : ℕ) (xs ys : List HistoryMinute) : Type 0 where
+  pub at : ℕ
+  pub behind : Rises at ys until
+  pub above : from ≤ at
+  pub before : All (λ (i : HistoryMinute). i.minute < at) xs
 
-splits : (from until : ℕ) (xs ys : List HistoryMinute) → Rises from (xs ++ ys) until → Splits from until xs ys
+pub splits : (from until : ℕ) (xs ys : List HistoryMinute) → Rises from (xs ++ ys) until → Splits from until xs ys
 splits from until [] ys h = record { at = from; behind = h; above = omega arith; before = All-nil (λ (i : HistoryMinute). i.minute < from) }
 splits from until (x ∷ xs) ys h =
     let s = splits (x.minute + 1) until xs ys h.1 in

@@ -28,6 +28,9 @@ use Rattle.device_rule.proofs.Pairs.{owed-above}
 use Rattle.device_rule.proofs.Holding.{rise-back}
 use Rattle.device_rule.proofs.Repairing.{repaired-holds}
 use Rattle.device_rule.proofs.Overwriting.{owed-entries_count}
+use Rattle.hand_model.specs.Written.{Hands, IsPartOf}
+use Rattle.card_string.proofs.Kept.{keeps_more}
+use Rattle.safety_model.specs.Hands.{hands_done}
 use Rattle.unit_rule.specs.Recording.{Recording, card_image, brought, start_of, history_of, expected_of, told_of, unit_seen}
 use Rattle.unit_rule.specs.Unit.{marks_of}
 use Rattle.unit_rule.specs.Cards.{CardShows, CardMarkHolds, acceptances, was_kept, IsRepaired, expected_to}
@@ -53,7 +56,7 @@ is-false false fails = refl
 beyond_it : (k m : ℕ) → k < m → nat_le m k ≡ false
 beyond_it k m h = grind (arith, nat_tests)
 
-module _ (r : Recording) (c : Card) (clock : ℕ) (b : Book) (card : State) (rest : List HistoryMinute) (whole : history_of r ≡ all b ++ rest) (string : StringHolds (at_start r c clock) c b card) where
+module _ (r : Recording) (c : Card) (clock : ℕ) (h : Hands) (given : IsPartOf h.given (hands_done r c)) (b : Book) (card : State) (rest : List HistoryMinute) (whole : history_of r ≡ all b ++ rest) (string : StringHolds (at_start r c clock) h c b card) where
   abbrev entries : List Entry
   entries = (brought r c).entries
 
@@ -88,7 +91,7 @@ module _ (r : Recording) (c : Card) (clock : ℕ) (b : Book) (card : State) (res
           more = counted_to (own_view x).mark lies;
           rest = k.0 ++ card_history c rest;
           whole = expected ∙ ap (λ (es : List Entry). entries ++ es) (ap (λ (zs : List Entry). zs ++ card_history c rest) k.1 ∙ append_assoc (counted_to (own_view x).mark lies) k.0 (card_history c rest));
-          kept = string.kept x left;
+          kept = keeps_more (card_image r c) h.given (hands_done r c) given (entries ++ counted_to (own_view x).mark lies) (own_view x).held (string.kept x left);
         },
         refl,
         (k.0, refl, k.1, k.2),
@@ -215,7 +218,7 @@ module _ (r : Recording) (c : Card) (clock : ℕ) (b : Book) (card : State) (res
       (subst (All (λ (e : Entry). bound (brought r c) < e.minute)) (ap (card_history c) whole ∙ history-append c (all b) rest)
       (subst (λ (start : CardStart). All (λ (e : Entry). bound start < e.minute) (card_history c (history_of r))) (started r c) (history-later r.rule (start_of r) r.log (told_of r) c)))))
 
-  module _ (z : Standing) (v : UnitView) (x : List ℕ) (m : Meets c (brought r c) AnyKept (all b) z v (own_view x)) (h : Had c (brought r c) AnyKept b (own_view x)) (sure : All (λ i. i.minute ≤ v.last) b.sure) where
+  module _ (z : Standing) (v : UnitView) (x : List ℕ) (m : Meets c (brought r c) AnyKept (all b) z v (own_view x)) (had : Had c (brought r c) AnyKept b (own_view x)) (sure : All (λ i. i.minute ≤ v.last) b.sure) where
     abbrev due : List Entry
     due = owed c v (own_view x)
 
@@ -230,7 +233,7 @@ module _ (r : Recording) (c : Card) (clock : ℕ) (b : Book) (card : State) (res
           extra = card_history c maybe;
           are = parts ∙ ap (λ (zs : List Entry). zs ++ card_history c maybe) (sym (m.whole ∙ ap (λ (is : List HistoryMinute). owes ++ card_history c is) (up_to-all b v.last sure ∙ ap (λ (is : List HistoryMinute). b.sure ++ is) none ∙ append-nil b.sure)))
               ∙ append_assoc m.more due (card_history c maybe);
-          later = all-back (λ (e : Entry). (own_view x).mark < e.minute) h.rest (card_history c maybe) h.lacks;
+          later = all-back (λ (e : Entry). (own_view x).mark < e.minute) had.rest (card_history c maybe) had.lacks;
         })
         (λ same. record {
           extra = [];
@@ -249,14 +252,15 @@ module _ (r : Recording) (c : Card) (clock : ℕ) (b : Book) (card : State) (res
         ∙ ap (λ (is : List HistoryMinute). up_to v.last (all b) ++ is) (filter-none (λ (i : HistoryMinute). nat_le i.minute v.last) rest (All-weaker (λ (i : HistoryMinute). v.last < i.minute) (λ i. nat_le i.minute v.last ≡ false) (λ i lt. beyond_it v.last i.minute lt) rest later))
         ∙ append-nil (up_to v.last (all b))
 
-    pub rest-agrees : AreDays 0 (card_days (own_sizes (card_image r c)) (card_image r c)) → All (λ i. v.last < i.minute) rest → StringGoesOn (at_start r c clock) c b z due x →
-        KeepsOf (card_image r c) (expected_to r c v.last) (record (own_view x).held { entries = (own_view x).held.entries ++ due })
+    pub rest-agrees : AreDays 0 (card_days (own_sizes (card_image r c)) (card_image r c)) → All (λ i. v.last < i.minute) rest → StringGoesOn (at_start r c clock) h.given c b z due x →
+        KeepsOf (card_image r c) (hands_done r c) (expected_to r c v.last) (record (own_view x).held { entries = (own_view x).held.entries ++ due })
     rest-agrees are later g =
-        let kept : KeepsFrom (card_image r c) (comes_from (brought r c) z due (own_view x)) (entries ++ m.more) (own_view x).held =
-        subst (λ (zs : List Entry). KeepsFrom (card_image r c) (comes_from (brought r c) z due (own_view x)) (entries ++ zs) (own_view x).held) counted g in
+        let kept : KeepsFrom (card_image r c) h.given (comes_from (brought r c) z due (own_view x)) (entries ++ m.more) (own_view x).held =
+        subst (λ (zs : List Entry). KeepsFrom (card_image r c) h.given (comes_from (brought r c) z due (own_view x)) (entries ++ zs) (own_view x).held) counted g in
         let rises : Rise due = rise-front due parted.extra (rise-back m.more (due ++ parted.extra) (subst Rise parted.are string.rises)) in
         let late : All (λ e. (brought r c).word < e.minute) due =
         all-front (λ (e : Entry). (brought r c).word < e.minute) due parted.extra (all-back (λ (e : Entry). (brought r c).word < e.minute) m.more (due ++ parted.extra) (subst (All (λ (e : Entry). (brought r c).word < e.minute)) parted.are late-all)) in
-        subst (λ (zs : List Entry). KeepsOf (card_image r c) (entries ++ zs) (record (own_view x).held { entries = (own_view x).held.entries ++ due }))
+        keeps_more (card_image r c) h.given (hands_done r c) given (expected_to r c v.last) (record (own_view x).held { entries = (own_view x).held.entries ++ due })
+        (subst (λ (zs : List Entry). KeepsOf (card_image r c) h.given (entries ++ zs) (record (own_view x).held { entries = (own_view x).held.entries ++ due }))
         (m.whole ∙ ap (λ (is : List HistoryMinute). owes ++ card_history c is) (sym (reached later)))
-        (owed-entries_count (card_image r c) (brought r c) are refl refl refl (suc (max (brought r c).word (since z (newest_with (own_view x) due)))) (own_view x).mark m.more due (own_view x).held m.mark m.had (owed-above c v (own_view x)) late rises kept)
+        (owed-entries_count (card_image r c) h.given (brought r c) are refl refl refl (suc (max (brought r c).word (since z (newest_with (own_view x) due)))) (own_view x).mark m.more due (own_view x).held m.mark m.had (owed-above c v (own_view x)) late rises kept))

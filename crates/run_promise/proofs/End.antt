@@ -13,7 +13,7 @@ use Rattle.unit_model.specs.Image.{recorded, unit_minutes, last_kept}
 use Rattle.unit_model.specs.Decoding.{Decodes}
 use Rattle.card_layout.specs.declared.files.Fid.{Fid}
 use Rattle.device_rule.specs.View.{CardView}
-use Rattle.device_rule.specs.Own.{own_view, own_number, own_bad_file, IsOwnValid, KeepsOf}
+use Rattle.device_rule.specs.Own.{own_view, own_sizes, own_number, own_bad_file, IsOwnValid, KeepsOf}
 use Rattle.history_model.specs.Minutes.{HistoryMinute, card_history, up_to}
 use Rattle.history_model.specs.Presence.{CardStart}
 use Rattle.history_model.specs.Book.{all, Follows, Rising, IsMark}
@@ -22,6 +22,11 @@ use Rattle.device_rule.specs.Views.{UnitView, unit_view, owed}
 use Rattle.device_rule.specs.Filling.{FillsDays}
 use Rattle.device_rule.specs.Rules.{CardDark, Meets, Had, Shows}
 use Rattle.device_rule.specs.Marked.{of_card}
+use Rattle.hand_model.specs.ByHand.{by_hand_in}
+use Rattle.hand_model.specs.AtStart.{hands_at, HasDayOf}
+use Rattle.hand_model.proofs.Written.{part_self, part_both, part_then}
+use Rattle.safety_model.specs.ByHand.{HandsSafe}
+use Rattle.safety_model.specs.Hands.{hands_done}
 use Rattle.unit_rule.specs.Recording.{Recording, card_image, brought, start_of, history_of, lost_of, told_of, unit_seen as seen_in}
 use Rattle.unit_rule.specs.Unit.{UnitSafe, marks_of, issued_bytes}
 use Rattle.unit_rule.specs.Cards.{CardSafe, IsRepaired, Agree, StandsInUnit, HasDay, expected_to}
@@ -31,8 +36,8 @@ use Rattle.unit_rule.proofs.Marking.{holds-dark}
 use Rattle.unit_rule.proofs.Safety.{unit-safe}
 use Rattle.tacho_types.specs.declared.texts.Registration.{Registration}
 use Rattle.run_promise.specs.Found.{CardFound, Found, found_of, unit_seen, AnyKept, registration_of}
-use Rattle.run_promise.specs.Cards.{StringHolds, StringGoesOn, CardWaits, IsCardHeld, counted_to, brought_by}
-use Rattle.run_promise.specs.Between.{RunLedger, LedgerStandsPowered, LedgerStands, IsFound, IsFollowed, AreBrought, AreUntouched}
+use Rattle.run_promise.specs.Cards.{StringHolds, StringGoesOn, CardWaits, IsCardHeld, IsFirstHeld, HandMarksHold, counted_to, brought_by}
+use Rattle.run_promise.specs.Between.{RunLedger, LedgerStandsPowered, LedgerStands, IsFound, IsFollowed, HandsFollowed, AreBrought, AreUntouched}
 use Rattle.run_promise.proofs.CardEnd.{at_start, shows, marked, repaired, rest-agrees, started as started-start}
 use Rattle.run_promise.proofs.Beyond.{follows-later}
 use Rattle.run_promise.proofs.Present.{bound, history-later}
@@ -75,7 +80,7 @@ unfolding unit_view
 owed-b a b d u y = refl
 
 module _ (r : Recording) (f : Found) (w : RunLedger) (began now : Devices) (found : IsFound r f began) (followed : IsFollowed r w.book now.unit) (carried : LedgerStands f w now)
-    (unit_whole : IsCoherent now.unit) (card_whole : (c : Card) → IsCoherent (card_of now c)) where
+    (hands : (c : Card) → IsOwnValid (card_image r c) → HandsFollowed r c (w.hands c) (w.firsts c) w.marks) (unit_whole : IsCoherent now.unit) (card_whole : (c : Card) → IsCoherent (card_of now c)) where
   unit-part : UnitSafe (recorded r.unit) (history_of r) (lost_of r) w.marks began.unit.clock now.unit
   unit-part = subst (λ (s : Started). UnitSafe s.days (history_of r) (lost_of r) w.marks s.began now.unit) found.unit
       (unit-safe f.unit (history_of r) (lost_of r) w.due w.book w.marks now.unit unit_whole followed.follows carried.unit)
@@ -109,11 +114,14 @@ module _ (r : Recording) (f : Found) (w : RunLedger) (began now : Devices) (foun
     same : found_of f c ≡ at_start r c clock
     same = same-card (found_of f c) (card_image r c) (own_number (card_image r c)) (brought r c) clock (registration_of r.unit) (found.image c) (found.start c) (found.number c valid) (found.clock c) (found.vehicle c)
 
-    waits : CardWaits f c w.book (w.standing c) (w.brought c) now.unit card
+    waits : CardWaits f (w.hands c) c w.book (w.standing c) (w.brought c) now.unit card
     waits = carried.cards c (subst IsOwnValid (sym (found.image c)) valid)
 
-    string : StringHolds (at_start r c clock) c w.book card
-    string = subst (λ (g : CardFound). StringHolds g c w.book card) same waits.string
+    string : StringHolds (at_start r c clock) (w.hands c) c w.book card
+    string = subst (λ (g : CardFound). StringHolds g (w.hands c) c w.book card) same waits.string
+
+    firsts : HandMarksHold (at_start r c clock) (w.hands c) (w.firsts c) card
+    firsts = subst (λ (g : CardFound). HandMarksHold g (w.hands c) (w.firsts c) card) same (carried.hands c (subst IsOwnValid (sym (found.image c)) valid))
 
     rests : CardDark c (brought r c) AnyKept clock w.book (w.standing c) (unit_seen f now.unit) (of_card card)
     rests = subst (λ (g : CardFound). CardDark c g.start AnyKept g.began w.book (w.standing c) (unit_seen f now.unit) (of_card card)) same waits.rests
@@ -141,12 +149,12 @@ module _ (r : Recording) (f : Found) (w : RunLedger) (began now : Devices) (foun
       rest-later : All (λ i. (view u).last < i.minute) rest
       rest-later = subst (λ (k : ℕ). All (λ (i : HistoryMinute). k < i.minute) rest) (sym (last-of f.card_a.number f.card_b.number u)) (followed.later u on)
 
-      rest-part : KeepsOf (card_image r c) (expected_to r c (last_kept u)) (record (own_view x).held { entries = (own_view x).held.entries ++ owed c (seen_in r u) (own_view x) })
+      rest-part : KeepsOf (card_image r c) (hands_done r c) (expected_to r c (last_kept u)) (record (own_view x).held { entries = (own_view x).held.entries ++ owed c (seen_in r u) (own_view x) })
       rest-part =
-          subst (λ (es : List Entry). KeepsOf (card_image r c) (expected_to r c (last_kept u)) (record (own_view x).held { entries = (own_view x).held.entries ++ es })) (same-owed u (own_view x))
-          (subst (λ (k : ℕ). KeepsOf (card_image r c) (expected_to r c k) (record (own_view x).held { entries = (own_view x).held.entries ++ owed c (view u) (own_view x) })) (last-of f.card_a.number f.card_b.number u)
-          (rest-agrees r c clock w.book card rest whole string (w.standing c) (view u) x meets had (unit-shows u on).sure (found.days c valid) rest-later
-          (subst (λ (g : CardFound). StringGoesOn g c w.book (w.standing c) (owed c (view u) (own_view x)) x) same (waits.comes u x on there))))
+          subst (λ (es : List Entry). KeepsOf (card_image r c) (hands_done r c) (expected_to r c (last_kept u)) (record (own_view x).held { entries = (own_view x).held.entries ++ es })) (same-owed u (own_view x))
+          (subst (λ (k : ℕ). KeepsOf (card_image r c) (hands_done r c) (expected_to r c k) (record (own_view x).held { entries = (own_view x).held.entries ++ owed c (view u) (own_view x) })) (last-of f.card_a.number f.card_b.number u)
+          (rest-agrees r c clock (w.hands c) (hands c valid).given w.book card rest whole string (w.standing c) (view u) x meets had (unit-shows u on).sure (found.days c valid) rest-later
+          (subst (λ (g : CardFound). StringGoesOn g (w.hands c).given c w.book (w.standing c) (owed c (view u) (own_view x)) x) same (waits.comes u x on there))))
 
       -- the book's minutes rise behind the unit's last-kept one at the start
       rising : Rising (last_kept r.unit) (all w.book)
@@ -183,7 +191,7 @@ module _ (r : Recording) (f : Found) (w : RunLedger) (began now : Devices) (foun
           (Contains-append_cases (card_history c w.book.sure) (card_history c (option_to_list w.book.maybe)) e (subst (λ (zs : List Entry). Contains zs e) (history-append c w.book.sure (option_to_list w.book.maybe)) book_one)))
           (Contains-append_cases (brought r c).owed (card_history c (all w.book)) e (counted-in (own_view x).mark (brought_by c (brought r c) w.book) e counted).0))
           (Contains-append_cases (brought r c).entries (counted_to (own_view x).mark (brought_by c (brought r c) w.book)) e
-          (kept-within (card_image r c) ((brought r c).entries ++ counted_to (own_view x).mark (brought_by c (brought r c) w.book)) x e (string.kept x left) at))
+          (kept-within (card_image r c) (w.hands c).given ((brought r c).entries ++ counted_to (own_view x).mark (brought_by c (brought r c) w.book)) x e (string.kept x left) at))
 
       behind-part : Decodes r.unit → (e : Entry) → Contains (card_history c (history_of r)) e → Contains (own_view x).held.entries e → HasDay r c (recorded u) (e.minute / 1440) → StandsInUnit r c (unit_minutes u) e
       behind-part decodes e said at day =
@@ -199,7 +207,7 @@ module _ (r : Recording) (f : Found) (w : RunLedger) (began now : Devices) (foun
 
     pub card-repaired : AreBrought r c w.book (w.brought c) → (x : List ℕ) → card.may_leave x → IsRepaired r c w.marks x
     card-repaired each x there =
-        repaired r c clock w.book card rest whole string (w.standing c) (w.brought c) (unit_seen f now.unit) rests waits.brought (view some-unit.0) (some-unit.0, some-unit.1, refl) (unit-shows some-unit.0 some-unit.1).sure each x there
+        repaired r c clock (w.hands c) (hands c valid).given w.book card rest whole string (w.standing c) (w.brought c) (unit_seen f now.unit) rests waits.brought (view some-unit.0) (some-unit.0, some-unit.1, refl) (unit-shows some-unit.0 some-unit.1).sure each x there
         w.marks held (history-above some-unit.0 x some-unit.1 there) owed-low (first-low some-unit.0 x some-unit.1 there) (rest-later some-unit.0 x some-unit.1 there) (card_whole c)
       where
         owed-low : All (λ e. e.minute ≤ last_kept r.unit) (brought r c).owed
@@ -215,17 +223,30 @@ module _ (r : Recording) (f : Found) (w : RunLedger) (began now : Devices) (foun
 
   card-part : ((c : Card) → IsOwnValid (card_image r c) → AreBrought r c w.book (w.brought c)) → AreUntouched r f now → (c : Card) → CardSafe r c w.marks (card_of began c).clock (card_of now c)
   card-part each untouched c = record {
-    entries = λ valid x at. (shows r c (card_of began c).clock w.book (card_of now c) rest whole (string c valid) x at).0;
+    entries = λ valid x at. (shows r c (card_of began c).clock (w.hands c) (hands c valid).given w.book (card_of now c) rest whole (string c valid) x at).0;
     valid = λ valid x at. (string c valid).valid x at;
     number = λ valid x at. (string c valid).number x at;
     untouched = λ never x at. untouched c never x (subst (λ (n : ℕ). (card_of now c).left_since n x) (sym (found.clock c)) at) ∙ found.image c;
     in_order = (carried.marks c).rise;
     marked = λ m at. ⊎_elim
-        (λ valid. marked r c (card_of began c).clock w.book (card_of now c) rest whole (string c valid) (card_whole c) m (All-contains (IsCardHeld (at_start r c (card_of began c).clock) c w.book (card_of now c)) (marks_of (device_of c) w.marks) m (held c valid) at))
+        (λ valid. marked r c (card_of began c).clock (w.hands c) (hands c valid).given w.book (card_of now c) rest whole (string c valid) (card_whole c) m (All-contains (IsCardHeld (at_start r c (card_of began c).clock) c w.book (card_of now c)) (marks_of (device_of c) w.marks) m (held c valid) at))
         (λ bad. absurd (none-in m (marks_of (device_of c) w.marks) (unmarked c bad) at))
         (valid-or (card_image r c));
     unmarked = unmarked c;
     repaired = λ valid x there. card-repaired c valid (each c valid) x there;
+  }
+
+  -- its entries by hand: each image tells some of those that it may tell, and those of an acknowledged first keep where it has their day
+  hands-part : (c : Card) → HandsSafe r c w.marks (card_of began c).clock (card_of now c)
+  hands-part c = record {
+    tells = λ valid x at.
+        part_then (by_hand_in (own_sizes (card_image r c)) x) (hands_at (card_image r c) ++ (w.hands c).given) (hands_at (card_image r c) ++ hands_done r c) ((string c valid).told x at)
+        (part_both (hands_at (card_image r c)) (hands_at (card_image r c)) (w.hands c).given (hands_done r c) (part_self (hands_at (card_image r c))) (hands c valid).given);
+    keeps = λ valid s next m first e of_it day x left has.
+        let k = (hands c valid).firsts s next m first in
+        let held : IsFirstHeld (at_start r c (card_of began c).clock) (w.hands c) (card_of now c) k.0 = All-contains (IsFirstHeld (at_start r c (card_of began c).clock) (w.hands c) (card_of now c)) (w.firsts c) k.0 (firsts c valid) k.1 in
+        All-contains (Contains (by_hand_in (own_sizes (card_image r c)) x)) k.0.hands e
+        (held.told x (subst (λ (n : Mark). (card_of now c).left_since n.clock x) (sym k.2) left) (subst (λ (n : Mark). HasDayOf n.minute (own_sizes (card_image r c)) x) (sym k.2) has)) (k.3 e of_it day);
   }
 
   -- THE THEOREM
@@ -235,17 +256,18 @@ module _ (r : Recording) (f : Found) (w : RunLedger) (began now : Devices) (foun
     issued = issued-part;
     card = card-part each untouched;
     both = λ c u x valid on there. card-agrees c valid u x on there decodes;
+    hands = hands-part;
   }
 
 -- the book follows the history, and so what is beyond it is later
 pub safe-followed : (r : Recording) (f : Found) (w : RunLedger) (began now : Devices) → IsCoherent now.unit → ((c : Card) → IsCoherent (card_of now c)) → Decodes r.unit → (from : ℕ) → AreInOrder from r.trace → last_kept r.unit < from / 60 →
-    IsFound r f began → Follows (history_of r) (lost_of r) w.book → LedgerStands f w now → ((c : Card) → IsOwnValid (card_image r c) → AreBrought r c w.book (w.brought c)) → AreUntouched r f now → IsSafe r w.marks began now
-safe-followed r f w began now unit_whole card_whole decodes from order early found follows carried each untouched =
+    IsFound r f began → Follows (history_of r) (lost_of r) w.book → LedgerStands f w now → ((c : Card) → IsOwnValid (card_image r c) → HandsFollowed r c (w.hands c) (w.firsts c) w.marks) → ((c : Card) → IsOwnValid (card_image r c) → AreBrought r c w.book (w.brought c)) → AreUntouched r f now → IsSafe r w.marks began now
+safe-followed r f w began now unit_whole card_whole decodes from order early found follows carried hands each untouched =
     safe-end r f w began now found
     (follows-later r w.book now.unit from (last_kept r.unit) order early follows
     (λ u on. subst (λ (k : ℕ). IsMark (last_kept r.unit) (all w.book) k) (last-of f.card_a.number f.card_b.number u)
     (subst (λ (s : Started). IsMark s.first (all w.book) (unit_view f.card_a.number f.card_b.number u).last) found.unit ((carried.unit.unit_holds f.card_a.number f.card_b.number).now (unit_view f.card_a.number f.card_b.number u) (u, on, refl)).mark)))
-    carried unit_whole card_whole decodes each untouched
+    carried hands unit_whole card_whole decodes each untouched
 
 -- while the unit has power the same is carried
 pub lit-carried : (f : Found) (w : RunLedger) (d : Devices) → LedgerStandsPowered f w d → LedgerStands f w d
@@ -254,4 +276,5 @@ lit-carried f w d lit = record {
   unit = holds-dark f.unit w.due w.book w.marks d.unit lit.unit;
   cards = λ c valid. let s = lit.cards c valid in record { rests = s.holds.dark; string = s.string; comes = s.comes; brought = s.brought };
   marks = lit.marks;
+  hands = lit.hands;
 }

@@ -4,6 +4,7 @@ use Rattle.std.proofs.lemmas.Bool.Decides.{nat_tests}
 use Rattle.std.proofs.lemmas.List.{append-nil}
 use Rattle.std.proofs.lemmas.List.Elements.{All-cons, All-nil, All-weaker, All-contains_itself, filter-append, Contains-append_left, Contains-append_right, Contains-append_cases, Contains-push_cases}
 use Rattle.activity_codec.specs.declared.entries.Entry.{Entry}
+use Rattle.activity_codec.specs.declared.entries.Manual.{Manual}
 use Rattle.history_model.proofs.Filters.{filter-none, filter-whole}
 use Rattle.card_retention.specs.Retains.{Rise}
 use Rattle.device_rule.specs.View.{Held}
@@ -77,5 +78,5 @@ contains-counted k (d ∷ es) e le at = ⊎_elim
     here is false t = absurd (let le' : d.minute ≤ k = subst (λ (x : Entry). x.minute ≤ k) (sym is) le in let passes = within k d.minute le' in grind (arith, passes, t))
 
 -- a string that goes on from a minute goes on from a later one
-pub keeps-later : (image : List ℕ) (a b : ℕ) (all : List Entry) (held : Held) → a ≤ b → KeepsFrom image a all held → KeepsFrom image b all held
-keeps-later image a b all held le k = record { more = k.more; begins = k.begins; keeps = λ n h. k.keeps n (omega (arith, h, le)) }
+pub keeps-later : (image : List ℕ) (given : List Manual) (a b : ℕ) (all : List Entry) (held : Held) → a ≤ b → KeepsFrom image given a all held → KeepsFrom image given b all held
+keeps-later image given a b all held le k = record { more = k.more; begins = k.begins; keeps = λ n h. k.keeps n (omega (arith, h, le)) }

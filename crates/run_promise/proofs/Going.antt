@@ -1,10 +1,10 @@
 -- Accounts of acceptances over a second with power, at the start and at the end.
-use Rattle.std.proofs.Common.{◌≡◌, ◌⊎◌, inl, inr, ⊎_elim, ℕ, suc, ◌/◌, ◌≤◌, true, false, nat_lt, Some, None, List, [], ◌∷◌, ◌++◌, All, Contains, length, drop, refl, ap, sym, subst, ◌∙◌, arith, append-nil, append_assoc}
-use Rattle.std.specs.Prelude.{flat_map}
+use Rattle.std.proofs.Common.{◌≡◌, ◌⊎◌, inl, inr, ⊎_elim, ℕ, suc, ◌/◌, ◌≤◌, true, false, nat_lt, Option, Some, None, List, [], ◌∷◌, ◌++◌, All, Contains, length, drop, refl, ap, sym, subst, ◌∙◌, arith, append-nil, append_assoc}
+use Rattle.std.specs.Prelude.{flat_map, option_to_list}
 use Rattle.std.specs.List.{AllByRecursion, list_any}
 use Rattle.std.proofs.lemmas.Bool.Decides.{nat_tests}
 use Rattle.std.proofs.lemmas.List.{drop-append-le}
-use Rattle.std.proofs.lemmas.List.Elements.{All-weaker, All-contains, All-contains_itself, Contains-append_left, Contains-append_cases}
+use Rattle.std.proofs.lemmas.List.Elements.{All-weaker, All-contains, All-contains_itself, Contains-append_left, Contains-append_right, Contains-append_cases}
 use Rattle.trace_model.specs.declared.Card.{Card}
 use Rattle.trace_model.specs.Trace.{TraceSecond}
 use Rattle.minute_model.specs.Span.{ungiven_of}
@@ -15,11 +15,11 @@ use Rattle.log_model.specs.Course.{ToldSecond, Went, has_power, went}
 use Rattle.history_model.specs.Minutes.{HistoryMinute}
 use Rattle.history_model.specs.History.{unit_history}
 use Rattle.history_model.specs.Book.{Book, all, kept, IsMark}
-use Rattle.history_model.proofs.Books.{all-none, mark-more}
+use Rattle.history_model.proofs.Books.{all-none, all-kept, mark-more}
 use Rattle.run_unit_course.specs.Followed.{UnitPower, Lit, Due, Lost, going_on, cuts_from}
 use Rattle.run_unit_course.specs.Turn.{span_at}
 use Rattle.run_course.specs.Followed.{Progress, BookFollowsRun, PowerGoesOn, IsSupplied, IsBreakBefore}
-use Rattle.run_course.specs.Seconds.{GoesOnBy, next_told, DecidedBy, kept_all}
+use Rattle.run_course.specs.Seconds.{GoesOnBy, next_told, DecidedBy, kept_all, broken_at}
 use Rattle.run_course.proofs.Core.{Core, IsShort, waits}
 use Rattle.run_course.proofs.New.{are-new}
 use Rattle.run_course.proofs.Steps.{core-of, lit, lit-parts, now-told, on-lines, went-same_, feeds, fed-short, which}
@@ -142,7 +142,7 @@ module _ (r : Recording) (c : Card) (from first : ℕ) (done : List TraceSecond)
       now_minutes (All-contains_itself now_minutes)
 
   -- AN OLD ACCOUNT goes on
-  module _ (q : Progress) (b : IsBehind p q later span s t) where
+  module _ (q : Progress) (b : IsBehind p q later span s t new) where
     sure-on : (k : ℕ) → IsMark first p.book.sure k → IsMark first q.book.sure k
     sure-on k mark = subst (λ (is : List HistoryMinute). IsMark first is k) (sym b.sure.1) (mark-more first p.book.sure b.sure.0 k mark)
 
@@ -175,6 +175,23 @@ module _ (r : Recording) (c : Card) (from first : ℕ) (done : List TraceSecond)
         (λ off. absurd (lost-lit q.supply longer off is))
         b.supply
 
+    -- of the minutes of the book none is earlier than an acceptance that was not there then
+    later-on : (u k : ℕ) → u / 60 ≤ ungiven → All (λ (i : HistoryMinute). (i.minute ≤ k) ⊎ (u / 60 ≤ i.minute)) (all p.book) → All (λ (i : HistoryMinute). (i.minute ≤ k) ⊎ (u / 60 ≤ i.minute)) (all q.book)
+    later-on u k le h = All-weaker (Contains (all q.book)) (λ (i : HistoryMinute). (i.minute ≤ k) ⊎ (u / 60 ≤ i.minute))
+        (λ i at. ⊎_elim
+        (λ old. All-contains (λ (j : HistoryMinute). (j.minute ≤ k) ⊎ (u / 60 ≤ j.minute)) (all p.book) i h old)
+        (λ new_. inr (let low : ungiven ≤ i.minute = All-contains (λ (j : HistoryMinute). ungiven ≤ j.minute) new i fresh new_ in omega (arith, le, low)))
+        (b.books i at))
+        (all q.book) (All-contains_itself (all q.book))
+
+    later-new : (k : ℕ) → All (λ (i : HistoryMinute). i.minute ≤ k) (p.book.sure ++ new) → All (λ (i : HistoryMinute). (i.minute ≤ k) ⊎ (p.next / 60 ≤ i.minute)) (all q.book)
+    later-new k newest = All-weaker (Contains (all q.book)) (λ (i : HistoryMinute). (i.minute ≤ k) ⊎ (p.next / 60 ≤ i.minute))
+        (λ i at. inl (All-contains (λ (j : HistoryMinute). j.minute ≤ k) (p.book.sure ++ new) i newest (⊎_elim
+        (λ old. Contains-append_left p.book.sure new i (subst (λ (is : List HistoryMinute). Contains is i) (all-none p.book f.tied.none) old))
+        (λ new_. Contains-append_right p.book.sure new i new_)
+        (b.books i at))))
+        (all q.book) (All-contains_itself (all q.book))
+
     old-stands : p.supply ≡ Lit span → (u k : ℕ) → AccountGoesOn r c first done p u k → AccountGoesOn r c first (done ++ s ∷ []) q u k
     old-stands is u k a =
         let before = a.before in
@@ -186,6 +203,7 @@ module _ (r : Recording) (c : Card) (from first : ℕ) (done : List TraceSecond)
           before = omega (arith, before, next);
           due = due-on u (omega (arith, due, grows));
           cuts = cuts-on u (omega (arith, before)) a.cuts;
+          later = later-on u k due a.later;
         }
 
     -- A NEW ONE
@@ -218,6 +236,7 @@ module _ (r : Recording) (c : Card) (from first : ℕ) (done : List TraceSecond)
       before = let next = b.next in omega (arith, next);
       due = due-on p.next (ungiven-now r.rule p.next span t here settled);
       cuts = cuts-on p.next (omega arith) (uncut-from p.next (drop p.unfound p.log.breaks) uncut);
+      later = later-new k taken.newest;
     })
 
     -- ALL ACCOUNTS
@@ -252,6 +271,27 @@ kept-sure (i ∷ front) b = kept-sure front (kept i b) ∙ append_assoc b.sure (
 pub sure-kept : KeptMinutesAreSure
 sure-kept front None b = kept-sure front b
 sure-kept front (Some i) b = kept-sure front b
+
+-- WHAT THE BOOK HAS then
+pub books-kept : (front : List HistoryMinute) (b : Book) (i : HistoryMinute) → Contains (all (kept_all front b)) i → Contains (all b) i ⊎ Contains front i
+books-kept [] b i at = inl at
+books-kept (j ∷ front) b i at = ⊎_elim
+    (λ old. ⊎_elim
+    (λ was. inl (Contains-append_left b.sure (option_to_list b.maybe) i was))
+    (λ one. inr (Contains-append_left (j ∷ []) front i one))
+    (Contains-append_cases b.sure (j ∷ []) i (subst (λ (is : List HistoryMinute). Contains is i) (all-kept j b) old)))
+    (λ rest. inr (Contains-append_right (j ∷ []) front i rest))
+    (books-kept front (kept j b) i at)
+
+pub books-broken : (front : List HistoryMinute) (o : Option HistoryMinute) (b : Book) (i : HistoryMinute) → Contains (all (broken_at o (kept_all front b))) i → Contains (all b) i ⊎ Contains (front ++ option_to_list o) i
+books-broken front None b i at = ⊎_elim (λ old. inl old) (λ new. inr (Contains-append_left front [] i new)) (books-kept front b i at)
+books-broken front (Some j) b i at = ⊎_elim
+    (λ sure. ⊎_elim
+    (λ old. inl (Contains-append_left b.sure (option_to_list b.maybe) i old))
+    (λ new. inr (Contains-append_left front (j ∷ []) i new))
+    (Contains-append_cases b.sure front i (subst (λ (is : List HistoryMinute). Contains is i) (kept-sure front b) sure)))
+    (λ one. inr (Contains-append_right front (j ∷ []) i one))
+    (Contains-append_cases (kept_all front b).sure (j ∷ []) i at)
 
 -- AT THE START AND AT THE END
 pub nothing-accounted : NothingIsAccountedYet

@@ -5,15 +5,22 @@ use Rattle.std.proofs.lemmas.Bool.Decides.{nat_tests}
 use Rattle.std.proofs.lemmas.List.{append-nil}
 use Rattle.std.proofs.lemmas.List.Elements.{All-nil, All-weaker, Contains-append_cases, Contains-push_cases}
 use Rattle.activity_codec.specs.declared.entries.Entry.{Entry}
+use Rattle.activity_codec.specs.declared.entries.Manual.{Manual}
 use Rattle.trace_model.specs.declared.Card.{Card}
 use Rattle.tach_media.specs.Medium.{State, IsCoherent}
 use Rattle.card_model.specs.Days.{AreDays}
 use Rattle.card_retention.specs.Expected.{WordDay, is_closed, closes, counted, more}
+use Rattle.card_retention.specs.ByHand.{and_by_hand}
 use Rattle.card_retention.specs.Shown.{Covers, InDays, AllFrom}
 use Rattle.card_retention.specs.Retains.{Rise, entries_from}
 use Rattle.device_rule.specs.Fields.{card_days}
 use Rattle.device_rule.specs.View.{card_view}
 use Rattle.device_rule.specs.Own.{own_view, own_sizes, own_number, own_covered, counted_view, expected_with, KeepsFrom, KeepsOf, IsOwnValid}
+use Rattle.hand_model.specs.AtStart.{marked_at, hands_at}
+use Rattle.hand_model.specs.ByHand.{by_hand_in}
+use Rattle.hand_model.specs.Written.{IsPartOf, no_hands}
+use Rattle.hand_model.proofs.Cuts.{part_first}
+use Rattle.hand_model.proofs.Written.{part_wider}
 use Rattle.history_model.specs.Presence.{CardStart, trimmed_by}
 use Rattle.history_model.specs.Book.{not_begun}
 use Rattle.history_model.proofs.Books.{history-none}
@@ -31,7 +38,7 @@ use Rattle.unit_rule.specs.Rule.{Started, started}
 use Rattle.unit_rule.specs.Marks.{UnitFollowsBook}
 use Rattle.unit_rule.proofs.Marking.{holds-started}
 use Rattle.run_promise.specs.Found.{CardFound, Found, found_of, unit_seen, AnyKept}
-use Rattle.run_promise.specs.Cards.{brought_by, counted_to, StringHolds, StringGoesOn, CardWaits, IsCardHeld}
+use Rattle.run_promise.specs.Cards.{brought_by, counted_to, StringHolds, StringGoesOn, CardWaits, IsCardHeld, IsFirstHeld}
 use Rattle.run_promise.specs.Between.{LedgerStands}
 use Rattle.run_promise.specs.Opening.{BeginsAs, as_found, IsLookedAt, carried_first}
 use Rattle.run_promise.proofs.Entries.{keeps-later}
@@ -78,27 +85,40 @@ expected-start : (image : List ℕ) (n : ℕ) → Covers (expected_with image n 
 unfolding expected_with counted
 expected-start image n = covers-closed (own_covered image) (counted_view (own_view image)).before n (own_view image).held.days
 
-pub keeps-start : (image : List ℕ) → KeepsFrom image 0 (own_view image).held.entries (own_view image).held
-keeps-start image = record {
+-- whatever entries by hand are words more
+covers-hands : (given : List Manual) (ws ds : List WordDay) → Covers ws ds → Covers (and_by_hand given ws) ds
+covers-hands given ws [] c = tt
+covers-hands given [] (d ∷ ds) c = absurd c
+covers-hands given (w ∷ ws) (d ∷ ds) c = ⊎_elim
+    (λ m. inl (record { day = m.0.day; words = omega (arith, m.0.words) }, covers-hands given ws ds m.1))
+    (λ m. inr (covers-hands given ws (d ∷ ds) m)) c
+
+pub keeps-start : (image : List ℕ) (given : List Manual) → KeepsFrom image given 0 (own_view image).held.entries (own_view image).held
+keeps-start image given = record {
   more = [];
   begins = sym (append-nil (own_view image).held.entries);
   keeps = λ n le. (
     record {
       gone = [];
-      there = expected_with image n [];
+      there = and_by_hand given (expected_with image n []);
       split = refl;
-      covers = inl (expected-start image n);
+      covers = inl (covers-hands given (expected_with image n []) (own_view image).held.days (expected-start image n));
       full = tt;
       some = λ none. refl;
       oldest = 0;
       low = tt;
-      high = all-from (expected_with image n []);
+      high = all-from (and_by_hand given (expected_with image n []));
       none = λ none. refl;
       entries = entries-all (own_view image).held.entries;
     },
     λ d at until oldest. in-days (own_view image).held.days d at,
   );
 }
+
+-- and tells the entries by hand up to its end mark
+pub own-told : (x : List ℕ) → IsPartOf (by_hand_in (own_sizes x) x) (hands_at x ++ [])
+unfolding by_hand_in own_view card_view
+own-told x = part_wider (marked_at x) (hands_at x) [] (part_first x (marked_at x) (inl refl))
 
 -- WHAT IT BRINGS
 own-newest : (x : List ℕ) (start : CardStart) → start.mark ≡ (own_view x).mark → AreDays 0 (card_days (own_sizes x) x) → (own_view x).newest ≡ trimmed_by start (own_view x).held.entries
@@ -158,14 +178,16 @@ module _ (f : Found) (c : Card) (u x : List ℕ) (unit card : State) (unit_whole
       ∙ filter-none (λ (e : Entry). nat_le e.minute (own_view x).mark) (owed c view (own_view x))
       (All-weaker (λ (e : Entry). (own_view x).mark < e.minute) (λ e. nat_le e.minute (own_view x).mark ≡ false) (λ e h. late (own_view x).mark e.minute h) (owed c view (own_view x)) (owed-above c view (own_view x)))
 
-  keeps : KeepsFrom g.image 0 (g.start.entries ++ counted_to (own_view x).mark (brought_by c g.start not_begun)) (own_view x).held
-  keeps = subst (λ (image : List ℕ). KeepsFrom image 0 (g.start.entries ++ counted_to (own_view x).mark (brought_by c g.start not_begun)) (own_view x).held) (sym looked.image)
-      (subst (λ (es : List Entry). KeepsFrom x 0 es (own_view x).held)
-      (sym (append-nil (own_view x).held.entries) ∙ ap (λ (start : CardStart). start.entries ++ []) (sym looked.start) ∙ ap (λ (es : List Entry). g.start.entries ++ es) (sym none-counted)) (keeps-start x))
+  keeps : KeepsFrom g.image [] 0 (g.start.entries ++ counted_to (own_view x).mark (brought_by c g.start not_begun)) (own_view x).held
+  keeps = subst (λ (image : List ℕ). KeepsFrom image [] 0 (g.start.entries ++ counted_to (own_view x).mark (brought_by c g.start not_begun)) (own_view x).held) (sym looked.image)
+      (subst (λ (es : List Entry). KeepsFrom x [] 0 es (own_view x).held)
+      (sym (append-nil (own_view x).held.entries) ∙ ap (λ (start : CardStart). start.entries ++ []) (sym looked.start) ∙ ap (λ (es : List Entry). g.start.entries ++ es) (sym none-counted)) (keeps-start x []))
 
-  string : IsOwnValid x → StringHolds g c not_begun card
+  string : IsOwnValid x → StringHolds g no_hands c not_begun card
   string valid = record {
-    kept = λ y left. subst (λ (z : List ℕ). KeepsOf g.image (g.start.entries ++ counted_to (own_view z).mark (brought_by c g.start not_begun)) (own_view z).held) (sym (since y left)) (0, keeps);
+    kept = λ y left. subst (λ (z : List ℕ). KeepsOf g.image [] (g.start.entries ++ counted_to (own_view z).mark (brought_by c g.start not_begun)) (own_view z).held) (sym (since y left)) (0, keeps);
+    told = λ y left. subst (λ (z : List ℕ). IsPartOf (by_hand_in (own_sizes g.image) z) (hands_at g.image ++ [])) (sym (since y left))
+        (subst (λ (image : List ℕ). IsPartOf (by_hand_in (own_sizes image) x) (hands_at image ++ [])) (sym looked.image) (own-told x));
     valid = λ y left. subst IsOwnValid (sym (since y left)) valid;
     sizes = λ y left. ap own_sizes (since y left ∙ sym looked.image);
     number = λ y left. ap own_number (since y left ∙ sym looked.image);
@@ -175,14 +197,14 @@ module _ (f : Found) (c : Card) (u x : List ℕ) (unit card : State) (unit_whole
       since : (y : List ℕ) → card.left_since g.began y → y ≡ x
       since y left = card_begins.only y (subst (λ (n : ℕ). card.left_since n y) looked.began left)
 
-  pub found-waits : IsOwnValid x → CardWaits f c not_begun Out [] unit card
+  pub found-waits : IsOwnValid x → CardWaits f no_hands c not_begun Out [] unit card
   found-waits valid = record {
     rests = dark;
     string = string valid;
     comes = λ v y on there.
         let due = owed c (unit_view f.card_a.number f.card_b.number v) (own_view x) in
-        subst (λ (z : List ℕ). StringGoesOn g c not_begun Out (owed c (unit_view f.card_a.number f.card_b.number v) (own_view z)) z) (sym (leaves-one x card card_whole card_begins y there))
-        (keeps-later g.image 0 (comes_from g.start Out due (own_view x)) (g.start.entries ++ counted_to (own_view x).mark (brought_by c g.start not_begun)) (own_view x).held (omega arith) keeps);
+        subst (λ (z : List ℕ). StringGoesOn g [] c not_begun Out (owed c (unit_view f.card_a.number f.card_b.number v) (own_view z)) z) (sym (leaves-one x card card_whole card_begins y there))
+        (keeps-later g.image [] 0 (comes_from g.start Out due (own_view x)) (g.start.entries ++ counted_to (own_view x).mark (brought_by c g.start not_begun)) (own_view x).held (omega arith) keeps);
     brought = λ k in_. absurd (omega (arith, in_.1));
   }
 
@@ -199,4 +221,5 @@ first-carried f u due image d unit_whole card_whole unit_begins card_begins deco
       let sound : IsOwnValid (image c) = subst IsOwnValid (image_is c) valid in
       found-waits f c u (image c) d.unit (card_of d c) unit_whole (card_whole c) unit_begins (card_begins c) (looked c sound) sound;
   marks = λ c. record { held = All-nil (IsCardHeld (found_of f c) c not_begun (card_of d c)); rise = tt; none = λ bad. refl };
+  hands = λ c valid. All-nil (IsFirstHeld (found_of f c) no_hands (card_of d c));
 }

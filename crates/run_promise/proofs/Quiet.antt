@@ -1,9 +1,9 @@
 -- Accounts of acceptances over the steps that accept no card.
 use Rattle.std.proofs.Common.{◌≡◌, ◌⊎◌, inl, inr, ⊎_elim, ℕ, zero, suc, ◌+◌, ◌-◌, ◌%◌, ◌/◌, ◌<◌, ◌≤◌, true, false, Option, Some, None, List, [], ◌∷◌, ◌++◌, All, Contains, length, drop, refl, ap, sym, subst, ◌∙◌, arith, append-nil, append_assoc, length-append}
-use Rattle.std.specs.Prelude.{flat_map, option_to_list}
+use Rattle.std.specs.Prelude.{flat_map, option_to_list, nat_le}
 use Rattle.std.specs.List.{AllByRecursion, list_any}
 use Rattle.std.proofs.lemmas.List.{drop-append-le}
-use Rattle.std.proofs.lemmas.List.Elements.{All-weaker, All-contains, All-contains_itself, Contains-append_left}
+use Rattle.std.proofs.lemmas.List.Elements.{All-weaker, All-filter, All-contains, All-contains_itself, Contains-append_left}
 use Rattle.trace_model.specs.declared.Card.{Card}
 use Rattle.trace_model.specs.declared.Action.{Action}
 use Rattle.trace_model.specs.Trace.{TraceSecond, driven, dark}
@@ -20,7 +20,7 @@ use Rattle.history_model.specs.Minutes.{HistoryMinute, up_to}
 use Rattle.history_model.specs.History.{limit_by, cut_second, unit_history}
 use Rattle.history_model.specs.Growth.{SameLimits}
 use Rattle.history_model.specs.Book.{Book, all, found, IsMark}
-use Rattle.history_model.proofs.Books.{contains-up_to}
+use Rattle.history_model.proofs.Books.{contains-up_to, all-found}
 use Rattle.history_model.proofs.BySeconds.{same-history}
 use Rattle.history_model.proofs.Growing.{dark-history}
 use Rattle.history_model.proofs.Told.{more-told, spanned-so_far, told-next}
@@ -79,6 +79,7 @@ quiet r c first done now p q ks n a = record {
           cuts = subst (AllByRecursion (IsCutFrom u))
               (sym (ap (λ (m : ℕ). drop m q.log.breaks) n.unfound ∙ ap (λ (bs : List Break). drop p.unfound bs) n.more ∙ drop-append-le p.unfound p.log.breaks n.breaks n.within))
               (both-parts (IsCutFrom u) (drop p.unfound p.log.breaks) n.breaks k.2.cuts (n.behind u before));
+          later = subst (λ (b : Book). All (λ (i : HistoryMinute). (i.minute ≤ k.0) ⊎ (u / 60 ≤ i.minute)) (all b)) (sym n.book) k.2.later;
         },
       );
   waits = λ span is. absurd (n.dark_ span is);
@@ -151,6 +152,8 @@ found-accounted r c from first done p g may n mark low ks a = by p.supply may g
                   before = before;
                   due = λ span is. begun-due r.rule u p.next span before is;
                   cuts = subst (AllByRecursion (IsCutFrom u)) (sym (drop-whole (found_from p.unfound n p.log.breaks))) tt;
+                  later = subst (All (λ (i : HistoryMinute). (i.minute ≤ k.0) ⊎ (u / 60 ≤ i.minute))) (sym (all-found n p.book))
+                      (All-filter (λ (i : HistoryMinute). nat_le i.minute n) (λ (i : HistoryMinute). (i.minute ≤ k.0) ⊎ (u / 60 ≤ i.minute)) (all p.book) k.2.later);
                 },
               );
           waits = λ span is. subst (AllByRecursion (λ (b : Break). is_cut b ≡ false)) (sym (drop-whole (found_from p.unfound n p.log.breaks))) tt;

@@ -3,6 +3,9 @@ use Rattle.std.proofs.Common.{◌≡◌, ◌⊎◌, inl, inr, ⊎_elim, ℕ, ◌
 use Rattle.std.proofs.lemmas.List.Sums.{sum_by-append}
 use Rattle.std.proofs.lemmas.List.Elements.{All-weaker, All-append, Contains-append_left}
 use Rattle.trace_model.specs.declared.Card.{Card}
+use Rattle.trace_model.specs.declared.Card.TheVariants.{A, B}
+use Rattle.card_model.specs.Days.{AreDays}
+use Rattle.card_image.specs.Fields.{card_days}
 use Rattle.trace_model.specs.Trace.{TraceSecond}
 use Rattle.run_model.specs.declared.Device.{Device}
 use Rattle.tach_media.specs.Medium.{IsCoherent}
@@ -30,11 +33,12 @@ use Rattle.unit_rule.specs.Written.{ShowsWritten}
 use Rattle.unit_rule.specs.Odometer.{ShowsOdometer, IsBegunBy, OdometerSafe}
 use Rattle.unit_rule.proofs.Travelling.{odometer-sum, odometer-safe}
 use Rattle.device_rule.specs.Views.{UnitView, unit_view}
-use Rattle.card_image.specs.Own.{IsOwnValid}
-use Rattle.safety_model.specs.Recording.{Recording, card_image, told_of, history_of, lost_of}
+use Rattle.card_image.specs.Own.{own_sizes, own_number, IsOwnValid}
+use Rattle.safety_model.specs.Recording.{Recording, card_image, told_of, brought, history_of, lost_of}
 use Rattle.safety_model.proofs.Giving.{passed-reached}
 use Rattle.safety_model.specs.Cards.{acceptances}
 use Rattle.safety_model.specs.Safe.{Devices, card_of, breakdowns_of, WasFound, IsUnfound, IsVerdict, IsSafe, IsCaused}
+use Rattle.run_promise.specs.Found.{Found, found_of}
 use Rattle.run_promise.specs.Between.{RunLedger, LedgerStands, IsFound, AreUntouched}
 use Rattle.run_promise.proofs.End.{safe-followed}
 use Rattle.run_course.specs.Followed.{Progress}
@@ -49,12 +53,13 @@ use Rattle.run_promise.specs.Origin.{Origin, rule_of, start_at, first_of, Histor
 use Rattle.run_promise.specs.Days.{HasWords, IsBegunIn}
 use Rattle.run_promise.proofs.Whole.{is-whole}
 use Rattle.run_promise.proofs.Beside.{found-or}
-use Rattle.run_promise.specs.Ends.{recording_by, IsBeside, EndsRun}
+use Rattle.log_model.specs.declared.lines.Refused.{Refused}
+use Rattle.run_promise.specs.Ends.{recording_by, recording_with, HandsBeside, IsBeside, EndsRun}
 
 -- accounts are of the recording so far
 accounts-by : (r : Recording) (c : Card) (first : ℕ) (done : List TraceSecond) (p : Progress) (ks : List ℕ) → AreAccounted r c first done p ks → AreAccounted (so_far r done p.log) c first done p ks
 accounts-by r c first done p ks a = record {
-  each = λ u at. let k = a.each u at in (k.0, k.1, let s = k.2 in record { account = s.account; before = s.before; due = s.due; cuts = s.cuts });
+  each = λ u at. let k = a.each u at in (k.0, k.1, let s = k.2 in record { account = s.account; before = s.before; due = s.due; cuts = s.cuts; later = s.later });
   waits = a.waits;
 }
 
@@ -64,11 +69,34 @@ kilometres-push xs ys a b same is =
     sum_by-append (λ (n : ℕ). n / 3600) xs (a ∷ []) ∙ ap (λ (n : ℕ). n + kilometres_of (a ∷ [])) same ∙ ap (λ (n : ℕ). kilometres_of ys + kilometres_of (n ∷ [])) is
     ∙ sym (sum_by-append (λ (n : ℕ). n / 3600) ys (b ∷ []))
 
-module _ (o : Origin) (done : List TraceSecond) (p : Progress) (g : Travel) (marks : List Mark) (w : RunLedger) (began now : Devices) where
-  abbrev r : Recording
-  r = recording_by o done p.log
+-- what sessions refused is no part of what was found
+pub found-with : (r : Recording) (stops : List Refused) (f : Found) (began : Devices) → IsFound r f began → IsFound (record r { stops = stops }) f began
+found-with r stops f began h = record { unit = h.unit; image = image; start = start; clock = h.clock; number = number; vehicle = h.vehicle; days = days }
+  where
+    image : (c : Card) → (found_of f c).image ≡ card_image (record r { stops = stops }) c
+    image A = h.image A
+    image B = h.image B
 
-  module _ (h : HistoryIsRecorded o done p g marks (breakdowns_of now) w.brought) (found : IsFound r o.found began) (carried : LedgerStands o.found w now) (book : w.book ≡ p.book) (told : w.marks ≡ marks) (beside : IsBeside o done p g marks now) where
+    start : (c : Card) → (found_of f c).start ≡ brought (record r { stops = stops }) c
+    start A = h.start A
+    start B = h.start B
+
+    number : (c : Card) → IsOwnValid (card_image (record r { stops = stops }) c) → (found_of f c).number ≡ own_number (card_image (record r { stops = stops }) c)
+    number A valid = h.number A valid
+    number B valid = h.number B valid
+
+    days : (c : Card) → IsOwnValid (card_image (record r { stops = stops }) c) → AreDays 0 (card_days (own_sizes (card_image (record r { stops = stops }) c)) (card_image (record r { stops = stops }) c))
+    days A valid = h.days A valid
+    days B valid = h.days B valid
+
+module _ (o : Origin) (done : List TraceSecond) (p : Progress) (g : Travel) (marks : List Mark) (stops : List Refused) (w : RunLedger) (began now : Devices) where
+  abbrev r : Recording
+  r = recording_with o done p.log stops
+
+  module _ (h : HistoryIsRecorded o done p g marks (breakdowns_of now) w.brought) (opened : IsFound (recording_by o done p.log) o.found began) (carried : LedgerStands o.found w now) (book : w.book ≡ p.book) (told : w.marks ≡ marks) (beside : IsBeside o done p g marks now) (hands : HandsBeside r w marks) where
+    found : IsFound r o.found began
+    found = found-with (recording_by o done p.log) stops o.found began opened
+
     unit-began : o.found.unit.began ≡ began.unit.clock
     unit-began = ap (λ (s : Started). s.began) found.unit
 
@@ -83,8 +111,8 @@ module _ (o : Origin) (done : List TraceSecond) (p : Progress) (g : Travel) (mar
 
     safe : IsCoherent now.unit → ((c : Card) → IsCoherent (card_of now c)) → Decodes o.recording.unit → IsSafe r w.marks began now
     safe unit_whole card_whole decodes =
-        safe-followed r o.found w began now unit_whole card_whole decodes o.from h.followed.order h.followed.early found (ends-follow r o.from (first_of o) p w.book h.followed refl book) carried
-        (λ c valid. ends-brought r c o.from p w.book (w.brought c) h.followed refl book (accounts-by o.recording c (first_of o) done p (w.brought c) (h.accounts c valid))) untouched
+        safe-followed r o.found w began now unit_whole card_whole decodes o.from h.followed.order h.followed.early found (ends-follow r o.from (first_of o) p w.book h.followed refl book) carried hands.followed
+        (λ c valid. ends-brought (recording_by o done p.log) c o.from p w.book (w.brought c) h.followed refl book (accounts-by o.recording c (first_of o) done p (w.brought c) (h.accounts c valid))) untouched
 
     causes : o.breakdowns ≡ breakdowns_of began → HasCauses (λ c u v. IsVerdict r (now.unit.left_since began.unit.clock) ((card_of now c).left_since (card_of began c).clock) c u v) (breakdowns_of began) (breakdowns_of now) r.trace r.log
     causes same =
@@ -203,7 +231,7 @@ module _ (o : Origin) (done : List TraceSecond) (p : Progress) (g : Travel) (mar
     pub ends-run : IsCoherent now.unit → ((c : Card) → IsCoherent (card_of now c)) → Decodes o.recording.unit → o.breakdowns ≡ breakdowns_of began → EndsRun r marks began now
     ends-run unit_whole card_whole decodes same =
         let all_safe : IsSafe r marks began now = subst (λ (ms : List Mark). IsSafe r ms began now) told (safe unit_whole card_whole decodes) in
-        let all_caused : IsCaused r marks began now = record { causes = causes same; kept = kept; complete = h.complete } in
+        let all_caused : IsCaused r marks began now = record { causes = causes same; kept = kept; complete = h.complete; stops = hands.stops; each_stop = hands.each_stop } in
         record {
           safe = all_safe;
           caused = all_caused;

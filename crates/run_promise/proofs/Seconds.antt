@@ -1,7 +1,7 @@
 -- What is recorded, over each kind of second of a run.
-use Rattle.std.proofs.Common.{◌≡◌, inl, inr, ℕ, zero, suc, ◌+◌, ◌-◌, ◌%◌, ◌^◌, ◌<◌, ◌≤◌, true, false, Option, Some, None, List, [], ◌∷◌, ◌++◌, Contains, length, filter, refl, ap, sym, subst, ◌∙◌, arith, append-nil, append_assoc}
+use Rattle.std.proofs.Common.{◌≡◌, inl, inr, ⊎_elim, ℕ, zero, suc, ◌+◌, ◌-◌, ◌%◌, ◌^◌, ◌<◌, ◌≤◌, true, false, Option, Some, None, List, [], ◌∷◌, ◌++◌, Contains, length, filter, refl, ap, sym, subst, ◌∙◌, arith, append-nil, append_assoc}
 use Rattle.std.specs.Prelude.{option_map, option_to_list}
-use Rattle.std.proofs.lemmas.List.Elements.{Contains-push}
+use Rattle.std.proofs.lemmas.List.Elements.{Contains-push, Contains-append_left}
 use Rattle.trace_model.specs.declared.Card.{Card}
 use Rattle.trace_model.specs.Trace.{TraceSecond, driven, dark}
 use Rattle.run_model.specs.declared.Device.{Device}
@@ -40,7 +40,7 @@ use Rattle.run_course.proofs.Steps.{went-same_, now-told, goes_on, breaks_off, p
 use Rattle.run_unit_course.proofs.Legs.{travelled-image, stranded-image}
 use Rattle.run_course.proofs.Travelled as legs
 use Rattle.run_promise.specs.Going.{AreAccounted}
-use Rattle.run_promise.proofs.Going.{second-accounted, sure-kept, nothing-accounted}
+use Rattle.run_promise.proofs.Going.{second-accounted, sure-kept, books-kept, books-broken, nothing-accounted}
 use Rattle.run_promise.proofs.Lines.{accepts-none}
 use Rattle.run_promise.proofs.Quiet.{failure-accounted, found-accounted, dark-accounted, off-accounted, off-cut-accounted}
 use Rattle.run_course.specs.Moment.{Moment, goes_on as lines_of}
@@ -149,7 +149,7 @@ module _ (o : Origin) (done : List TraceSecond) (p : Progress) (g : Travel) (mar
         caused = second-caused (rule_of o) (start_at o) o.from (first_of o) done p h.followed s log by m.refused m.refused_are o.breakdowns mid now ends.1 h.caused q refl (λ dark. absurd (lit-dark q.supply (span ++ t ∷ []) refl dark));
         image = travelled-image ds g ∙ h.image;
         accounts = λ c valid. second-accounted o.recording c o.from (first_of o) done p h.followed span is h.waiting s log by new decided q
-            (record { log = refl; unfound = refl; next = refl; supply = inl (refl, m.up_to.uncut); sure = (new, sure-kept new None p.book) })
+            (record { log = refl; unfound = refl; next = refl; supply = inl (refl, m.up_to.uncut); sure = (new, sure-kept new None p.book); books = λ i at. books-kept new p.book i at })
             (brought c) (taken c) (takes c valid).0 (takes c valid).1 (h.accounts c valid);
       }
     where
@@ -203,7 +203,17 @@ module _ (o : Origin) (done : List TraceSecond) (p : Progress) (g : Travel) (mar
           caused = second-caused (rule_of o) (start_at o) o.from (first_of o) done p h.followed s log by refused refused_are o.breakdowns mid later causes h.caused q refl (λ dark. inr cut_);
           image = stranded-image d (all_travelled front g) ∙ travelled-image front g ∙ h.image;
           accounts = λ c valid. second-accounted o.recording c o.from (first_of o) done p h.followed span is h.waiting s log by new decided q
-              (record { log = refl; unfound = refl; next = refl; supply = inr refl; sure = (kept, sure-kept kept i p.book) })
+              (record {
+                log = refl;
+                unfound = refl;
+                next = refl;
+                supply = inr refl;
+                sure = (kept, sure-kept kept i p.book);
+                books = λ j at. ⊎_elim
+                    (λ old. inl old)
+                    (λ mine. inr (subst (λ (is : List HistoryMinute). Contains is j) (append_assoc kept (option_to_list i) rest.0 ∙ sym rest.1) (Contains-append_left (kept ++ option_to_list i) rest.0 j mine)))
+                    (books-broken kept i p.book j at);
+              })
               (brought c) (taken c) (takes c valid).0 (takes c valid).1 (h.accounts c valid);
         }
 
@@ -274,6 +284,7 @@ module _ (o : Origin) (c : Card) (speed : ℕ) (ks : List ℕ) where
         next = omega arith;
         supply = inl (ap (λ (x : ToldSecond). Lit ((t ∷ span) ++ x ∷ [])) (sym told), keeps.0.up_to.uncut);
         sure = ([], sym (append-nil p.book.sure));
+        books = λ i at. inl at;
       })
       ks ks (λ k at. at) (inl (accepts-none c (next_told p.log done s) (ap (λ (x : ToldSecond). x.course.found) told))) a
 

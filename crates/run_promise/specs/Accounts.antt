@@ -19,6 +19,7 @@ so_far r done log = record {
   card_b = r.card_b;
   trace = done;
   log = log;
+  stops = r.stops;
 }
 
 -- AN ACCEPTANCE in a second, when this was the unit's last-kept minute: that is the one at the start or a sure one, and

@@ -1,6 +1,6 @@
 -- Between two steps of a run, over devices that tell their images: the unit, the cards and what they have acknowledged,
 -- as the book says (profile).
-use Rattle.std.specs.Prelude.{◌≡◌, ℕ, ◌<◌, ◌≤◌, true, false, None, List, ◌++◌, All, Contains, is_some}
+use Rattle.std.specs.Prelude.{◌≡◌, ℕ, ◌/◌, ◌<◌, ◌≤◌, true, false, Option, None, List, ◌++◌, All, Contains, is_some}
 use Rattle.trace_model.specs.declared.Card.{Card}
 use Rattle.tach_media.specs.Medium.{State}
 use Rattle.log_model.specs.declared.lines.Mark.{Mark}
@@ -18,7 +18,11 @@ use Rattle.unit_rule.specs.Rule.{started, once_mended}
 use Rattle.unit_rule.specs.Marks.{UnitFollowsBook}
 use Rattle.unit_rule.specs.OtherRows.{valid_number}
 use Rattle.run_promise.specs.Found.{Found, found_of, registration_of}
-use Rattle.run_promise.specs.Cards.{CardStands, CardWaits, CardMarksHold, IsUntouched}
+use Rattle.activity_codec.specs.declared.entries.Manual.{Manual}
+use Rattle.hand_model.specs.Written.{Hands, IsPartOf}
+use Rattle.safety_model.specs.Hands.{Session, of_session, done, hands_done}
+use Rattle.safety_model.specs.ByHand.{IsFirstMark}
+use Rattle.run_promise.specs.Cards.{FirstKeep, HandMarksHold, CardStands, CardWaits, CardMarksHold, IsUntouched}
 
 -- what is carried from step to step: from where on a minute may come, the book, the marks, how each card stands, and
 -- the minutes that the unit had kept last, each time that it was accepted
@@ -28,6 +32,8 @@ pub record RunLedger : Type 0 where
   pub marks : List Mark
   pub standing : Card → Standing
   pub brought : Card → List ℕ
+  pub hands : Card → Hands
+  pub firsts : Card → List FirstKeep
 
 -- WHILE THE UNIT HAS POWER: it was mended, no minute is begun that may not be there, and each card that was valid
 -- stands
@@ -37,16 +43,20 @@ pub record LedgerStandsPowered (f : Found) (w : RunLedger) (d : Devices) : Type 
   pub unit : UnitFollowsBook (once_mended f.unit) w.due w.book w.marks d.unit
   pub none : w.book.maybe ≡ None
   pub cards : (c : Card) → IsOwnValid (found_of f c).image
-      → CardStands f c w.book (w.standing c) (w.brought c) d.unit (card_of d c)
+      → CardStands f (w.hands c) c w.book (w.standing c) (w.brought c) d.unit (card_of d c)
   pub marks : (c : Card) → CardMarksHold (found_of f c) c w.book w.marks (card_of d c)
+  pub hands : (c : Card) → IsOwnValid (found_of f c).image
+      → HandMarksHold (found_of f c) (w.hands c) (w.firsts c) (card_of d c)
 
 -- WITH POWER OR WITHOUT: a minute may be begun
 pub record LedgerStands (f : Found) (w : RunLedger) (d : Devices) : Type 0 where
   pub tells : is_some d.unit.image ≡ true
   pub unit : UnitFollowsBook f.unit w.due w.book w.marks d.unit
   pub cards : (c : Card) → IsOwnValid (found_of f c).image
-      → CardWaits f c w.book (w.standing c) (w.brought c) d.unit (card_of d c)
+      → CardWaits f (w.hands c) c w.book (w.standing c) (w.brought c) d.unit (card_of d c)
   pub marks : (c : Card) → CardMarksHold (found_of f c) c w.book w.marks (card_of d c)
+  pub hands : (c : Card) → IsOwnValid (found_of f c).image
+      → HandMarksHold (found_of f c) (w.hands c) (w.firsts c) (card_of d c)
 
 -- what the opening found is the run's
 pub record IsFound (r : Recording) (f : Found) (began : Devices) : Type 0 where
@@ -74,6 +84,17 @@ AreBrought r c b ks = (u : ℕ) → Contains (acceptances r c) u →
     ((brought r c).owed ++ card_history c b.sure) × (last_kept r.unit ≤ k))
     × ((rest : List HistoryMinute) → history_of r ≡ b.sure ++ rest
     → All (λ e. was_kept r c u e.minute ≡ false) (card_history c rest))
+
+-- THE ENTRIES BY HAND as the run's record has them: those that were given to keeps are among those that were done, in
+-- their order; and each first mark of a session is that of a first keep, which wrote the entries by hand of that
+-- session and of its day
+pub record HandsFollowed (r : Recording) (c : Card) (h : Hands) (keeps : List FirstKeep) (marks : List Mark) : Type
+    0 where
+  pub given : IsPartOf h.given (hands_done r c)
+  pub firsts : (s : Session) (next : Option Session) (m : Mark) → IsFirstMark r c marks s next m
+      → (k : FirstKeep) × Contains keeps k × (k.mark ≡ m)
+      × ((e : Manual) → Contains (of_session (done r c) s next) e → e.minute / 1440 ≡ m.minute / 1440
+      → Contains k.hands e)
 
 -- a card that the run may not write is as it was
 abbrev pub AreUntouched : Recording → Found → Devices → Type 0

@@ -22,8 +22,12 @@ use Rattle.safety_model.specs.Recording.{Recording, card_image, told_of, brought
 use Rattle.safety_model.specs.Cards.{entered, overlaps}
 use Rattle.safety_model.specs.Safe.{Devices, card_of, breakdowns_of, entered_by, WasFound, IsUnfound, IsVerdict, IsSafe}
 use Rattle.safety_model.specs.Safe.{IsCaused}
+use Rattle.safety_model.specs.ByHand.{StopsHands}
+use Rattle.safety_model.specs.Stops.{TellsEachStop}
+use Rattle.log_model.specs.declared.lines.Refused.{Refused}
 use Rattle.run_promise.specs.Found.{found_of}
 use Rattle.run_promise.specs.Cards.{IsUntouched}
+use Rattle.run_promise.specs.Between.{RunLedger, HandsFollowed}
 use Rattle.run_course.specs.Followed.{Progress}
 use Rattle.run_promise.specs.Accounts.{so_far}
 use Rattle.run_promise.specs.Origin.{Origin}
@@ -33,6 +37,10 @@ use Rattle.run_promise.specs.Whole.{NothingFailed, IsWhole}
 -- the recording of a run so far
 abbrev pub recording_by : Origin → List TraceSecond → RunLog → Recording
 recording_by o done log = so_far o.recording done log
+
+-- and with what sessions refused of entries by hand
+abbrev pub recording_with : Origin → List TraceSecond → RunLog → (stops : List Refused) → Recording
+recording_with o done log stops = record (recording_by o done log) { stops = stops }
 
 -- a card has entered before: in an earlier second, or more than once in the minute of this one, up to it
 abbrev pub HasEnteredBefore : Recording → Card → (second : ℕ) → Type 0
@@ -74,6 +82,13 @@ MayBeWritten r c = IsOwnValid (card_image r c) × (overlaps r c < entered r c)
 abbrev pub AreSpared : Origin → List TraceSecond → RunLog → Devices → Type 0
 AreSpared o done log d = (c : Card)
     → IsUntouched (found_of o.found c) (card_of d c) ⊎ MayBeWritten (recording_by o done log) c
+
+-- OF THE ENTRIES BY HAND of each card that was valid: those of the run's record, and which of them a session stopped;
+-- and each of these has its line
+pub record HandsBeside (r : Recording) (w : RunLedger) (marks : List Mark) : Type 0 where
+  pub followed : (c : Card) → IsOwnValid (card_image r c) → HandsFollowed r c (w.hands c) (w.firsts c) w.marks
+  pub stops : (c : Card) → IsOwnValid (card_image r c) → StopsHands r c marks
+  pub each_stop : TellsEachStop r
 
 -- BESIDE WHAT IS RECORDED: what was found of cards, which cards may be written, and the odometer of the unit's images
 pub record IsBeside (o : Origin) (done : List TraceSecond) (p : Progress) (g : Travel) (marks : List Mark)

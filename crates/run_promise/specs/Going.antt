@@ -33,13 +33,15 @@ abbrev pub IsCutFrom : ℕ → Break → Type 0
 IsCutFrom u b = is_cut b ≡ true → u ≤ second_of b
 
 -- AN ACCOUNT while the run goes on: it is of a second that has gone, no minute that is decided later is earlier than
--- that second's, and no earlier cut waits for what is found.
+-- that second's, and no earlier cut waits for what is found; and of the minutes of the book those that are earlier than
+-- the second's are not later than what the unit had kept.
 pub record AccountGoesOn (r : Recording) (c : Card) (first : ℕ) (done : List TraceSecond) (p : Progress)
     (u k : ℕ) : Type 0 where
   pub account : IsAccount (so_far r done p.log) c first p.book u k
   pub before : u < p.next
   pub due : (span : List ToldSecond) → p.supply ≡ Lit span → u / 60 ≤ ungiven_of (span_at r.rule p.next span)
   pub cuts : AllByRecursion (IsCutFrom u) (drop p.unfound p.log.breaks)
+  pub later : All (λ i. (i.minute ≤ k) ⊎ (u / 60 ≤ i.minute)) (all p.book)
 
 -- each acceptance so far has one; and while there is power no cut waits for what is found
 pub record AreAccounted (r : Recording) (c : Card) (first : ℕ) (done : List TraceSecond) (p : Progress)
@@ -55,14 +57,16 @@ pub record IsTakenAt (first : ℕ) (old later : Book) (new : List HistoryMinute)
   pub mark : IsMark first later.sure k
   pub newest : All (λ i. i.minute ≤ k) (old.sure ++ new)
 
--- behind a second with power: the span goes on with it, or it is a cut's; and some of what it decided is sure
-pub record IsBehind (p q : Progress) (later : RunLog) (span : List ToldSecond) (s : TraceSecond) (t : ToldSecond) : Type
-    0 where
+-- behind a second with power: the span goes on with it, or it is a cut's; some of what it decided is sure, and no more
+-- is in the book
+pub record IsBehind (p q : Progress) (later : RunLog) (span : List ToldSecond) (s : TraceSecond) (t : ToldSecond)
+    (new : List HistoryMinute) : Type 0 where
   pub log : q.log ≡ later
   pub unfound : q.unfound ≡ p.unfound
   pub next : q.next ≡ suc p.next
   pub supply : ((q.supply ≡ Lit (span ++ t ∷ [])) × (cut_in later s.number ≡ None)) ⊎ (q.supply ≡ Lost)
   pub sure : (front : List HistoryMinute) × (q.book.sure ≡ p.book.sure ++ front)
+  pub books : (i : HistoryMinute) → Contains (all q.book) i → Contains (all p.book) i ⊎ Contains new i
 
 -- ONE SECOND MORE with power, whole or a cut's
 abbrev pub ASecondIsAccounted : Type 0
@@ -71,7 +75,7 @@ ASecondIsAccounted = (r : Recording) (c : Card) (from first : ℕ) (done : List 
     (span : List ToldSecond) → p.supply ≡ Lit span → p.waiting ≡ [] → (s : TraceSecond) (later : RunLog)
     → GoesOnBy p later s →
     (new : List HistoryMinute) → DecidedBy r.rule (start_of r) later done s span p.book new →
-    (q : Progress) → IsBehind p q later span s (next_told later done s) →
+    (q : Progress) → IsBehind p q later span s (next_told later done s) new →
     (ks more : List ℕ) → ((k : ℕ) → Contains ks k → Contains more k) →
     (acceptances_in c (next_told later done s) ≡ []) ⊎ ((k : ℕ) × Contains more k × IsTakenAt first p.book q.book new k)
     →

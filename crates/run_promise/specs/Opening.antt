@@ -11,6 +11,7 @@ use Rattle.device_rule.specs.Views.{UnitView, unit_view, owed, beyond}
 use Rattle.device_rule.specs.Rules.{Out}
 use Rattle.run_promise.specs.Found.{Found, found_of}
 use Rattle.run_promise.specs.Between.{RunLedger}
+use Rattle.hand_model.specs.Written.{no_hands}
 
 -- a device begins with this image alone: a read gives it, and since then a stop leaves no other
 pub record BeginsAs (x : List ℕ) (device : State) : Type 0 where
@@ -35,4 +36,12 @@ pub record IsLookedAt (f : Found) (c : Card) (u x : List ℕ) (clock : ℕ) : Ty
 
 -- what is carried before the first second: nothing is kept, and no card is accepted
 abbrev pub carried_first : (due : ℕ) → RunLedger
-carried_first due = record { due = due; book = not_begun; marks = []; standing = λ c. Out; brought = λ c. [] }
+carried_first due = record {
+  due = due;
+  book = not_begun;
+  marks = [];
+  standing = λ c. Out;
+  brought = λ c. [];
+  hands = λ c. no_hands;
+  firsts = λ c. [];
+}

@@ -26,7 +26,8 @@ ghost use Rattle.device_rule.specs.Marked.{HasBrought};
 ghost use Rattle.run_promise.specs.Rule.{Started};
 ghost use Rattle.run_promise.specs.Marks.{UnitFollowsBook};
 ghost use Rattle.run_promise.specs.Found.{Found};
-ghost use Rattle.run_promise.specs.Between.{RunLedger, LedgerStands, IsFound, AreBrought, AreUntouched, devices};
+ghost use Rattle.run_promise.specs.Between.{RunLedger, LedgerStands, IsFound, HandsFollowed, AreBrought, AreUntouched};
+ghost use Rattle.run_promise.specs.Between.{devices};
 ghost use Rattle.run_promise.specs.Accounts.{IsAccount, HasAccounts, IsShownLost};
 ghost use Rattle.run_promise.specs.Stays.{AddsLater, IsStep};
 ghost use Rattle.run_promise.specs.Going.{AreAccounted, IsTakenAt, ASecondIsAccounted, KeptMinutesAreSure};
@@ -154,6 +155,7 @@ pub fn what_is_followed_and_carried_is_safe<
         IsFound r f (devices (M.state old_unit.now) (C.state old_a.now) (D.state old_b.now)) →
         BookFollowsRun r.rule (start_of r) from (last_kept r.unit) r.trace p → p.log ≡ r.log → w.book ≡ p.book →
         LedgerStands f w (devices (N.state unit.now) (E.state card_a.now) (F.state card_b.now)) →
+        ((c : Card) → IsOwnValid (card_image r c) → HandsFollowed r c (w.hands c) (w.firsts c) w.marks) →
         ((c : Card) → IsOwnValid (card_image r c) → AreAccounted r c (last_kept r.unit) r.trace p (w.brought c)) →
         AreUntouched r f (devices (N.state unit.now) (E.state card_a.now) (F.state card_b.now)) →
         IsSafe r w.marks (devices (M.state old_unit.now) (C.state old_a.now) (D.state old_b.now))

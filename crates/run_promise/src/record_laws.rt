@@ -1,6 +1,7 @@
 ghost use Rattle.std.specs.Prelude.{◌≡◌, List};
 ghost use Rattle.trace_model.specs.Trace.{TraceSecond};
 ghost use Rattle.log_model.specs.declared.lines.Mark.{Mark};
+ghost use Rattle.log_model.specs.declared.lines.Refused.{Refused};
 ghost use Rattle.unit_model.specs.Decoding.{Decodes};
 ghost use Rattle.run_unit_course.specs.Legs.{Travel};
 ghost use Rattle.safety_model.specs.Safe.{breakdowns_of};
@@ -11,7 +12,7 @@ ghost use Rattle.run_promise.specs.Beside.{FindsGoOn, NothingIsFound, CardsAreSp
 ghost use Rattle.run_promise.specs.Beside.{ASecondTellsMore, FoundTellsNoMore, QuietSecondsTellMore};
 ghost use Rattle.run_promise.specs.Beside.{DarkSecondsTellMore, AnOffLineTellsMore, AnOffCutTellsMore, FewerAreFound};
 ghost use Rattle.run_promise.specs.Beside.{FewAreFoundOn};
-ghost use Rattle.run_promise.specs.Ends.{recording_by, IsBeside, EndsRun};
+ghost use Rattle.run_promise.specs.Ends.{recording_by, recording_with, HandsBeside, IsBeside, EndsRun};
 ghost use Rattle.run_promise.specs.Seconds.{NothingIsRecorded, WhatWasKeptIsFound, MoreIsRecorded, ASecondIsRecorded};
 ghost use Rattle.run_promise.specs.Seconds.{ASecondIsBroken, AFailedPowerOnIsRecorded, QuietSecondsAreRecorded};
 ghost use Rattle.run_promise.specs.Seconds.{DarkSecondsAreRecorded, AnOffLineIsRecorded, AnOffCutIsRecorded};
@@ -72,8 +73,8 @@ pub fn what_is_recorded_is_promised<M: Medium, C: Chip, D: Chip, N: Medium, E: C
     card_a: &E,
     card_b: &F,
 )
-    ensures { (o : Origin) (done : List TraceSecond) (p : Progress) (g : Travel) (marks : List Mark) (w : RunLedger)
-        → Decodes o.recording.unit →
+    ensures { (o : Origin) (done : List TraceSecond) (p : Progress) (g : Travel) (marks : List Mark) (stops : List Refused)
+        (w : RunLedger) → Decodes o.recording.unit →
         IsFound (recording_by o done p.log) o.found
         (devices (M.state old_unit.now) (C.state old_a.now) (D.state old_b.now)) →
         o.breakdowns ≡ breakdowns_of (devices (M.state old_unit.now) (C.state old_a.now) (D.state old_b.now)) →
@@ -81,8 +82,9 @@ pub fn what_is_recorded_is_promised<M: Medium, C: Chip, D: Chip, N: Medium, E: C
         (devices (N.state unit.now) (E.state card_a.now) (F.state card_b.now))) w.brought →
         LedgerStands o.found w (devices (N.state unit.now) (E.state card_a.now) (F.state card_b.now)) → w.book ≡ p.book
         → w.marks ≡ marks →
-        IsBeside o done p g marks (devices (N.state unit.now) (E.state card_a.now) (F.state card_b.now)) →
-        EndsRun (recording_by o done p.log) marks
+        IsBeside o done p g marks (devices (N.state unit.now) (E.state card_a.now) (F.state card_b.now))
+        → HandsBeside (recording_with o done p.log stops) w marks →
+        EndsRun (recording_with o done p.log stops) marks
         (devices (M.state old_unit.now) (C.state old_a.now) (D.state old_b.now))
         (devices (N.state unit.now) (E.state card_a.now) (F.state card_b.now)) }
 {}

@@ -8,6 +8,7 @@ ghost use Rattle.device_rule.specs.Own.{own_view, own_sizes, IsOwnValid};
 ghost use Rattle.unit_model.specs.Decoding.{Decodes};
 ghost use Rattle.unit_model.specs.Image.{last_kept};
 ghost use Rattle.log_model.specs.Spans.{AreInOrder};
+ghost use Rattle.hand_model.specs.Written.{Hands, no_hands};
 ghost use Rattle.history_model.specs.Minutes.{HistoryMinute};
 ghost use Rattle.history_model.specs.Book.{Book, kept, broken, found, Follows, not_begun};
 ghost use Rattle.device_rule.specs.Views.{UnitView, other};
@@ -23,8 +24,8 @@ ghost use Rattle.unit_rule.specs.Rule.{started};
 ghost use Rattle.run_promise.specs.Found.{Found, found_of, unit_seen, AnyKept};
 ghost use Rattle.run_promise.specs.Cards.{CardWaits, MayKeep, IsStrung};
 ghost use Rattle.run_promise.specs.Opening.{BeginsAs, as_found, IsLookedAt, carried_first};
-ghost use Rattle.run_promise.specs.Between.{RunLedger, LedgerStandsPowered, LedgerStands, IsFound, AreBrought};
-ghost use Rattle.run_promise.specs.Between.{AreUntouched, devices};
+ghost use Rattle.run_promise.specs.Between.{RunLedger, LedgerStandsPowered, LedgerStands, IsFound, HandsFollowed};
+ghost use Rattle.run_promise.specs.Between.{AreBrought, AreUntouched, devices};
 
 use tach_media::{Chip, Medium};
 
@@ -36,7 +37,7 @@ pub fn a_card_that_was_looked_at_brings<M: Medium, C: Chip>(unit: &M, card: &C)
     ensures waits { (f : Found) (c : Card) (u x : List ℕ) → BeginsAs u (M.state unit.now)
         → BeginsAs x (C.state card.now) →
         IsLookedAt f c u x (C.state card.now).clock → IsOwnValid x
-        → CardWaits f c not_begun Out [] (M.state unit.now) (C.state card.now) }
+        → CardWaits f no_hands c not_begun Out [] (M.state unit.now) (C.state card.now) }
 {}
 
 /// What the opening finds of unit and cards, while each has one image, is what a run carries before its first second.
@@ -62,7 +63,8 @@ pub fn what_is_lit_is_carried<M: Medium, C: Chip, D: Chip>(unit: &M, card_a: &C,
 {}
 
 /// THE CRASH-SAFETY THEOREM, from what a run carries at its end: the unit and the cards stand as a book says that
-/// follows the history, what each acceptance brought is on its card, and a card that may not be written is as it was.
+/// follows the history, the entries by hand are those of the run's record, what each acceptance brought is on its card,
+/// and a card that may not be written is as it was.
 pub fn what_is_carried_is_safe<M: Medium, C: Chip, D: Chip, N: Medium, E: Chip, F: Chip>(
     old_unit: &M,
     old_a: &C,
@@ -76,6 +78,7 @@ pub fn what_is_carried_is_safe<M: Medium, C: Chip, D: Chip, N: Medium, E: Chip, 
         IsFound r f (devices (M.state old_unit.now) (C.state old_a.now) (D.state old_b.now)) →
         Follows (history_of r) (lost_of r) w.book →
         LedgerStands f w (devices (N.state unit.now) (E.state card_a.now) (F.state card_b.now)) →
+        ((c : Card) → IsOwnValid (card_image r c) → HandsFollowed r c (w.hands c) (w.firsts c) w.marks) →
         ((c : Card) → IsOwnValid (card_image r c) → AreBrought r c w.book (w.brought c)) →
         AreUntouched r f (devices (N.state unit.now) (E.state card_a.now) (F.state card_b.now)) →
         IsSafe r w.marks (devices (M.state old_unit.now) (C.state old_a.now) (D.state old_b.now))
@@ -84,66 +87,67 @@ pub fn what_is_carried_is_safe<M: Medium, C: Chip, D: Chip, N: Medium, E: Chip, 
 
 /// What is carried of a card's string stays so as the unit keeps a minute, and where that is broken off.
 pub fn a_string_waits_for_a_minute<M: Medium, N: Medium, C: Chip>(before: &M, after: &N, card: &C)
-    ensures broken { (f : Found) (c : Card) (b : Book) (z : Standing) (i : HistoryMinute)
+    ensures broken { (f : Found) (h : Hands) (c : Card) (b : Book) (z : Standing) (i : HistoryMinute)
         → MayKeep f c b z i (M.state before.now) (C.state card.now) →
         LeavesViews (unit_seen f (M.state before.now)) (unit_seen f (N.state after.now))
         (IsKeeping KeepsMinute GivesUpDay i) →
-        IsStrung f c b z (M.state before.now) (C.state card.now)
-        → IsStrung f c (broken i b) z (N.state after.now) (C.state card.now) }
-    ensures kept { (f : Found) (c : Card) (b : Book) (z : Standing) (i : HistoryMinute) →
-        IsStrung f c (broken i b) z (M.state before.now) (C.state card.now)
-        → IsStrung f c (kept i b) z (M.state before.now) (C.state card.now) }
+        IsStrung f h c b z (M.state before.now) (C.state card.now)
+        → IsStrung f h c (broken i b) z (N.state after.now) (C.state card.now) }
+    ensures kept { (f : Found) (h : Hands) (c : Card) (b : Book) (z : Standing) (i : HistoryMinute) →
+        IsStrung f h c (broken i b) z (M.state before.now) (C.state card.now)
+        → IsStrung f h c (kept i b) z (M.state before.now) (C.state card.now) }
 {}
 
 /// So it does over each other step on the unit: power is back and a minute is found, a mend, an entry that is put for
 /// the card or for the other one, a row that is begun, and what leaves rows and last-kept minute.
 pub fn a_string_waits_for_the_unit<M: Medium, N: Medium, C: Chip>(before: &M, after: &N, card: &C)
-    ensures found { (f : Found) (c : Card) (b : Book) (k : ℕ) (z : Standing) → All (λ i. i.minute ≤ k) b.sure →
+    ensures found { (f : Found) (h : Hands) (c : Card) (b : Book) (k : ℕ) (z : Standing)
+        → All (λ i. i.minute ≤ k) b.sure →
         CardDark c (found_of f c).start AnyKept (found_of f c).began b z (unit_seen f (M.state before.now))
         (of_card (C.state card.now)) →
         LeavesViews (unit_seen f (M.state before.now)) (unit_seen f (N.state after.now)) Nothing →
-        IsStrung f c b z (M.state before.now) (C.state card.now)
-        → IsStrung f c (found k b) z (N.state after.now) (C.state card.now) }
-    ensures mended { (f : Found) (c : Card) (b : Book) (z : Standing)
+        IsStrung f h c b z (M.state before.now) (C.state card.now)
+        → IsStrung f h c (found k b) z (N.state after.now) (C.state card.now) }
+    ensures mended { (f : Found) (h : Hands) (c : Card) (b : Book) (z : Standing)
         → LeavesViews (unit_seen f (M.state before.now)) (unit_seen f (N.state after.now)) IsMending →
-        IsStrung f c b z (M.state before.now) (C.state card.now)
-        → IsStrung f c b z (N.state after.now) (C.state card.now) }
-    ensures put { (f : Found) (c : Card) (b : Book) (z : Standing) (e : Entry)
+        IsStrung f h c b z (M.state before.now) (C.state card.now)
+        → IsStrung f h c b z (N.state after.now) (C.state card.now) }
+    ensures put { (f : Found) (h : Hands) (c : Card) (b : Book) (z : Standing) (e : Entry)
         → IsPresent (found_of f c).start z e.minute →
         IsBefore f.card_a.number f.card_b.number e.minute (M.state before.now) →
         MeetsStanding c (found_of f c).start (found_of f c).began z [] (unit_seen f (M.state before.now))
         (of_card (C.state card.now)) →
         LeavesViews (unit_seen f (M.state before.now)) (unit_seen f (N.state after.now)) (IsPutting c e) →
-        IsStrung f c b z (M.state before.now) (C.state card.now)
-        → IsStrung f c b z (N.state after.now) (C.state card.now) }
-    ensures put_beside { (f : Found) (c : Card) (b : Book) (z : Standing) (e : Entry) →
+        IsStrung f h c b z (M.state before.now) (C.state card.now)
+        → IsStrung f h c b z (N.state after.now) (C.state card.now) }
+    ensures put_beside { (f : Found) (h : Hands) (c : Card) (b : Book) (z : Standing) (e : Entry) →
         LeavesViews (unit_seen f (M.state before.now)) (unit_seen f (N.state after.now)) (IsPutting c e) →
-        IsStrung f (other c) b z (M.state before.now) (C.state card.now)
-        → IsStrung f (other c) b z (N.state after.now) (C.state card.now) }
-    ensures begun { (f : Found) (c : Card) (b : Book) (session newest : ℕ)
+        IsStrung f h (other c) b z (M.state before.now) (C.state card.now)
+        → IsStrung f h (other c) b z (N.state after.now) (C.state card.now) }
+    ensures begun { (f : Found) (h : Hands) (c : Card) (b : Book) (session newest : ℕ)
         → IsEntered (found_of f c).start (found_of f c).began session newest (of_card (C.state card.now)) →
         IsBefore f.card_a.number f.card_b.number (session / 60) (M.state before.now) →
         LeavesViews (unit_seen f (M.state before.now)) (unit_seen f (N.state after.now)) (IsBeginning c) →
-        IsStrung f c b Out (M.state before.now) (C.state card.now)
-        → IsStrung f c b (In session newest) (N.state after.now) (C.state card.now) }
-    ensures begun_beside { (f : Found) (c : Card) (b : Book) (z : Standing)
+        IsStrung f h c b Out (M.state before.now) (C.state card.now)
+        → IsStrung f h c b (In session newest) (N.state after.now) (C.state card.now) }
+    ensures begun_beside { (f : Found) (h : Hands) (c : Card) (b : Book) (z : Standing)
         → LeavesViews (unit_seen f (M.state before.now)) (unit_seen f (N.state after.now)) (IsBeginning c) →
-        IsStrung f (other c) b z (M.state before.now) (C.state card.now)
-        → IsStrung f (other c) b z (N.state after.now) (C.state card.now) }
-    ensures noted { (f : Found) (c : Card) (b : Book) (z : Standing)
+        IsStrung f h (other c) b z (M.state before.now) (C.state card.now)
+        → IsStrung f h (other c) b z (N.state after.now) (C.state card.now) }
+    ensures noted { (f : Found) (h : Hands) (c : Card) (b : Book) (z : Standing)
         → LeavesViews (unit_seen f (M.state before.now)) (unit_seen f (N.state after.now)) IsBeside →
-        IsStrung f c b z (M.state before.now) (C.state card.now)
-        → IsStrung f c b z (N.state after.now) (C.state card.now) }
+        IsStrung f h c b z (M.state before.now) (C.state card.now)
+        → IsStrung f h c b z (N.state after.now) (C.state card.now) }
 {}
 
 /// And as a card leaves its slot: torn out between two calls, or where it is not accepted any more.
 pub fn a_string_stays_with_the_card<M: Medium, C: Chip>(unit: &M, card: &C)
-    ensures torn { (f : Found) (c : Card) (b : Book) (session newest floor : ℕ)
-        → IsStrung f c b (In session newest) (M.state unit.now) (C.state card.now)
-        → IsStrung f c b (Torn session newest floor) (M.state unit.now) (C.state card.now) }
-    ensures out { (f : Found) (c : Card) (b : Book) (z : Standing)
+    ensures torn { (f : Found) (h : Hands) (c : Card) (b : Book) (session newest floor : ℕ)
+        → IsStrung f h c b (In session newest) (M.state unit.now) (C.state card.now)
+        → IsStrung f h c b (Torn session newest floor) (M.state unit.now) (C.state card.now) }
+    ensures out { (f : Found) (h : Hands) (c : Card) (b : Book) (z : Standing)
         → CardDark c (found_of f c).start AnyKept (found_of f c).began b z (unit_seen f (M.state unit.now))
         (of_card (C.state card.now)) →
-        IsStrung f c b z (M.state unit.now) (C.state card.now)
-        → IsStrung f c b Out (M.state unit.now) (C.state card.now) }
+        IsStrung f h c b z (M.state unit.now) (C.state card.now)
+        → IsStrung f h c b Out (M.state unit.now) (C.state card.now) }
 {}

@@ -1,8 +1,8 @@
 -- An action that changes no slot: it is refused, or selects an activity.
-use Rattle.std.proofs.Common.{◌≡◌, ℕ, inl, suc, ◌+◌, ◌-◌, None, List, [], ◌∷◌, ◌++◌, length, refl, sym, subst, arith}
+use Rattle.std.proofs.Common.{◌≡◌, ℕ, inl, suc, ◌+◌, ◌-◌, None, List, [], ◌∷◌, ◌++◌, length, refl, sym, ◌∙◌, subst, arith, Option, ap}
 use Rattle.activity_codec.specs.declared.values.Slot.{Slot}
 use Rattle.activity_codec.specs.declared.values.Pick.{Pick}
-use Rattle.trace_model.specs.declared.Action.TheVariants.{Select, Place, Manual}
+use Rattle.trace_model.specs.declared.Action.TheVariants.{Select, Place}
 use Rattle.trace_model.specs.Trace.{TraceSecond}
 use Rattle.minute_model.specs.Span.{Span, picked, ungiven_of}
 use Rattle.minute_rules.specs.Kept.{Kept, CountsSpan}
@@ -20,10 +20,16 @@ use Rattle.run_course.proofs.Kept.{selection-heard, nothing-else}
 use Rattle.run_promise.specs.Origin.{Origin, rule_of, start_at}
 use Rattle.run_devices.specs.Presence.{PresentStand}
 use Rattle.run_record.specs.Recorded.{Values}
-use Rattle.run_record.specs.Within.{told_before, course_in, IsFoundSo, MayBeWrittenSo, IsSparedSo, RecordInSecond, SecondGoesOn, ARefusalIsRecorded, ASelectionIsRecorded, AnEntryByHandIsRecorded, APlaceIsRecorded}
+use Rattle.run_record.specs.Within.{told_before, course_in, IsFoundSo, MayBeWrittenSo, IsSparedSo, RecordInSecond, SecondGoesOn, ARefusalIsRecorded, ASelectionIsRecorded, APlaceIsRecorded}
 use Rattle.run_record.proofs.Back.{back-plain}
 use Rattle.run_record.proofs.Stays.{goes-still}
 use Rattle.run_record.proofs.Written.{written-on, spared-on}
+use Rattle.log_model.specs.ByHand.{asks}
+use Rattle.run_crew.specs.Cards.{session_of}
+use Rattle.run_course.specs.Seconds.{kept_all}
+use Rattle.run_record.specs.Handed.{actions_to, asked_so_far, AreHandedIn}
+use Rattle.run_record.proofs.Asked.{asked-refusal, asked-quiet}
+use Rattle.run_record.proofs.HandedSteps.{handed-on}
 
 module _ (o : Origin) (done : List TraceSecond) (s : TraceSecond) (at : Phase) (v : Values) (d : Devices) (w : RecordInSecond o done s at [] None [] v d) where
   abbrev p : Progress
@@ -41,8 +47,9 @@ module _ (o : Origin) (done : List TraceSecond) (s : TraceSecond) (at : Phase) (
 
   acted : (log : RunLog) (next : Phase) (picks : List (Slot × Pick)) (refused : List (ℕ × SlotFault)) (minutes : Kept) (sp : Span) → Moment p (went p.log done).before s next log [] w.b.broken (breakdowns_of d) →
       course_in w.b done s next log ≡ but picks refused → CountsSpan minutes sp → ungiven_of sp ≡ ungiven_of w.sp →
-      HasDecided (rule_of o) (start_at o) told0 p w.b.span (but picks refused) None sp w.ds [] w.new → SecondGoesOn o done s next [] None [] (record v { log = log; minutes = minutes }) d w.b w.from
-  acted log next picks refused minutes sp m is stands still decided = record {
+      HasDecided (rule_of o) (start_at o) told0 p w.b.span (but picks refused) None sp w.ds [] w.new
+      → asked_so_far p.log done log s (actions_to next s.actions) ≡ asked_so_far p.log done v.log s (actions_to at s.actions) → SecondGoesOn o done s next [] None [] (record v { log = log; minutes = minutes }) d w.b w.from
+  acted log next picks refused minutes sp m is stands still decided asked = record {
     began = refl;
     from = refl;
     within = record {
@@ -66,6 +73,10 @@ module _ (o : Origin) (done : List TraceSecond) (s : TraceSecond) (at : Phase) (
       due = w.due;
       standing = w.standing;
       brought = w.brought;
+      hands = w.hands;
+      firsts = w.firsts;
+      handed = same (λ (x : Course). AreHandedIn (start_at o) (kept_all w.new w.b.run.book).sure o.found p.log done s next log x v.stops v.marks w.hands w.firsts (session_of v.cabin.cards))
+          (handed-on o.found p.log done s at next v.log log c (but picks refused) v.stops v.marks w.hands w.firsts (session_of v.cabin.cards) refl asked w.handed);
       powered = w.powered;
       found = w.found;
       early = w.early;
@@ -97,6 +108,8 @@ refusal-recorded d o done s v front a rest are w fault is =
     let done_ = action-refused p (went p.log done).before s v.log w.b.broken (breakdowns_of d) front a rest are w.moment fault is in
     acted o done s (In (length front)) v d w (and_refused v.log (record { second = s.number; fault = fault; begun = suc (length front) })) (In (suc (length front))) c.picks (c.refused ++ (suc (length front), fault) ∷ []) v.minutes w.sp done_.0 done_.1 w.minutes refl
     (nothing-else (rule_of o) (start_at o) (told_before w.b done) p w.b.span c (record c { refused = c.refused ++ (suc (length front), fault) ∷ [] }) None w.sp w.ds [] w.new w.decided refl refl)
+    (asked-refusal p.log done v.log s (record { second = s.number; fault = fault; begun = suc (length front) }) (actions_to (In (suc (length front))) s.actions)
+    ∙ asked-quiet p.log done v.log s w.moment.up_to.uncut front a rest are (ap (λ (r : Option SlotFault). asks s.number (length front) r a c.slots) is))
 
 pub selection-recorded : (d : Devices) → ASelectionIsRecorded d
 selection-recorded d o done s v front slot pick rest are w is minutes stands =
@@ -105,13 +118,7 @@ selection-recorded d o done s v front slot pick rest are w is minutes stands =
     let done_ = action-done p (went p.log done).before s v.log w.b.broken (breakdowns_of d) front (Select slot pick) rest are w.moment refl is in
     acted o done s (In (length front)) v d w v.log (In (suc (length front))) (c.picks ++ (slot, pick) ∷ []) c.refused minutes (picked w.sp slot pick) done_.0 done_.1 stands refl
     (selection-heard (rule_of o) (start_at o) (told_before w.b done) p w.b.span c (record c { picks = c.picks ++ (slot, pick) ∷ [] }) w.sp w.ds [] w.new w.decided slot pick refl refl)
-
-pub hand-recorded : (d : Devices) → AnEntryByHandIsRecorded d
-hand-recorded d o done s v front slot pick minute rest are w is =
-    let p : Progress = w.b.run in
-    let c : Course = course_in w.b done s (In (length front)) v.log in
-    let done_ = action-done p (went p.log done).before s v.log w.b.broken (breakdowns_of d) front (Manual slot pick minute) rest are w.moment refl is in
-    acted o done s (In (length front)) v d w v.log (In (suc (length front))) c.picks c.refused v.minutes w.sp done_.0 done_.1 w.minutes refl w.decided
+    (asked-quiet p.log done v.log s w.moment.up_to.uncut front (Select slot pick) rest are (ap (λ (r : Option SlotFault). asks s.number (length front) r (Select slot pick) c.slots) is))
 
 pub place-recorded : (d : Devices) → APlaceIsRecorded d
 place-recorded d o done s v front slot ending country region rest are w is =
@@ -119,3 +126,4 @@ place-recorded d o done s v front slot ending country region rest are w is =
     let c : Course = course_in w.b done s (In (length front)) v.log in
     let done_ = action-done p (went p.log done).before s v.log w.b.broken (breakdowns_of d) front (Place slot ending country region) rest are w.moment refl is in
     acted o done s (In (length front)) v d w v.log (In (suc (length front))) c.picks c.refused v.minutes w.sp done_.0 done_.1 w.minutes refl w.decided
+    (asked-quiet p.log done v.log s w.moment.up_to.uncut front (Place slot ending country region) rest are (ap (λ (r : Option SlotFault). asks s.number (length front) r (Place slot ending country region) c.slots) is))

@@ -35,6 +35,9 @@ use Rattle.run_devices.proofs.Presence.{minute-ends}
 use Rattle.run_record.specs.Recorded.{Values, progress, carried, slots_of, AreBack, IsWrittenSince, IsWritten, RecordPowered, RecordBetweenSeconds}
 use Rattle.run_record.specs.Within.{Beginning, course_in, MayBeWrittenSo, SecondGoesOn, undecided_from, ASecondBegins, AMinuteIsOver}
 use Rattle.run_record.proofs.Written.{written-begins}
+use Rattle.run_record.proofs.HandedSteps.{handed-begins}
+use Rattle.hand_model.specs.Written.{Hands}
+use Rattle.run_promise.specs.Cards.{FirstKeep}
 
 -- who was present stands so later in the second
 broken-later : (told : List ToldSecond) (c : Course) (card : Card) (from number later : ℕ) → number ≤ later → BrokenSince told c card from number → BrokenSince told c card from later
@@ -77,14 +80,14 @@ ends-with log from done begun next had order is = record {
         omega (arith, is, count, more, place)
 
 -- who goes with a session stands so
-sessions-stand : (o : Origin) (v : Values) (due : ℕ) (book : Book) (standing : Card → Standing) (brought : Card → List ℕ) (d : Devices) →
-    DevicesPowered o.found (carried v due book standing brought) v.cabin.cards d → SessionsStand o.found standing v.cabin.cards
-sessions-stand o v due book standing brought d h card a valid is = by (h.go.goes card valid)
+sessions-stand : (o : Origin) (v : Values) (due : ℕ) (book : Book) (standing : Card → Standing) (brought : Card → List ℕ) (hands : Card → Hands) (firsts : Card → List FirstKeep) (d : Devices) →
+    DevicesPowered o.found (carried v due book standing brought hands firsts) v.cabin.cards d → SessionsStand o.found standing v.cabin.cards
+sessions-stand o v due book standing brought hands firsts d h card a valid is = by (h.go.goes card valid)
   where
-    by : GoesOwing (found_of o.found card) card book [] (standing card) (session_of v.cabin.cards card) (card_of d card) → (t : ℕ) × (standing card ≡ IsInAt t a.session.minute)
+    by : GoesOwing (found_of o.found card) (hands card) card book [] (standing card) (session_of v.cabin.cards card) (card_of d card) → (t : ℕ) × (standing card ≡ IsInAt t a.session.minute)
     by g =
-        let on = subst (λ (x : Option Accepted). GoesWith (found_of o.found card) g.has (standing card) x (card_of d card)) is g.goes in
-        (on.time, on.stands)
+        let on = subst (λ (x : Option Accepted). GoesWith (found_of o.found card) (hands card) g.has (standing card) x (card_of d card)) is g.goes in
+        (on.0.time, on.0.stands)
 
 -- ALL OF IT, where slots and presence are told so
 module _ (o : Origin) (done : List TraceSecond) (s : TraceSecond) (t : ToldSecond) (span : List ToldSecond) (v : Values) (d : Devices) (r : RecordBetweenSeconds o done (Lit (t ∷ span)) v d) (number : s.number ≡ v.next) (given : s.has_power ≡ true) where
@@ -103,7 +106,7 @@ module _ (o : Origin) (done : List TraceSecond) (s : TraceSecond) (t : ToldSecon
   abbrev c : Course
   c = course_in b done s (In 0) v.log
 
-  abbrev on : RecordPowered o done (t ∷ span) v (carried v r.due r.book r.standing r.brought) d
+  abbrev on : RecordPowered o done (t ∷ span) v (carried v r.due r.book r.standing r.brought r.hands r.firsts) d
   on = r.held
 
   begins : Moment b.run (went v.log done).before s (In 0) v.log [] (breakdowns_of d) (breakdowns_of d) × (c ≡ fresh false slots0)
@@ -138,6 +141,9 @@ module _ (o : Origin) (done : List TraceSecond) (s : TraceSecond) (t : ToldSecon
       due = r.due;
       standing = r.standing;
       brought = r.brought;
+      hands = r.hands;
+      firsts = r.firsts;
+      handed = handed-begins o.found v.log done s c v.stops v.marks r.hands r.firsts (session_of v.cabin.cards) (ap (λ (x : Course). x.found) begins.1) r.handed;
       powered = on.powered;
       found = r.found;
       early = r.early;
@@ -176,7 +182,7 @@ second-begins d o done s t span v r number given minute =
     on.back
     (λ card time h. record { stored = h.stored; past = (let past = h.past in omega (arith, past, number)); stays = h.stays })
   where
-    on : RecordPowered o done (t ∷ span) v (carried v r.due r.book r.standing r.brought) d
+    on : RecordPowered o done (t ∷ span) v (carried v r.due r.book r.standing r.brought r.hands r.firsts) d
     on = r.held
 
 pub minute-over : (d : Devices) → AMinuteIsOver d
@@ -185,7 +191,7 @@ minute-over d o done s t span v r number given starts minute low high stands =
     (told-ends (start_at o) (went v.log done).told r.book.sure (v.next - 1) s.number from (slots_of v done) v.cabin.slots on.tells
     (ends-with v.log o.from done v.begun v.next f.last f.order f.next) (omega (arith, number, minute)) low high)
     (minute-ends o.found (start_at o) starts r.standing (went v.log done).told (fresh false (slots_of v done)) r.book.sure [] (v.next - 1) s.number from v.cabin on.present on.tells stands
-    (sessions-stand o v r.due r.book r.standing r.brought d on.powered) low (omega (arith, number)))
+    (sessions-stand o v r.due r.book r.standing r.brought r.hands r.firsts d on.powered) low (omega (arith, number)))
     on.back
     (λ card time h. record { stored = h.stored; past = (let past = h.past in omega (arith, past, number)); stays = h.stays })
   where
@@ -195,5 +201,5 @@ minute-over d o done s t span v r number given starts minute low high stands =
     f : BookFollowsRun (rule_of o) (start_at o) o.from (first_of o) done (progress v (Lit (t ∷ span)) r.book)
     f = r.recorded.followed
 
-    on : RecordPowered o done (t ∷ span) v (carried v r.due r.book r.standing r.brought) d
+    on : RecordPowered o done (t ∷ span) v (carried v r.due r.book r.standing r.brought r.hands r.firsts) d
     on = r.held

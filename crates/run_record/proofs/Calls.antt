@@ -83,7 +83,7 @@ module _ (o : Origin) (d : Devices) (V : State) (rise : d.unit.breakdowns ≤ V.
 -- WITHOUT POWER the unit is called
 module _ (o : Origin) (done : List TraceSecond) (supply : UnitPower) (v : Values) (d : Devices) (r : RecordBetweenSeconds o done supply v d) (may : MayPower supply v.next) (V : State) (whole : IsCoherent d.unit) (run : LeavesOnly d.unit V Unchanged) where
   abbrev w : RunLedger
-  w = carried v r.due r.book r.standing r.brought
+  w = carried v r.due r.book r.standing r.brought r.hands r.firsts
 
   off : RecordUnpowered o done v w d
   off = off-of o done supply v w d may r.held

@@ -11,7 +11,7 @@ use Rattle.device_rule.specs.Rules.{Out}
 use Rattle.safety_model.specs.Safe.{Devices, breakdowns_of}
 use Rattle.card_slots.specs.Calls.{seat_in, is_card}
 use Rattle.card_slots.specs.Kept.{Kept}
-use Rattle.run_crew.specs.Cards.{with_session}
+use Rattle.run_crew.specs.Cards.{with_session, session_of}
 use Rattle.run_crew.specs.Cabin.{left_from}
 use Rattle.run_crew.proofs.Sessions.{same_is}
 use Rattle.run_course.specs.Followed.{Progress}
@@ -37,6 +37,8 @@ use Rattle.run_record.proofs.Sitting.{seated-still}
 use Rattle.run_record.proofs.Stays.{goes-still}
 use Rattle.run_record.proofs.Seats.{no-both, this-or, for-other, old-less, found-less, none-sits, sits-back, seat-tells, nowhere-none, nowhere-not, emptied, tells-still}
 use Rattle.run_record.proofs.Onward.{IsStep, steps-on, step-fails}
+use Rattle.run_record.proofs.Asked.{asked-torn}
+use Rattle.run_record.proofs.HandedSteps.{less-stay, stay-both}
 
 module _ (o : Origin) (done : List TraceSecond) (s : TraceSecond) (at : Phase) (v : Values) (d e : Devices) (w : RecordInSecond o done s at [] None [] v d) (slot : Slot) (card : Card) (k : IsCalledLeaving o done s at v d e w slot card) where
   abbrev p : Progress
@@ -79,6 +81,9 @@ module _ (o : Origin) (done : List TraceSecond) (s : TraceSecond) (at : Phase) (
     moment = breakdowns-only p was s at v.log [] w.b.broken (breakdowns_of d) (breakdowns_of e) w.moment rise;
     out = record { torn = λ x there. there; pulled = λ x there. there };
     found_same = refl;
+    asked_same = refl;
+    stops_same = refl;
+    sessions = less-stay card v.cabin.cards;
     enter = λ x. omega arith;
     wait = λ x. omega arith;
     decided = w.decided;
@@ -89,7 +94,7 @@ module _ (o : Origin) (done : List TraceSecond) (s : TraceSecond) (at : Phase) (
     travels = k.travels;
   }
 
-  pub closed-goes : IsMore (breakdowns_of d) (breakdowns_of e) → DevicesPowered o.found (carried v w.due (kept_all w.new w.b.run.book) (for_card card Out w.standing) w.brought) closed.cabin.cards e → SecondGoesOn o done s at [] None [] closed e w.b w.from
+  pub closed-goes : IsMore (breakdowns_of d) (breakdowns_of e) → DevicesPowered o.found (carried v w.due (kept_all w.new w.b.run.book) (for_card card Out w.standing) w.brought w.hands w.firsts) closed.cabin.cards e → SecondGoesOn o done s at [] None [] closed e w.b w.from
   closed-goes rise powered = steps-on o done s at at [] [] [] v closed d e w w.sp (step-closed rise) (record {
     minutes = w.minutes;
     until = w.until;
@@ -145,6 +150,9 @@ module _ (o : Origin) (done : List TraceSecond) (s : TraceSecond) (at : Phase) (
       moment = torn.0;
       out = out-now;
       found_same = is.is.found;
+      asked_same = asked-torn p.log done v.log s at slot true b here;
+      stops_same = refl;
+      sessions = stay-both (session_of v.cabin.cards) (session_of (with_session card None v.cabin.cards)) (session_of later.cabin.cards) (less-stay card v.cabin.cards) (less-stay card (with_session card None v.cabin.cards));
       enter = λ x. let same = ap (λ (vs : List Visit). times_of x vs) is.is.entered in omega (arith, same);
       wait = λ x. let same = ap (λ (vs : List Visit). times_of x vs) is.is.entered in omega (arith, same);
       decided = nothing-else (rule_of o) (start_at o) told0 p w.b.span c now None w.sp w.ds [] w.new w.decided is.is.picks is.is.settled;
@@ -162,7 +170,7 @@ module _ (o : Origin) (done : List TraceSecond) (s : TraceSecond) (at : Phase) (
     old-now : AreOld v.cabin.cards later.cabin.cards
     old-now x some = old-less card x v.cabin.cards (old-less card x (with_session card None v.cabin.cards) some)
 
-    pub torn-goes : DevicesPowered o.found (carried v w.due (kept_all w.new w.b.run.book) (for_card card Out w.standing) w.brought) later.cabin.cards e → SecondGoesOn o done s at [] None [] later e w.b w.from
+    pub torn-goes : DevicesPowered o.found (carried v w.due (kept_all w.new w.b.run.book) (for_card card Out w.standing) w.brought w.hands w.firsts) later.cabin.cards e → SecondGoesOn o done s at [] None [] later e w.b w.from
     torn-goes powered = steps-on o done s at at [] [] [] v later d e w w.sp step-torn (record {
       minutes = w.minutes;
       until = w.until;

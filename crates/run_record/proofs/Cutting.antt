@@ -32,7 +32,7 @@ use Rattle.card_image.specs.Own.{IsOwnValid}
 use Rattle.safety_model.specs.Safe.{Devices, card_of, breakdowns_of, entered_by, IsVerdict}
 use Rattle.run_crew.specs.declared.cards.Cards.{Cards}
 use Rattle.run_crew.specs.Cabin.{with_power_lost}
-use Rattle.run_crew.specs.Cards.{known_of, with_session}
+use Rattle.run_crew.specs.Cards.{known_of, with_session, session_of}
 use Rattle.run_crew.proofs.Sessions.{all_gone}
 use Rattle.run_promise.specs.Found.{Found, found_of}
 use Rattle.run_course.specs.Moments.{and_break}
@@ -64,6 +64,10 @@ use Rattle.run_record.proofs.Left.{counted-part}
 use Rattle.run_record.proofs.Stays.{since-later, since-cut}
 use Rattle.run_record.proofs.Written.{few-so_far}
 use Rattle.run_record.proofs.Parts.{verdict-by, often-by, entered-grows, entered-by_end, overlaps-by_end, HasAccepted, accepted-or, none-next}
+use Rattle.run_record.proofs.Asked.{same-seconds, next-powers, asked-broken}
+use Rattle.run_record.proofs.HandedSteps.{handed-over}
+use Rattle.run_record.specs.Handed.{AreHandedBehind}
+use Rattle.log_model.specs.Same.{SameAt}
 
 -- ALL MINUTES that are decided are over
 pub all-rec : (n : ℕ) (xs : List Minute) → All (λ (d : Minute). d.minute < n) xs → AllByRecursion (λ (d : Minute). d.minute < n) xs
@@ -92,7 +96,7 @@ option-same start told t past n (Some d) is lt = ap (λ (i : HistoryMinute). Som
 
 -- CARDS keep what they have told
 pub found-cut : (f : Found) (cards : Cards) (s : ℕ) → AreFoundCards f cards → AreFoundCards f (with_session B None (with_session A None cards))
-found-cut f cards s h = record { two = h.two; named = named; told = told_; own = h.own; sizes = h.sizes; entries = h.entries }
+found-cut f cards s h = record { two = h.two; named = named; told = told_; own = h.own; sizes = h.sizes; entries = h.entries; word = h.word }
   where
     told_ : (c : Card) → IsOwnValid (found_of f c).image → is_some (known_of (with_session B None (with_session A None cards)) c).number ≡ true
     told_ A valid = h.told A valid
@@ -328,6 +332,18 @@ module _ (o : Origin) (done : List TraceSecond) (s : TraceSecond) (at : Phase) (
   dark-slot : (went log (done ++ s ∷ [])).before.slots ≡ ended.slots
   dark-slot = slots-now ∙ ap (λ (x : ToldSecond). x.course.slots) ends
 
+  -- the entries by hand so far
+  seconds-same : All (λ (x : TraceSecond). SameAt p.log log x.number) done
+  seconds-same = same-seconds o.from done p log s f.order f.next goes
+
+  handed : AreHandedBehind (start_at o) book.sure o.found log (done ++ s ∷ []) v.stops v.marks w.hands w.firsts (session_of (with_power_lost s.number v.cabin).cards)
+  handed =
+      subst (λ (past : List HistoryMinute). AreHandedBehind (start_at o) past o.found log (done ++ s ∷ []) v.stops v.marks w.hands w.firsts (session_of (with_power_lost s.number v.cabin).cards))
+      (sure-kept w.new None p.book ∙ sym (sure-kept w.new (lost_minute o w.b done w.new w.lost) p.book))
+      (handed-over o.found p.log v.log log done s at c t v.stops v.marks w.hands w.firsts (λ x. None) (session_of (with_power_lost s.number v.cabin).cards)
+      (asked-broken p.log done v.log s at left_actions w.moment.up_to.uncut left seconds-same (next-powers p.log log done s seconds-same (ap (λ (x : ToldSecond). x.lit) ends))) told-now (ap (λ (x : ToldSecond). x.second.number) ends) found-is
+      (λ x. inr (all_gone v.cabin.cards x)) w.handed)
+
   pub cut-recorded : RecordBetweenSeconds o (done ++ s ∷ []) Lost (cut_values s at v) d
   cut-recorded = record {
     book = book;
@@ -336,6 +352,9 @@ module _ (o : Origin) (done : List TraceSecond) (s : TraceSecond) (at : Phase) (
     due = w.due;
     standing = w.standing;
     brought = w.brought;
+    hands = w.hands;
+    firsts = w.firsts;
+    handed = handed;
     recorded = recorded;
     beside = record { verdicts = verdicts; spared = spared; travels = w.travels };
     there = w.there;
@@ -356,13 +375,16 @@ module _ (o : Origin) (done : List TraceSecond) (s : TraceSecond) (at : Phase) (
 -- WITHOUT POWER no minute is counted: it may be from any odometer
 pub recounted : (o : Origin) (done : List TraceSecond) (v : Values) (d : Devices) (odometer : ℕ) → RecordBetweenSeconds o done Lost v d → RecordBetweenSeconds o done Lost (record v { odometer = odometer }) d
 recounted o done v d odometer r =
-    let off : RecordUnpowered o done v (carried v r.due r.book r.standing r.brought) d = r.held in
+    let off : RecordUnpowered o done v (carried v r.due r.book r.standing r.brought r.hands r.firsts) d = r.held in
     record {
       book = r.book;
       travel = r.travel;
       due = r.due;
       standing = r.standing;
       brought = r.brought;
+      hands = r.hands;
+      firsts = r.firsts;
+      handed = r.handed;
       recorded = r.recorded;
       beside = r.beside;
       there = r.there;

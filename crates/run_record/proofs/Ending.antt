@@ -52,6 +52,11 @@ use Rattle.run_record.proofs.Back.{back-plain}
 use Rattle.run_record.proofs.Stays.{since-later}
 use Rattle.run_record.proofs.Written.{few-so_far}
 use Rattle.run_record.proofs.Parts.{still, verdict-by, often-by, entered-grows, entered-by_end, overlaps-by_end, HasAccepted, accepted-or}
+use Rattle.run_record.proofs.Asked.{same-seconds, next-powers, asked-whole}
+use Rattle.run_record.proofs.HandedSteps.{handed-over, none-less}
+use Rattle.run_record.specs.Handed.{AreHandedBehind}
+use Rattle.log_model.specs.Same.{SameAt}
+use Rattle.run_crew.specs.Cards.{session_of}
 
 -- minutes that are kept add nothing to what was travelled before the span
 pub same-before : (ds : List Minute) (g : Travel) → (all_travelled ds g).before ≡ g.before
@@ -240,6 +245,14 @@ module _ (o : Origin) (done : List TraceSecond) (s : TraceSecond) (v : Values) (
       (subst (λ (n : ℕ). PresentStand o.found w.standing (told0 ++ T ∷ []) (fresh false c.slots) s.number n v.cabin) from-is
       (next-begins o.found w.standing told0 T s.number s.number w.from v.cabin refl (omega arith) w.present)))))
 
+  -- the entries by hand so far
+  seconds-same : All (λ (x : TraceSecond). SameAt p.log log x.number) done
+  seconds-same = same-seconds o.from done p log s f.order f.next goes
+
+  handed : AreHandedBehind (start_at o) book.sure o.found log (done ++ s ∷ []) v.stops v.marks w.hands w.firsts (session_of v.cabin.cards)
+  handed = handed-over o.found p.log log log done s Keeping c t v.stops v.marks w.hands w.firsts (session_of v.cabin.cards) (session_of v.cabin.cards)
+      (asked-whole p.log done log s seconds-same (next-powers p.log log done s seconds-same (ap (λ (x : ToldSecond). x.lit) ends))) told-now (ap (λ (x : ToldSecond). x.second.number) ends) found-is (none-less (session_of v.cabin.cards)) w.handed
+
   pub second-over : RecordedFrom o (done ++ s ∷ []) (Lit span) (passed_values s v) d w.b.travel.before
   second-over = record {
     travelled_before = same-before w.ds w.b.travel;
@@ -250,6 +263,9 @@ module _ (o : Origin) (done : List TraceSecond) (s : TraceSecond) (v : Values) (
       due = w.due;
       standing = w.standing;
       brought = w.brought;
+      hands = w.hands;
+      firsts = w.firsts;
+      handed = handed;
       recorded = recorded;
       beside = record { verdicts = verdicts; spared = spared; travels = w.travels };
       there = w.there;

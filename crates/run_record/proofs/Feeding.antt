@@ -1,7 +1,8 @@
 -- A second is fed behind all of its actions: its keeping comes, and these minutes are to be kept.
 use Rattle.std.proofs.Common.{◌≡◌, inl, ℕ, zero, suc, ◌+◌, ◌-◌, ◌/◌, ◌≤◌, Some, None, List, [], ◌++◌, length, refl, ap, sym, subst, ◌∙◌, arith, length-append}
-use Rattle.std.proofs.lemmas.List.{length-map}
+use Rattle.std.proofs.lemmas.List.{length-map, take_all}
 use Rattle.trace_model.specs.Trace.{TraceSecond}
+use Rattle.trace_model.specs.declared.Action.{Action}
 use Rattle.minute_model.specs.declared.Minute.{Minute}
 use Rattle.minute_model.proofs.Counted.{judged, decided-counted}
 use Rattle.minute_model.specs.Span.{Span, fed, count_from, decided_in, ungiven_of}
@@ -20,6 +21,9 @@ use Rattle.run_devices.specs.Presence.{PresentStand}
 use Rattle.run_record.specs.Recorded.{Values}
 use Rattle.run_record.specs.Within.{told_before, course_in, IsFoundSo, MayBeWrittenSo, IsSparedSo, RecordInSecond, SecondGoesOn}
 use Rattle.run_record.proofs.Back.{back-plain}
+use Rattle.run_record.proofs.HandedSteps.{handed-on}
+use Rattle.run_record.specs.Handed.{asked_so_far}
+use Rattle.run_crew.specs.Cards.{session_of}
 
 many : (a n : ℕ) → length (count_from a n) ≡ n
 many a zero = refl
@@ -89,6 +93,10 @@ module _ (o : Origin) (done : List TraceSecond) (s : TraceSecond) (v : Values) (
       due = w.due;
       standing = w.standing;
       brought = w.brought;
+      hands = w.hands;
+      firsts = w.firsts;
+      handed = handed-on o.found p.log done s (In (length s.actions)) Keeping v.log v.log c e v.stops v.marks w.hands w.firsts (session_of v.cabin.cards) (ap (λ (x : Course). x.found) comes.1)
+          (ap (λ (l : List Action). asked_so_far p.log done v.log s l) (sym (take_all (length s.actions) s.actions (omega arith)))) w.handed;
       powered = w.powered;
       found = w.found;
       early = w.early;

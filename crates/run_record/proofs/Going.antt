@@ -16,7 +16,8 @@ use Rattle.log_model.specs.declared.lines.Refused.{Refused}
 use Rattle.log_model.specs.Log.{RunLog}
 use Rattle.log_model.specs.Slots.{Slots, is_accepted}
 use Rattle.log_model.specs.Causes.{refusals_at, refusal_told}
-use Rattle.log_model.specs.Course.{ToldSecond, Went, powerless, fresh, went, without_power}
+use Rattle.log_model.specs.Course.{ToldSecond, Went, powerless, fresh, went, without_power, has_power}
+use Rattle.log_model.specs.ByHand.{Asked, asked_of, is_stop}
 use Rattle.history_model.specs.Growth.{as_span}
 use Rattle.history_model.specs.Minutes.{HistoryMinute}
 use Rattle.history_model.specs.Presence.{Start}
@@ -29,11 +30,13 @@ use Rattle.run_unit_course.specs.Lines.{cut_at}
 use Rattle.run_unit_course.specs.Turn.{span_at, cut_at_end}
 use Rattle.run_unit_course.proofs.Parts.{driven-order, driven-length, dark-order, dark-length}
 use Rattle.safety_model.specs.Safe.{Devices, card_of, breakdowns_of, entered_by}
+use Rattle.safety_model.specs.Hands.{sessions_in}
 use Rattle.card_slots.specs.Kept.{Kept as SlotsKept, nothing_yet}
 use Rattle.run_crew.specs.declared.cards.Cards.{Cards}
 use Rattle.run_crew.specs.declared.cabin.Cabin.{Cabin}
 use Rattle.run_crew.specs.Cabin.{with_power_lost}
 use Rattle.run_crew.proofs.Sessions.{all_gone}
+use Rattle.run_crew.specs.Cards.{session_of}
 use Rattle.run_promise.specs.Found.{Found, found_of}
 use Rattle.run_promise.specs.Between.{RunLedger}
 use Rattle.run_promise.proofs.End.{lit-carried}
@@ -63,6 +66,15 @@ use Rattle.run_record.specs.Going.{dark_values, DarkSecondsStayRecorded, off_val
 use Rattle.run_record.proofs.Beginning.{ends-with, present-later}
 use Rattle.run_record.proofs.Cutting.{found-cut, dark-seat}
 use Rattle.run_record.proofs.Stays.{since-later, since-cut}
+use Rattle.run_record.specs.Handed.{done_for, AreToldOf, asked_for}
+use Rattle.run_record.proofs.HandedSteps.{go-as, known-none, hands-none, handed-idle, none-less}
+use Rattle.hand_model.specs.Written.{no_hands}
+use Rattle.run_record.proofs.Asked.{asked-unlit, asked-refused, asked-off, asked-cut_off, asked-driven}
+use Rattle.run_course.proofs.Told.{lost-dark}
+use Rattle.std.proofs.lemmas.List.Elements.{All-nil}
+use Rattle.run_record.proofs.Stopped.{stopped-as}
+use Rattle.safety_model.specs.ByHand.{IsStoppedBy}
+use Rattle.run_record.specs.HeldHands.{IsKnown}
 
 -- ---- no card enters in some seconds more
 
@@ -113,7 +125,7 @@ module _ (o : Origin) (done : List TraceSecond) (v : Values) (d : Devices) (r : 
   abbrev w : Values
   w = dark_values (suc n) begun refused v
 
-  abbrev off : RecordUnpowered o done v (carried v r.due r.book r.standing r.brought) d
+  abbrev off : RecordUnpowered o done v (carried v r.due r.book r.standing r.brought r.hands r.firsts) d
   off = r.held
 
   further : (more : List ToldSecond) × TellsMore (went v.log done).told (went w.log now).told more v.next × AreIdle more
@@ -135,6 +147,15 @@ module _ (o : Origin) (done : List TraceSecond) (v : Values) (d : Devices) (r : 
       subst (λ (x : Went). SlotsTell (start_at o) x.told r.book.sure [] (w.next - 1) (w.next / 60) x.before.slots v.cabin.slots) (sym went-now)
       (subst (λ (m : ℕ). SlotsTell (start_at o) ((went v.log done).told ++ all_dark (first ∷ rest) slots) r.book.sure [] m (w.next / 60) slots v.cabin.slots) (let e : v.next + length rest ≡ w.next - 1 = omega (arith, long) in e) on)
 
+  -- the entries by hand so far
+  asked-dark_on : asked_of w.log now ≡ asked_of v.log done
+  unfolding was went
+  asked-dark_on =
+      let first : TraceSecond = record { number = v.next; has_power = true; speed = speed; actions = actions } in
+      asked-unlit w.log done n v.next speed actions
+      (subst (λ (x : Went). has_power x.before first ≡ false) (sym (went-refused v.log w.log refl refl done)) (lost-dark was.before first r.recorded.followed.power low))
+      ∙ asked-refused v.log w.log o.from done r.recorded.followed.order refl refl
+
   dark-on : RecordBetweenSeconds o now Lost w d
   dark-on = record {
     book = r.book;
@@ -143,6 +164,9 @@ module _ (o : Origin) (done : List TraceSecond) (v : Values) (d : Devices) (r : 
     due = r.due;
     standing = r.standing;
     brought = r.brought;
+    hands = r.hands;
+    firsts = r.firsts;
+    handed = handed-idle o.found v.log w.log done now further.0 v.next v.stops v.marks r.hands r.firsts (session_of v.cabin.cards) (session_of v.cabin.cards) further.1 further.2 asked-dark_on (none-less (session_of v.cabin.cards)) r.handed;
     recorded = seconds.dark-recorded o done p r.travel v.marks (breakdowns_of d) r.brought r.recorded refl n speed actions refused begun low high told;
     beside = record {
       verdicts = verdicts-go o done now v.log w.log d further.0 v.next further.1 further.2 v.unfound v.marks r.beside.verdicts r.beside.verdicts.kept;
@@ -169,7 +193,7 @@ dark-recorded d o done v r n speed actions refused begun low high told = dark-on
 
 -- ---- an `off` line
 
-off-held : (o : Origin) (done : List TraceSecond) (supply : UnitPower) (v : Values) (d : Devices) (r : RecordBetweenSeconds o done supply v d) → IsDark supply → RecordUnpowered o done v (carried v r.due r.book r.standing r.brought) d
+off-held : (o : Origin) (done : List TraceSecond) (supply : UnitPower) (v : Values) (d : Devices) (r : RecordBetweenSeconds o done supply v d) → IsDark supply → RecordUnpowered o done v (carried v r.due r.book r.standing r.brought r.hands r.firsts) d
 off-held o done (Lit span) v d r dark_ = absurd dark_
 off-held o done Due v d r dark_ = r.held
 off-held o done Lost v d r dark_ = r.held
@@ -206,6 +230,9 @@ off-recorded d o done supply v r dark_ n =
       due = r.due;
       standing = r.standing;
       brought = r.brought;
+      hands = r.hands;
+      firsts = r.firsts;
+      handed = handed-idle o.found v.log v.log done now further.0 v.next v.stops v.marks r.hands r.firsts (session_of v.cabin.cards) (session_of v.cabin.cards) further.1 further.2 (asked-off v.log done (suc n) v.next) (none-less (session_of v.cabin.cards)) r.handed;
       recorded = seconds.off-recorded o done p r.travel v.marks (breakdowns_of d) r.brought r.recorded dark_ n;
       beside = record {
         verdicts = verdicts-go o done now v.log v.log d further.0 v.next further.1 further.2 v.unfound v.marks r.beside.verdicts r.beside.verdicts.kept;
@@ -231,7 +258,7 @@ off-recorded d o done supply v r dark_ n =
 
 -- unit and cards wait once there is no power
 powered-waits : (f : Found) (w : RunLedger) (cards : Cards) (d : Devices) → DevicesPowered f w cards d → DevicesUnpowered f w d
-powered-waits f w cards d h = record { carried = lit-carried f w d h.lit; wait = λ c valid. held-dark (found_of f c) c w.book (w.standing c) (card_of d c) h.lit.none (h.go.held c valid) }
+powered-waits f w cards d h = record { carried = lit-carried f w d h.lit; wait = λ c valid. held-dark (found_of f c) (w.hands c) c w.book (w.standing c) (card_of d c) h.lit.none (h.go.held c valid) }
 
 -- no minute before the next second's is undecided any more behind it
 ungiven-by : (v : Values) (span : Span) → CountsSpan v.minutes span → end_of span ≡ v.next → ungiven_of span ≤ v.next / 60
@@ -241,7 +268,7 @@ module _ (o : Origin) (done : List TraceSecond) (t : ToldSecond) (span : List To
   abbrev lit-progress : Progress
   lit-progress = progress v (Lit (t ∷ span)) r.book
 
-  abbrev on : RecordPowered o done (t ∷ span) v (carried v r.due r.book r.standing r.brought) d
+  abbrev on : RecordPowered o done (t ∷ span) v (carried v r.due r.book r.standing r.brought r.hands r.firsts) d
   on = r.held
 
   abbrev whole : Span
@@ -331,6 +358,11 @@ module _ (o : Origin) (done : List TraceSecond) (t : ToldSecond) (span : List To
           due = r.due;
           standing = r.standing;
           brought = r.brought;
+          hands = r.hands;
+          firsts = r.firsts;
+          handed = handed-idle o.found v.log cut-log done now-off further-off.0 v.next v.stops v.marks r.hands r.firsts (session_of v.cabin.cards) (session_of (with_power_lost (v.next - 1) v.cabin).cards) further-off.1 further-off.2
+              (asked-off cut-log done (suc n) v.next ∙ asked-cut_off v.log o.from done v.begun v.next r.recorded.followed.last r.recorded.followed.order r.recorded.followed.next r.recorded.followed.lines.breaks)
+              (λ c. inr (all_gone v.cabin.cards c)) r.handed;
           recorded = seconds.off-cut-recorded o done lit-progress r.travel v.marks (breakdowns_of d) r.brought r.recorded t span refl n;
           beside = record {
             verdicts = verdicts-go o done now-off v.log cut-log d further-off.0 v.next further-off.1 further-off.2 v.unfound v.marks r.beside.verdicts (kept-cut (d.unit.left_since o.found.unit.began) v.unfound v.log.breaks (v.next - 1) false v.begun r.recorded.followed.unfound r.beside.verdicts.kept);
@@ -343,7 +375,7 @@ module _ (o : Origin) (done : List TraceSecond) (t : ToldSecond) (span : List To
           found = found-cut o.found v.cabin.cards (v.next - 1) r.found;
           early = r.early;
           held = record {
-            powerless = powered-waits o.found (carried v r.due r.book r.standing r.brought) v.cabin.cards d on.powered;
+            powerless = powered-waits o.found (carried v r.due r.book r.standing r.brought r.hands r.firsts) v.cabin.cards d on.powered;
             due = let due = on.due in omega (arith, due, low);
             tells = off-tell (start_at o) cut-log done n v.next (ungiven_of whole) (with_power_lost (v.next - 1) v.cabin).slots r.book.sure (v.next - 1) (omega arith) (omega (arith, low)) cut-tells;
             bare = λ c. all_gone v.cabin.cards c;
@@ -386,7 +418,7 @@ module _ (o : Origin) (done : List TraceSecond) (t : ToldSecond) (span : List To
   abbrev quiet-p : Progress
   quiet-p = progress v (Lit (t ∷ span)) r.book
 
-  abbrev quiet-held : RecordPowered o done (t ∷ span) v (carried v r.due r.book r.standing r.brought) d
+  abbrev quiet-held : RecordPowered o done (t ∷ span) v (carried v r.due r.book r.standing r.brought r.hands r.firsts) d
   quiet-held = r.held
 
   abbrev quiet-now : List TraceSecond
@@ -439,6 +471,10 @@ module _ (o : Origin) (done : List TraceSecond) (t : ToldSecond) (span : List To
       due = r.due;
       standing = r.standing;
       brought = r.brought;
+      hands = r.hands;
+      firsts = r.firsts;
+      handed = handed-idle o.found v.log v.log done quiet-now quiet-further.0 v.next v.stops v.marks r.hands r.firsts (session_of v.cabin.cards) (session_of v.cabin.cards) quiet-further.1 quiet-further.2 (asked-driven v.log done (suc n) v.next speed)
+          (none-less (session_of v.cabin.cards)) r.handed;
       recorded = seconds.quiet-recorded o done quiet-p r.travel v.marks (breakdowns_of d) r.brought r.recorded t span refl (suc n) speed high;
       beside = record {
         verdicts = verdicts-go o done quiet-now v.log v.log d quiet-further.0 v.next quiet-further.1 quiet-further.2 v.unfound v.marks r.beside.verdicts r.beside.verdicts.kept;
@@ -496,6 +532,11 @@ module _ (o : Origin) (v : Values) (d : Devices) (h : MayStart o v d) where
       ∙ ap (λ (n : ℕ). record v { log = empty_log; marks = []; cabin = record v.cabin { slots = nothing_yet }; unfound = 0; next = n }) h.next
       ∙ ap (λ (n : ℕ). record v { log = empty_log; marks = []; cabin = record v.cabin { slots = nothing_yet }; unfound = 0; next = o.from; begun = n }) h.begun
 
+  -- nor is anything asked
+  none-asked : asked_of empty_log [] ≡ []
+  unfolding asked_of
+  none-asked = refl
+
   begins-so : RecordBetweenSeconds o [] Due first-values d
   begins-so = record {
     book = not_begun;
@@ -504,6 +545,14 @@ module _ (o : Origin) (v : Values) (d : Devices) (h : MayStart o v d) where
     due = o.from / 60;
     standing = λ c. Out;
     brought = λ c. [];
+    hands = λ c. no_hands;
+    firsts = λ c. [];
+    handed = record {
+      each = λ c valid. go-as [] (sessions_in c (went empty_log []).told) [] (done_for c v.stops (asked_of empty_log [])) [] [] no_hands [] None (session_of v.cabin.cards c) (ap (sessions_in c) (sym none-told)) (ap (done_for c v.stops) (sym none-asked)) refl (sym (h.bare c)) hands-none;
+      known = λ c valid. known-none (start_at o) [] c [] (sessions_in c (went empty_log []).told) (session_of v.cabin.cards c) (h.bare c);
+      stopped = λ c valid. stopped-as (start_at o) [] c [] (sessions_in c (went empty_log []).told) [] (done_for c v.stops (asked_of empty_log [])) [] [] [] v.stops [] (asked_for c (asked_of empty_log [])) (ap (sessions_in c) (sym none-told)) (ap (done_for c v.stops) (sym none-asked)) refl (sym h.stops) (ap (asked_for c) (sym none-asked)) (All-nil (IsStoppedBy (IsKnown (start_at o) [] c) [] [] [] []));
+      told = subst (AreToldOf v.stops) (sym none-asked) (subst (λ (l : List Refused). AreToldOf l []) (sym h.stops) (record { all = All-nil (λ (l : Refused). is_stop l.fault ≡ true); each = refl }));
+    };
     recorded = seconds.more-recorded o [] (at_start o) (not_travelled o.recording.unit) [] [] o.breakdowns (breakdowns_of d) (λ c. []) (seconds.nothing-recorded o h.early) (λ device m at. at) h.breakdowns;
     beside = record {
       verdicts = record { each = λ t e verdict at seen. absurd (nowhere o t at); kept = tt };

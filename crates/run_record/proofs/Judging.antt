@@ -9,7 +9,7 @@ use Rattle.log_model.specs.declared.lines.Find.{Find}
 use Rattle.log_model.specs.declared.lines.Mark.{Mark}
 use Rattle.log_model.specs.declared.lines.Verdict.{Verdict}
 use Rattle.log_model.specs.Log.{Phase, is_accepting}
-use Rattle.log_model.specs.Slots.{Slots, Sitting, in_slot}
+use Rattle.log_model.specs.Slots.{Slots, Sitting, in_slot, same_card}
 use Rattle.log_model.specs.Course.{ToldSecond, Course, Visit, card_in, with_slot, went}
 use Rattle.device_rule.specs.Rules.{Standing}
 use Rattle.safety_model.specs.Safe.{Devices, card_of, breakdowns_of}
@@ -38,6 +38,11 @@ use Rattle.run_record.proofs.Back.{back-by_now}
 use Rattle.run_record.proofs.Stays.{goes-still, goes-put_in, sits-put_in}
 use Rattle.run_record.proofs.Written.{written-judged, accepted-written, accepted-valid}
 use Rattle.run_record.proofs.Sitting.{another, sits-with, seated-still, verdicts-later}
+use Rattle.run_record.proofs.Opened.{MayBe, as-opened, none-opened, judged-handed}
+use Rattle.run_record.specs.Handed.{AreHandedIn}
+use Rattle.run_promise.specs.Cards.{CardMarksHold}
+use Rattle.run_crew.specs.declared.cards.Accepted.{Accepted}
+use Rattle.run_course.specs.Seconds.{kept_all}
 
 -- one find is another
 abbrev IsSame : Visit × Verdict → Visit × Verdict → Type 0
@@ -162,6 +167,17 @@ module _ (o : Origin) (done : List TraceSecond) (s : TraceSecond) (at : Phase) (
     late = λ x verdict there accepts. let here = j.next.is_now in omega (arith, here);
   }
 
+  -- the entries by hand so far, with these sessions
+  pub handed-with : CardMarksHold (found_of o.found card) card (kept_all w.new w.b.run.book) marks (card_of e card) → (after : Card → Option Accepted) → ((x : Card) → same_card card x ≡ false → (after x ≡ session_of v.cabin.cards x) ⊎ (after x ≡ None))
+      → MayBe o done s at waits fewer v d e w card f marks cabin brought j (is_accepting f.verdict) (after card) → AreHandedIn (start_at o) (kept_all w.new w.b.run.book).sure o.found p.log done s at (and_find v.log f) now v.stops marks w.hands w.firsts after
+  handed-with hold after others own = judged-handed o done s at waits fewer v d e w card f marks cabin brought j found-is hold after others own
+
+  pub handed-so : CardMarksHold (found_of o.found card) card (kept_all w.new w.b.run.book) marks (card_of e card) → AreHandedIn (start_at o) (kept_all w.new w.b.run.book).sure o.found p.log done s at (and_find v.log f) now v.stops marks w.hands w.firsts (session_of cabin.cards)
+  handed-so hold = handed-with hold (session_of cabin.cards) (λ x apart. inl (j.others x apart)) (as-opened o done s at waits fewer v d e w card f marks cabin brought j)
+
+  pub handed-none : CardMarksHold (found_of o.found card) card (kept_all w.new w.b.run.book) marks (card_of e card) → AreHandedIn (start_at o) (kept_all w.new w.b.run.book).sure o.found p.log done s at (and_find v.log f) now v.stops marks w.hands w.firsts (λ x. None)
+  handed-none hold = handed-with hold (λ x. None) (λ x apart. inr refl) (none-opened o done s at waits fewer v d e w card f marks cabin brought j)
+
   -- which cards may be written
   goes : (x : Card) → GoesOnIn s.number v.cabin.slots cabin.slots x
   goes x = by (is_accepting f.verdict) j.seats
@@ -215,7 +231,10 @@ judged-so d e o done s at waits fewer v w card f marks cabin brought standing j 
     due = w.due;
     standing = standing;
     brought = brought;
+    hands = w.hands;
+    firsts = w.firsts;
     powered = st.powered;
+    handed = handed-so o done s at waits fewer v d e w card f marks cabin brought j (st.powered.lit.marks card);
     found = j.found;
     early = j.early;
     late = w.late;
@@ -263,7 +282,10 @@ judging-fails d e o done s at waits fewer v w card f marks cabin brought j rise 
   due = w.due;
   standing = k.standing;
   brought = brought;
+  hands = w.hands;
+  firsts = w.firsts;
   powerless = k.powerless;
+  handed = handed-none o done s at waits fewer v d e w card f marks cabin brought j (k.powerless.carried.marks card);
   found = j.found;
   early = j.early;
   late = let late = w.late in let here = j.next.is_now in omega (arith, late, here);

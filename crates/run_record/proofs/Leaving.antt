@@ -45,6 +45,8 @@ use Rattle.run_record.proofs.Seats.{never-none, this-or, card-seated, seated-the
 use Rattle.run_record.proofs.Until.{settles-to, settles-here}
 use Rattle.run_record.proofs.Onward.{IsStep, steps-on}
 use Rattle.run_record.proofs.Putting.{still-goes, slot-itself}
+use Rattle.run_record.proofs.Asked.{asked-quiet}
+use Rattle.log_model.specs.ByHand.{asks}
 
 module _ (o : Origin) (done : List TraceSecond) (s : TraceSecond) (v : Values) (d : Devices) (front : List Action) (slot : Slot) (card : Card) (rest : List Action) (are : s.actions ≡ front ++ Withdraw slot ∷ rest)
     (w : RecordInSecond o done s (In (length front)) [] None [] v d) (is : refusal (course_in w.b done s (In (length front)) v.log).slots s.speed (Withdraw slot) ≡ None) (seated : card_in (seat_in v.cabin.slots.seats slot) ≡ Some card)
@@ -102,6 +104,9 @@ module _ (o : Origin) (done : List TraceSecond) (s : TraceSecond) (v : Values) (
     moment = done_.0;
     out = record { torn = λ x there. same (λ (k : Course). Contains k.torn x) there; pulled = λ x there. same (λ (k : Course). Contains k.pulled x) there };
     found_same = ap (λ (k : Course). k.found) done_.1;
+    asked_same = asked-quiet p.log done v.log s w.moment.up_to.uncut front (Withdraw slot) rest are (ap (λ (r : Option SlotFault). asks s.number n r (Withdraw slot) c.slots) is);
+    stops_same = refl;
+    sessions = λ x. inl refl;
     enter = λ x. same (λ (k : Course). times_of x c.entered ≤ times_of x k.entered) (omega arith);
     wait = λ x. same (λ (k : Course). times_of x [] + times_of x c.entered ≤ times_of x [] + times_of x k.entered) (omega arith);
     decided = same (λ (k : Course). HasDecided (rule_of o) (start_at o) told0 p w.b.span k None (settled w.sp) w.ds decided w.new)

@@ -7,8 +7,10 @@ pub mod Cutting
 pub mod Spans
 pub mod Beginning
 pub mod Feeding
+pub mod Alike
 pub mod Acting
 pub mod Steps
+pub mod Stopped
 pub mod Ending
 pub mod Sitting
 pub mod Judging
@@ -21,6 +23,7 @@ pub mod Waking
 pub mod Seats
 pub mod Until
 pub mod Moved
+pub mod Newest
 pub mod Onward
 pub mod Putting
 pub mod Leaving
@@ -31,3 +34,10 @@ pub mod Seated
 pub mod Going
 pub mod Turning
 pub mod Losing
+pub mod HandsFold
+pub mod Asking
+pub mod Doing
+pub mod HandedSteps
+pub mod Asked
+pub mod Opened
+pub mod ByHand

@@ -1,5 +1,5 @@
 -- A card that waits is accepted and torn out in one call.
-use Rattle.std.proofs.Common.{◌≡◌, inl, ⊎_elim, ℕ, zero, suc, ◌≤◌, Bool, true, false, cond, is_some, Option, Some, None, List, [], ◌∷◌, ◌++◌, Contains, map, refl, ap, sym, subst, ◌∙◌, arith}
+use Rattle.std.proofs.Common.{◌≡◌, inl, ⊎_elim, ℕ, zero, suc, ◌≤◌, Bool, true, false, cond, is_some, Option, Some, None, List, [], ◌∷◌, ◌++◌, Contains, map, refl, ap, sym, subst, ◌∙◌, arith, inr}
 use Rattle.std.specs.Prelude.{option_map, slice_get}
 use Rattle.activity_codec.specs.declared.values.Slot.{Slot}
 use Rattle.activity_codec.specs.declared.values.Slot.TheVariants.{Driver, CoDriver}
@@ -17,7 +17,7 @@ use Rattle.log_model.specs.Slots.{Slots, Sitting, in_slot, refusal}
 use Rattle.log_model.specs.Course.{ToldSecond, Course, Before, Visit, visits, card_in, with_slot, moved_by, went}
 use Rattle.event_model.specs.Events.{course_by}
 use Rattle.device_rule.specs.Rules.{Standing}
-use Rattle.safety_model.specs.Safe.{Devices, breakdowns_of}
+use Rattle.safety_model.specs.Safe.{Devices, breakdowns_of, card_of}
 use Rattle.card_slots.specs.Kept.{Kept}
 use Rattle.run_crew.specs.declared.cabin.Cabin.{Cabin}
 use Rattle.run_crew.specs.Cards.{session_of}
@@ -46,6 +46,13 @@ use Rattle.run_record.proofs.Stays.{goes-taken}
 use Rattle.run_record.proofs.Written.{written-on, spared-on}
 use Rattle.run_record.proofs.Sitting.{another, sits-with, seated-still, verdicts-later}
 use Rattle.run_record.proofs.Judging as judged
+use Rattle.run_record.proofs.Asked.{asked-torn}
+use Rattle.run_record.proofs.HandedSteps.{handed-fewer}
+use Rattle.run_record.specs.Handed.{StayOrEnd, AreHandedIn}
+use Rattle.run_promise.specs.Cards.{CardMarksHold}
+use Rattle.run_crew.specs.declared.cards.Accepted.{Accepted}
+use Rattle.run_course.specs.Seconds.{kept_all}
+use Rattle.run_promise.specs.Found.{found_of}
 
 -- where a card enters none is taken out, whatever else is told
 stays-in : (n : ℕ) (o later : Option SlotFault) (a : Action) (slots now : Slots) (x y : Slot) → (moved_by n o a slots).enters x ≡ true → (moved_by n later a now).leaving y ≡ []
@@ -157,6 +164,12 @@ module _ (o : Origin) (done : List TraceSecond) (s : TraceSecond) (at : Phase) (
         late = λ x verdict there accepts. h.late x verdict (same-found x verdict there) accepts;
       }
 
+  -- the entries by hand so far, with these sessions
+  handed : CardMarksHold (found_of o.found card) card (kept_all w.new w.b.run.book) marks (card_of e card) → (sessions : Card → Option Accepted) → StayOrEnd (session_of cabin.cards) sessions → AreHandedIn (start_at o) (kept_all w.new w.b.run.book).sure o.found p.log done s at (and_break log1 b) now v.stops marks w.hands w.firsts sessions
+  handed hold sessions fewer_ =
+      handed-fewer o.found p.log done s at at log1 (and_break log1 b) mid now v.stops marks w.hands w.firsts (session_of cabin.cards) sessions is.is.found (asked-torn p.log done log1 s at f.slot true b l.torn_here) fewer_
+      (judged.handed-so o done s at waits fewer v d e w card f marks cabin brought j hold)
+
   goes : (x : Card) → GoesOnIn s.number cabin.slots after.slots x
   goes x = subst (λ (k : Kept). GoesOnIn s.number cabin.slots k x) (sym l.slots_are) (goes-taken s.number f.slot cabin.slots x)
 
@@ -192,7 +205,10 @@ card-lost d e o done s at waits fewer v w card f marks cabin after brought b sta
     due = w.due;
     standing = standing;
     brought = brought;
+    hands = w.hands;
+    firsts = w.firsts;
     powered = st.powered;
+    handed = handed o done s at waits fewer v d e w card f marks cabin after brought b j l (st.powered.lit.marks card) (session_of after.cards) l.lasts;
     found = l.found;
     early = j.early;
     late = w.late;
@@ -240,7 +256,10 @@ losing-fails d e o done s at waits fewer v w card f marks cabin after brought b 
   due = w.due;
   standing = k.standing;
   brought = brought;
+  hands = w.hands;
+  firsts = w.firsts;
   powerless = k.powerless;
+  handed = handed o done s at waits fewer v d e w card f marks cabin after brought b j l (k.powerless.carried.marks card) (λ x. None) (λ x. inr refl);
   found = l.found;
   early = j.early;
   late = let late = w.late in let here = j.next.is_now in omega (arith, late, here);

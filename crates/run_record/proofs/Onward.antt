@@ -1,5 +1,5 @@
 -- A second goes on behind a step in which nothing was found and no minute was kept; or the unit failed in that step.
-use Rattle.std.proofs.Common.{◌≡◌, ◌⊎◌, inl, inr, ⊎_elim, ◌+◌, ◌-◌, ◌≤◌, None, List, [], ◌++◌, Contains, length, refl, ap, sym, subst, ◌∙◌, arith}
+use Rattle.std.proofs.Common.{◌≡◌, ◌⊎◌, inl, inr, ⊎_elim, ◌+◌, ◌-◌, ◌≤◌, None, List, [], ◌++◌, Contains, length, refl, ap, sym, subst, ◌∙◌, arith, Option}
 use Rattle.trace_model.specs.declared.Card.{Card}
 use Rattle.trace_model.specs.Trace.{TraceSecond}
 use Rattle.run_model.specs.declared.Device.TheVariants.{Unit as Recorder}
@@ -32,6 +32,11 @@ use Rattle.run_record.proofs.Left.{verdict-left}
 use Rattle.run_record.proofs.Sitting.{verdicts-later}
 use Rattle.run_record.proofs.Stays.{since-on}
 use Rattle.run_record.proofs.Until.{up-to}
+use Rattle.log_model.specs.declared.lines.Refused.{Refused}
+use Rattle.run_crew.specs.declared.cards.Accepted.{Accepted}
+use Rattle.run_crew.specs.Cards.{session_of}
+use Rattle.run_record.specs.Handed.{actions_to, asked_so_far, StayOrEnd, AreHandedIn}
+use Rattle.run_record.proofs.HandedSteps.{handed-fewer}
 
 module _ (o : Origin) (done : List TraceSecond) (s : TraceSecond) (at next : Phase) (before waits : List Visit) (rest : List Minute) (v later : Values) (d e : Devices) (w : RecordInSecond o done s at before None [] v d) where
   abbrev told0 : List ToldSecond
@@ -52,6 +57,9 @@ module _ (o : Origin) (done : List TraceSecond) (s : TraceSecond) (at next : Pha
     pub moment : Moment w.b.run (went w.b.run.log done).before s next later.log waits w.b.broken (breakdowns_of e)
     pub out : StaysOut c now
     pub found_same : now.found ≡ c.found
+    pub asked_same : asked_so_far w.b.run.log done later.log s (actions_to next s.actions) ≡ asked_so_far w.b.run.log done v.log s (actions_to at s.actions)
+    pub stops_same : later.stops ≡ v.stops
+    pub sessions : StayOrEnd (session_of v.cabin.cards) (session_of later.cabin.cards)
     pub enter : (x : Card) → times_of x c.entered ≤ times_of x now.entered
     pub wait : (x : Card) → times_of x waits + times_of x c.entered ≤ times_of x before + times_of x now.entered
     pub decided : HasDecided (rule_of o) (start_at o) told0 w.b.run w.b.span now None sp w.ds rest w.new
@@ -66,7 +74,7 @@ module _ (o : Origin) (done : List TraceSecond) (s : TraceSecond) (at next : Pha
     pub minutes : CountsSpan later.minutes sp
     pub until : w.from + length rest ≡ ungiven_of sp
     pub standing : Card → Standing
-    pub powered : DevicesPowered o.found (carried later w.due (kept_all w.new w.b.run.book) standing w.brought) later.cabin.cards e
+    pub powered : DevicesPowered o.found (carried later w.due (kept_all w.new w.b.run.book) standing w.brought w.hands w.firsts) later.cabin.cards e
     pub present : PresentStand o.found standing told0 now s.number w.from later.cabin
     pub back : AreBackAt later.log (went w.b.run.log done).before s next w.from (w.from + length rest) later.cabin
     pub old : AreOld v.cabin.cards later.cabin.cards
@@ -113,6 +121,13 @@ module _ (o : Origin) (done : List TraceSecond) (s : TraceSecond) (at next : Pha
     stay : (mark : Mark) → Contains w.b.marks mark → Contains later.marks mark
     stay mark there = still mark (w.stay mark there)
 
+    -- the entries by hand so far, with these sessions
+    handed-then : (after : Card → Option Accepted) → StayOrEnd (session_of v.cabin.cards) after → AreHandedIn (start_at o) (kept_all w.new w.b.run.book).sure o.found w.b.run.log done s next later.log now later.stops later.marks w.hands w.firsts after
+    handed-then after fewer =
+        subst (λ (ms : List Mark). AreHandedIn (start_at o) (kept_all w.new w.b.run.book).sure o.found w.b.run.log done s next later.log now later.stops ms w.hands w.firsts after) (sym k.marks_same)
+        (subst (λ (l : List Refused). AreHandedIn (start_at o) (kept_all w.new w.b.run.book).sure o.found w.b.run.log done s next later.log now l v.marks w.hands w.firsts after) (sym k.stops_same)
+        (handed-fewer o.found w.b.run.log done s at next v.log later.log c now v.stops v.marks w.hands w.firsts (session_of v.cabin.cards) after k.found_same k.asked_same fewer w.handed))
+
     pub steps-on : Powers sp → SecondGoesOn o done s next waits None rest later e w.b w.from
     steps-on p = record {
       began = refl;
@@ -138,6 +153,9 @@ module _ (o : Origin) (done : List TraceSecond) (s : TraceSecond) (at next : Pha
         due = w.due;
         standing = p.standing;
         brought = w.brought;
+        hands = w.hands;
+        firsts = w.firsts;
+        handed = handed-then (session_of later.cabin.cards) k.sessions;
         powered = p.powered;
         found = k.found;
         early = w.early;
@@ -157,7 +175,7 @@ module _ (o : Origin) (done : List TraceSecond) (s : TraceSecond) (at next : Pha
     }
 
     -- or the unit failed, and the power is about to be cut
-    pub step-fails : (standing : Card → Standing) → DevicesUnpowered o.found (carried later w.due (kept_all w.new w.b.run.book) standing w.brought) e → RoseBy 1 (w.b.broken Recorder) (breakdowns_of e Recorder) → (next ≡ Keeping → ⊥) → rest ≡ [] →
+    pub step-fails : (standing : Card → Standing) → DevicesUnpowered o.found (carried later w.due (kept_all w.new w.b.run.book) standing w.brought w.hands w.firsts) e → RoseBy 1 (w.b.broken Recorder) (breakdowns_of e Recorder) → (next ≡ Keeping → ⊥) → rest ≡ [] →
         RecordAtFailure o done s next waits None later e
     step-fails standing powerless broke no_keeping none = record {
       b = w.b;
@@ -184,6 +202,9 @@ module _ (o : Origin) (done : List TraceSecond) (s : TraceSecond) (at next : Pha
       due = w.due;
       standing = standing;
       brought = w.brought;
+      hands = w.hands;
+      firsts = w.firsts;
+      handed = handed-then (λ card. None) (λ card. inr refl);
       powerless = powerless;
       found = k.found;
       early = w.early;

@@ -13,6 +13,9 @@ use Rattle.log_model.specs.Log.{In, Keeping}
 use Rattle.log_model.specs.Slots.{Slots, in_slot, is_accepted}
 use Rattle.log_model.specs.Course.{Went, Course, Visit, fresh, went}
 use Rattle.history_model.specs.Book.{found}
+use Rattle.history_model.specs.Minutes.{HistoryMinute, up_to}
+use Rattle.history_model.proofs.Books.{up_to-all}
+use Rattle.std.specs.Prelude.{option_to_list}
 use Rattle.device_rule.specs.Rules.{Standing, Out}
 use Rattle.run_unit_course.specs.Followed.{UnitPower, Lit, Due, Lost, MayPower}
 use Rattle.run_unit_course.specs.Legs.{resumed}
@@ -46,6 +49,11 @@ use Rattle.run_record.specs.Powering.{WasRead, read_values, begun_values, odomet
 use Rattle.run_record.proofs.Parts.{entered-told}
 use Rattle.run_record.proofs.Stays.{since-later}
 use Rattle.run_record.proofs.Written.{written-begins}
+use Rattle.run_record.proofs.Asked.{asked-known}
+use Rattle.run_record.proofs.HandedSteps.{all-go, none-less, handed-begins, handed-gone, handed-more}
+use Rattle.run_record.specs.Handed.{AreHandedBehind, AreHandedIn}
+use Rattle.safety_model.specs.Hands.{sessions_in}
+use Rattle.log_model.specs.ByHand.{asked_of}
 
 -- WITHOUT POWER, where power may come
 pub off-of : (o : Origin) (done : List TraceSecond) (supply : UnitPower) (v : Values) (w : RunLedger) (d : Devices) → MayPower supply v.next → IsHeldBy o done supply v w d → RecordUnpowered o done v w d
@@ -83,8 +91,8 @@ module _ (o : Origin) (done : List TraceSecond) (s : TraceSecond) (supply : Unit
   abbrev from : ℕ
   from = ungiven_of (span_at (rule_of o) v.next [])
 
-  off : RecordUnpowered o done v (carried v r.due r.book r.standing r.brought) d
-  off = off-of o done supply v (carried v r.due r.book r.standing r.brought) d may r.held
+  off : RecordUnpowered o done v (carried v r.due r.book r.standing r.brought r.hands r.firsts) d
+  off = off-of o done supply v (carried v r.due r.book r.standing r.brought r.hands r.firsts) d may r.held
 
   from-is : from ≡ s.number / 60
   from-is = begins-here (rule_of o) v.next ∙ ap (λ (n : ℕ). n / 60) (sym number)
@@ -152,6 +160,17 @@ module _ (o : Origin) (done : List TraceSecond) (s : TraceSecond) (supply : Unit
         (since-later o (v.next - 1) s.number v.cabin.slots card h.time (omega (arith, number)) h.since) then))
         (r.written card)
 
+  -- the entries by hand so far
+  handed-behind : AreHandedBehind (start_at o) (found k r.book).sure o.found run.log done v.stops v.marks r.hands r.firsts (session_of v.cabin.cards)
+  handed-behind =
+      subst (λ (past : List HistoryMinute). AreHandedBehind (start_at o) past o.found run.log done v.stops v.marks r.hands r.firsts (session_of v.cabin.cards)) (sym (up_to-all r.book k shows.low))
+      (handed-more (start_at o) r.book.sure (up_to k (option_to_list r.book.maybe)) o.found (λ x. sessions_in x now.told) (asked_of run.log done) v.stops v.marks r.hands r.firsts (session_of v.cabin.cards)
+      (all-go o.found (λ x. sessions_in x was.told) (λ x. sessions_in x now.told) (asked_of v.log done) (asked_of run.log done) v.stops v.marks r.hands r.firsts (session_of v.cabin.cards) (session_of v.cabin.cards)
+      (λ x. ap (λ (w : Went). sessions_in x w.told) same) (asked-known v.log v.unfound k o.from done r.recorded.followed.order) (none-less (session_of v.cabin.cards)) r.handed))
+
+  handed : (mid : Device → ℕ) → AreHandedIn (start_at o) (found k r.book).sure o.found run.log done s (In 0) run.log (c mid) v.stops v.marks r.hands r.firsts (session_of v.cabin.cards)
+  handed mid = handed-begins o.found run.log done s (c mid) v.stops v.marks r.hands r.firsts (session_of v.cabin.cards) (ap (λ (x : Course). x.found) (course-is mid)) handed-behind
+
   few : AreFewFound (recording_by o done run.log)
   few = few-on o done done v.log run.log [] v.next r.few (found-tells o done p r.recorded.followed k) tt
 
@@ -192,6 +211,9 @@ power-wakes d e o done s supply v r may number given k minutes back =
         due = r.due;
         standing = λ card. Out;
         brought = r.brought;
+        hands = r.hands;
+        firsts = r.firsts;
+        handed = handed o done s supply v d e r may number given k back.leg back.shows back.goes (breakdowns_of e);
         powered = back.powered;
         found = r.found;
         early = r.early;
@@ -243,6 +265,10 @@ mending-fails d e o done s supply v r may number given k read =
       due = r.due;
       standing = r.standing;
       brought = r.brought;
+      hands = r.hands;
+      firsts = r.firsts;
+      handed = handed-gone o.found (found_again k (progress v supply r.book)).log done s (In 0) (found_again k (progress v supply r.book)).log (c o done s supply v d e r may number given k read.leg read.shows read.goes (breakdowns_of d)) v.stops v.marks r.hands r.firsts
+          (session_of v.cabin.cards) (handed o done s supply v d e r may number given k read.leg read.shows read.goes (breakdowns_of d));
       powerless = read.powerless;
       found = r.found;
       early = r.early;

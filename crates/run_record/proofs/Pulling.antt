@@ -1,5 +1,5 @@
 -- A card is pulled out of its slot, and no device is called.
-use Rattle.std.proofs.Common.{◌≡◌, inr, ℕ, suc, ◌+◌, ◌/◌, ◌≤◌, true, Option, Some, None, is_some, List, [], ◌∷◌, ◌++◌, Contains, length, map, refl, ap, sym, subst, ◌∙◌, arith}
+use Rattle.std.proofs.Common.{◌≡◌, inr, ℕ, suc, ◌+◌, ◌/◌, ◌≤◌, true, Option, Some, None, is_some, List, [], ◌∷◌, ◌++◌, Contains, length, map, refl, ap, sym, subst, ◌∙◌, arith, false}
 use Rattle.std.proofs.lemmas.List.Elements.{Contains-append_left, Contains-push}
 use Rattle.activity_codec.specs.declared.entries.Entry.{Entry}
 use Rattle.activity_codec.specs.declared.values.Slot.{Slot}
@@ -9,7 +9,7 @@ use Rattle.trace_model.specs.declared.Action.TheVariants.{Tear as Pull}
 use Rattle.trace_model.specs.Trace.{TraceSecond}
 use Rattle.tach_media.specs.Medium.{State}
 use Rattle.log_model.specs.Log.{Phase, In}
-use Rattle.log_model.specs.Slots.{Sitting, in_slot}
+use Rattle.log_model.specs.Slots.{Sitting, in_slot, refusal}
 use Rattle.log_model.specs.Course.{ToldSecond, Course, Visit, Before, visits, card_in as card_of_sitting, with_slot, carried_out, went}
 use Rattle.device_rule.specs.Rules.{Standing, In as IsIn, Torn}
 use Rattle.safety_model.specs.Safe.{Devices, card_of, breakdowns_of}
@@ -43,10 +43,13 @@ use Rattle.run_record.proofs.Until.{few-left}
 use Rattle.run_record.proofs.Onward.{IsStep, steps-on}
 use Rattle.run_record.proofs.Putting.{still-goes}
 use Rattle.run_record.proofs.Torn.{slots-taken, back-torn, torn-present, bare-present, pull-powered}
+use Rattle.hand_model.specs.Written.{Hands}
+use Rattle.run_record.proofs.Asked.{asked-torn, asked-quiet, asks-pull}
+use Rattle.run_record.proofs.HandedSteps.{less-stay}
 
 -- a card that stands with its session's newest minute
-stands-of : (f : CardFound) (has : List Entry) (z : Standing) (a : Accepted) (card : State) → GoesWith f has z (Some a) card → (t : ℕ) × (z ≡ IsIn t a.session.minute)
-stands-of f has z a card h = (h.time, h.stands)
+stands-of : (f : CardFound) (hd : Hands) (has : List Entry) (z : Standing) (a : Accepted) (card : State) → GoesWith f hd has z (Some a) card → (t : ℕ) × (z ≡ IsIn t a.session.minute)
+stands-of f hd has z a card h = (h.0.time, h.0.stands)
 
 -- a card that sits accepted stands so, with the second of its acceptance
 module _ (o : Origin) (done : List TraceSecond) (s : TraceSecond) (at : Phase) (v : Values) (d : Devices) (w : RecordInSecond o done s at [] None [] v d) (slot : Slot) (card : Card) (seated : card_in (seat_in v.cabin.slots.seats slot) ≡ Some card) (low : ℕ) (stands : CabinIsSound low None v.cabin)
@@ -71,7 +74,7 @@ module _ (o : Origin) (done : List TraceSecond) (s : TraceSecond) (at : Phase) (
   stands-with a is =
       let valid = standing-now.0 in
       let g = w.powered.go.goes card valid in
-      let mine = stands-of (found_of o.found card) g.has (w.standing card) a (card_of d card) (subst (λ (q : Option Accepted). GoesWith (found_of o.found card) g.has (w.standing card) q (card_of d card)) is g.goes) in
+      let mine = stands-of (found_of o.found card) (w.hands card) g.has (w.standing card) a (card_of d card) (subst (λ (q : Option Accepted). GoesWith (found_of o.found card) (w.hands card) g.has (w.standing card) q (card_of d card)) is g.goes) in
       let both : IsIn sitting-now.0 standing-now.1.0 ≡ IsIn mine.0 a.session.minute = sym standing-now.1.1 ∙ mine.1 in
       let minute : standing-now.1.0 ≡ a.session.minute = cc in
       standing-now.1.1 ∙ ap (λ (m : ℕ). IsIn sitting-now.0 m) minute
@@ -141,6 +144,10 @@ module _ (o : Origin) (done : List TraceSecond) (s : TraceSecond) (v : Values) (
     moment = done_.0;
     out = out-now;
     found_same = ap (λ (k : Course). k.found) done_.1;
+    asked_same = asked-torn p.log done v.log s (In (suc n)) slot false (pulled_line s.number (suc n) slot) (suc n, false, refl, refl, done_.0.is, λ late. absurd (cc))
+        ∙ asked-quiet p.log done v.log s w.moment.up_to.uncut front (Pull slot) rest are (asks-pull s.number n (refusal c.slots s.speed (Pull slot)) slot c.slots);
+    stops_same = refl;
+    sessions = less-stay card v.cabin.cards;
     enter = λ x. same (λ (k : Course). times_of x c.entered ≤ times_of x k.entered) (omega arith);
     wait = λ x. same (λ (k : Course). times_of x [] + times_of x c.entered ≤ times_of x [] + times_of x k.entered) (omega arith);
     decided = nothing-else (rule_of o) (start_at o) told0 p w.b.span c now None w.sp w.ds [] w.new w.decided (ap (λ (k : Course). k.picks) done_.1) (ap (λ (k : Course). k.settled) done_.1);
@@ -160,7 +167,7 @@ module _ (o : Origin) (done : List TraceSecond) (s : TraceSecond) (v : Values) (
   back-so = back-at later.log was s (In (suc n)) w.from (w.from + 0) later.cabin
       (back-torn (start_at o) told0 (p.book.sure ++ w.new) c.left s.number w.from c.slots v.cabin w.tells slot card seated w.from (back-plain o done s (In n) [] None v d w))
 
-  goes-so : (standing : Card → Standing) → DevicesPowered o.found (carried later w.due (kept_all w.new w.b.run.book) standing w.brought) later.cabin.cards d → PresentStand o.found standing told0 now s.number w.from later.cabin →
+  goes-so : (standing : Card → Standing) → DevicesPowered o.found (carried later w.due (kept_all w.new w.b.run.book) standing w.brought w.hands w.firsts) later.cabin.cards d → PresentStand o.found standing told0 now s.number w.from later.cabin →
       SecondGoesOn o done s (In (suc n)) [] None [] later d w.b w.from
   goes-so standing powered present = steps-on o done s (In n) (In (suc n)) [] [] [] v later d d w w.sp step (record {
     minutes = w.minutes;
@@ -180,14 +187,14 @@ module _ (o : Origin) (done : List TraceSecond) (s : TraceSecond) (v : Values) (
     where
       by : (a : Option Accepted) → session_of v.cabin.cards card ≡ a → SecondGoesOn o done s (In (suc n)) [] None [] later d w.b w.from
       by None is = goes-so w.standing
-          (subst (λ (cards : Cards). DevicesPowered o.found (carried later w.due (kept_all w.new w.b.run.book) w.standing w.brought) cards d) (sym (bare-same card v.cabin.cards is)) w.powered)
+          (subst (λ (cards : Cards). DevicesPowered o.found (carried later w.due (kept_all w.new w.b.run.book) w.standing w.brought w.hands w.firsts) cards d) (sym (bare-same card v.cabin.cards is)) w.powered)
           (bare-present (start_at o) told0 (p.book.sure ++ w.new) c.left s.number w.from c.slots v.cabin w.tells slot card seated o.found w.standing c now w.present refl slots-now out-now is)
       by (Some a) is =
           let some : is_some (session_of v.cabin.cards card) ≡ true = ap (λ (q : Option Accepted). is_some q) is in
           let time : ℕ = (sitting-now o done s (In n) v d w slot card seated low stands some).0 in
           let with_ = stands-with o done s (In n) v d w slot card seated low stands some a is in
           goes-so (for_card card (Torn time a.session.minute w.from) w.standing)
-          (pull-powered o.found (carried later w.due (kept_all w.new w.b.run.book) w.standing w.brought) v.cabin.cards d card w.powered w.found a is time w.from (λ valid. with_))
+          (pull-powered o.found (carried later w.due (kept_all w.new w.b.run.book) w.standing w.brought w.hands w.firsts) v.cabin.cards d card w.powered w.found a is time w.from (λ valid. with_))
           (torn-present (start_at o) told0 (p.book.sure ++ w.new) c.left s.number w.from c.slots v.cabin w.tells slot card seated o.found w.standing c now w.present refl slots-now out-now time a.session.minute with_ few visit refl (inr pulled-now))
 
 pub pulled-out : (d : Devices) → ACardIsPulledOut d

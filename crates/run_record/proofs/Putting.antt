@@ -42,6 +42,8 @@ use Rattle.run_record.proofs.Seats.{free-for, never-bare}
 use Rattle.run_record.proofs.Until.{settles-to, settles-here}
 use Rattle.run_record.proofs.Moved.{tears-begun, tears-found}
 use Rattle.run_record.proofs.Onward.{IsStep, steps-on}
+use Rattle.run_record.proofs.Asked.{asked-quiet}
+use Rattle.log_model.specs.ByHand.{asks}
 
 -- no device is called
 pub still-goes : (o : Origin) (v : Values) (d : Devices) → GoesOnSo o v.cabin.cards d d
@@ -116,6 +118,9 @@ module _ (o : Origin) (done : List TraceSecond) (s : TraceSecond) (v : Values) (
     moment = done_.0;
     out = record { torn = λ x there. same (λ (k : Course). Contains k.torn x) there; pulled = λ x there. same (λ (k : Course). Contains k.pulled x) there };
     found_same = ap (λ (k : Course). k.found) done_.1;
+    asked_same = asked-quiet p.log done v.log s w.moment.up_to.uncut front (Insert slot card) rest are (ap (λ (r : Option SlotFault). asks s.number n r (Insert slot card) c.slots) is);
+    stops_same = refl;
+    sessions = λ x. inl refl;
     enter = λ x. same (λ (k : Course). times_of x c.entered ≤ times_of x k.entered) (let more = entered-more x in omega (arith, more));
     wait = λ x. same (λ (k : Course). times_of x waits + times_of x c.entered ≤ times_of x [] + times_of x k.entered) (let more = entered-more x in omega (arith, more));
     decided = same (λ (k : Course). HasDecided (rule_of o) (start_at o) told0 p w.b.span k None (settled w.sp) w.ds decided w.new)

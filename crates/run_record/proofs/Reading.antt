@@ -1,5 +1,5 @@
 -- Power comes, and the unit was not read: a cut ends the second.
-use Rattle.std.proofs.Common.{◌≡◌, ◌⊎◌, inl, inr, ⊎_elim, ℕ, suc, ◌-◌, ◌/◌, ◌≤◌, true, false, ◌&&◌, Option, Some, None, List, [], ◌∷◌, ◌++◌, Contains, length, filter, refl, ap, sym, subst, ◌∙◌, arith, append-nil}
+use Rattle.std.proofs.Common.{◌≡◌, ◌⊎◌, inl, inr, ⊎_elim, ℕ, suc, ◌-◌, ◌/◌, ◌≤◌, true, false, ◌&&◌, Option, Some, None, List, [], ◌∷◌, ◌++◌, Contains, length, filter, refl, ap, sym, subst, ◌∙◌, arith, append-nil, All}
 use Rattle.std.proofs.lemmas.List.Elements.{Contains-push_cases}
 use Rattle.trace_model.specs.declared.Card.{Card}
 use Rattle.trace_model.specs.declared.Card.TheVariants.{A, B}
@@ -13,7 +13,7 @@ use Rattle.run_unit_course.specs.Followed.{UnitPower, Lit, Due, Lost, MayPower, 
 use Rattle.safety_model.specs.Cards.{is_overlap}
 use Rattle.safety_model.specs.Safe.{Devices, card_of, breakdowns_of}
 use Rattle.run_crew.specs.Cabin.{with_power_lost}
-use Rattle.run_crew.specs.Cards.{with_session}
+use Rattle.run_crew.specs.Cards.{with_session, session_of}
 use Rattle.run_crew.proofs.Sessions.{all_gone}
 use Rattle.run_course.specs.Moments.{and_break}
 use Rattle.run_course.specs.Followed.{Progress, BookFollowsRun}
@@ -38,6 +38,11 @@ use Rattle.run_record.specs.Powering.{IsNotRead, AReadingFails}
 use Rattle.run_record.proofs.Parts.{entered-grows}
 use Rattle.run_record.proofs.Stays.{since-later, since-cut}
 use Rattle.run_record.proofs.Powering.{off-of}
+use Rattle.run_record.proofs.Asked.{same-seconds, next-powers, asked-broken}
+use Rattle.run_record.proofs.HandedSteps.{handed-over, handed-begins}
+use Rattle.run_record.specs.Handed.{AreHandedBehind}
+use Rattle.log_model.specs.Same.{SameAt}
+use Rattle.run_course.proofs.Reached.{nothing-told}
 
 -- where power may come it may fail
 may-fail : (supply : UnitPower) (next : ℕ) → MayPower supply next → MayFail supply next
@@ -69,8 +74,8 @@ module _ (o : Origin) (done : List TraceSecond) (s : TraceSecond) (supply : Unit
   abbrev ended : Course
   ended = cut_told true (not_begun s.actions (fresh true was.before.slots))
 
-  off : RecordUnpowered o done v (carried v r.due r.book r.standing r.brought) d
-  off = off-of o done supply v (carried v r.due r.book r.standing r.brought) d may r.held
+  off : RecordUnpowered o done v (carried v r.due r.book r.standing r.brought r.hands r.firsts) d
+  off = off-of o done supply v (carried v r.due r.book r.standing r.brought r.hands r.firsts) d may r.held
 
   ends : t ≡ told_with true true s ended
   ends = (power-on_cut (rule_of o) (start_at o) o.from (first_of o) done p f (may-fail supply v.next may) s number given (breakdowns_of d) (breakdowns_of e) failed.goes.breakdowns failed.broke).0
@@ -133,6 +138,17 @@ module _ (o : Origin) (done : List TraceSecond) (s : TraceSecond) (supply : Unit
       (subst (λ (sl : Slots). SlotsTell (start_at o) (was.told ++ t ∷ []) r.book.sure [] (suc v.next - 1) (suc v.next / 60) sl (with_power_lost s.number v.cabin).slots) (sym slots-now)
       (subst (λ (x : ToldSecond). SlotsTell (start_at o) (was.told ++ x ∷ []) r.book.sure [] (suc v.next - 1) (suc v.next / 60) ended.slots (with_power_lost s.number v.cabin).slots) (sym ends) on))
 
+  -- the entries by hand so far
+  seconds-same : All (λ (x : TraceSecond). SameAt v.log log x.number) done
+  seconds-same = same-seconds o.from done p log s f.order f.next goes_by
+
+  handed : AreHandedBehind (start_at o) r.book.sure o.found log (done ++ s ∷ []) v.stops v.marks r.hands r.firsts (session_of (with_power_lost s.number v.cabin).cards)
+  handed = handed-over o.found v.log v.log log done s (In 0) (fresh true was.before.slots) t v.stops v.marks r.hands r.firsts (session_of v.cabin.cards) (session_of (with_power_lost s.number v.cabin).cards)
+      (asked-broken v.log done v.log s (In 0) s.actions (nothing-told (rule_of o) (start_at o) o.from (first_of o) done p f s.number (omega (arith, number))).cut ([], refl, refl) seconds-same
+      (next-powers v.log log done s seconds-same (ap (λ (x : ToldSecond). x.lit) ends)))
+      told-now (ap (λ (x : ToldSecond). x.second.number) ends) none (λ x. inr (all_gone v.cabin.cards x))
+      (handed-begins o.found v.log done s (fresh true was.before.slots) v.stops v.marks r.hands r.firsts (session_of v.cabin.cards) refl r.handed)
+
   pub reading-failed : RecordBetweenSeconds o (done ++ s ∷ []) Lost (cut_values s (In 0) v) e
   reading-failed = record {
     book = r.book;
@@ -141,6 +157,9 @@ module _ (o : Origin) (done : List TraceSecond) (s : TraceSecond) (supply : Unit
     due = r.due;
     standing = r.standing;
     brought = r.brought;
+    hands = r.hands;
+    firsts = r.firsts;
+    handed = handed;
     recorded = failed-recorded o done p r.travel v.marks (breakdowns_of d) (breakdowns_of e) r.brought r.recorded (may-fail supply v.next may) s number given failed.goes.breakdowns failed.broke;
     beside = record { verdicts = verdicts; spared = spared; travels = failed.travels };
     there = failed.goes.there r.there;

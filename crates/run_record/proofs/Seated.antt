@@ -1,5 +1,5 @@
 -- An accepted card failed in its slot, as something was to be noted on it: it is torn out.
-use Rattle.std.proofs.Common.{◌≡◌, inl, ℕ, ◌+◌, ◌/◌, ◌≤◌, false, Option, Some, None, List, [], ◌∷◌, ◌++◌, Contains, map, refl, ap, sym, subst, ◌∙◌, arith}
+use Rattle.std.proofs.Common.{◌≡◌, inl, ℕ, ◌+◌, ◌/◌, ◌≤◌, false, Option, Some, None, List, [], ◌∷◌, ◌++◌, Contains, map, refl, ap, sym, subst, ◌∙◌, arith, true}
 use Rattle.std.proofs.lemmas.List.Elements.{Contains-push}
 use Rattle.activity_codec.specs.declared.values.Slot.{Slot}
 use Rattle.trace_model.specs.declared.Card.{Card}
@@ -39,6 +39,8 @@ use Rattle.run_record.proofs.Moved.{not-leaving}
 use Rattle.run_record.proofs.Onward.{IsStep, steps-on, step-fails}
 use Rattle.run_record.proofs.Torn.{slots-taken, back-torn, torn-present}
 use Rattle.run_record.proofs.Pulling.{sitting-now, standing-now}
+use Rattle.run_record.proofs.Asked.{asked-torn}
+use Rattle.run_record.proofs.HandedSteps.{less-stay}
 
 module _ (o : Origin) (done : List TraceSecond) (s : TraceSecond) (at : Phase) (v : Values) (d e : Devices) (w : RecordInSecond o done s at [] None [] v d) (slot : Slot) (card : Card) (b : Break) (k : IsCalledSeated o done s at v d e w slot card b) where
   abbrev p : Progress
@@ -93,6 +95,9 @@ module _ (o : Origin) (done : List TraceSecond) (s : TraceSecond) (at : Phase) (
     moment = torn.0;
     out = out-now;
     found_same = is.is.found;
+    asked_same = asked-torn p.log done v.log s at slot true b k.here;
+    stops_same = refl;
+    sessions = less-stay card v.cabin.cards;
     enter = λ x. let same = ap (λ (vs : List Visit). times_of x vs) is.is.entered in omega (arith, same);
     wait = λ x. let same = ap (λ (vs : List Visit). times_of x vs) is.is.entered in omega (arith, same);
     decided = nothing-else (rule_of o) (start_at o) told0 p w.b.span c now None w.sp w.ds [] w.new w.decided is.is.picks is.is.settled;
@@ -117,7 +122,7 @@ module _ (o : Origin) (done : List TraceSecond) (s : TraceSecond) (at : Phase) (
   few : s.number / 60 ≤ w.from + 4
   few = let left = few-left o done s at [] [] v d w in omega (arith, left)
 
-  pub torn-goes : DevicesPowered o.found (carried v w.due (kept_all w.new w.b.run.book) fell w.brought) later.cabin.cards e → SecondGoesOn o done s at [] None [] later e w.b w.from
+  pub torn-goes : DevicesPowered o.found (carried v w.due (kept_all w.new w.b.run.book) fell w.brought w.hands w.firsts) later.cabin.cards e → SecondGoesOn o done s at [] None [] later e w.b w.from
   torn-goes powered = steps-on o done s at at [] [] [] v later d e w w.sp step (record {
     minutes = w.minutes;
     until = w.until;

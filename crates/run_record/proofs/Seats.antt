@@ -106,6 +106,7 @@ found-less f card cards h = record {
   own = h.own;
   sizes = h.sizes;
   entries = h.entries;
+  word = h.word;
 }
 
 -- ---- a slot and its seat

@@ -18,6 +18,8 @@ use Rattle.run_promise.proofs.Beside.{kept-later}
 use Rattle.run_record.specs.Within.{Beginning, told_before, course_in, IsFoundSo, ACallIsRecorded, AFailureIsRecorded}
 use Rattle.run_record.proofs.Left.{verdict-left, seen-left}
 use Rattle.run_record.proofs.Written.{spared-called}
+use Rattle.run_record.proofs.HandedSteps.{handed-gone}
+use Rattle.run_crew.specs.Cards.{session_of}
 
 verdicts-left : (o : Origin) (done : List TraceSecond) (b : Beginning) (d e : Devices) → HaveLeftMore o d e → AreVerdicts o done b.run.log b.run.unfound b.marks d → AreVerdicts o done b.run.log b.run.unfound b.marks e
 verdicts-left o done b d e left h = record {
@@ -66,6 +68,9 @@ call-recorded d e o done s at waits speed rest v w k = record {
     due = w.due;
     standing = w.standing;
     brought = w.brought;
+    hands = w.hands;
+    firsts = w.firsts;
+    handed = w.handed;
     powered = k.powered;
     found = w.found;
     early = w.early;
@@ -110,6 +115,9 @@ failure-recorded d e o done s at waits speed rest v w k = record {
   due = k.due;
   standing = k.standing;
   brought = w.brought;
+  hands = w.hands;
+  firsts = w.firsts;
+  handed = handed-gone o.found w.b.run.log done s at v.log (course_in w.b done s at v.log) v.stops v.marks w.hands w.firsts (session_of v.cabin.cards) w.handed;
   powerless = k.powerless;
   found = w.found;
   early = λ card n at_. let lt = w.early card n at_ in let later = k.due_later in omega (arith, lt, later);

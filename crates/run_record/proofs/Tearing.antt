@@ -42,6 +42,11 @@ use Rattle.run_record.proofs.Stays.{goes-taken, left-taken}
 use Rattle.run_record.proofs.Written.{written-fewer, torn-written}
 use Rattle.run_record.specs.Judging.{MayBeWrittenBy, IsTornNext, AWaitingCardIsTorn, ATearingFails}
 use Rattle.run_record.proofs.Sitting.{another, seat-there, sits-with, seated-still, verdicts-later}
+use Rattle.run_record.proofs.Asked.{asked-torn}
+use Rattle.run_record.proofs.HandedSteps.{handed-fewer}
+use Rattle.run_course.specs.Seconds.{kept_all}
+use Rattle.run_record.specs.Handed.{StayOrEnd, AreHandedIn}
+use Rattle.run_crew.specs.declared.cards.Accepted.{Accepted}
 
 -- a tear that is told is one that the log tells of
 itself : (slot : Slot) → same_slot slot slot ≡ true
@@ -138,6 +143,11 @@ module _ (o : Origin) (done : List TraceSecond) (s : TraceSecond) (at : Phase) (
     late = λ x verdict there accepts. w.finds.late x verdict (same-found x verdict there) accepts;
   }
 
+  -- the entries by hand so far, with these sessions
+  pub handed : (after : Card → Option Accepted) → StayOrEnd (session_of v.cabin.cards) after → AreHandedIn (start_at o) (kept_all w.new w.b.run.book).sure o.found p.log done s at (and_break v.log b) now v.stops v.marks w.hands w.firsts after
+  handed after stay_or_end =
+      handed-fewer o.found p.log done s at at v.log (and_break v.log b) c now v.stops v.marks w.hands w.firsts (session_of v.cabin.cards) after is.is.found (asked-torn p.log done v.log s at slot true b j.here) stay_or_end w.handed
+
   -- which cards may be written
   goes : (x : Card) → GoesOnIn s.number v.cabin.slots cabin.slots x
   goes x = subst (λ (k : Kept). GoesOnIn s.number v.cabin.slots k x) (sym j.slots_are) (goes-taken s.number slot v.cabin.slots x)
@@ -188,7 +198,10 @@ torn-next d e o done s at waits fewer v w slot card b cabin standing j st = reco
     due = w.due;
     standing = standing;
     brought = w.brought;
+    hands = w.hands;
+    firsts = w.firsts;
     powered = st.powered;
+    handed = handed o done s at waits fewer v d e w slot card b cabin j (session_of cabin.cards) j.lasts;
     found = j.found;
     early = w.early;
     late = w.late;
@@ -236,7 +249,10 @@ tearing-fails d e o done s at waits fewer v w slot card b cabin j k = record {
   due = w.due;
   standing = k.standing;
   brought = w.brought;
+  hands = w.hands;
+  firsts = w.firsts;
   powerless = k.powerless;
+  handed = handed o done s at waits fewer v d e w slot card b cabin j (λ x. None) (λ x. inr refl);
   found = j.found;
   early = w.early;
   late = let late = w.late in let here = j.next.is_now in omega (arith, late, here);

@@ -30,6 +30,7 @@ use Rattle.run_promise.specs.Origin.{Origin, rule_of, first_of}
 use Rattle.run_promise.specs.Seconds.{empty_log}
 use Rattle.run_record.specs.Recorded.{Values, slots_of, AreThere, RecordBetweenSeconds}
 use Rattle.run_record.specs.Within.{RecordedFrom}
+use Rattle.run_promise.specs.Opening.{carried_first}
 
 -- WITHOUT POWER, up to the minute's end after a failed call: the actions of the first second are refused, and the last
 -- one had so many
@@ -97,9 +98,10 @@ pub record MayStart (o : Origin) (v : Values) (d : Devices) : Type 0 where
   pub unfound : v.unfound ≡ 0
   pub next : v.next ≡ o.from
   pub begun : v.begun ≡ 0
+  pub stops : v.stops ≡ []
   pub breakdowns : IsMore o.breakdowns (breakdowns_of d)
   pub powerless : DevicesUnpowered o.found
-      (record { due = o.from / 60; book = not_begun; marks = []; standing = λ c. Out; brought = λ c. [] }) d
+      (carried_first (o.from / 60)) d
   pub found : AreFoundCards o.found v.cabin.cards
   pub there : AreThere o.found d
   pub untouched : (c : Card) → IsUntouched (found_of o.found c) (card_of d c)

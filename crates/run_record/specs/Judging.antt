@@ -1,7 +1,7 @@
 -- A card that waits in a slot is judged in a run with cards (profile): what is found of it is told, and it is accepted
 -- or not; or it is torn out.
 use Rattle.std.specs.Prelude.{◌≡◌, ◌⊎◌, ℕ, ◌/◌, ◌<◌, ◌≤◌, Bool, true, false, Some, None, List, [], ◌++◌, Contains}
-use Rattle.std.specs.Prelude.{is_some}
+use Rattle.std.specs.Prelude.{is_some, Option}
 use Rattle.std.specs.List.{AllByRecursion}
 use Rattle.activity_codec.specs.declared.values.Slot.{Slot}
 use Rattle.activity_codec.specs.declared.values.Slot.TheVariants.{Driver, CoDriver}
@@ -12,7 +12,7 @@ use Rattle.log_model.specs.declared.lines.Break.{Break}
 use Rattle.log_model.specs.declared.lines.Find.{Find}
 use Rattle.log_model.specs.declared.lines.Mark.{Mark}
 use Rattle.log_model.specs.Log.{Phase, Keeping, is_accepting, found_in}
-use Rattle.log_model.specs.Slots.{in_slot}
+use Rattle.log_model.specs.Slots.{in_slot, same_card}
 use Rattle.log_model.specs.Causes.{RoseBy}
 use Rattle.log_model.specs.Course.{Visit, went}
 use Rattle.device_rule.specs.Rules.{Standing}
@@ -20,25 +20,32 @@ use Rattle.run_unit_course.specs.Legs.{all_travelled}
 use Rattle.unit_model.specs.Image.{odometer_at}
 use Rattle.unit_rule.specs.Odometer.{HasTravelled}
 use Rattle.card_image.specs.Own.{own_view, IsOwnValid}
-use Rattle.safety_model.specs.Recording.{card_image}
+use Rattle.safety_model.specs.Recording.{card_image, brought as brought_at}
 use Rattle.safety_model.specs.Safe.{Devices, card_of, breakdowns_of}
 use Rattle.card_slots.specs.Kept.{IsFree, put_in, taken}
 use Rattle.run_crew.specs.declared.cabin.Cabin.{Cabin}
 use Rattle.run_crew.specs.Cards.{session_of}
 use Rattle.run_promise.specs.Found.{found_of}
-use Rattle.run_promise.specs.Cards.{IsUntouched}
+use Rattle.run_promise.specs.Cards.{IsUntouched, brought_by as entries_brought}
 use Rattle.run_course.specs.Moments.{and_break, and_find}
 use Rattle.run_course.specs.Presence.{IsNewestAt}
 use Rattle.run_course.specs.Seconds.{kept_all}
 use Rattle.run_promise.specs.Going.{IsTakenAt}
 use Rattle.run_course.specs.Reached.{moved_at, IsTearAt, IsFindAt}
 use Rattle.run_course.specs.Telling.{IsMore, BrokeDown, WaitBut}
-use Rattle.run_devices.specs.Told.{AreFoundCards, DevicesPowered, DevicesUnpowered}
+use Rattle.run_devices.specs.Told.{AreFoundCards, DevicesPowered, DevicesUnpowered, card_marks, HasFoundSo}
 use Rattle.run_devices.specs.Presence.{IsSeated}
 use Rattle.run_promise.specs.Origin.{Origin, start_at, first_of}
 use Rattle.run_promise.specs.Beside.{HaveLeftMore}
 use Rattle.run_record.specs.Recorded.{Values, carried, AreThere}
+use Rattle.run_record.specs.Handed.{StayOrEnd}
 use Rattle.run_record.specs.Within.{course_in, VerdictBy, often, AreOld, RecordInSecond, SecondGoesOn, RecordAtFailure}
+use Rattle.activity_codec.specs.declared.entries.Entry.{Entry}
+use Rattle.log_model.specs.declared.lines.Verdict.{Verdict}
+use Rattle.safety_model.specs.Hands.{brought_by as many_brought}
+use Rattle.hand_model.specs.Holding.{none_held}
+use Rattle.run_crew.specs.declared.cards.Accepted.{Accepted}
+use Rattle.history_model.specs.Presence.{trimmed_by, newest_minute}
 
 -- A CARD WAITS in a slot at a moment: it sits there and is not accepted, and has entered with this moment; all minutes
 -- before this second's are kept. Behind it these cards wait.
@@ -86,6 +93,22 @@ IsSeatedBy false o done s at waits v d w slot card cabin brought = cabin.slots �
 abbrev pub IsAccepted : Card → (accepts : Bool) → Card → Type 0
 IsAccepted card accepts x = (x ≡ card) × (accepts ≡ true)
 
+-- A CARD THAT IS ACCEPTED has a new session, if it has one, which holds no entry by hand; and what was owed to it was
+-- brought, with a mark each
+pub record IsOpened (o : Origin) (d : Devices) (card : Card) (u : ℕ) (v : Verdict) (old now : List Mark)
+    (session : Option Accepted) : Type 0 where
+  pub clock : ℕ
+  pub owed : List Entry
+  pub marks : now ≡ old ++ card_marks card clock owed
+  pub told : HasFoundSo o.found card d.unit (card_of d card) u owed (many_brought v)
+  pub fresh : (a : Accepted) → session ≡ Some a → a.held ≡ none_held (u / 60)
+
+-- one that is not has the marks and the session that it had
+abbrev pub OpensBy : (accepts : Bool) → Origin → Devices → Card → ℕ → Verdict → (old now : List Mark)
+    → (was session : Option Accepted) → Type 0
+OpensBy true o d card u v old now was session = IsOpened o d card u v old now session
+OpensBy false o d card u v old now was session = (now ≡ old) × ((session ≡ was) ⊎ (session ≡ None))
+
 -- A CARD WAS JUDGED, and so was found of it: that may be found of it; what was acknowledged is so still; each device
 -- goes on; and no card has a session, or was written, but for those that had one and this one where it is accepted.
 pub record IsJudged (o : Origin) (done : List TraceSecond) (s : TraceSecond) (at : Phase) (waits fewer : List Visit)
@@ -111,6 +134,17 @@ pub record IsJudged (o : Origin) (done : List TraceSecond) (s : TraceSecond) (at
   pub untouched : (x : Card) → IsUntouched (found_of o.found x) (card_of d x)
       → IsUntouched (found_of o.found x) (card_of e x)
       ⊎ ((is_some (session_of v.cabin.cards x) ≡ true) ⊎ IsAccepted card (is_accepting f.verdict) x)
+  -- entries by hand: the other card has the session that it had; its own is new, or was found to be none
+  pub first : o.found.unit.first ≡ first_of o
+  pub start : (found_of o.found card).start ≡ brought_at o.recording card
+  pub opens : OpensBy (is_accepting f.verdict) o d card s.number f.verdict v.marks marks
+      (session_of v.cabin.cards card) (session_of cabin.cards card)
+  pub others : (x : Card) → same_card card x ≡ false → session_of cabin.cards x ≡ session_of v.cabin.cards x
+  pub above : is_accepting f.verdict ≡ true → (a : Accepted) → session_of cabin.cards card ≡ Some a
+      → trimmed_by (found_of o.found card).start ((found_of o.found card).start.entries
+      ++ entries_brought card (found_of o.found card).start (kept_all w.new w.b.run.book)) ≤ a.session.minute
+  pub under : is_accepting f.verdict ≡ true → (a : Accepted) → session_of cabin.cards card ≡ Some a
+      → a.session.minute ≤ newest_minute (start_at o) (kept_all w.new w.b.run.book).sure card s.number
   pub travels : HasTravelled (odometer_at o.recording.unit) (kept_all w.new w.b.run.book)
       (all_travelled w.ds w.b.travel) e.unit
 
@@ -119,7 +153,7 @@ pub record StandJudged (o : Origin) (done : List TraceSecond) (s : TraceSecond) 
     (v : Values) (d e : Devices) (w : RecordInSecond o done s at waits None [] v d) (card : Card) (f : Find)
     (marks : List Mark) (cabin : Cabin) (brought : Card → List ℕ) (standing : Card → Standing) : Type 0 where
   pub powered : DevicesPowered o.found (carried (judged_values f marks cabin v) w.due (kept_all w.new w.b.run.book)
-      standing brought) cabin.cards e
+      standing brought w.hands w.firsts) cabin.cards e
   pub others : (x : Card) → (x ≡ card → ⊥) → standing x ≡ w.standing x
   pub stands : is_accepting f.verdict ≡ true → IsSeated o.found standing card s.number
 
@@ -139,7 +173,7 @@ pub record FailedJudging (o : Origin) (done : List TraceSecond) (s : TraceSecond
     (cabin : Cabin) (brought : Card → List ℕ) : Type 0 where
   pub standing : Card → Standing
   pub powerless : DevicesUnpowered o.found
-      (carried (judged_values f marks cabin v) w.due (kept_all w.new w.b.run.book) standing brought) e
+      (carried (judged_values f marks cabin v) w.due (kept_all w.new w.b.run.book) standing brought w.hands w.firsts) e
   pub broke : RoseBy 1 (w.b.broken Recorder) (breakdowns_of e Recorder)
   pub no_keeping : at ≡ Keeping → ⊥
 
@@ -170,6 +204,7 @@ pub record IsTornNext (o : Origin) (done : List TraceSecond) (s : TraceSecond) (
   pub slots_are : cabin.slots ≡ taken slot s.number v.cabin.slots
   pub found : AreFoundCards o.found cabin.cards
   pub sessions : AreOld v.cabin.cards cabin.cards
+  pub lasts : StayOrEnd (session_of v.cabin.cards) (session_of cabin.cards)
   pub left : HaveLeftMore o d e
   pub there : AreThere o.found d → AreThere o.found e
   pub untouched : (x : Card) → IsUntouched (found_of o.found x) (card_of d x)
@@ -182,7 +217,7 @@ pub record StandTorn (o : Origin) (done : List TraceSecond) (s : TraceSecond) (a
     (v : Values) (d e : Devices) (w : RecordInSecond o done s at waits None [] v d) (card : Card) (b : Break)
     (cabin : Cabin) (standing : Card → Standing) : Type 0 where
   pub powered : DevicesPowered o.found (carried (torn_values b cabin v) w.due (kept_all w.new w.b.run.book) standing
-      w.brought) cabin.cards e
+      w.brought w.hands w.firsts) cabin.cards e
   pub others : (x : Card) → (x ≡ card → ⊥) → standing x ≡ w.standing x
 
 abbrev pub AWaitingCardIsTorn : (d e : Devices) → Type 0
@@ -199,7 +234,7 @@ pub record FailedTearing (o : Origin) (done : List TraceSecond) (s : TraceSecond
     0 where
   pub standing : Card → Standing
   pub powerless : DevicesUnpowered o.found
-      (carried (torn_values b cabin v) w.due (kept_all w.new w.b.run.book) standing w.brought) e
+      (carried (torn_values b cabin v) w.due (kept_all w.new w.b.run.book) standing w.brought w.hands w.firsts) e
   pub broke : RoseBy 1 (w.b.broken Recorder) (breakdowns_of e Recorder)
   pub no_keeping : at ≡ Keeping → ⊥
 

@@ -7,3 +7,5 @@ pub mod Taking
 pub mod Going
 pub mod Turning
 pub mod Losing
+pub mod HeldHands
+pub mod Handed

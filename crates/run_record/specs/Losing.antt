@@ -19,7 +19,9 @@ use Rattle.run_course.specs.Telling.{BrokeDown}
 use Rattle.run_devices.specs.Told.{AreFoundCards, DevicesPowered, DevicesUnpowered}
 use Rattle.run_promise.specs.Origin.{Origin}
 use Rattle.run_record.specs.Recorded.{Values, carried}
+use Rattle.run_record.specs.Handed.{StayOrEnd}
 use Rattle.run_record.specs.Within.{AreOld, RecordInSecond, RecordAtFailure}
+use Rattle.run_crew.specs.Cards.{session_of}
 use Rattle.run_record.specs.Judging.{Behind, judged_values, torn_values, IsJudged}
 
 -- what a run has by value behind find and tear
@@ -37,13 +39,14 @@ pub record IsLostSo (o : Origin) (done : List TraceSecond) (s : TraceSecond) (at
   pub slots_are : after.slots ≡ taken f.slot s.number cabin.slots
   pub found : AreFoundCards o.found after.cards
   pub sessions : AreOld v.cabin.cards after.cards
+  pub lasts : StayOrEnd (session_of cabin.cards) (session_of after.cards)
 
 pub record StandLost (o : Origin) (done : List TraceSecond) (s : TraceSecond) (at : Phase) (waits : List Visit)
     (v : Values) (d e : Devices) (w : RecordInSecond o done s at waits None [] v d) (card : Card) (f : Find)
     (marks : List Mark) (cabin after : Cabin) (brought : Card → List ℕ) (b : Break) (standing : Card → Standing) : Type
     0 where
   pub powered : DevicesPowered o.found (carried (lost_values f b marks cabin after v) w.due
-      (kept_all w.new w.b.run.book) standing brought) after.cards e
+      (kept_all w.new w.b.run.book) standing brought w.hands w.firsts) after.cards e
   pub others : (x : Card) → (x ≡ card → ⊥) → standing x ≡ w.standing x
 
 abbrev pub ACardIsLost : (d e : Devices) → Type 0
@@ -61,7 +64,8 @@ pub record FailedLosing (o : Origin) (done : List TraceSecond) (s : TraceSecond)
     (cabin after : Cabin) (brought : Card → List ℕ) (b : Break) : Type 0 where
   pub standing : Card → Standing
   pub powerless : DevicesUnpowered o.found
-      (carried (lost_values f b marks cabin after v) w.due (kept_all w.new w.b.run.book) standing brought) e
+      (carried (lost_values f b marks cabin after v) w.due (kept_all w.new w.b.run.book) standing brought w.hands
+      w.firsts) e
   pub broke : RoseBy 1 (w.b.broken Recorder) (breakdowns_of e Recorder)
   pub no_keeping : at ≡ Keeping → ⊥
 

@@ -66,7 +66,7 @@ pub record IsBack (o : Origin) (done : List TraceSecond) (supply : UnitPower) (v
   pub read : WasRead o k e
   pub stands : CountsSpan minutes (span_at (rule_of o) v.next [])
   pub powered : DevicesPowered o.found (all_out
-      (carried (begun_values k minutes v) r.due (found k r.book) r.standing r.brought)) v.cabin.cards e
+      (carried (begun_values k minutes v) r.due (found k r.book) r.standing r.brought r.hands r.firsts)) v.cabin.cards e
   pub goes : GoOn o d e
   pub travels : HasTravelled (odometer_at o.recording.unit) (found k r.book) (resumed leg r.travel) e.unit
 
@@ -97,7 +97,8 @@ pub record IsOnlyRead (o : Origin) (done : List TraceSecond) (supply : UnitPower
   pub leg : ℕ
   pub shows : MayShow (first_of o) r.book r.travel k leg
   pub read : WasRead o k e
-  pub powerless : DevicesUnpowered o.found (carried (read_values k v) r.due (found k r.book) r.standing r.brought) e
+  pub powerless : DevicesUnpowered o.found
+      (carried (read_values k v) r.due (found k r.book) r.standing r.brought r.hands r.firsts) e
   pub broke : RoseBy 1 (breakdowns_of d Recorder) (breakdowns_of e Recorder)
   pub goes : GoOn o d e
   pub travels : HasTravelled (odometer_at o.recording.unit) (found k r.book) (resumed leg r.travel) e.unit
@@ -112,7 +113,7 @@ AMendingFails d e = (o : Origin) (done : List TraceSecond) (s : TraceSecond) (su
 -- THE UNIT WAS NOT READ, since a call failed: nothing is found.
 pub record IsNotRead (o : Origin) (done : List TraceSecond) (supply : UnitPower) (v : Values) (d : Devices)
     (r : RecordBetweenSeconds o done supply v d) (e : Devices) : Type 0 where
-  pub powerless : DevicesUnpowered o.found (carried v r.due r.book r.standing r.brought) e
+  pub powerless : DevicesUnpowered o.found (carried v r.due r.book r.standing r.brought r.hands r.firsts) e
   pub broke : RoseBy 1 (breakdowns_of d Recorder) (breakdowns_of e Recorder)
   pub goes : GoOn o d e
   pub travels : HasTravelled (odometer_at o.recording.unit) r.book r.travel e.unit

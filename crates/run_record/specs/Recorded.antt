@@ -11,6 +11,7 @@ use Rattle.log_model.specs.declared.lines.Mark.{Mark}
 use Rattle.log_model.specs.Log.{RunLog}
 use Rattle.log_model.specs.Slots.{Slots, is_accepted}
 use Rattle.log_model.specs.Course.{ToldSecond, fresh, went}
+use Rattle.log_model.specs.declared.lines.Refused.{Refused}
 use Rattle.history_model.specs.Book.{Book}
 use Rattle.device_rule.specs.Rules.{Standing}
 use Rattle.run_unit_course.specs.Followed.{UnitPower, Lit, Due, Lost}
@@ -27,7 +28,8 @@ use Rattle.card_slots.specs.Kept.{Kept as SlotsKept, left_of}
 use Rattle.run_crew.specs.declared.cabin.Cabin.{Cabin}
 use Rattle.run_crew.specs.Cards.{session_of}
 use Rattle.run_promise.specs.Found.{Found, found_of}
-use Rattle.run_promise.specs.Cards.{IsUntouched}
+use Rattle.hand_model.specs.Written.{Hands}
+use Rattle.run_promise.specs.Cards.{FirstKeep, IsUntouched}
 use Rattle.run_promise.specs.Between.{RunLedger}
 use Rattle.run_course.specs.Followed.{Progress}
 use Rattle.run_course.specs.Presence.{SlotsTell}
@@ -36,6 +38,7 @@ use Rattle.run_promise.specs.Origin.{Origin, rule_of, start_at, HistoryIsRecorde
 use Rattle.run_promise.specs.Beside.{AreFewFound}
 use Rattle.run_promise.specs.Ends.{recording_by, MayBeWritten, IsBeside}
 use Rattle.run_devices.specs.Presence.{PresentStand}
+use Rattle.run_record.specs.Handed.{AreHandedBehind}
 
 -- what a run has by value, as far as its record speaks of it: the lines and marks of its outcome, slots and sessions,
 -- the first break of which it is not known what was kept, the number of the next second, how many actions the last one
@@ -49,6 +52,8 @@ pub record Values : Type 0 where
   pub begun : ℕ
   pub minutes : Kept
   pub odometer : ℕ
+  -- the refusals of sessions, which are no part of the log
+  pub stops : List Refused
 
 -- how far the run has gone
 abbrev pub progress : Values → UnitPower → Book → Progress
@@ -63,13 +68,16 @@ progress v supply book = record {
 }
 
 -- what is carried of unit and cards
-abbrev pub carried : Values → (due : ℕ) → Book → (Card → Standing) → (brought : Card → List ℕ) → RunLedger
-carried v due book standing brought = record {
+abbrev pub carried : Values → (due : ℕ) → Book → (Card → Standing) → (brought : Card → List ℕ)
+    → (hands : Card → Hands) → (firsts : Card → List FirstKeep) → RunLedger
+carried v due book standing brought hands firsts = record {
   due = due;
   book = book;
   marks = v.marks;
   standing = standing;
   brought = brought;
+  hands = hands;
+  firsts = firsts;
 }
 
 -- the slots as the log has them
@@ -171,12 +179,17 @@ pub record RecordBetweenSeconds (o : Origin) (done : List TraceSecond) (supply :
   pub due : ℕ
   pub standing : Card → Standing
   pub brought : Card → List ℕ
+  pub hands : Card → Hands
+  pub firsts : Card → List FirstKeep
   pub recorded : HistoryIsRecorded o done (progress v supply book) travel v.marks (breakdowns_of d) brought
   pub beside : IsBeside o done (progress v supply book) travel v.marks d
   pub there : AreThere o.found d
   pub few : AreFewFound (recording_by o done v.log)
   pub written : (card : Card) → IsUntouched (found_of o.found card) (card_of d card) ⊎ IsWritten o done v card
   pub found : AreFoundCards o.found v.cabin.cards
-  pub early : AreEarly (carried v due book standing brought)
-  pub held : IsHeldBy o done supply v (carried v due book standing brought) d
+  pub early : AreEarly (carried v due book standing brought hands firsts)
+  pub held : IsHeldBy o done supply v (carried v due book standing brought hands firsts) d
+  -- the entries by hand of the seconds so far, and what the sessions hold of them
+  pub handed : AreHandedBehind (start_at o) book.sure o.found v.log done v.stops v.marks hands firsts
+      (session_of v.cabin.cards)
   pub odometer : IsCountedIn supply o travel.before v.odometer

@@ -143,7 +143,8 @@ ASessionIsClosed d e = (o : Origin) (done : List TraceSecond) (s : TraceSecond) 
     → (w : RecordInSecond o done s at [] None [] v d) → (slot : Slot) (card : Card)
     → IsCalledLeaving o done s at v d e w slot card →
     IsMore (breakdowns_of d) (breakdowns_of e) →
-    DevicesPowered o.found (with_standing card Out (carried v w.due (kept_all w.new w.b.run.book) w.standing w.brought))
+    DevicesPowered o.found (with_standing card Out
+    (carried v w.due (kept_all w.new w.b.run.book) w.standing w.brought w.hands w.firsts))
     (closed_values card v).cabin.cards e →
     SecondGoesOn o done s at [] None [] (closed_values card v) e w.b w.from
 
@@ -154,7 +155,7 @@ AClosingFails d e = (o : Origin) (done : List TraceSecond) (s : TraceSecond) (at
     → IsCalledLeaving o done s at v d e w slot card →
     IsMore (breakdowns_of d) (breakdowns_of e) →
     DevicesUnpowered o.found (with_standing card Out
-    (carried v w.due (kept_all w.new w.b.run.book) w.standing w.brought)) e
+    (carried v w.due (kept_all w.new w.b.run.book) w.standing w.brought w.hands w.firsts)) e
     → RoseBy 1 (w.b.broken Recorder) (breakdowns_of e Recorder) → (at ≡ Keeping → ⊥) →
     RecordAtFailure o done s at [] None (closed_values card v) e
 
@@ -168,7 +169,8 @@ ALeavingCardIsTorn d e = (o : Origin) (done : List TraceSecond) (s : TraceSecond
     → (w : RecordInSecond o done s at [] None [] v d) → (slot : Slot) (card : Card)
     → IsCalledLeaving o done s at v d e w slot card →
     (b : Break) → IsTearAt s at slot true b → BrokeDown card (breakdowns_of d) (breakdowns_of e) →
-    DevicesPowered o.found (with_standing card Out (carried v w.due (kept_all w.new w.b.run.book) w.standing w.brought))
+    DevicesPowered o.found (with_standing card Out
+    (carried v w.due (kept_all w.new w.b.run.book) w.standing w.brought w.hands w.firsts))
     (fallen_values b card s.number v).cabin.cards e →
     SecondGoesOn o done s at [] None [] (fallen_values b card s.number v) e w.b w.from
 
@@ -179,7 +181,7 @@ ALeavingTearFails d e = (o : Origin) (done : List TraceSecond) (s : TraceSecond)
     → IsCalledLeaving o done s at v d e w slot card →
     (b : Break) → IsTearAt s at slot true b → BrokeDown card (breakdowns_of d) (breakdowns_of e) →
     DevicesUnpowered o.found (with_standing card Out
-    (carried v w.due (kept_all w.new w.b.run.book) w.standing w.brought)) e
+    (carried v w.due (kept_all w.new w.b.run.book) w.standing w.brought w.hands w.firsts)) e
     → RoseBy 1 (w.b.broken Recorder) (breakdowns_of e Recorder) → (at ≡ Keeping → ⊥) →
     RecordAtFailure o done s at [] None (fallen_values b card s.number v) e
 
@@ -226,7 +228,8 @@ ASeatedCardIsTorn d e = (o : Origin) (done : List TraceSecond) (s : TraceSecond)
     → (w : RecordInSecond o done s at [] None [] v d) → (slot : Slot) (card : Card) (b : Break)
     → IsCalledSeated o done s at v d e w slot card b →
     DevicesPowered o.found (with_standing card (fallen w.from (w.standing card))
-    (carried v w.due (kept_all w.new w.b.run.book) w.standing w.brought)) (torn_out card s.number v.cabin).cards e →
+    (carried v w.due (kept_all w.new w.b.run.book) w.standing w.brought w.hands w.firsts))
+    (torn_out card s.number v.cabin).cards e →
     SecondGoesOn o done s at [] None [] (torn_values b (torn_out card s.number v.cabin) v) e w.b w.from
 
 -- or the unit failed behind that.
@@ -235,6 +238,6 @@ ASeatedTearFails d e = (o : Origin) (done : List TraceSecond) (s : TraceSecond) 
     → (w : RecordInSecond o done s at [] None [] v d) → (slot : Slot) (card : Card) (b : Break)
     → IsCalledSeated o done s at v d e w slot card b →
     DevicesUnpowered o.found (with_standing card (fallen w.from (w.standing card))
-    (carried v w.due (kept_all w.new w.b.run.book) w.standing w.brought)) e
+    (carried v w.due (kept_all w.new w.b.run.book) w.standing w.brought w.hands w.firsts)) e
     → RoseBy 1 (w.b.broken Recorder) (breakdowns_of e Recorder) → (at ≡ Keeping → ⊥) →
     RecordAtFailure o done s at [] None (torn_values b (torn_out card s.number v.cabin) v) e

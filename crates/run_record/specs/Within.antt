@@ -1,7 +1,7 @@
 -- What the recorder with cards carries WITHIN A SECOND that has power (profile): at its power-on, at each of its
 -- actions, and in its keeping.
-use Rattle.std.specs.Prelude.{◌≡◌, ◌⊎◌, ◌&&◌, Bool, ℕ, suc, ◌+◌, ◌-◌, ◌*◌, ◌/◌, ◌≤◌, ◌<◌, true, false, Option, Some}
-use Rattle.std.specs.Prelude.{None, IfSome, is_some, List, [], ◌∷◌, ◌++◌, Contains, length, filter, option_map}
+use Rattle.std.specs.Prelude.{◌≡◌, ◌⊎◌, ◌&&◌, Bool, ℕ, suc, ◌+◌, ◌-◌, ◌*◌, ◌/◌, ◌≤◌, ◌<◌, true, false, Option, Some, None}
+use Rattle.std.specs.Prelude.{IfSome, is_some, List, [], ◌∷◌, ◌++◌, Contains, length, filter, option_map}
 use Rattle.std.specs.Prelude.{option_to_list}
 use Rattle.activity_codec.specs.declared.values.Slot.{Slot}
 use Rattle.activity_codec.specs.declared.values.Slot.TheVariants.{Driver, CoDriver}
@@ -17,12 +17,13 @@ use Rattle.minute_model.specs.Span.{Span, fed, picked, decided_in, ungiven_of}
 use Rattle.minute_rules.specs.Kept.{Kept, CountsSpan}
 use Rattle.log_model.specs.declared.lines.Mark.{Mark}
 use Rattle.log_model.specs.declared.lines.Verdict.{Verdict}
-use Rattle.log_model.specs.declared.lines.Verdict.TheVariants.{Accepted, NotValid, TimeOverlap}
+use Rattle.log_model.specs.declared.lines.Verdict.TheVariants.{Accepted as Takes, NotValid, TimeOverlap}
 use Rattle.log_model.specs.Causes.{RoseBy}
 use Rattle.log_model.specs.Log.{RunLog, Phase, In, Keeping, is_accepting, is_torn_in}
 use Rattle.log_model.specs.declared.lines.SlotFault.{SlotFault}
 use Rattle.log_model.specs.Slots.{same_card, refusal}
 use Rattle.log_model.specs.Course.{ToldSecond, Course, Visit, Before, went}
+use Rattle.log_model.specs.declared.lines.Refused.{Refused}
 use Rattle.history_model.specs.Minutes.{HistoryMinute}
 use Rattle.history_model.specs.Presence.{card_start}
 use Rattle.history_model.specs.History.{seated}
@@ -40,7 +41,8 @@ use Rattle.safety_model.specs.Recording.{card_image, unit_seen}
 use Rattle.safety_model.specs.Cards.{entered, overlaps, is_overlap}
 use Rattle.safety_model.specs.Safe.{Devices, card_of, breakdowns_of, entered_by}
 use Rattle.run_promise.specs.Found.{found_of}
-use Rattle.run_promise.specs.Cards.{IsUntouched}
+use Rattle.hand_model.specs.Written.{Hands}
+use Rattle.run_promise.specs.Cards.{FirstKeep, IsUntouched}
 use Rattle.run_course.specs.Followed.{Progress}
 use Rattle.run_course.specs.Moments.{and_break, and_refused}
 use Rattle.run_course.specs.Seconds.{next_told, kept_all, broken_at}
@@ -57,14 +59,23 @@ use Rattle.run_promise.specs.Ends.{recording_by, IsAllOwed, AreVerdicts}
 use Rattle.run_promise.specs.Beside.{HaveLeftMore, AreFewFound}
 use Rattle.run_devices.specs.Presence.{PresentStand}
 use Rattle.card_slots.specs.declared.seats.Present.{Present}
-use Rattle.card_slots.specs.Calls.{seat_in, present_in}
+use Rattle.card_slots.specs.Calls.{seat_in, present_in, card_in}
 use Rattle.card_slots.specs.Kept.{Kept as SlotsKept, left_of}
 use Rattle.run_crew.specs.declared.cabin.Cabin.{Cabin}
 use Rattle.run_crew.specs.declared.cards.Cards.{Cards}
-use Rattle.run_crew.specs.Cards.{session_of}
+use Rattle.run_crew.specs.Cards.{known_of, session_of}
+use Rattle.run_crew.specs.declared.cards.Accepted.{Accepted}
 use Rattle.run_crew.specs.Cabin.{SitsNowhere, CabinIsSound, with_minute_ended, with_power_lost}
 use Rattle.run_record.specs.Recorded.{Values, progress, carried, IsWrittenSince, AreThere, IsCountedFrom}
 use Rattle.run_record.specs.Recorded.{RecordBetweenSeconds}
+use Rattle.run_record.specs.Handed.{AreHandedIn}
+use Rattle.activity_codec.specs.declared.entries.Manual.{Manual as Entry}
+use Rattle.activity_codec.specs.Activity.{activity_of}
+use Rattle.hand_model.specs.Holding.{stopped_by}
+use Rattle.log_model.specs.ByHand.{minute_on}
+use Rattle.hand_model.specs.declared.held.EnterFault.{EnterFault}
+use Rattle.hand_model.specs.declared.held.EnterFault.TheVariants as enter
+use Rattle.log_model.specs.declared.lines.SlotFault.TheVariants.{Begun, NotFree, Full}
 
 -- as the second began, behind its power-on: how far the run had gone, the seconds of the span, what was travelled, the
 -- marks, how often each device had broken down, and what acceptances had brought
@@ -86,7 +97,7 @@ course_in b done s at log = course_at log (went b.run.log done).before s at
 -- What may be found of a card in a second in whose minute it has entered so often (the same as `IsVerdict` of
 -- safety_model, by that number),
 abbrev pub SeenBy : Origin → (often : ℕ) → (unit card : List ℕ → Type 0) → Card → ℕ → Verdict → Type 0
-SeenBy o often unit card c u (Accepted replayed) =
+SeenBy o often unit card c u (Takes replayed) =
     IsOwnValid (card_image o.recording c) × ((own_view (card_image o.recording c)).stored ≤ u)
     × ((i x : List ℕ) × unit i × card x × ((own_view x).stored ≤ u)
     × (length (owed c (unit_seen o.recording i) (own_view x)) ≡ replayed))
@@ -99,7 +110,7 @@ SeenBy o often unit card c u (TimeOverlap stored now) = IsOwnValid (card_image o
 
 -- and what an acceptance brings, by that number and the seconds before (the same as `BringsAll` of run_promise).
 abbrev pub BringsBy : Origin → Beginning → List TraceSecond → (often : ℕ) → List Mark → Card → ℕ → Verdict → Type 0
-BringsBy o b done often marks c u (Accepted replayed) = IsAllOwed o.recording marks c replayed
+BringsBy o b done often marks c u (Takes replayed) = IsAllOwed o.recording marks c replayed
     ⊎ ((1 < often) ⊎ ((t : ℕ) × (t < u) × (0 < entered_by (recording_by o done b.run.log) c t)))
 BringsBy o b done often marks c u (NotValid fid place) = Unit {0}
 BringsBy o b done often marks c u (TimeOverlap stored now) = Unit {0}
@@ -199,9 +210,16 @@ pub record RecordInSecond (o : Origin) (done : List TraceSecond) (s : TraceSecon
   pub due : ℕ
   pub standing : Card → Standing
   pub brought : Card → List ℕ
-  pub powered : DevicesPowered o.found (carried v due (kept_all new b.run.book) standing brought) v.cabin.cards d
+  pub hands : Card → Hands
+  pub firsts : Card → List FirstKeep
+  pub powered : DevicesPowered o.found (carried v due (kept_all new b.run.book) standing brought hands firsts)
+      v.cabin.cards d
+  -- the entries by hand so far, and what the sessions hold of them
+  pub handed : AreHandedIn (start_at o) (kept_all new b.run.book).sure o.found b.run.log done s at v.log
+      (course_in b done s at v.log) v.stops v.marks hands firsts
+      (session_of v.cabin.cards)
   pub found : AreFoundCards o.found v.cabin.cards
-  pub early : AreEarly (carried v due (kept_all new b.run.book) standing brought)
+  pub early : AreEarly (carried v due (kept_all new b.run.book) standing brought hands firsts)
   pub late : due ≤ from
   pub more : (c : Card) (k : ℕ) → Contains (b.brought c) k → Contains (brought c) k
   -- who is present
@@ -261,11 +279,17 @@ pub record RecordAtFailure (o : Origin) (done : List TraceSecond) (s : TraceSeco
   pub due : ℕ
   pub standing : Card → Standing
   pub brought : Card → List ℕ
+  pub hands : Card → Hands
+  pub firsts : Card → List FirstKeep
   pub powerless : DevicesUnpowered o.found
-      (carried v due (broken_at (lost_minute o b done new lost) (kept_all new b.run.book)) standing brought) d
+      (carried v due (broken_at (lost_minute o b done new lost) (kept_all new b.run.book)) standing brought hands
+      firsts) d
+  pub handed : AreHandedIn (start_at o) (kept_all new b.run.book).sure o.found b.run.log done s at v.log
+      (course_in b done s at v.log) v.stops v.marks hands firsts
+      (λ c. None)
   pub found : AreFoundCards o.found v.cabin.cards
   pub early : AreEarly (carried v due (broken_at (lost_minute o b done new lost) (kept_all new b.run.book)) standing
-      brought)
+      brought hands firsts)
   pub late : due ≤ s.number / 60
   pub low : from ≤ s.number / 60
   pub more : (c : Card) (k : ℕ) → Contains (b.brought c) k → Contains (brought c) k
@@ -382,14 +406,66 @@ ASelectionIsRecorded d = (o : Origin) (done : List TraceSecond) (s : TraceSecond
     (minutes : Kept) → CountsSpan minutes (picked w.sp slot pick)
     → SecondGoesOn o done s (In (suc (length front))) [] None [] (heard_values minutes v) d w.b w.from
 
--- AN ENTRY BY HAND that slots and speed let pass changes nothing.
+-- two sessions are one, but for the entries by hand that they hold
+abbrev pub AreOneBut : (old new : Option Accepted) → Type 0
+AreOneBut None None = Unit {0}
+AreOneBut None (Some b) = ⊥
+AreOneBut (Some a) None = ⊥
+AreOneBut (Some a) (Some b) = (b.session ≡ a.session) × (b.held.begun ≡ a.held.begun)
+
+-- so it is of a card, of which the same is known
+pub record IsAlike (old new : Cards) (card : Card) : Type 0 where
+  pub number : (known_of new card).number ≡ (known_of old card).number
+  pub sizes : (known_of new card).sizes ≡ (known_of old card).sizes
+  pub row : (known_of new card).row ≡ (known_of old card).row
+  pub session : AreOneBut (session_of old card) (session_of new card)
+
+abbrev pub AreAlike : (old new : Cards) → Type 0
+AreAlike old new = (card : Card) → IsAlike old new card
+
+-- a session that holds an entry by hand too
+abbrev pub with_entry : Entry → Accepted → Accepted
+with_entry e a = record a { held = record a.held { entries = a.held.entries ++ e ∷ [] } }
+
+-- why a session does not take one, as the log tells it
+abbrev pub stop_told : EnterFault → SlotFault
+stop_told (enter.Begun first) = Begun first
+stop_told (enter.NotFree newest inserted) = NotFree newest inserted
+stop_told (enter.Full held) = Full held
+
+-- why it stops one of a minute, if it does
+abbrev pub stop_of : Accepted → (minute : ℕ) → Option SlotFault
+stop_of a minute = option_map stop_told (stopped_by a.held a.session.minute minute)
+
+-- ONE IS ANSWERED at a place of the course by the session of a card: it is stopped, which a line tells, or that holds
+-- it
+abbrev pub AnswersSo : Option SlotFault → (second begun : ℕ) → Entry → Card → (old new : Cards)
+    → (stops after : List Refused) → Type 0
+AnswersSo (Some fault) second begun e card old new stops after =
+    (after ≡ stops ++ record { second = second; fault = fault; begun = begun } ∷ [])
+    × ((c : Card) → session_of new c ≡ session_of old c)
+AnswersSo None second begun e card old new stops after = (after ≡ stops)
+    × ((c : Card) → same_card card c ≡ false → session_of new c ≡ session_of old c)
+    × ((a : Accepted) → session_of old card ≡ Some a → session_of new card ≡ Some (with_entry e a))
+
+abbrev pub IsAnswered : (second begun : ℕ) → Entry → Card → (old new : Cards) → (stops after : List Refused) → Type 0
+IsAnswered second begun e card old new stops after = (a : Accepted) → session_of old card ≡ Some a
+    → AnswersSo (stop_of a e.minute) second begun e card old new stops after
+
+-- AN ENTRY BY HAND that slots and speed let pass: a session holds it, or stops it.
 abbrev pub AnEntryByHandIsRecorded : Devices → Type 0
 AnEntryByHandIsRecorded d = (o : Origin) (done : List TraceSecond) (s : TraceSecond) (v : Values) (front : List Action)
     (slot : Slot) (pick : Pick) (minute : ℕ) (rest : List Action) →
     s.actions ≡ front ++ Manual slot pick minute ∷ rest →
     (w : RecordInSecond o done s (In (length front)) [] None [] v d)
     → refusal (course_in w.b done s (In (length front)) v.log).slots s.speed (Manual slot pick minute) ≡ None →
-    SecondGoesOn o done s (In (suc (length front))) [] None [] v d w.b w.from
+    (cabin : Cabin) → cabin.slots ≡ v.cabin.slots → AreAlike v.cabin.cards cabin.cards → (stops : List Refused)
+    → ((card : Card) → card_in (seat_in v.cabin.slots.seats slot) ≡ Some card
+    → IsAnswered s.number (suc (length front))
+    (record { minute = minute_on s.number minute; slot = slot; act = activity_of pick }) card v.cabin.cards cabin.cards
+    v.stops stops) →
+    SecondGoesOn o done s (In (suc (length front))) [] None [] (record v { cabin = cabin; stops = stops }) d w.b
+    w.from
 
 -- no session is new
 abbrev pub AreOld : (old new : Cards) → Type 0
@@ -410,7 +486,8 @@ pub record IsCalled (o : Origin) (done : List TraceSecond) (s : TraceSecond) (at
     (w : RecordInSecond o done s at waits speed rest v d) : Type 0 where
   pub goes : GoesOnSo o v.cabin.cards d e
   pub breakdowns : IsMore (breakdowns_of d) (breakdowns_of e)
-  pub powered : DevicesPowered o.found (carried v w.due (kept_all w.new w.b.run.book) w.standing w.brought)
+  pub powered : DevicesPowered o.found (carried v w.due (kept_all w.new w.b.run.book) w.standing w.brought w.hands
+      w.firsts)
       v.cabin.cards e
   pub travels : HasTravelled (odometer_at o.recording.unit) (kept_all w.new w.b.run.book)
       (all_travelled w.ds w.b.travel) e.unit
@@ -438,7 +515,8 @@ pub record HasFailed (o : Origin) (done : List TraceSecond) (s : TraceSecond) (a
   pub low : w.from ≤ s.number / 60
   pub standing : Card → Standing
   pub powerless : DevicesUnpowered o.found
-      (carried v due (broken_at (lost_minute o w.b done w.new lost) (kept_all w.new w.b.run.book)) standing w.brought) e
+      (carried v due (broken_at (lost_minute o w.b done w.new lost) (kept_all w.new w.b.run.book)) standing w.brought
+      w.hands w.firsts) e
   pub travels : HasTravelled (odometer_at o.recording.unit)
       (broken_at (lost_minute o w.b done w.new lost) (kept_all w.new w.b.run.book))
       (stranded_at lost (all_travelled w.ds w.b.travel)) e.unit

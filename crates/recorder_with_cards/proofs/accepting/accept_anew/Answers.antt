@@ -111,6 +111,7 @@ pub returns-in_default-clause-goes : goal.returns-in_default-clause-goes
 returns-in_default-clause-goes g c = record {
   later = later-same (devices (g.M.Medium.state c.args.unit.now) (g.C.Chip.state c.args.card_a.now) (g.D.Chip.state c.args.card_b.now));
   calm = calm-same (devices (g.M.Medium.state c.args.unit.now) (g.C.Chip.state c.args.card_a.now) (g.D.Chip.state c.args.card_b.now));
+  most = wrote-none 24 1072 (devices (g.M.Medium.state c.args.unit.now) (g.C.Chip.state c.args.card_a.now) (g.D.Chip.state c.args.card_b.now));
 }
 
 pub returns-clause-accepted : goal.returns-clause-accepted
@@ -157,12 +158,5 @@ pub returns-clause-goes : goal.returns-clause-goes
 returns-clause-goes g c = record {
   later = c.accept_in.ensures.goes.later;
   calm = c.accept_in.ensures.goes.calm;
+  most = c.accept_in.ensures.goes.most;
 }
-
--- ---- its writes
-
-pub returns-in_default-clause-most : goal.returns-in_default-clause-most
-returns-in_default-clause-most g c = wrote-none 24 1072 (devices (g.M.Medium.state c.args.unit.now) (g.C.Chip.state c.args.card_a.now) (g.D.Chip.state c.args.card_b.now))
-
-pub returns-clause-most : goal.returns-clause-most
-returns-clause-most g c = c.accept_in.ensures.most

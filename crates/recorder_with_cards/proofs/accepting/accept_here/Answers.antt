@@ -161,7 +161,7 @@ returns-clause-held g c =
       minute = k.minute (c.args.run.now.next / 60) minute (let is = ap (λ (n : ℕ). n / 60) at in omega (arith, is));
       card_a = both.0;
       card_b = both.1;
-      stand = (ungiven_of h.span, None, c.accept-answer.ensures.behind.stands (ungiven_of h.span) (omega (arith, sum, end, none, minute)) h.cabin);
+      stand = (ungiven_of h.span, None, c.accept-answer.ensures.behind.stands (ungiven_of h.span) (let here = ap (λ (n : ℕ). n / 60) at in omega (arith, sum, end, none, here)) h.cabin);
     }
 
 -- it leaves the blocks of detailed speed
@@ -179,7 +179,7 @@ returns-clause-going g c = on_ok c.accept-answer.result (λ well.
     let old = c.args.run.now.keeper.cabin.cards in let new = c.accept-answer.new.keeper.cabin.cards in
     let k = comes g c in
     let sum = owing-sum c.args.run.now.minutes h.span h.stands in
-    let end = h.next in let none = c.requires.none in let minute = held.minute in
+    let end = h.next in let none = c.requires.none in let at = c.requires.at in
     let same = others-session e.which old new k.others in
     let rows : (card : Card) → HasItsRow old U card → HasItsRow new V card = λ card had. ok_gives c.accept-answer.result (c.accept-answer.ensures.behind.rows card had) well in
     let others = other-ready old (g.C.Chip.card c.args.card.now) (g.D.Chip.card c.args.others.now) (g.C.Chip.state c.args.card.now) (g.D.Chip.state c.args.others.now) e.which h.ready.card_a h.ready.card_b in
@@ -194,7 +194,7 @@ returns-clause-going g c = on_ok c.accept-answer.result (λ well.
       low = h.low;
       due = h.due;
       later = let is = ap (λ (q : Keeper). q.journal.kept) w.1.left.keeper in let less = h.later in omega (arith, is, less);
-      cabin = c.accept-answer.ensures.behind.stands (ungiven_of h.span) (omega (arith, sum, end, none, minute)) h.cabin;
+      cabin = c.accept-answer.ensures.behind.stands (ungiven_of h.span) (let here = ap (λ (n : ℕ). n / 60) at in omega (arith, sum, end, none, here)) h.cabin;
       ended = ended-went (ungiven_of h.span) (c.args.run.now.next / 60) c.args.run.now.keeper.cabin.slots c.accept-answer.new.keeper.cabin.slots k.past h.ended;
       rows = λ card some.
           ⊎_elim
@@ -351,12 +351,28 @@ returns-clause-goes g c = record {
   later = c.accept-answer.ensures.goes.later;
   speeds = speeds-left g c;
   calm = c.accept-answer.ensures.goes.calm;
+  most =
+      let most = c.accept-answer.ensures.most.1 in
+      let days : DAYS_MOST ≡ 984 = refl in
+      (c.accept-answer.ensures.most.0, omega (arith, most, days));
 }
 
--- ---- its writes
+-- ---- what is asked of the card that enters
 
-pub returns-clause-most : goal.returns-clause-most
-returns-clause-most g c =
-    let most = c.accept-answer.ensures.most.1 in
-    let days : DAYS_MOST ≡ 984 = refl in
-    (c.accept-answer.ensures.most.0, omega (arith, most, days))
+pub accept-answer-requires-clause-may : goal.accept-answer-requires-clause-may
+accept-answer-requires-clause-may g c =
+    let alone = seat-answers (ungiven_of c.requires.acting.going.span) c.args.run.now.keeper.cabin c.args.entering.slot c.args.entering.which c.requires.acting.going.cabin c.requires.seat in
+    record {
+      come = record {
+        seat = c.requires.seat;
+        elsewhere = alone.0;
+        minute = first_of (search rules, grind (arith, common_steps));
+        second = first_of (search rules, grind (arith, common_steps));
+        fits = c.requires.fits;
+        bare = alone.1;
+        break_room = first_of (search rules, grind (arith, common_steps));
+        find_room = c.requires.finds;
+      };
+      late = first_of (search rules, grind (arith, common_steps));
+      last = first_of (search rules, grind (arith, common_steps));
+    }

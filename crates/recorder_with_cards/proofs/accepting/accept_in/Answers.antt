@@ -1,8 +1,9 @@
-use Rattle.std.proofs.Common.{◌∙◌, sym, subst, refl, arith}
+use Rattle.std.proofs.Common.{◌∙◌, ℕ, sym, subst, refl, arith}
 use Rattle.std.specs.Prelude.{is_err}
 use Rattle.trace_model.specs.declared.Card.{Card}
 use Rattle.safety_model.specs.Safe.{Devices}
 use Rattle.run_promise.specs.Between.{devices}
+use Rattle.run_note_record.specs.OnCards.{IsReading}
 use Rattle.recorder_with_cards.specs.Judged.{JudgesSo, EventsJudged}
 use Rattle.recorder_with_cards.specs.JudgedRings.{RingsJudged}
 use Rattle.run_minutes.proofs.Later.{state-by, later-of-a, later-of-b}
@@ -45,8 +46,8 @@ returns-in-A-clause-promises g c = record {
       let e : Devices = devices (g.M.Medium.state c.accept_here.new.unit) (g.C.Chip.state c.accept_here.new.card) (g.D.Chip.state c.args.card_b.now) in
       subst (λ (card : Card). RingsJudged c.args.slot card c.args.at (is_err c.accept_here.result) c.args.run.now c.accept_here.new.run c.args.outcome.now c.accept_here.new.outcome d e) (sym c.in-A.is)
       (λ o done s n waits fewer at next spans now counted time.
-      let sp = next.goes.within.sp in let stands = next.goes.within.minutes in
-      c.accept_here.ensures.promises.ringed room o done s n waits fewer at next spans (c.odometer_now-odometer.ensures.value next.goes.within.sp next.goes.within.minutes ∙ now) counted time);
+      let same = c.odometer_now-odometer.ensures.value next.goes.within.sp next.goes.within.minutes in
+      c.accept_here.ensures.promises.ringed room o done s n waits fewer at next spans (record { at = same ∙ now.at; reads = subst (λ (k : ℕ). IsReading spans k) (sym same) now.reads }) counted time);
   cards =
       λ room.
       let d : Devices = devices (g.M.Medium.state c.args.unit.now) (g.C.Chip.state c.args.card_a.now) (g.D.Chip.state c.args.card_b.now) in
@@ -70,6 +71,7 @@ pub returns-in-A-clause-goes : goal.returns-in-A-clause-goes
 returns-in-A-clause-goes g c = record {
   later = later-of-a (g.M.Medium.state c.args.unit.now) (g.M.Medium.state c.accept_here.new.unit) (g.C.Chip.state c.args.card_a.now) (g.C.Chip.state c.accept_here.new.card) (g.D.Chip.state c.args.card_b.now) (state-by (g.M.Medium.state c.args.unit.now) (g.M.Medium.state c.accept_here.new.unit) _ c.accept_here.ensures.goes.clock c.accept_here.ensures.cause) c.accept_here.ensures.goes.later c.accept_here.ensures.goes.speeds;
   calm = calm-of-a (g.M.Medium.state c.args.unit.now) (g.M.Medium.state c.accept_here.new.unit) (g.C.Chip.state c.args.card_a.now) (g.C.Chip.state c.accept_here.new.card) (g.D.Chip.state c.args.card_b.now) c.accept_here.ensures.goes.calm;
+  most = record { unit = c.accept_here.ensures.goes.most.0; card_a = c.accept_here.ensures.goes.most.1; card_b = omega arith };
 }
 
 pub returns-in-B-clause-accepted : goal.returns-in-B-clause-accepted
@@ -98,8 +100,8 @@ returns-in-B-clause-promises g c = record {
       let e : Devices = devices (g.M.Medium.state c.accept_here-in-B.new.unit) (g.C.Chip.state c.args.card_a.now) (g.D.Chip.state c.accept_here-in-B.new.card) in
       subst (λ (card : Card). RingsJudged c.args.slot card c.args.at (is_err c.accept_here-in-B.result) c.args.run.now c.accept_here-in-B.new.run c.args.outcome.now c.accept_here-in-B.new.outcome d e) (sym c.in-B.is)
       (λ o done s n waits fewer at next spans now counted time.
-      let sp = next.goes.within.sp in let stands = next.goes.within.minutes in
-      c.accept_here-in-B.ensures.promises.ringed room o done s n waits fewer at next spans (c.odometer_now-odometer.ensures.value next.goes.within.sp next.goes.within.minutes ∙ now) counted time);
+      let same = c.odometer_now-odometer.ensures.value next.goes.within.sp next.goes.within.minutes in
+      c.accept_here-in-B.ensures.promises.ringed room o done s n waits fewer at next spans (record { at = same ∙ now.at; reads = subst (λ (k : ℕ). IsReading spans k) (sym same) now.reads }) counted time);
   cards =
       λ room.
       let d : Devices = devices (g.M.Medium.state c.args.unit.now) (g.C.Chip.state c.args.card_a.now) (g.D.Chip.state c.args.card_b.now) in
@@ -123,12 +125,5 @@ pub returns-in-B-clause-goes : goal.returns-in-B-clause-goes
 returns-in-B-clause-goes g c = record {
   later = later-of-b (g.M.Medium.state c.args.unit.now) (g.M.Medium.state c.accept_here-in-B.new.unit) (g.C.Chip.state c.args.card_a.now) (g.D.Chip.state c.args.card_b.now) (g.D.Chip.state c.accept_here-in-B.new.card) (state-by (g.M.Medium.state c.args.unit.now) (g.M.Medium.state c.accept_here-in-B.new.unit) _ c.accept_here-in-B.ensures.goes.clock c.accept_here-in-B.ensures.cause) c.accept_here-in-B.ensures.goes.later c.accept_here-in-B.ensures.goes.speeds;
   calm = calm-of-b (g.M.Medium.state c.args.unit.now) (g.M.Medium.state c.accept_here-in-B.new.unit) (g.C.Chip.state c.args.card_a.now) (g.D.Chip.state c.args.card_b.now) (g.D.Chip.state c.accept_here-in-B.new.card) c.accept_here-in-B.ensures.goes.calm;
+  most = record { unit = c.accept_here-in-B.ensures.goes.most.0; card_a = omega arith; card_b = c.accept_here-in-B.ensures.goes.most.1 };
 }
-
--- ---- its writes
-
-pub returns-in-A-clause-most : goal.returns-in-A-clause-most
-returns-in-A-clause-most g c = record { unit = c.accept_here.ensures.most.0; card_a = c.accept_here.ensures.most.1; card_b = omega arith }
-
-pub returns-in-B-clause-most : goal.returns-in-B-clause-most
-returns-in-B-clause-most g c = record { unit = c.accept_here-in-B.ensures.most.0; card_a = omega arith; card_b = c.accept_here-in-B.ensures.most.1 }

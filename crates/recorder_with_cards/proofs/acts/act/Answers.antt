@@ -63,7 +63,7 @@ returns-then-not-has_power-clause-acted g c = record {
       let run = c.args.run.now in
       let o = c.args.outcome.now in
       subst (λ (b : Bool). IsActed b (is_lit run.power) c.args.action c.args.begun c.args.speed run run o (record o { refused = c.refuse.new.refused })) (sym c.if-not-has_power.true) (refl, ap (λ (l : Listed Refused). record o { refused = l }) c.refuse.ensures);
-  refused = c.refuse.ensures ∙ ap (λ (b : Bool). with_lines (refusal_lines (refused_by b (is_lit c.args.run.now.power) c.args.run.now.keeper.cabin.slots.seats c.args.speed c.args.action) c.args.run.now.next c.args.begun) c.args.outcome.now.refused) (sym c.if-not-has_power.true);
+  refused = c.refuse.ensures ∙ ap (λ (b : Bool). with_lines (refusal_lines (refused_by b (is_lit c.args.run.now.power) c.args.run.now c.args.speed c.args.action) c.args.run.now.next c.args.begun) c.args.outcome.now.refused) (sym c.if-not-has_power.true);
   none = λ no. refl;
   lost = λ power dark. absurd (let no : false ≡ true = sym c.if-not-has_power.true ∙ power in cc);
   selected = λ lit. absurd (let no : true ≡ false = sym lit ∙ c.requires.dark c.if-not-has_power.true in cc);
@@ -77,6 +77,7 @@ returns-then-not-has_power-clause-goes g c = record {
   calm = calm-same (devices (g.M.Medium.state c.args.unit.now) (g.C.Chip.state c.args.card_a.now) (g.D.Chip.state c.args.card_b.now));
   more = omega arith;
   broke = broke-none c.args.outcome.now.breaks.items {old = (g.M.Medium.state c.args.unit.now)} {new = (g.M.Medium.state c.args.unit.now)} (omega arith);
+  most = writes-none 0 1 (devices (g.M.Medium.state c.args.unit.now) (g.C.Chip.state c.args.card_a.now) (g.D.Chip.state c.args.card_b.now));
 }
 
 pub returns-then-not-is_lit-clause-acted : goal.returns-then-not-is_lit-clause-acted
@@ -89,8 +90,8 @@ returns-then-not-is_lit-clause-acted g c = record {
       (subst (λ (l : Bool). IsActed true l c.args.action c.args.begun c.args.speed run run o o) (sym dark) (refl, refl));
   refused =
       let lit : is_lit c.args.run.now.power ≡ false = sym c.is_lit.ensures ∙ c.if-not-is_lit.true in
-      subst (λ (b : Bool). c.args.outcome.now.refused ≡ with_lines (refusal_lines (refused_by b (is_lit c.args.run.now.power) c.args.run.now.keeper.cabin.slots.seats c.args.speed c.args.action) c.args.run.now.next c.args.begun) c.args.outcome.now.refused) (sym c.if-not-has_power.false)
-      (subst (λ (l : Bool). c.args.outcome.now.refused ≡ with_lines (refusal_lines (refused_by true l c.args.run.now.keeper.cabin.slots.seats c.args.speed c.args.action) c.args.run.now.next c.args.begun) c.args.outcome.now.refused) (sym lit) (ap (λ (xs : List Refused). record c.args.outcome.now.refused { items = xs }) (sym (append-nil c.args.outcome.now.refused.items))));
+      subst (λ (b : Bool). c.args.outcome.now.refused ≡ with_lines (refusal_lines (refused_by b (is_lit c.args.run.now.power) c.args.run.now c.args.speed c.args.action) c.args.run.now.next c.args.begun) c.args.outcome.now.refused) (sym c.if-not-has_power.false)
+      (subst (λ (l : Bool). c.args.outcome.now.refused ≡ with_lines (refusal_lines (refused_by true l c.args.run.now c.args.speed c.args.action) c.args.run.now.next c.args.begun) c.args.outcome.now.refused) (sym lit) (ap (λ (xs : List Refused). record c.args.outcome.now.refused { items = xs }) (sym (append-nil c.args.outcome.now.refused.items))));
   none = λ no. refl;
   lost = λ power dark. (refl, refl);
   selected =
@@ -107,6 +108,7 @@ returns-then-not-is_lit-clause-goes g c = record {
   calm = calm-same (devices (g.M.Medium.state c.args.unit.now) (g.C.Chip.state c.args.card_a.now) (g.D.Chip.state c.args.card_b.now));
   more = omega arith;
   broke = broke-none c.args.outcome.now.breaks.items {old = (g.M.Medium.state c.args.unit.now)} {new = (g.M.Medium.state c.args.unit.now)} (omega arith);
+  most = writes-none 0 1 (devices (g.M.Medium.state c.args.unit.now) (g.C.Chip.state c.args.card_a.now) (g.D.Chip.state c.args.card_b.now));
 }
 
 pub returns-clause-acted : goal.returns-clause-acted
@@ -119,13 +121,13 @@ returns-clause-acted g c = record {
       (subst (λ (l : Bool). IsActed true l c.args.action c.args.begun c.args.speed run c.act_lit.new.run o c.act_lit.new.outcome) (sym lit) c.act_lit.ensures.acted.done);
   refused =
       let lit : is_lit c.args.run.now.power ≡ true = sym c.is_lit.ensures ∙ c.if-not-is_lit.false in
-      subst (λ (b : Bool). c.act_lit.new.outcome.refused ≡ with_lines (refusal_lines (refused_by b (is_lit c.args.run.now.power) c.args.run.now.keeper.cabin.slots.seats c.args.speed c.args.action) c.args.run.now.next c.args.begun) c.args.outcome.now.refused) (sym c.if-not-has_power.false)
-      (subst (λ (l : Bool). c.act_lit.new.outcome.refused ≡ with_lines (refusal_lines (refused_by true l c.args.run.now.keeper.cabin.slots.seats c.args.speed c.args.action) c.args.run.now.next c.args.begun) c.args.outcome.now.refused) (sym lit) (c.act_lit.ensures.acted.refused));
+      subst (λ (b : Bool). c.act_lit.new.outcome.refused ≡ with_lines (refusal_lines (refused_by b (is_lit c.args.run.now.power) c.args.run.now c.args.speed c.args.action) c.args.run.now.next c.args.begun) c.args.outcome.now.refused) (sym c.if-not-has_power.false)
+      (subst (λ (l : Bool). c.act_lit.new.outcome.refused ≡ with_lines (refusal_lines (refused_by true l c.args.run.now c.args.speed c.args.action) c.args.run.now.next c.args.begun) c.args.outcome.now.refused) (sym lit) (c.act_lit.ensures.acted.refused));
   none =
       λ no. c.act_lit.ensures.acted.none (λ is.
       let run = c.args.run.now in
       let lit : is_lit run.power ≡ true = sym c.is_lit.ensures ∙ c.if-not-is_lit.false in
-      no (lit-refused c.args.has_power (is_lit run.power) run.keeper.cabin.slots.seats c.args.speed c.args.action c.if-not-has_power.false lit is));
+      no (lit-refused c.args.has_power (is_lit run.power) run c.args.speed c.args.action c.if-not-has_power.false lit is));
   lost =
       λ power dark.
       let lit : is_lit c.args.run.now.power ≡ true = sym c.is_lit.ensures ∙ c.if-not-is_lit.false in
@@ -141,15 +143,5 @@ returns-clause-goes g c = record {
   calm = c.act_lit.ensures.goes.calm;
   more = c.act_lit.ensures.goes.more;
   broke = c.act_lit.ensures.goes.broke;
+  most = c.act_lit.ensures.goes.most;
 }
-
--- ---- its writes
-
-pub returns-then-not-has_power-clause-most : goal.returns-then-not-has_power-clause-most
-returns-then-not-has_power-clause-most g c = writes-none 0 1 (devices (g.M.Medium.state c.args.unit.now) (g.C.Chip.state c.args.card_a.now) (g.D.Chip.state c.args.card_b.now))
-
-pub returns-then-not-is_lit-clause-most : goal.returns-then-not-is_lit-clause-most
-returns-then-not-is_lit-clause-most g c = writes-none 0 1 (devices (g.M.Medium.state c.args.unit.now) (g.C.Chip.state c.args.card_a.now) (g.D.Chip.state c.args.card_b.now))
-
-pub returns-clause-most : goal.returns-clause-most
-returns-clause-most g c = c.act_lit.ensures.most

@@ -122,7 +122,7 @@ loop-i-preserved g c =
       most =
           let low = c.loop-i.auto.i in
           writes-more 0 0 (c.loop-i.i - c.args.from + 1) (c.loop-i.i + 1 - c.args.from) (devices (g.M.Medium.state c.args.unit.now) (g.C.Chip.state c.args.card_a.now) (g.D.Chip.state c.args.card_b.now)) (devices (g.M.Medium.state c.act_item.new.unit) (g.C.Chip.state c.act_item.new.card_a) (g.D.Chip.state c.act_item.new.card_b)) (omega arith) (omega (arith, low))
-          (writes-then 0 0 (c.loop-i.i - c.args.from) 1 (devices (g.M.Medium.state c.args.unit.now) (g.C.Chip.state c.args.card_a.now) (g.D.Chip.state c.args.card_b.now)) (devices (g.M.Medium.state c.loop-i.unit) (g.C.Chip.state c.loop-i.card_a) (g.D.Chip.state c.loop-i.card_b)) (devices (g.M.Medium.state c.act_item.new.unit) (g.C.Chip.state c.act_item.new.card_a) (g.D.Chip.state c.act_item.new.card_b)) v.most e.most);
+          (writes-then 0 0 (c.loop-i.i - c.args.from) 1 (devices (g.M.Medium.state c.args.unit.now) (g.C.Chip.state c.args.card_a.now) (g.D.Chip.state c.args.card_b.now)) (devices (g.M.Medium.state c.loop-i.unit) (g.C.Chip.state c.loop-i.card_a) (g.D.Chip.state c.loop-i.card_b)) (devices (g.M.Medium.state c.act_item.new.unit) (g.C.Chip.state c.act_item.new.card_a) (g.D.Chip.state c.act_item.new.card_b)) v.most e.goes.most);
       dark = e.dark;
       next = e.acted.next ∙ v.next;
       unfound = e.acted.unfound ∙ v.unfound;
@@ -180,12 +180,8 @@ returns-clause-goes g c = record {
   calm = c.loop-i.invariant.calm;
   more = c.loop-i.invariant.breaks;
   broke = c.loop-i.invariant.broke;
+  most =
+      let end : c.args.to ≤ c.loop-i.i = c.loop-i-test.false in
+      let some : c.loop-i.i ≤ c.args.to = c.loop-i.auto.i-end c.requires.first in
+      writes-more 0 0 (c.loop-i.i - c.args.from) (c.args.to - c.args.from) (devices (g.M.Medium.state c.args.unit.now) (g.C.Chip.state c.args.card_a.now) (g.D.Chip.state c.args.card_b.now)) (devices (g.M.Medium.state c.loop-i.unit) (g.C.Chip.state c.loop-i.card_a) (g.D.Chip.state c.loop-i.card_b)) (omega arith) (omega (arith, end, some)) c.loop-i.invariant.most;
 }
-
--- ---- its writes
-
-pub returns-clause-most : goal.returns-clause-most
-returns-clause-most g c =
-    let end : c.args.to ≤ c.loop-i.i = c.loop-i-test.false in
-    let some : c.loop-i.i ≤ c.args.to = c.loop-i.auto.i-end c.requires.first in
-    writes-more 0 0 (c.loop-i.i - c.args.from) (c.args.to - c.args.from) (devices (g.M.Medium.state c.args.unit.now) (g.C.Chip.state c.args.card_a.now) (g.D.Chip.state c.args.card_b.now)) (devices (g.M.Medium.state c.loop-i.unit) (g.C.Chip.state c.loop-i.card_a) (g.D.Chip.state c.loop-i.card_b)) (omega arith) (omega (arith, end, some)) c.loop-i.invariant.most

@@ -77,6 +77,7 @@ returns-in-Act-clause-goes g c = record {
   calm = c.act.ensures.goes.calm;
   more = c.act.ensures.goes.more;
   broke = c.act.ensures.goes.broke;
+  most = c.act.ensures.goes.most;
 }
 
 pub returns-in-Run-clause-acted : goal.returns-in-Run-clause-acted
@@ -92,6 +93,7 @@ returns-in-Run-clause-goes g c = record {
   calm = calm-same (devices (g.M.Medium.state c.args.unit.now) (g.C.Chip.state c.args.card_a.now) (g.D.Chip.state c.args.card_b.now));
   more = omega arith;
   broke = broke-none c.args.outcome.now.breaks.items {old = (g.M.Medium.state c.args.unit.now)} {new = (g.M.Medium.state c.args.unit.now)} (omega arith);
+  most = writes-none 0 1 (devices (g.M.Medium.state c.args.unit.now) (g.C.Chip.state c.args.card_a.now) (g.D.Chip.state c.args.card_b.now));
 }
 
 pub returns-in-Off-clause-acted : goal.returns-in-Off-clause-acted
@@ -107,15 +109,5 @@ returns-in-Off-clause-goes g c = record {
   calm = calm-same (devices (g.M.Medium.state c.args.unit.now) (g.C.Chip.state c.args.card_a.now) (g.D.Chip.state c.args.card_b.now));
   more = omega arith;
   broke = broke-none c.args.outcome.now.breaks.items {old = (g.M.Medium.state c.args.unit.now)} {new = (g.M.Medium.state c.args.unit.now)} (omega arith);
+  most = writes-none 0 1 (devices (g.M.Medium.state c.args.unit.now) (g.C.Chip.state c.args.card_a.now) (g.D.Chip.state c.args.card_b.now));
 }
-
--- ---- its writes
-
-pub returns-in-Act-clause-most : goal.returns-in-Act-clause-most
-returns-in-Act-clause-most g c = c.act.ensures.most
-
-pub returns-in-Run-clause-most : goal.returns-in-Run-clause-most
-returns-in-Run-clause-most g c = writes-none 0 1 (devices (g.M.Medium.state c.args.unit.now) (g.C.Chip.state c.args.card_a.now) (g.D.Chip.state c.args.card_b.now))
-
-pub returns-in-Off-clause-most : goal.returns-in-Off-clause-most
-returns-in-Off-clause-most g c = writes-none 0 1 (devices (g.M.Medium.state c.args.unit.now) (g.C.Chip.state c.args.card_a.now) (g.D.Chip.state c.args.card_b.now))

@@ -39,6 +39,7 @@ use Rattle.run_acts.proofs.Uncut.{uncut-broke, cut-broke}
 use Rattle.recorder_with_cards.proofs.Uncut.{done-uncut}
 use Rattle.run_course.specs.Moments.{and_break}
 use Rattle.run_acts.specs.RunCards.{CardsBehind, CardsIn, CardsGoOn}
+use Rattle.run_acts.specs.ByHand.{stopped_in}
 use Rattle.recorder_with_cards.proofs.HereDone.{TellsMoreOf, done-of}
 use Rattle.recorder_with_cards.proofs.CardsHeld.{carded-lit, in-carded_lit, in-carded_cut}
 use Rattle.recorder_with_cards.proofs.ActsCards.{refused-cards, cards-on, cards-now, cut-later, cut-cards}
@@ -52,6 +53,7 @@ use Rattle.recorder_with_cards.proofs.acts.act_lit.Given.{Over}
 use Rattle.recorder_with_cards.proofs.acts.act_lit.Goals.{After-carry_out}
 use Rattle.recorder_with_cards.proofs.Writes.{writes-none}
 use Rattle.recorder_with_cards.proofs.acts.act_lit.Goals as goal
+use Rattle.recorder_with_cards.proofs.SlotLines.{none-of-both}
 
 -- ---- WHAT THE ACTION LEAVES
 
@@ -74,8 +76,11 @@ module _ (g : Over) (c : After-carry_out g) where
   abbrev behind : Devices
   behind = devices (g.M.Medium.state c.carry_out.new.unit) (g.C.Chip.state c.carry_out.new.card_a) (g.D.Chip.state c.carry_out.new.card_b)
 
+  unstopped : stopped_in run c.args.speed c.args.action ≡ None
+  unstopped = first_of (search rules, grind (arith, common_steps))
+
   allowed : refusal (logged run.keeper.cabin.slots.seats) c.args.speed c.args.action ≡ None
-  allowed = first_of (search rules, grind (arith, common_steps))
+  allowed = (none-of-both run c.args.speed c.args.action unstopped).0
 
   -- it is the next one of this second
   module _ (o : Origin) (done : List TraceSecond) (s : TraceSecond) (now : IsNow s c.args.speed run) (front rest : List Action) (are : s.actions ≡ front ++ c.args.action ∷ rest) (here : c.args.begun ≡ suc (length front)) (time : HaveTime behind) where
@@ -229,7 +234,7 @@ returns-in-Err-clause-acted g c = record {
       subst (λ (r : Option SlotFault). IsActedBy r c.args.action c.args.begun c.args.speed run run o (record o { refused = c.refuse.new.refused })) c.in-Err.ensures (refl, ap (λ (l : Listed Refused). record o { refused = l }) c.refuse.ensures);
   refused = c.refuse.ensures ∙ ap (λ (r : Option SlotFault). with_lines (refusal_lines r c.args.run.now.next c.args.begun) c.args.outcome.now.refused) c.in-Err.ensures;
   none = λ no. refl;
-  selected = refused-selected (logged c.args.run.now.keeper.cabin.slots.seats) c.args.speed c.args.action _ c.args.run.now (sym c.in-Err.ensures);
+  selected = refused-selected c.args.run.now c.args.speed c.args.action _ (sym c.in-Err.ensures);
   next = refl;
   unfound = refl;
 }
@@ -278,6 +283,7 @@ returns-in-Err-clause-goes g c = record {
   calm = calm-same (devices (g.M.Medium.state c.args.unit.now) (g.C.Chip.state c.args.card_a.now) (g.D.Chip.state c.args.card_b.now));
   more = omega arith;
   broke = broke-none c.args.outcome.now.breaks.items {old = (g.M.Medium.state c.args.unit.now)} {new = (g.M.Medium.state c.args.unit.now)} (omega arith);
+  most = writes-none 0 1 (devices (g.M.Medium.state c.args.unit.now) (g.C.Chip.state c.args.card_a.now) (g.D.Chip.state c.args.card_b.now));
 }
 
 pub returns-then-is_err-clause-acted : goal.returns-then-is_err-clause-acted
@@ -287,7 +293,7 @@ returns-then-is_err-clause-acted g c = record {
       let o = c.args.outcome.now in
       let failed : is_err c.carry_out.result ≡ true = sym c.is_err.ensures.value ∙ c.if-is_err.true in
       let told : Outcome = c.carry_out.new.outcome in
-      subst (λ (r : Option SlotFault). IsActedBy r c.args.action c.args.begun c.args.speed run c.cut.new.self o (record told { breaks = c.cut.new.breaks })) (sym (allowed g (goal.at.returns-then-is_err-clause-acted g c).After-carry_out))
+      subst (λ (r : Option SlotFault). IsActedBy r c.args.action c.args.begun c.args.speed run c.cut.new.self o (record told { breaks = c.cut.new.breaks })) (sym (unstopped g (goal.at.returns-then-is_err-clause-acted g c).After-carry_out))
       (record {
         failed = true;
         between = c.carry_out.new.run;
@@ -296,8 +302,8 @@ returns-then-is_err-clause-acted g c = record {
         run = c.cut.ensures.run;
         outcome = ap (λ (l : Listed Break). record told { breaks = l }) c.cut.ensures.breaks;
       });
-  refused = c.carry_out.ensures.done.refused ∙ ap (λ (xs : List Refused). record c.args.outcome.now.refused { items = xs }) (sym (append-nil c.args.outcome.now.refused.items)) ∙ ap (λ (r : Option SlotFault). with_lines (refusal_lines r c.args.run.now.next c.args.begun) c.args.outcome.now.refused) (sym (allowed g (goal.at.returns-then-is_err-clause-acted g c).After-carry_out));
-  none = λ no. absurd (no (allowed g (goal.at.returns-then-is_err-clause-acted g c).After-carry_out));
+  refused = c.carry_out.ensures.done.refused ∙ ap (λ (xs : List Refused). record c.args.outcome.now.refused { items = xs }) (sym (append-nil c.args.outcome.now.refused.items)) ∙ ap (λ (r : Option SlotFault). with_lines (refusal_lines r c.args.run.now.next c.args.begun) c.args.outcome.now.refused) (sym (unstopped g (goal.at.returns-then-is_err-clause-acted g c).After-carry_out));
+  none = λ no. absurd (no (unstopped g (goal.at.returns-then-is_err-clause-acted g c).After-carry_out));
   selected = fine-selected c.args.action (is_err c.carry_out.result) c.args.run.now c.cut.new.self (let failed : is_err c.carry_out.result ≡ true = sym c.is_err.ensures.value ∙ c.if-is_err.true in failed) c.carry_out.ensures.done.fine;
   next = ap (λ (r : Run). r.next) c.cut.ensures.run ∙ c.carry_out.ensures.done.stays.next;
   unfound = ap (λ (r : Run). r.unfound) c.cut.ensures.run ∙ c.carry_out.ensures.done.stays.unfound;
@@ -326,6 +332,7 @@ returns-then-is_err-clause-goes g c = record {
       let told = ap (λ (l : Listed Break). length l.items) c.cut.ensures.breaks ∙ lines-length (cut_at c.carry_out.new.run.next true c.args.begun ∷ []) c.carry_out.new.outcome.breaks in
       omega (arith, more, told);
   broke = cut-broke _ _ _ _ _ (g.M.Medium.state c.args.unit.now) (g.M.Medium.state c.carry_out.new.unit) (is_err c.carry_out.result) (c.requires.going.lit (ap is_lit c.requires.lit)).ready.unit_ready.works c.carry_out.ensures.held.cause (sym c.is_err.ensures.value ∙ c.if-is_err.true) (done-uncut c.args.action _ c.args.speed _ _ _ _ _ c.carry_out.ensures.done.action_done) (ap (λ (l : Listed Break). l.items) c.cut.ensures.breaks);
+  most = c.carry_out.ensures.goes.most;
 }
 
 pub returns-else-is_err-clause-acted : goal.returns-else-is_err-clause-acted
@@ -335,7 +342,7 @@ returns-else-is_err-clause-acted g c = record {
       let o = c.args.outcome.now in
       let well : is_err c.carry_out.result ≡ false = sym c.is_err.ensures.value ∙ c.if-is_err.false in
       let told : Outcome = c.carry_out.new.outcome in
-      subst (λ (r : Option SlotFault). IsActedBy r c.args.action c.args.begun c.args.speed run c.carry_out.new.run o told) (sym (allowed g (goal.at.returns-else-is_err-clause-acted g c).After-carry_out))
+      subst (λ (r : Option SlotFault). IsActedBy r c.args.action c.args.begun c.args.speed run c.carry_out.new.run o told) (sym (unstopped g (goal.at.returns-else-is_err-clause-acted g c).After-carry_out))
       (record {
         failed = false;
         between = c.carry_out.new.run;
@@ -344,8 +351,8 @@ returns-else-is_err-clause-acted g c = record {
         run = refl;
         outcome = refl;
       });
-  refused = c.carry_out.ensures.done.refused ∙ ap (λ (xs : List Refused). record c.args.outcome.now.refused { items = xs }) (sym (append-nil c.args.outcome.now.refused.items)) ∙ ap (λ (r : Option SlotFault). with_lines (refusal_lines r c.args.run.now.next c.args.begun) c.args.outcome.now.refused) (sym (allowed g (goal.at.returns-else-is_err-clause-acted g c).After-carry_out));
-  none = λ no. absurd (no (allowed g (goal.at.returns-else-is_err-clause-acted g c).After-carry_out));
+  refused = c.carry_out.ensures.done.refused ∙ ap (λ (xs : List Refused). record c.args.outcome.now.refused { items = xs }) (sym (append-nil c.args.outcome.now.refused.items)) ∙ ap (λ (r : Option SlotFault). with_lines (refusal_lines r c.args.run.now.next c.args.begun) c.args.outcome.now.refused) (sym (unstopped g (goal.at.returns-else-is_err-clause-acted g c).After-carry_out));
+  none = λ no. absurd (no (unstopped g (goal.at.returns-else-is_err-clause-acted g c).After-carry_out));
   selected = c.carry_out.ensures.done.selected;
   next = c.carry_out.ensures.done.stays.next;
   unfound = c.carry_out.ensures.done.stays.unfound;
@@ -369,15 +376,5 @@ returns-else-is_err-clause-goes g c = record {
   calm = c.carry_out.ensures.goes.calm;
   more = c.carry_out.ensures.goes.more;
   broke = uncut-broke _ _ (g.M.Medium.state c.args.unit.now) (g.M.Medium.state c.carry_out.new.unit) (is_err c.carry_out.result) c.carry_out.ensures.held.cause (sym c.is_err.ensures.value ∙ c.if-is_err.false) (done-uncut c.args.action _ c.args.speed _ _ _ _ _ c.carry_out.ensures.done.action_done);
+  most = c.carry_out.ensures.goes.most;
 }
-
--- ---- its writes
-
-pub returns-in-Err-clause-most : goal.returns-in-Err-clause-most
-returns-in-Err-clause-most g c = writes-none 0 1 (devices (g.M.Medium.state c.args.unit.now) (g.C.Chip.state c.args.card_a.now) (g.D.Chip.state c.args.card_b.now))
-
-pub returns-then-is_err-clause-most : goal.returns-then-is_err-clause-most
-returns-then-is_err-clause-most g c = c.carry_out.ensures.most
-
-pub returns-else-is_err-clause-most : goal.returns-else-is_err-clause-most
-returns-else-is_err-clause-most g c = c.carry_out.ensures.most

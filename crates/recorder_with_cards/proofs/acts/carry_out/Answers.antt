@@ -1,7 +1,7 @@
 use Rattle.std.proofs.Common.{◌≡◌, ◌∙◌, ℕ, ◌/◌, false, [], None, refl, ap, sym, subst, arith, ◌*◌, ◌+◌, Option, length, ◌≤◌}
 use Rattle.std.specs.Prelude.{is_err}
 use Rattle.trace_model.specs.declared.Action.{Action}
-use Rattle.trace_model.specs.declared.Action.TheVariants.{Insert, Withdraw, Tear, Place}
+use Rattle.trace_model.specs.declared.Action.TheVariants.{Insert, Withdraw, Tear, Place, Manual}
 use Rattle.log_model.specs.Slots.{refusal}
 use Rattle.log_model.specs.declared.lines.Break.{Break}
 use Rattle.card_slots.specs.Calls.{logged, seat_in, card_in}
@@ -15,7 +15,7 @@ use Rattle.run_acts.specs.Going.{CanBeCut, RunHasPowerAllSeated}
 use Rattle.run_acts.specs.Room.{Takes}
 use Rattle.run_acts.specs.Acting.{pulled_run, pulled_breaks}
 use Rattle.recorder_with_cards.specs.Acting.{put_count, StaysIn, moment_of, IsDone, CallsNone, IsSelected, IsFine}
-use Rattle.recorder_with_cards.proofs.ActsRecorded.{selected, passed-by}
+use Rattle.recorder_with_cards.proofs.ActsRecorded.{selected, entered}
 use Rattle.recorder_with_cards.proofs.Rooms.{few-wait, put-room}
 use Rattle.run_acts.proofs.Pulled.{pulled-recorded}
 use Rattle.run_acts.specs.Recording.{RunGoesOn, RecordsAction}
@@ -23,6 +23,7 @@ use Rattle.run_minutes.specs.Keeping.{with_lines}
 use Rattle.run_promise.specs.Between.{devices}
 use Rattle.safety_model.specs.Safe.{Devices}
 use Rattle.log_model.specs.Log.{In}
+use Rattle.log_model.specs.ByHand.{minute_on}
 use Rattle.recorder_with_cards.proofs.Allowed.{insert-elsewhere}
 use Rattle.recorder_with_cards.proofs.Picked.{picked-going}
 use Rattle.recorder_with_cards.proofs.Pulled.{pulled-stays, pulled-held, pulled-going, pulled-takes}
@@ -37,6 +38,8 @@ use Rattle.recorder_with_cards.specs.EnteredRings.{IsPlaceNow, RingsDone}
 use Rattle.run_acts.proofs.NotedEvents.{same-noted}
 use Rattle.recorder_with_cards.specs.Noting.{NotesDone}
 use Rattle.run_acts.specs.RunCards.{CardsAction}
+use Rattle.run_acts.specs.ByHand.{entry_from, cabin_holding, entered_run, stopped_in}
+use Rattle.run_acts.proofs.ByHand.{holding-going, holding-held, holding-falls}
 use Rattle.recorder_with_cards.proofs.ActsCards.{selected-cards, hand-cards, pulled-cards}
 use Rattle.run_minutes.proofs.Calm.{calm-told, calm-same}
 use Rattle.recorder_with_cards.proofs.Uncut.{pulled-calm}
@@ -45,10 +48,12 @@ use Rattle.run_outcome.specs.declared.outcome.TheConstants.{MOST_OWED}
 use Rattle.tach_media.proofs.Runs.{no_reads}
 use Rattle.run_minutes.proofs.Counts.{lines-length}
 use Rattle.recorder_with_cards.proofs.acts.carry_out.Given.{Over}
-use Rattle.recorder_with_cards.proofs.acts.carry_out.Goals.{After-insert, After-note_place, After-pull, After-withdraw}
+use Rattle.recorder_with_cards.proofs.acts.carry_out.Goals.{After-enter, After-insert, After-note_place, After-pull, After-withdraw}
 use Rattle.recorder_with_cards.proofs.Writes.{writes-none, writes-act}
 use Rattle.run_minutes.proofs.Writes.{wrote-more}
 use Rattle.recorder_with_cards.proofs.acts.carry_out.Goals as goal
+use Rattle.recorder_with_cards.proofs.SlotLines.{none-of-both}
+use Rattle.activity_codec.specs.declared.entries.Manual.{Manual as HandEntry}
 
 -- an action that was matched, at the moment that was taken
 moved : (P : Action → Moment → Type 0) (a b : Action) (m n : Moment) → a ≡ b → m ≡ n → P b m → P a n
@@ -129,15 +134,47 @@ note_place-requires-clause-acting g c = record { lit = c.requires.lit; low = c.r
 pub insert-requires-clause-elsewhere : goal.insert-requires-clause-elsewhere
 insert-requires-clause-elsewhere g c =
     let seats = c.args.run.now.keeper.cabin.slots.seats in
-    insert-elsewhere seats c.in-Insert.slot c.in-Insert.card c.args.speed (subst (λ (a : Action). refusal (logged seats) c.args.speed a ≡ None) c.in-Insert.is c.requires.allowed)
+    insert-elsewhere seats c.in-Insert.slot c.in-Insert.card c.args.speed
+    (none-of-both c.args.run.now c.args.speed (Insert c.in-Insert.slot c.in-Insert.card) (subst (λ (a : Action). stopped_in c.args.run.now c.args.speed a ≡ None) c.in-Insert.is c.requires.allowed)).0
 
 pub returns-in-Select-clause-going : goal.returns-in-Select-clause-going
 returns-in-Select-clause-going g c =
     let lit = c.requires.going.lit (ap is_lit c.requires.lit) in
     picked-going (c.args.run.now.next / 60) c.args.run.now c.select.new.self c.in-Select.slot c.in-Select.pick lit (c.select.ensures.picked lit.span lit.stands)
 
+-- ---- a session takes an entry by hand
+
+pub enter-requires : goal.enter-requires
+enter-requires g c =
+    let here = Manual c.in-Manual.slot c.in-Manual.pick c.in-Manual.minute in
+    record { taken = (none-of-both c.args.run.now c.args.speed here (subst (λ (a : Action). stopped_in c.args.run.now c.args.speed a ≡ None) c.in-Manual.is c.requires.allowed)).1 }
+
+module _ (g : Over) (c : After-enter g) where
+  abbrev hand : HandEntry
+  hand = entry_from c.in-Manual.slot c.in-Manual.pick (minute_on c.args.run.now.next c.in-Manual.minute)
+
+  abbrev hand_card : Option Card
+  hand_card = card_in (seat_in c.args.run.now.keeper.cabin.slots.seats c.in-Manual.slot)
+
+  -- slots and sessions stand, as they are entered
+  hand-stands : (from : ℕ) (leaving : Option Card) → CabinIsSound from leaving c.args.run.now.keeper.cabin → CabinIsSound from leaving (cabin_holding hand hand_card c.args.run.now.keeper.cabin)
+  hand-stands from leaving s = subst (λ (r : Run). CabinIsSound from leaving r.keeper.cabin) c.enter.ensures.entered (c.enter.ensures.stands from leaving s)
+
+  -- what is known of the run behind it
+  by-hand : (P : Action → Run → Type 0) → P (Manual c.in-Manual.slot c.in-Manual.pick c.in-Manual.minute) (entered_run c.in-Manual.slot c.in-Manual.pick c.in-Manual.minute c.args.run.now) → P c.args.action c.enter.new.run
+  by-hand P h = subst (λ (a : Action). P a c.enter.new.run) (sym c.in-Manual.is) (subst (λ (r : Run). P (Manual c.in-Manual.slot c.in-Manual.pick c.in-Manual.minute) r) (sym c.enter.ensures.entered) h)
+
 pub returns-in-Manual-clause-going : goal.returns-in-Manual-clause-going
-returns-in-Manual-clause-going g c = c.requires.going.lit (ap is_lit c.requires.lit)
+returns-in-Manual-clause-going g c =
+    by-hand g c (λ a r. RunHasPowerAllSeated (r.next / 60) r (g.M.Medium.state c.args.unit.now) (g.C.Chip.card c.args.card_a.now) (g.D.Chip.card c.args.card_b.now) (g.C.Chip.state c.args.card_a.now) (g.D.Chip.state c.args.card_b.now))
+    (holding-going (hand g c) c.args.run.now (c.args.run.now.next / 60) (hand_card g c) (hand-stands g c) (c.requires.going.lit (ap is_lit c.requires.lit)))
+
+pub returns-in-Manual-clause-takes : goal.returns-in-Manual-clause-takes
+returns-in-Manual-clause-takes g c =
+    let run = c.args.run.now in
+    let o = c.args.outcome.now in
+    let falls = holding-falls (hand g c) (hand_card g c) run.keeper.cabin in
+    by-hand g c (λ a r. Takes (put_count a) (put_count a) 0 run r o o) (record { rooms = (refl, refl, refl, refl); marks = omega arith; breaks = omega (arith, falls); finds = omega arith; refused = omega arith })
 
 -- ---- a card is pulled out
 
@@ -218,6 +255,7 @@ returns-in-Insert-clause-goes g c = record {
   later = c.insert.ensures.goes.later;
   calm = c.insert.ensures.goes.calm;
   more = inserted-more c.in-Insert.slot c.in-Insert.card c.moment-at.result c.args.speed (is_err c.insert.result) c.args.run.now c.insert.new.run c.args.outcome.now c.insert.new.outcome c.insert.ensures.inserted.enters;
+  most = writes-act _ _ c.insert.ensures.goes.most;
 }
 
 pub returns-in-Withdraw-clause-done : goal.returns-in-Withdraw-clause-done
@@ -256,6 +294,7 @@ returns-in-Withdraw-clause-goes g c = record {
   later = c.withdraw.ensures.goes.later;
   calm = c.withdraw.ensures.goes.calm;
   more = c.withdraw.ensures.goes.more;
+  most = writes-act _ _ (wrote-more 82 102 302 1366 _ _ (omega arith) (omega arith) c.withdraw.ensures.goes.most);
 }
 
 pub returns-in-Place-clause-done : goal.returns-in-Place-clause-done
@@ -299,6 +338,7 @@ returns-in-Place-clause-goes g c = record {
   later = c.note_place.ensures.goes.later;
   calm = c.note_place.ensures.goes.calm;
   more = c.note_place.ensures.goes.more;
+  most = writes-act _ _ (wrote-more 9 102 5 1366 _ _ (omega arith) (omega arith) c.note_place.ensures.goes.most);
 }
 
 pub returns-in-Select-clause-done : goal.returns-in-Select-clause-done
@@ -366,6 +406,7 @@ returns-in-Select-clause-goes g c = record {
   later = later-same (devices (g.M.Medium.state c.args.unit.now) (g.C.Chip.state c.args.card_a.now) (g.D.Chip.state c.args.card_b.now));
   calm = calm-same (devices (g.M.Medium.state c.args.unit.now) (g.C.Chip.state c.args.card_a.now) (g.D.Chip.state c.args.card_b.now));
   more = omega arith;
+  most = writes-none 0 1 (devices (g.M.Medium.state c.args.unit.now) (g.C.Chip.state c.args.card_a.now) (g.D.Chip.state c.args.card_b.now));
 }
 
 pub returns-in-Manual-clause-done : goal.returns-in-Manual-clause-done
@@ -373,10 +414,10 @@ returns-in-Manual-clause-done g c = record {
   action_done =
       let run = c.args.run.now in
       let o = c.args.outcome.now in
-      subst (λ (a : Action). IsDone a (moment_of c.args.begun run) c.args.speed false run run o o) (sym c.in-Manual.is) (refl, refl, refl);
-  selected = subst (λ (a : Action). IsSelected a c.args.run.now c.args.run.now) (sym c.in-Manual.is) tt;
+      by-hand g c (λ a r. IsDone a (moment_of c.args.begun run) c.args.speed false run r o o) (refl, refl, refl);
+  selected = by-hand g c (λ a r. IsSelected a c.args.run.now r) tt;
   fine = subst (λ (a : Action). IsFine a false) (sym c.in-Manual.is) refl;
-  stays = record { power = refl; next = refl; begun = refl; unfound = refl };
+  stays = by-hand g c (λ a r. StaysIn c.args.run.now r) (record { power = refl; next = refl; begun = refl; unfound = refl });
   refused = refl;
 }
 
@@ -387,14 +428,15 @@ returns-in-Manual-clause-promises g c = record {
       let run = c.args.run.now in
       let out = c.args.outcome.now in
       let d : Devices = devices (g.M.Medium.state c.args.unit.now) (g.C.Chip.state c.args.card_a.now) (g.D.Chip.state c.args.card_b.now) in
-      subst (λ (n : ℕ). RunGoesOn o done s (In n) [] run out d h.within.b) (sym begun)
-      (passed-by o done s c.args.speed run out d now front c.args.action rest are h c.in-Manual.slot c.in-Manual.pick c.in-Manual.minute c.in-Manual.is allowed);
+      subst (λ (r : Run). RunGoesOn o done s (In c.args.begun) [] r out d h.within.b) (sym c.enter.ensures.entered)
+      (subst (λ (n : ℕ). RunGoesOn o done s (In n) [] (entered_run c.in-Manual.slot c.in-Manual.pick c.in-Manual.minute run) out d h.within.b) (sym begun)
+      (entered o done s c.args.speed run out d now front c.args.action rest are h c.in-Manual.slot c.in-Manual.pick c.in-Manual.minute c.in-Manual.is c.requires.allowed));
   evented = λ o done s now front rest are begun allowed h events time. events;
   ringed =
       let run = c.args.run.now in
       let o = c.args.outcome.now in
       let d : Devices = devices (g.M.Medium.state c.args.unit.now) (g.C.Chip.state c.args.card_a.now) (g.D.Chip.state c.args.card_b.now) in
-      subst (λ (a : Action). RingsAction a c.args.begun c.args.speed false run run o o d d) (sym c.in-Manual.is) (hand-ringed d c.in-Manual.slot c.in-Manual.pick c.in-Manual.minute c.args.begun c.args.speed run o);
+      by-hand g c (λ a r. RingsAction a c.args.begun c.args.speed false run r o o d d) (hand-ringed d c.in-Manual.slot c.in-Manual.pick c.in-Manual.minute c.args.begun c.args.speed run o);
   cards =
       let run = c.args.run.now in
       let o = c.args.outcome.now in
@@ -408,19 +450,21 @@ returns-in-Manual-clause-leaves g c = record {
       let run = c.args.run.now in
       let o = c.args.outcome.now in
       let d = devices (g.M.Medium.state c.args.unit.now) (g.C.Chip.state c.args.card_a.now) (g.D.Chip.state c.args.card_b.now) in
-      subst (λ (a : Action). NotesDone a (moment_of c.args.begun run) c.args.speed false run run o o d d) (sym c.in-Manual.is)
+      by-hand g c (λ a r. NotesDone a (moment_of c.args.begun run) c.args.speed false run r o o d d)
       (same-noted (g.M.Medium.state c.args.unit.now) (g.C.Chip.state c.args.card_a.now) (g.D.Chip.state c.args.card_b.now));
   rings =
       λ tells.
       let run = c.args.run.now in
       let o = c.args.outcome.now in
       let U = g.M.Medium.state c.args.unit.now in
-      subst (λ (a : Action). RingsDone a (moment_of c.args.begun run) c.args.speed false run run o o U U) (sym c.in-Manual.is) (rings-left U);
+      by-hand g c (λ a r. RingsDone a (moment_of c.args.begun run) c.args.speed false run r o o U U) (rings-left U);
 }
 
 pub returns-in-Manual-clause-held : goal.returns-in-Manual-clause-held
 returns-in-Manual-clause-held g c = record {
-  held = c.requires.going.held;
+  held =
+      by-hand g c (λ a r. CanBeCut (r.next / 60) r (g.M.Medium.state c.args.unit.now) (g.C.Chip.card c.args.card_a.now) (g.D.Chip.card c.args.card_b.now) (g.C.Chip.state c.args.card_a.now) (g.D.Chip.state c.args.card_b.now))
+      (holding-held (hand g c) c.args.run.now (c.args.run.now.next / 60) (hand_card g c) (hand-stands g c) c.requires.going.held);
   cause = (no_reads (g.M.Medium.state c.args.unit.now) (c.requires.going.lit (ap is_lit c.requires.lit)).ready.unit_ready.works).cause;
 }
 
@@ -429,6 +473,7 @@ returns-in-Manual-clause-goes g c = record {
   later = later-same (devices (g.M.Medium.state c.args.unit.now) (g.C.Chip.state c.args.card_a.now) (g.D.Chip.state c.args.card_b.now));
   calm = calm-same (devices (g.M.Medium.state c.args.unit.now) (g.C.Chip.state c.args.card_a.now) (g.D.Chip.state c.args.card_b.now));
   more = omega arith;
+  most = writes-none 0 1 (devices (g.M.Medium.state c.args.unit.now) (g.C.Chip.state c.args.card_a.now) (g.D.Chip.state c.args.card_b.now));
 }
 
 pub returns-in-Tear-clause-done : goal.returns-in-Tear-clause-done
@@ -489,24 +534,5 @@ returns-in-Tear-clause-goes g c = record {
   more =
       let told = ap (λ (l : Listed Break). length l.items) c.pull.ensures.breaks ∙ lines-length (pulled_breaks (card_in (seat_in c.args.run.now.keeper.cabin.slots.seats c.in-Tear.slot)) c.in-Tear.slot c.moment-at.result) c.args.outcome.now.breaks in
       omega (arith, told);
+  most = writes-none 0 1 (devices (g.M.Medium.state c.args.unit.now) (g.C.Chip.state c.args.card_a.now) (g.D.Chip.state c.args.card_b.now));
 }
-
--- ---- its writes
-
-pub returns-in-Insert-clause-most : goal.returns-in-Insert-clause-most
-returns-in-Insert-clause-most g c = writes-act _ _ c.insert.ensures.most
-
-pub returns-in-Withdraw-clause-most : goal.returns-in-Withdraw-clause-most
-returns-in-Withdraw-clause-most g c = writes-act _ _ (wrote-more 82 102 110 1174 _ _ (omega arith) (omega arith) c.withdraw.ensures.most)
-
-pub returns-in-Place-clause-most : goal.returns-in-Place-clause-most
-returns-in-Place-clause-most g c = writes-act _ _ (wrote-more 9 102 5 1174 _ _ (omega arith) (omega arith) c.note_place.ensures.most)
-
-pub returns-in-Select-clause-most : goal.returns-in-Select-clause-most
-returns-in-Select-clause-most g c = writes-none 0 1 (devices (g.M.Medium.state c.args.unit.now) (g.C.Chip.state c.args.card_a.now) (g.D.Chip.state c.args.card_b.now))
-
-pub returns-in-Manual-clause-most : goal.returns-in-Manual-clause-most
-returns-in-Manual-clause-most g c = writes-none 0 1 (devices (g.M.Medium.state c.args.unit.now) (g.C.Chip.state c.args.card_a.now) (g.D.Chip.state c.args.card_b.now))
-
-pub returns-in-Tear-clause-most : goal.returns-in-Tear-clause-most
-returns-in-Tear-clause-most g c = writes-none 0 1 (devices (g.M.Medium.state c.args.unit.now) (g.C.Chip.state c.args.card_a.now) (g.D.Chip.state c.args.card_b.now))

@@ -15,7 +15,8 @@ use Rattle.run_acts.specs.Room.{cuts_from, cuts_within}
 use Rattle.recorder_with_cards.specs.Acting.{AreActed}
 use Rattle.recorder_with_cards.specs.Items.{between, insertions_in}
 use Rattle.recorder_with_cards.specs.Recorded.{actions_in, Between, HasBegunBy, Inside}
-use Rattle.recorder_with_cards.proofs.SecondsRecorded.{refused_dark, acted-dark, passes-dark, by-power, run-then}
+use Rattle.recorder_with_cards.proofs.SecondsRecorded.{acted-dark, passes-dark, by-power, run-then}
+use Rattle.recorder_with_cards.proofs.SlotLines.{refused_dark}
 use Rattle.recorder_with_cards.proofs.Waiting.{all-actions}
 use Rattle.recorder_with_cards.proofs.Rooms.{room-less}
 use Rattle.recorder_with_cards.proofs.Dark.{away-dark}
@@ -320,8 +321,8 @@ returns-in_err-has_power-clause-calm g c = c.in_err-has_power.ensures.goes.calm
 
 pub returns-clause-most : goal.returns-clause-most
 returns-clause-most g c =
-    writes-driven c.args.seconds (c.args.to - c.args.from) (dev0 g c) (dev1 g c) (dev2 g c) (dev3 g c) (dev4 g c) c.requires.some c.in_ok-has_power.ensures.most c.act_all.ensures.most c.turn.ensures.most c.drive_on.ensures.most
+    writes-driven c.args.seconds (c.args.to - c.args.from) (dev0 g c) (dev1 g c) (dev2 g c) (dev3 g c) (dev4 g c) c.requires.some c.in_ok-has_power.ensures.goes.most c.act_all.ensures.goes.most c.turn.ensures.goes.most c.drive_on.ensures.most
 
 pub returns-in_err-has_power-clause-most : goal.returns-in_err-has_power-clause-most
 returns-in_err-has_power-clause-most g c =
-    writes-begun c.args.seconds (c.args.to - c.args.from) (devices (g.M.Medium.state c.args.unit.now) (g.C.Chip.state c.args.card_a.now) (g.D.Chip.state c.args.card_b.now)) (devices (g.M.Medium.state c.begin_second.new.unit) (g.C.Chip.state c.begin_second.new.card_a) (g.D.Chip.state c.begin_second.new.card_b)) c.requires.some c.in_err-has_power.ensures.most
+    writes-begun c.args.seconds (c.args.to - c.args.from) (devices (g.M.Medium.state c.args.unit.now) (g.C.Chip.state c.args.card_a.now) (g.D.Chip.state c.args.card_b.now)) (devices (g.M.Medium.state c.begin_second.new.unit) (g.C.Chip.state c.begin_second.new.card_a) (g.D.Chip.state c.begin_second.new.card_b)) c.requires.some c.in_err-has_power.ensures.goes.most

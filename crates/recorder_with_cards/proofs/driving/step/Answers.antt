@@ -6,7 +6,8 @@ use Rattle.run_minutes.specs.Keeping.{with_lines}
 use Rattle.run_acts.specs.declared.run.Run.{Run}
 use Rattle.run_acts.specs.Power.{is_lit, has_power, passed}
 use Rattle.recorder_with_cards.proofs.Dark.{away-dark}
-use Rattle.recorder_with_cards.proofs.SecondsRecorded.{refused_dark, none-refused, passes-dark, by-power, first-driven}
+use Rattle.recorder_with_cards.proofs.SecondsRecorded.{none-refused, passes-dark, by-power, first-driven}
+use Rattle.recorder_with_cards.proofs.SlotLines.{refused_dark}
 use Rattle.std.proofs.lemmas.Grind.{common_steps}
 use Rattle.run_acts.specs.Room.{cuts_from, cuts_within}
 use Rattle.recorder_with_cards.proofs.Rooms.{room-less}
@@ -189,8 +190,8 @@ returns-in_err-begin_second-clause-calm g c = c.in_err-begin_second.ensures.goes
 -- ---- its writes
 
 pub returns-clause-most : goal.returns-clause-most
-returns-clause-most g c = writes-second c.args.n (dev0 g c) (dev1 g c) (dev2 g c) c.requires.some c.in_ok-begin_second.ensures.most c.turn.ensures.most
+returns-clause-most g c = writes-second c.args.n (dev0 g c) (dev1 g c) (dev2 g c) c.requires.some c.in_ok-begin_second.ensures.goes.most c.turn.ensures.goes.most
 
 pub returns-in_err-begin_second-clause-most : goal.returns-in_err-begin_second-clause-most
 returns-in_err-begin_second-clause-most g c =
-    writes-begun c.args.n 0 (devices (g.M.Medium.state c.args.unit.now) (g.C.Chip.state c.args.card_a.now) (g.D.Chip.state c.args.card_b.now)) (devices (g.M.Medium.state c.begin_second.new.unit) (g.C.Chip.state c.begin_second.new.card_a) (g.D.Chip.state c.begin_second.new.card_b)) c.requires.some c.in_err-begin_second.ensures.most
+    writes-begun c.args.n 0 (devices (g.M.Medium.state c.args.unit.now) (g.C.Chip.state c.args.card_a.now) (g.D.Chip.state c.args.card_b.now)) (devices (g.M.Medium.state c.begin_second.new.unit) (g.C.Chip.state c.begin_second.new.card_a) (g.D.Chip.state c.begin_second.new.card_b)) c.requires.some c.in_err-begin_second.ensures.goes.most

@@ -30,10 +30,11 @@ use Rattle.run_rings.specs.Spans.{with_second}
 use Rattle.run_acts.specs.RunRinged.{RingsGoOn}
 use Rattle.run_acts.proofs.GoesOn.{settled-left, settled-later, settled-noted}
 use Rattle.run_acts.proofs.RingedLines.{AreTears, up-to-tells}
+use Rattle.run_acts.proofs.Readings.{spans-here}
 use Rattle.run_acts.proofs.RingedSecond.{more-left}
 use Rattle.run_acts.proofs.RingedClosed.{fewer-seats}
 use Rattle.recorder_with_cards.proofs.ActsRecorded.{refuses}
-use Rattle.recorder_with_cards.proofs.Inserted.{at-is, unsettled, inserted, waiting as waits-within, next-judged, next-cards, unsettled-evented, inserted-evented}
+use Rattle.recorder_with_cards.proofs.Inserted.{at-is, unsettled, inserted, waiting as waits-within, settled-places, next-judged, next-cards, unsettled-evented, inserted-evented}
 use Rattle.recorder_with_cards.proofs.InsertedRinged.{unsettled-ringed, inserted-ringed, odometer-mid}
 use Rattle.tach_media.specs.Medium.{State, HasCause}
 use Rattle.run_acts.specs.NotedEvents.{NotesEvents}
@@ -46,7 +47,6 @@ use Rattle.run_insertion.specs.Entering.{ending_of}
 use Rattle.run_acts.proofs.Ringing.{settling-leaves}
 use Rattle.recorder_with_cards.proofs.EnteredRings.{writes-behind}
 use Rattle.run_minutes.proofs.Later.{later-then}
-use Rattle.run_note_record.specs.OnCards.{PlacesStay}
 use Rattle.run_acts.specs.RunCards.{vehicle_in, StillShow, CardsSettling, PlacesSettling, CardsGoOn}
 use Rattle.recorder_with_cards.proofs.InsertedCards.{unsettled-cards, inserted-cards}
 use Rattle.recorder_with_cards.proofs.Staying.{settled-watched}
@@ -219,12 +219,12 @@ returns-in_err-settle-clause-promises g c = record {
       let at = at-is c.args.slot c.args.card c.args.at c.args.speed run out d o done s now front rest actions c.requires.at begun late allowed within (ungiven_of c.requires.acting.going.span) c.requires.acting.going.cabin in
       let v = c.in_err-settle.ensures.keeps in
       let stay = subst (λ (b : Cabin). PlacesSettling v.decided c.args.at (with_cabin b run) mid out d e) c.put_in.ensures.kept v.places in
-      let places : PlacesStay o d e = stay o done s (length front) (entering_by (length front) (Insert c.args.slot c.args.card)) at
-      (waits-within c.args.slot c.args.card c.args.at c.args.speed run out d o done s now front rest actions c.requires.at begun late allowed within (ungiven_of c.requires.acting.going.span) c.requires.acting.going.cabin mid told true settles v.decided v.given) time in
+      let places = settled-places c.args.slot c.args.card c.args.at c.args.speed run out d o done s now front rest actions c.requires.at begun late allowed within (ungiven_of c.requires.acting.going.span) c.requires.acting.going.cabin mid told true settles v.decided v.given
+      e stay time spans t (spans-here o done s within.within.b.run.log front run (log_of out) spans t d rings) in
       let rung = unsettled-ringed o done s front rest c.args.slot c.args.card actions run out d within spans t rings (refuses o done s c.args.speed run out d now front (Insert c.args.slot c.args.card) rest actions within None allowed)
       mid told e lines.lines (ap log_of settles.outcome ∙ ap (λ (bs : List Break). record (log_of out) { breaks = bs }) lines.are) (subst (λ (m : Moment). AreTears m lines.lines) at lines.tears)
       (settling-leaves c.args.at true (with_cabin c.put_in.new.self run) mid out told U V (settled-noted c.in_err-settle.ensures.keeps))
-      (more-left o d e (within.within.powered.lit.unit.unit_holds [] []).later within.within.there.clocks (settled-left c.settle.ensures.goes)) places
+      (more-left o d e (within.within.powered.lit.unit.unit_holds [] []).later within.within.there.clocks (settled-left c.settle.ensures.goes.keeping)) places
       (fewer-seats put mid (ap (λ (r : Run). r.noted) settles.only) lines.sessions) lines.odometer (ap (λ (r : Run). r.noted) settles.only) in
       subst (λ (f : Bool). RingsGoOn f o done s within.within.b (front ++ Insert c.args.slot c.args.card ∷ []) mid (log_of told) spans t e) (failed g c) rung;
   cards =
@@ -245,7 +245,7 @@ returns-in_err-settle-clause-promises g c = record {
       (waits-within c.args.slot c.args.card c.args.at c.args.speed run out d o done s now front rest actions c.requires.at begun late allowed within (ungiven_of c.requires.acting.going.span) c.requires.acting.going.cabin mid told true settles v.decided v.given) time in
       let goes = unsettled-cards o done s front rest c.args.slot c.args.card actions run out d within cards (refuses o done s c.args.speed run out d now front (Insert c.args.slot c.args.card) rest actions within None allowed)
       told e lines.lines (ap log_of settles.outcome ∙ ap (λ (bs : List Break). record (log_of out) { breaks = bs }) lines.are) (subst (λ (m : Moment). AreTears m lines.lines) at lines.tears)
-      (more-left o d e (within.within.powered.lit.unit.unit_holds [] []).later within.within.there.clocks (settled-left c.settle.ensures.goes)) still in
+      (more-left o d e (within.within.powered.lit.unit.unit_holds [] []).later within.within.there.clocks (settled-left c.settle.ensures.goes.keeping)) still in
       subst (λ (f : Bool). CardsGoOn f o done s within.within.b.run.log (front ++ Insert c.args.slot c.args.card ∷ []) (log_of told) e) (failed g c) goes;
 }
 
@@ -285,8 +285,9 @@ returns-in_err-settle-clause-held g c = record {
 
 pub returns-in_err-settle-clause-goes : goal.returns-in_err-settle-clause-goes
 returns-in_err-settle-clause-goes g c = record {
-  later = settled-later c.settle.ensures.goes c.settle.ensures.speeds;
-  calm = c.settle.ensures.goes.all.calm;
+  later = settled-later c.settle.ensures.goes.keeping c.settle.ensures.goes.speeds;
+  calm = c.settle.ensures.goes.keeping.all.calm;
+  most = wrote-more 78 102 294 1366 _ _ (omega arith) (omega arith) c.settle.ensures.goes.most;
 }
 
 pub returns-clause-inserted : goal.returns-clause-inserted
@@ -345,11 +346,11 @@ returns-clause-promises g c = record {
       let log : log_of told ≡ record (log_of out) { breaks = (log_of out).breaks ++ lines.lines } = ap log_of settles.outcome ∙ ap (λ (bs : List Break). record (log_of out) { breaks = bs }) lines.are in
       let tears = subst (λ (m : Moment). AreTears m lines.lines) at lines.tears in
       let leaves = settling-leaves c.args.at false (with_cabin c.put_in.new.self run) mid out told U V (settled-noted c.in_ok-settle.ensures.keeps) in
-      let left = more-left o d e (within.within.powered.lit.unit.unit_holds [] []).later within.within.there.clocks (settled-left c.settle.ensures.goes) in
+      let left = more-left o d e (within.within.powered.lit.unit.unit_holds [] []).later within.within.there.clocks (settled-left c.settle.ensures.goes.keeping) in
       let v = c.in_ok-settle.ensures.keeps in
       let stay = subst (λ (b : Cabin). PlacesSettling v.decided c.args.at (with_cabin b run) mid out d e) c.put_in.ensures.kept v.places in
-      let places : PlacesStay o d e = stay o done s (length front) (entering_by (length front) (Insert c.args.slot c.args.card)) at
-      (waits-within c.args.slot c.args.card c.args.at c.args.speed run out d o done s now front rest actions c.requires.at begun late allowed within (ungiven_of c.requires.acting.going.span) c.requires.acting.going.cabin mid told false settles v.decided v.given) before in
+      let places = settled-places c.args.slot c.args.card c.args.at c.args.speed run out d o done s now front rest actions c.requires.at begun late allowed within (ungiven_of c.requires.acting.going.span) c.requires.acting.going.cabin mid told false settles v.decided v.given
+      e stay before spans t (spans-here o done s within.within.b.run.log front run (log_of out) spans t d rings) in
       let noted : mid.noted ≡ run.noted = ap (λ (r : Run). r.noted) settles.only in
       let fewer = fewer-seats put mid noted lines.sessions in
       let counted : mid.noted ≤ length (log_of told).finds = let few = rings.counted in let same = ap (λ (l : RunLog). length l.finds) log in omega (arith, few, same, noted) in
@@ -378,7 +379,7 @@ returns-clause-promises g c = record {
       let fine = refuses o done s c.args.speed run out d now front (Insert c.args.slot c.args.card) rest actions within None allowed in
       let log : log_of told ≡ record (log_of out) { breaks = (log_of out).breaks ++ lines.lines } = ap log_of settles.outcome ∙ ap (λ (bs : List Break). record (log_of out) { breaks = bs }) lines.are in
       let tears = subst (λ (m : Moment). AreTears m lines.lines) at lines.tears in
-      let left = more-left o d e (within.within.powered.lit.unit.unit_holds [] []).later within.within.there.clocks (settled-left c.settle.ensures.goes) in
+      let left = more-left o d e (within.within.powered.lit.unit.unit_holds [] []).later within.within.there.clocks (settled-left c.settle.ensures.goes.keeping) in
       let still : StillShow o d e = shows o done s (length front) (entering_by (length front) (Insert c.args.slot c.args.card)) at
       (waits-within c.args.slot c.args.card c.args.at c.args.speed run out d o done s now front rest actions c.requires.at begun late allowed within (ungiven_of c.requires.acting.going.span) c.requires.acting.going.cabin mid told false settles v.decided v.given) before in
       let own : mid.keeper.memory.registration ≡ vehicle_in o = ap (λ m. m.registration) (settled-watched c.args.at false put mid out told settles).memory ∙ vehicle in
@@ -405,7 +406,7 @@ returns-clause-leaves g c = record {
           j.1,
           record {
             accepted = j.2.accepted;
-            writes = λ here. writes-behind (ending_of j.2.accepted.way) j.0 (is_err c.accept_in.result) U V W leaves (j.2.writes (c.in_ok-settle.ensures.goes.unit_tells ∙ tells));
+            writes = λ here. writes-behind (ending_of j.2.accepted.way) j.0 (is_err c.accept_in.result) U V W leaves (j.2.writes (c.in_ok-settle.ensures.goes.keeping.unit_tells ∙ tells));
           },
         );
       });
@@ -443,15 +444,7 @@ returns-clause-held g c = record {
 
 pub returns-clause-goes : goal.returns-clause-goes
 returns-clause-goes g c = record {
-  later = later-then (found g (settling g c)) (settled g (settling g c)) (behind g c) (settled-later c.settle.ensures.goes c.settle.ensures.speeds) c.accept_in.ensures.goes.later;
-  calm = calm-then (found g (settling g c)) (settled g (settling g c)) (behind g c) c.settle.ensures.goes.all.calm c.accept_in.ensures.goes.calm;
+  later = later-then (found g (settling g c)) (settled g (settling g c)) (behind g c) (settled-later c.settle.ensures.goes.keeping c.settle.ensures.goes.speeds) c.accept_in.ensures.goes.later;
+  calm = calm-then (found g (settling g c)) (settled g (settling g c)) (behind g c) c.settle.ensures.goes.keeping.all.calm c.accept_in.ensures.goes.calm;
+  most = wrote-more (78 + 24) 102 (294 + 1072) 1366 _ _ (omega arith) (omega arith) (wrote-then 78 24 294 1072 _ _ _ c.settle.ensures.goes.most c.accept_in.ensures.goes.most);
 }
-
--- ---- its writes
-
-pub returns-in_err-settle-clause-most : goal.returns-in_err-settle-clause-most
-returns-in_err-settle-clause-most g c = wrote-more 78 102 102 1174 _ _ (omega arith) (omega arith) c.settle.ensures.most
-
-pub returns-clause-most : goal.returns-clause-most
-returns-clause-most g c =
-    wrote-more (78 + 24) 102 (102 + 1072) 1174 _ _ (omega arith) (omega arith) (wrote-then 78 24 102 1072 _ _ _ c.settle.ensures.most c.accept_in.ensures.most)

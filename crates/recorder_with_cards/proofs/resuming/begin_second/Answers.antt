@@ -112,6 +112,7 @@ returns-then-not-has_power-clause-goes g c = record {
   later = later-same (devices (g.M.Medium.state c.args.unit.now) (g.C.Chip.state c.args.card_a.now) (g.D.Chip.state c.args.card_b.now));
   calm = calm-same (devices (g.M.Medium.state c.args.unit.now) (g.C.Chip.state c.args.card_a.now) (g.D.Chip.state c.args.card_b.now));
   broke = broke-none c.args.outcome.now.breaks.items {old = (g.M.Medium.state c.args.unit.now)} {new = (g.M.Medium.state c.args.unit.now)} (omega arith);
+  most = wrote-none 94 2152 (devices (g.M.Medium.state c.args.unit.now) (g.C.Chip.state c.args.card_a.now) (g.D.Chip.state c.args.card_b.now));
 }
 
 pub returns-then-is_lit-clause-begun : goal.returns-then-is_lit-clause-begun
@@ -165,6 +166,7 @@ returns-then-is_lit-clause-goes g c = record {
   later = later-same (devices (g.M.Medium.state c.args.unit.now) (g.C.Chip.state c.args.card_a.now) (g.D.Chip.state c.args.card_b.now));
   calm = calm-same (devices (g.M.Medium.state c.args.unit.now) (g.C.Chip.state c.args.card_a.now) (g.D.Chip.state c.args.card_b.now));
   broke = broke-none c.args.outcome.now.breaks.items {old = (g.M.Medium.state c.args.unit.now)} {new = (g.M.Medium.state c.args.unit.now)} (omega arith);
+  most = wrote-none 94 2152 (devices (g.M.Medium.state c.args.unit.now) (g.C.Chip.state c.args.card_a.now) (g.D.Chip.state c.args.card_b.now));
 }
 
 pub returns-in_err-power_on-clause-begun : goal.returns-in_err-power_on-clause-begun
@@ -198,6 +200,7 @@ returns-in_err-power_on-clause-goes g c = record {
   later = c.power_on.ensures.goes.later;
   calm = c.power_on.ensures.goes.calm;
   broke = c.power_on.ensures.goes.broke;
+  most = c.power_on.ensures.goes.most;
 }
 
 pub returns-clause-begun : goal.returns-clause-begun
@@ -231,18 +234,5 @@ returns-clause-goes g c = record {
   later = c.power_on.ensures.goes.later;
   calm = c.power_on.ensures.goes.calm;
   broke = c.power_on.ensures.goes.broke;
+  most = c.power_on.ensures.goes.most;
 }
-
--- ---- its writes
-
-pub returns-then-not-has_power-clause-most : goal.returns-then-not-has_power-clause-most
-returns-then-not-has_power-clause-most g c = wrote-none 94 2152 (devices (g.M.Medium.state c.args.unit.now) (g.C.Chip.state c.args.card_a.now) (g.D.Chip.state c.args.card_b.now))
-
-pub returns-then-is_lit-clause-most : goal.returns-then-is_lit-clause-most
-returns-then-is_lit-clause-most g c = wrote-none 94 2152 (devices (g.M.Medium.state c.args.unit.now) (g.C.Chip.state c.args.card_a.now) (g.D.Chip.state c.args.card_b.now))
-
-pub returns-in_err-power_on-clause-most : goal.returns-in_err-power_on-clause-most
-returns-in_err-power_on-clause-most g c = c.power_on.ensures.most
-
-pub returns-clause-most : goal.returns-clause-most
-returns-clause-most g c = c.power_on.ensures.most

@@ -268,6 +268,7 @@ returns-in_err-judge_clock-clause-goes g c = record {
   later = later-same (before g c);
   calm = calm-none (before g c) (ap (λ (l : Listed Break). failed_tears l.items) c.learn.ensures.breaks ∙ found-tears c.args.run.now.unfound c.last_kept-kept.result c.args.outcome.now.breaks.items);
   broke = broke-found _ _ {old = (g.M.Medium.state c.args.unit.now)} {new = (g.M.Medium.state c.args.unit.now)} (ap (λ (l : Listed Break). l.items) c.learn.ensures.breaks) (omega arith);
+  most = wrote-none 94 2152 (devices (g.M.Medium.state c.args.unit.now) (g.C.Chip.state c.args.card_a.now) (g.D.Chip.state c.args.card_b.now));
 }
 
 pub returns-then-is_err-clause-woken : goal.returns-then-is_err-clause-woken
@@ -303,6 +304,7 @@ returns-then-is_err-clause-goes g c = record {
   broke =
       broke-then (broke g (resuming g c))
       (cut-broke _ _ _ _ _ (g.M.Medium.state c.args.unit.now) (g.M.Medium.state c.resume.new.unit) (is_err c.resume.result) c.requires.loaded.works c.resume.ensures.held.cause (failed g c) c.resume.ensures.resumed.uncut (ap (λ (l : Listed Break). l.items) c.cut.ensures.breaks));
+  most = c.resume.ensures.goes.most;
 }
 
 pub returns-clause-woken : goal.returns-clause-woken
@@ -358,15 +360,5 @@ returns-clause-goes g c = record {
       let here = (goal.at.returns-clause-goes g c).After-resume in
       calm-then (dev0 g here) (dev0 g here) (dev1 g here) {mids = c.learn.new.breaks.items} (calm g here) c.resume.ensures.goes.calm;
   broke = broke-then (broke g (goal.at.returns-clause-goes g c).After-resume) (uncut-broke _ _ (g.M.Medium.state c.args.unit.now) (g.M.Medium.state c.resume.new.unit) (is_err c.resume.result) c.resume.ensures.held.cause (sym c.is_err.ensures.value ∙ c.if-is_err.false) c.resume.ensures.resumed.uncut);
+  most = c.resume.ensures.goes.most;
 }
-
--- ---- its writes
-
-pub returns-in_err-judge_clock-clause-most : goal.returns-in_err-judge_clock-clause-most
-returns-in_err-judge_clock-clause-most g c = wrote-none 94 2152 (devices (g.M.Medium.state c.args.unit.now) (g.C.Chip.state c.args.card_a.now) (g.D.Chip.state c.args.card_b.now))
-
-pub returns-then-is_err-clause-most : goal.returns-then-is_err-clause-most
-returns-then-is_err-clause-most g c = c.resume.ensures.most
-
-pub returns-clause-most : goal.returns-clause-most
-returns-clause-most g c = c.resume.ensures.most

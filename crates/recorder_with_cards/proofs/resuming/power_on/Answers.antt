@@ -33,7 +33,7 @@ use Rattle.run_acts.specs.RunCards.{CardsBehind}
 use Rattle.run_acts.specs.Speeds.{SpeedsBehind}
 use Rattle.run_acts.proofs.SpeedLogs.{blocks-same}
 use Rattle.recorder_with_cards.proofs.EnteredSpeeds.{reading-leaves}
-use Rattle.recorder_with_cards.proofs.WokenRinged.{places-beside, read-leaves, comes-of, unpowered-ringed, cut-ringed}
+use Rattle.recorder_with_cards.proofs.WokenRinged.{cards-beside, read-leaves, comes-of, unpowered-ringed, cut-ringed}
 use Rattle.recorder_with_cards.proofs.CutOff.{cut-as}
 use Rattle.recorder_with_cards.proofs.Read.{may-of, rule-known, read-on, left-on, unit-tells, unit-decodes, not-bad, image-of, at-image}
 use Rattle.run_acts.specs.declared.run.Run.{Run}
@@ -94,7 +94,7 @@ module _ (g : Over) (c : After-open_unit g) where
   behind : (o : Origin) (done : List TraceSecond) (all : RunRinged o done run out dev0) → HaveLeftMore o dev0 dev1 → RingedBehind o done (log_of out) run.next all.spans (seats_of run) dev1
   behind o done all left =
       behind-stays dev0 dev1 o done (log_of out) run.next all.spans (seats_of run) all.ringed (read-leaves (g.M.Medium.state c.args.unit.now) (g.M.Medium.state c.open_unit.new.unit) whole c.open_unit.ensures.leaves) left
-      (places-beside o (g.M.Medium.state c.args.unit.now) (g.M.Medium.state c.open_unit.new.unit) (g.C.Chip.state c.args.card_a.now) (g.D.Chip.state c.args.card_b.now))
+      (cards-beside o all.spans (g.M.Medium.state c.args.unit.now) (g.M.Medium.state c.open_unit.new.unit) (g.C.Chip.state c.args.card_a.now) (g.D.Chip.state c.args.card_b.now))
 
   shown : (o : Origin) (done : List TraceSecond) → CardsBehind o done (log_of out) dev0 → CardsBehind o done (log_of out) dev1
   shown o done = unit-alone o done (log_of out) (g.M.Medium.state c.args.unit.now) (g.M.Medium.state c.open_unit.new.unit) (g.C.Chip.state c.args.card_a.now) (g.D.Chip.state c.args.card_b.now)
@@ -274,6 +274,10 @@ returns-in-Ok-clause-goes g c = record {
       let at = (goal.at.returns-in-Ok-clause-goes g c).After-open_unit in
       calm-then (dev0 g at) (dev1 g at) (devices (g.M.Medium.state c.found.new.unit) (g.C.Chip.state c.found.new.card_a) (g.D.Chip.state c.found.new.card_b)) (calm g at) c.found.ensures.goes.calm;
   broke = broke-then (broke-none c.args.outcome.now.breaks.items {old = (g.M.Medium.state c.args.unit.now)} {new = (g.M.Medium.state c.open_unit.new.unit)} (c.in-Ok.ensures.cause.unbroken refl)) c.found.ensures.goes.broke;
+  most =
+      let same = c.open_unit.ensures.clock in
+      let last = c.found.ensures.goes.most in
+      record { unit = (let a = last.unit in omega (arith, same, a)); card_a = last.card_a; card_b = last.card_b };
 }
 
 pub returns-in-Err-BadUnit-clause-woken : goal.returns-in-Err-BadUnit-clause-woken
@@ -302,6 +306,7 @@ returns-in-Err-BadUnit-clause-goes g c = record {
   broke =
       let cause = rw c.in-Err-BadUnit.field-0-is at c.in-Err-BadUnit.ensures.cause in
       broke-none c.args.outcome.now.breaks.items {old = (g.M.Medium.state c.args.unit.now)} {new = (g.M.Medium.state c.open_unit.new.unit)} (cause.unbroken refl);
+  most = let same = c.open_unit.ensures.clock in record { unit = omega (arith, same); card_a = omega arith; card_b = omega arith };
 }
 
 pub returns-in-Err-Failed-clause-woken : goal.returns-in-Err-Failed-clause-woken
@@ -341,18 +346,5 @@ returns-in-Err-Failed-clause-goes g c = record {
   broke =
       let rose = rw c.in-Err-Failed.field-0-is at c.in-Err-Failed.ensures.broke in
       broke-once _ _ (ap (λ (l : Listed Break). l.items) c.cut.ensures.breaks) rose;
+  most = let same = c.open_unit.ensures.clock in record { unit = omega (arith, same); card_a = omega arith; card_b = omega arith };
 }
-
--- ---- its writes
-
-pub returns-in-Ok-clause-most : goal.returns-in-Ok-clause-most
-returns-in-Ok-clause-most g c =
-    let same = c.open_unit.ensures.clock in
-    let last = c.found.ensures.most in
-    record { unit = (let a = last.unit in omega (arith, same, a)); card_a = last.card_a; card_b = last.card_b }
-
-pub returns-in-Err-BadUnit-clause-most : goal.returns-in-Err-BadUnit-clause-most
-returns-in-Err-BadUnit-clause-most g c = let same = c.open_unit.ensures.clock in record { unit = omega (arith, same); card_a = omega arith; card_b = omega arith }
-
-pub returns-in-Err-Failed-clause-most : goal.returns-in-Err-Failed-clause-most
-returns-in-Err-Failed-clause-most g c = let same = c.open_unit.ensures.clock in record { unit = omega (arith, same); card_a = omega arith; card_b = omega arith }

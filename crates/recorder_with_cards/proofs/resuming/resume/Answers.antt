@@ -50,7 +50,7 @@ use Rattle.run_note_record.proofs.RingsWaking.{behind-stays}
 use Rattle.run_acts.specs.Ringing.{seating_of}
 use Rattle.run_acts.specs.RunRinged.{RingsWithin, RingsGoOn, with_cut}
 use Rattle.recorder_with_cards.proofs.EnteredSpeeds.{mending-leaves}
-use Rattle.recorder_with_cards.proofs.WokenRinged.{WakesRinged, in-both, places-beside, mend-leaves, unpowered-ringed, wakes-ringed, driver-ringed, codriver-ringed, woken-rings, spans-before, goes-odometer}
+use Rattle.recorder_with_cards.proofs.WokenRinged.{WakesRinged, in-both, cards-beside, mend-leaves, unpowered-ringed, wakes-ringed, driver-ringed, codriver-ringed, woken-rings, spans-before, goes-odometer}
 use Rattle.recorder_with_cards.proofs.WokenStored.{unmended-stored}
 use Rattle.recorder_with_cards.proofs.StoredCalls.{mend-stays}
 use Rattle.recorder_with_cards.proofs.WokenEvented.{WakesEvented, unmended-evented, wakes-evented, driver-evented, codriver-evented, anew-limit, woken-fails, woken-on, woken-ends, none-woken, gap-woken, here-empty, begun-watched, gap-memory, none-told, some-told}
@@ -205,20 +205,20 @@ module _ (g : Over) (c : After-moment-at g) where
 
   ready : UnitMayBeCalled mid.keeper (g.M.Medium.state c.mend.new.unit)
   ready = record {
-    is_unit = c.mend.ensures.unit;
-    works = c.in_ok-mend.ensures.cause.works;
-    agrees = subst (λ (k : Keeper). IfSome (g.M.Medium.state c.mend.new.unit).image (Agrees k.journal)) (sym c.begin_span.ensures.begun.keeper) c.in_ok-mend.ensures.agrees;
+    is_unit = c.mend.ensures.stands.unit;
+    works = c.in_ok-mend.ensures.goes.cause.works;
+    agrees = subst (λ (k : Keeper). IfSome (g.M.Medium.state c.mend.new.unit).image (Agrees k.journal)) (sym c.begin_span.ensures.begun.keeper) c.in_ok-mend.ensures.stands.agrees;
   }
 
   quiet : NotesNothing dev0 mended
-  quiet = says c.args.journal (g.M.Medium.state c.args.unit.now) (g.M.Medium.state c.mend.new.unit) (g.C.Chip.state c.args.card_a.now) (g.D.Chip.state c.args.card_b.now) (g.met.M.Medium.coherent c.args.unit.now) c.mend.ensures.moments
+  quiet = says c.args.journal (g.M.Medium.state c.args.unit.now) (g.M.Medium.state c.mend.new.unit) (g.C.Chip.state c.args.card_a.now) (g.D.Chip.state c.args.card_b.now) (g.met.M.Medium.coherent c.args.unit.now) c.mend.ensures.leaves.moments
 
   noted : NotesEvents [] false dev0 mended
-  noted = mended-noted c.args.journal (g.M.Medium.state c.args.unit.now) (g.M.Medium.state c.mend.new.unit) (g.C.Chip.state c.args.card_a.now) (g.D.Chip.state c.args.card_b.now) (g.met.M.Medium.coherent c.args.unit.now) c.mend.ensures.moments false
+  noted = mended-noted c.args.journal (g.M.Medium.state c.args.unit.now) (g.M.Medium.state c.mend.new.unit) (g.C.Chip.state c.args.card_a.now) (g.D.Chip.state c.args.card_b.now) (g.met.M.Medium.coherent c.args.unit.now) c.mend.ensures.leaves.moments false
 
   later : AreLater dev0 mended
-  later = later-of-unit (g.M.Medium.state c.args.unit.now) (g.M.Medium.state c.mend.new.unit) (g.C.Chip.state c.args.card_a.now) (g.D.Chip.state c.args.card_b.now) (state-by (g.M.Medium.state c.args.unit.now) (g.M.Medium.state c.mend.new.unit) _ c.mend.ensures.clock c.mend.ensures.cause)
-      (mending-leaves c.args.journal (g.M.Medium.state c.args.unit.now) (g.M.Medium.state c.mend.new.unit) (g.met.M.Medium.coherent c.args.unit.now) c.mend.ensures.moments)
+  later = later-of-unit (g.M.Medium.state c.args.unit.now) (g.M.Medium.state c.mend.new.unit) (g.C.Chip.state c.args.card_a.now) (g.D.Chip.state c.args.card_b.now) (state-by (g.M.Medium.state c.args.unit.now) (g.M.Medium.state c.mend.new.unit) _ c.mend.ensures.goes.clock c.mend.ensures.goes.cause)
+      (mending-leaves c.args.journal (g.M.Medium.state c.args.unit.now) (g.M.Medium.state c.mend.new.unit) (g.met.M.Medium.coherent c.args.unit.now) c.mend.ensures.leaves.moments)
 
   -- no block is added yet: the pointer is an index, as in each image that decodes
   newest : KnowsNewest None (g.M.Medium.state c.mend.new.unit)
@@ -243,7 +243,7 @@ module _ (g : Over) (c : After-moment-at g) where
         let ok = c.in_ok-mend.ensures in
         let loaded = c.requires.loaded in
         awake p.o p.origin p.done p.s p.supply p.v U X Y p.r p.may p.number p.given (g.met.M.Medium.coherent c.args.unit.now) (wholes-of U X Y (g.met.C.Chip.coherent c.args.card_a.now) (g.met.D.Chip.coherent c.args.card_b.now)) loaded.works c.args.journal (kept-of c.args.journal U.image loaded.found)
-        (g.M.Medium.state c.mend.new.unit) false c.mend.ensures.moments c.mend.ensures.tells ok.cause c.mend.ensures.holds ok.first ok.second run p.vehicle out p.values refl c.mend.new.journal ok.agrees c.args.rule c.requires.rule mid c.begin_span.ensures.begun (g.met.M.Medium.coherent c.mend.new.unit) p.stay
+        (g.M.Medium.state c.mend.new.unit) false c.mend.ensures.leaves.moments c.mend.ensures.goes.tells ok.goes.cause c.mend.ensures.rules.holds ok.rules.first ok.rules.second run p.vehicle out p.values refl c.mend.new.journal ok.stands.agrees c.args.rule c.requires.rule mid c.begin_span.ensures.begun (g.met.M.Medium.coherent c.mend.new.unit) p.stay
 
     is : (woke.0.run ≡ found_again c.args.journal.kept (progress p.v p.supply p.r.book)) × (woke.0.span ≡ []) × HaveLeftMore p.o dev0 mended
     unfolding woke
@@ -254,7 +254,7 @@ module _ (g : Over) (c : After-moment-at g) where
         let ok = c.in_ok-mend.ensures in
         let loaded = c.requires.loaded in
         awake-is p.o p.origin p.done p.s p.supply p.v U X Y p.r p.may p.number p.given (g.met.M.Medium.coherent c.args.unit.now) (wholes-of U X Y (g.met.C.Chip.coherent c.args.card_a.now) (g.met.D.Chip.coherent c.args.card_b.now)) loaded.works c.args.journal (kept-of c.args.journal U.image loaded.found)
-        (g.M.Medium.state c.mend.new.unit) false c.mend.ensures.moments c.mend.ensures.tells ok.cause c.mend.ensures.holds ok.first ok.second run p.vehicle out p.values refl c.mend.new.journal ok.agrees c.args.rule c.requires.rule mid c.begin_span.ensures.begun (g.met.M.Medium.coherent c.mend.new.unit) p.stay
+        (g.M.Medium.state c.mend.new.unit) false c.mend.ensures.leaves.moments c.mend.ensures.goes.tells ok.goes.cause c.mend.ensures.rules.holds ok.rules.first ok.rules.second run p.vehicle out p.values refl c.mend.new.journal ok.stands.agrees c.args.rule c.requires.rule mid c.begin_span.ensures.begun (g.met.M.Medium.coherent c.mend.new.unit) p.stay
 
     next_is : run.next ≡ p.s.number
     next_is = ap (λ (x : Values). x.next) p.values ∙ sym p.number
@@ -289,7 +289,7 @@ module _ (g : Over) (c : After-moment-at g) where
           let U : State = g.M.Medium.state c.args.unit.now in
           let W : State = g.M.Medium.state c.mend.new.unit in
           wakes-ringed p.o p.done p.s woke.0 (waiting_in Driver first_card ++ others) mid out mended woke.1 (sym began_log) q.spans q.seats
-          (behind-stays dev0 mended p.o p.done (log_of out) p.s.number q.spans q.seats q.ringed (mend-leaves c.args.journal U W (g.met.M.Medium.coherent c.args.unit.now) c.mend.ensures.moments) is.2 (places-beside p.o U W (g.C.Chip.state c.args.card_a.now) (g.D.Chip.state c.args.card_b.now)))
+          (behind-stays dev0 mended p.o p.done (log_of out) p.s.number q.spans q.seats q.ringed (mend-leaves c.args.journal U W (g.met.M.Medium.coherent c.args.unit.now) c.mend.ensures.leaves.moments) is.2 (cards-beside p.o q.spans U W (g.C.Chip.state c.args.card_a.now) (g.D.Chip.state c.args.card_b.now)))
           (λ card. ap (option_map (seating_of mid.noted)) (ap (λ (b : Cabin). session_of b.cards card) cabin ∙ (c.requires.going.dark c.requires.dark).bare card)) (omega (arith, counted, noted_so))
 
       stands : StandsOn p.o (log_of out) mid.unfound q.spans mid.keeper.odometer
@@ -299,10 +299,10 @@ module _ (g : Over) (c : After-moment-at g) where
           let Y : State = g.D.Chip.state c.args.card_b.now in
           let ok = c.in_ok-mend.ensures in
           let loaded = c.requires.loaded in
-          let kept_now : c.mend.new.journal.kept ≡ c.args.journal.kept = ap (λ (j : Notes). j.kept) ok.notes in
+          let kept_now : c.mend.new.journal.kept ≡ c.args.journal.kept = ap (λ (j : Notes). j.kept) ok.stands.notes in
           subst (λ (n : ℕ). StandsOn p.o (log_of out) n q.spans mid.keeper.odometer) (sym c.begin_span.ensures.begun.unfound)
           (awake-stands p.o p.origin p.done p.s p.supply p.v U X Y p.r p.may p.number p.given (g.met.M.Medium.coherent c.args.unit.now) (wholes-of U X Y (g.met.C.Chip.coherent c.args.card_a.now) (g.met.D.Chip.coherent c.args.card_b.now)) loaded.works c.args.journal (kept-of c.args.journal U.image loaded.found)
-          (g.M.Medium.state c.mend.new.unit) false c.mend.ensures.moments c.mend.ensures.tells ok.cause c.mend.ensures.holds ok.first ok.second run p.vehicle out p.values refl c.mend.new.journal ok.agrees c.args.rule c.requires.rule mid c.begin_span.ensures.begun (g.met.M.Medium.coherent c.mend.new.unit) p.stay
+          (g.M.Medium.state c.mend.new.unit) false c.mend.ensures.leaves.moments c.mend.ensures.goes.tells ok.goes.cause c.mend.ensures.rules.holds ok.rules.first ok.rules.second run p.vehicle out p.values refl c.mend.new.journal ok.stands.agrees c.args.rule c.requires.rule mid c.begin_span.ensures.begun (g.met.M.Medium.coherent c.mend.new.unit) p.stay
           kept_now q.spans (spans-before p.o p.done p.supply p.v dev0 p.r c.args.journal.kept (log_of out) log_is q.spans q.ringed.spans_are) q.off)
 
       -- behind the calls that follow
@@ -645,7 +645,7 @@ module _ (g : Over) (c : After-from_residual g) where
         let bad = c.in_err-mend.ensures in
         let loaded = c.requires.loaded in
         unmended-read p.o p.origin p.done p.s p.supply p.v U X Y p.r p.may p.number p.given (g.met.M.Medium.coherent c.args.unit.now) (wholes-of U X Y (g.met.C.Chip.coherent c.args.card_a.now) (g.met.D.Chip.coherent c.args.card_b.now)) loaded.works c.args.journal (kept-of c.args.journal U.image loaded.found)
-        (g.M.Medium.state c.mend.new.unit) true c.mend.ensures.moments c.mend.ensures.tells bad.cause c.mend.ensures.holds bad.first bad.second c.args.run.now p.vehicle c.args.outcome.now p.values refl
+        (g.M.Medium.state c.mend.new.unit) true c.mend.ensures.leaves.moments c.mend.ensures.goes.tells bad.goes.cause c.mend.ensures.rules.holds bad.rules.first bad.rules.second c.args.run.now p.vehicle c.args.outcome.now p.values refl
 
     log-found : log_of c.args.outcome.now ≡ (found_again c.args.journal.kept (progress p.v p.supply p.r.book)).log
     log-found = ap (λ (x : Values). x.log) p.values
@@ -689,7 +689,7 @@ accept_anew-requires-clause-acting g c = record {
       (span-held c.args.rule (run g at) (mid g at) c.mend.new.journal c.requires.going c.begin_span.ensures.begun (ready g at) c.begin_span.ensures.odometer);
   going =
       let at = (goal.at.accept_anew-requires-clause-acting g c).After-moment-at in
-      let kept = ap (λ (j : Notes). j.kept) c.in_ok-mend.ensures.notes in
+      let kept = ap (λ (j : Notes). j.kept) c.in_ok-mend.ensures.stands.notes in
       let early = c.requires.later in
       subst (λ (m : ℕ). RunHasPowerAllSeated (m / 60) (mid g at) (g.M.Medium.state c.mend.new.unit) (g.C.Chip.card c.args.card_a.now) (g.D.Chip.card c.args.card_b.now) (g.C.Chip.state c.args.card_a.now) (g.D.Chip.state c.args.card_b.now)) (sym c.begin_span.ensures.begun.next)
       (span-lit c.args.rule (run g at) (mid g at) c.mend.new.journal c.requires.dark c.requires.going c.begin_span.ensures.begun (omega (arith, kept, early)) (ready g at) (newest g at));
@@ -802,7 +802,7 @@ returns-in_err-mend-clause-noted g c = record {
   reach = Unmended;
   events = [];
   are = (sym (failed-mend g c), refl, refl, refl);
-  notes = mended-noted c.args.journal (g.M.Medium.state c.args.unit.now) (g.M.Medium.state c.mend.new.unit) (g.C.Chip.state c.args.card_a.now) (g.D.Chip.state c.args.card_b.now) (g.met.M.Medium.coherent c.args.unit.now) c.mend.ensures.moments (is_err c.from_residual.result);
+  notes = mended-noted c.args.journal (g.M.Medium.state c.args.unit.now) (g.M.Medium.state c.mend.new.unit) (g.C.Chip.state c.args.card_a.now) (g.D.Chip.state c.args.card_b.now) (g.met.M.Medium.coherent c.args.unit.now) c.mend.ensures.leaves.moments (is_err c.from_residual.result);
 }
 
 pub returns-in_err-accept_anew-clause-noted : goal.returns-in_err-accept_anew-clause-noted
@@ -887,12 +887,12 @@ returns-in_err-mend-clause-promises g c = record {
       let loaded = c.requires.loaded in
       subst (λ (f : Bool). GoesOnOrCut f o done s (In 0) [] c.args.run.now c.args.outcome.now (as_left g c)) (failed-mend g c)
       (unmended o origin done s supply v U X Y r may number given (g.met.M.Medium.coherent c.args.unit.now) (wholes-of U X Y (g.met.C.Chip.coherent c.args.card_a.now) (g.met.D.Chip.coherent c.args.card_b.now)) loaded.works c.args.journal (kept-of c.args.journal U.image loaded.found)
-      W true c.mend.ensures.moments c.mend.ensures.tells bad.cause c.mend.ensures.holds bad.first bad.second c.args.run.now vehicle c.args.outcome.now values refl c.requires.dark);
+      W true c.mend.ensures.leaves.moments c.mend.ensures.goes.tells bad.goes.cause c.mend.ensures.rules.holds bad.rules.first bad.rules.second c.args.run.now vehicle c.args.outcome.now values refl c.requires.dark);
   evented =
       λ room o origin vehicle done s supply v r stay may number given speed_is values evented limit time.
       let p : Behind c.args.journal.kept c.args.run.now c.args.outcome.now (as_found g c) = record { room = room; o = o; origin = origin; vehicle = vehicle; done = done; s = s; supply = supply; v = v; r = r; stay = stay; may = may; number = number; given = given; values = values } in
       let again : Progress = found_again c.args.journal.kept (progress v supply r.book) in
-      let silent = says c.args.journal (g.M.Medium.state c.args.unit.now) (g.M.Medium.state c.mend.new.unit) (g.C.Chip.state c.args.card_a.now) (g.D.Chip.state c.args.card_b.now) (g.met.M.Medium.coherent c.args.unit.now) c.mend.ensures.moments in
+      let silent = says c.args.journal (g.M.Medium.state c.args.unit.now) (g.M.Medium.state c.mend.new.unit) (g.C.Chip.state c.args.card_a.now) (g.D.Chip.state c.args.card_b.now) (g.met.M.Medium.coherent c.args.unit.now) c.mend.ensures.leaves.moments in
       let lost = unmended-evented o done s supply v (as_found g c) (as_left g c) r may number given c.args.journal.kept evented silent (read g c p).left (read g c p).followed (read g c p) in
       subst (λ (f : Bool). EventsWoken f (log_of c.args.outcome.now) o done s c.args.run.now c.args.outcome.now (as_left g c)) (failed-mend g c)
       (woken-fails o done s again Waking c.args.run.now c.args.outcome.now (as_left g c) (log_of c.args.outcome.now)
@@ -908,15 +908,15 @@ returns-in_err-mend-clause-promises g c = record {
       let loaded = c.requires.loaded in
       let p : Behind c.args.journal.kept c.args.run.now c.args.outcome.now (as_found g c) = record { room = room; o = o; origin = origin; vehicle = vehicle; done = done; s = s; supply = supply; v = v; r = r; stay = stay; may = may; number = number; given = given; values = values } in
       let q : Progress = found_again c.args.journal.kept (progress v supply r.book) in
-      let behind = behind-stays (as_found g c) (as_left g c) o done (log_of c.args.outcome.now) s.number spans seats ringed (mend-leaves c.args.journal U W (g.met.M.Medium.coherent c.args.unit.now) c.mend.ensures.moments) (read g c p).left (places-beside o U W X Y) in
+      let behind = behind-stays (as_found g c) (as_left g c) o done (log_of c.args.outcome.now) s.number spans seats ringed (mend-leaves c.args.journal U W (g.met.M.Medium.coherent c.args.unit.now) c.mend.ensures.leaves.moments) (read g c p).left (cards-beside o spans U W X Y) in
       let log_now : log_of c.args.outcome.now ≡ found_log v.unfound c.args.journal.kept v.log = log-found g c p in
       let are = spans-before o done supply v (as_found g c) r c.args.journal.kept (log_of c.args.outcome.now) log_now spans ringed.spans_are in
       let stands_so =
       unmended-stands o origin done s supply v U X Y r may number given (g.met.M.Medium.coherent c.args.unit.now) (wholes-of U X Y (g.met.C.Chip.coherent c.args.card_a.now) (g.met.D.Chip.coherent c.args.card_b.now)) loaded.works c.args.journal (kept-of c.args.journal U.image loaded.found)
-      W true c.mend.ensures.moments c.mend.ensures.tells bad.cause c.mend.ensures.holds bad.first bad.second c.args.run.now vehicle c.args.outcome.now values refl spans are off in
+      W true c.mend.ensures.leaves.moments c.mend.ensures.goes.tells bad.goes.cause c.mend.ensures.rules.holds bad.rules.first bad.rules.second c.args.run.now vehicle c.args.outcome.now values refl spans are off in
       let base = stands_so.0 in
       let cut = unpowered-ringed o done s q (read g c p).followed (read g c p).followed.power number given (as_left g c) spans seats (subst (λ (l : RunLog). RingedBehind o done l s.number spans seats (as_left g c)) (log-found g c p) behind) base in
-      let kept_so = stays-stored o v.log v.unfound spans (as_found g c) (as_left g c) (mend-stays c.args.journal (as_found g c) (as_left g c) (g.met.M.Medium.coherent c.args.unit.now) c.mend.ensures.moments) off in
+      let kept_so = stays-stored o v.log v.unfound spans (as_found g c) (as_left g c) (mend-stays c.args.journal (as_found g c) (as_left g c) (g.met.M.Medium.coherent c.args.unit.now) c.mend.ensures.leaves.moments) off in
       let stored = unmended-stored o done s q (read g c p).followed (read g c p).followed.power number given spans (as_left g c) base stands_so.1 kept_so.stores in
       let after : List SpanFrom = spans_cut spans base (with_cut q.log s []) done s in
       subst (λ (f : Bool). RingsWoken f (log_of c.args.outcome.now) o done s spans c.args.run.now (log_of c.args.outcome.now) (as_left g c)) (failed-mend g c) (
@@ -941,17 +941,18 @@ pub returns-in_err-mend-clause-held : goal.returns-in_err-mend-clause-held
 returns-in_err-mend-clause-held g c = record {
   held =
       let h = c.requires.going.held in
-      record { is_unit = c.mend.ensures.unit; odometer = h.odometer; minute = h.minute; card_a = h.card_a; card_b = h.card_b; stand = h.stand };
-  cause = search rules;
+      record { is_unit = c.mend.ensures.stands.unit; odometer = h.odometer; minute = h.minute; card_a = h.card_a; card_b = h.card_b; stand = h.stand };
+  cause = subst (λ (f : Bool). HasCause (g.M.Medium.state c.args.unit.now) (g.M.Medium.state c.mend.new.unit) f) (failed-mend g c) c.in_err-mend.ensures.goes.cause;
 }
 
 pub returns-in_err-mend-clause-goes : goal.returns-in_err-mend-clause-goes
 returns-in_err-mend-clause-goes g c = record {
   later =
-      later-of-unit (g.M.Medium.state c.args.unit.now) (g.M.Medium.state c.mend.new.unit) (g.C.Chip.state c.args.card_a.now) (g.D.Chip.state c.args.card_b.now) (state-by (g.M.Medium.state c.args.unit.now) (g.M.Medium.state c.mend.new.unit) _ c.mend.ensures.clock c.mend.ensures.cause)
-      (mending-leaves c.args.journal (g.M.Medium.state c.args.unit.now) (g.M.Medium.state c.mend.new.unit) (g.met.M.Medium.coherent c.args.unit.now) c.mend.ensures.moments);
+      later-of-unit (g.M.Medium.state c.args.unit.now) (g.M.Medium.state c.mend.new.unit) (g.C.Chip.state c.args.card_a.now) (g.D.Chip.state c.args.card_b.now) (state-by (g.M.Medium.state c.args.unit.now) (g.M.Medium.state c.mend.new.unit) _ c.mend.ensures.goes.clock c.mend.ensures.goes.cause)
+      (mending-leaves c.args.journal (g.M.Medium.state c.args.unit.now) (g.M.Medium.state c.mend.new.unit) (g.met.M.Medium.coherent c.args.unit.now) c.mend.ensures.leaves.moments);
   calm = calm-of-unit (g.M.Medium.state c.args.unit.now) (g.M.Medium.state c.mend.new.unit) (g.C.Chip.state c.args.card_a.now) (g.D.Chip.state c.args.card_b.now);
   more = omega arith;
+  most = wrote-more 34 94 0 2152 (devices (g.M.Medium.state c.args.unit.now) (g.C.Chip.state c.args.card_a.now) (g.D.Chip.state c.args.card_b.now)) (devices (g.M.Medium.state c.mend.new.unit) (g.C.Chip.state c.args.card_a.now) (g.D.Chip.state c.args.card_b.now)) (omega arith) (omega arith) (wrote-unit 34 0 (g.M.Medium.state c.args.unit.now) (g.M.Medium.state c.mend.new.unit) (g.C.Chip.state c.args.card_a.now) (g.D.Chip.state c.args.card_b.now) c.mend.ensures.most);
 }
 
 pub returns-in_err-accept_anew-clause-resumed : goal.returns-in_err-accept_anew-clause-resumed
@@ -1002,7 +1003,7 @@ returns-in_err-accept_anew-clause-promises g c = record {
 pub returns-in_err-accept_anew-clause-held : goal.returns-in_err-accept_anew-clause-held
 returns-in_err-accept_anew-clause-held g c = record {
   held = c.accept_anew.ensures.held.held;
-  cause = subst (λ (f : Bool). HasCause (g.M.Medium.state c.args.unit.now) (g.M.Medium.state c.accept_anew.new.unit) f) (failed-one g c) (cause_after c.in_ok-mend.ensures.cause c.in_err-accept_anew.ensures.held.cause);
+  cause = subst (λ (f : Bool). HasCause (g.M.Medium.state c.args.unit.now) (g.M.Medium.state c.accept_anew.new.unit) f) (failed-one g c) (cause_after c.in_ok-mend.ensures.goes.cause c.in_err-accept_anew.ensures.held.cause);
 }
 
 pub returns-in_err-accept_anew-clause-goes : goal.returns-in_err-accept_anew-clause-goes
@@ -1012,6 +1013,9 @@ returns-in_err-accept_anew-clause-goes g c = record {
   more =
       let at = (goal.at.returns-in_err-accept_anew-clause-goes g c).After-moment-at in
       anew-more (first_card g at) Driver c.moment-at.result c.args.speed (mid g at) c.accept_anew.new.run (out g at) c.accept_anew.new.outcome c.accept_anew.ensures.accepted.enters;
+  most =
+      wrote-more (34 + 24) 94 (0 + 1072) 2152 (devices (g.M.Medium.state c.args.unit.now) (g.C.Chip.state c.args.card_a.now) (g.D.Chip.state c.args.card_b.now)) (devices (g.M.Medium.state c.accept_anew.new.unit) (g.C.Chip.state c.accept_anew.new.card_a) (g.D.Chip.state c.accept_anew.new.card_b)) (omega arith) (omega arith)
+      (wrote-then 34 24 0 1072 (devices (g.M.Medium.state c.args.unit.now) (g.C.Chip.state c.args.card_a.now) (g.D.Chip.state c.args.card_b.now)) (devices (g.M.Medium.state c.mend.new.unit) (g.C.Chip.state c.args.card_a.now) (g.D.Chip.state c.args.card_b.now)) (devices (g.M.Medium.state c.accept_anew.new.unit) (g.C.Chip.state c.accept_anew.new.card_a) (g.D.Chip.state c.accept_anew.new.card_b)) (wrote-unit 34 0 (g.M.Medium.state c.args.unit.now) (g.M.Medium.state c.mend.new.unit) (g.C.Chip.state c.args.card_a.now) (g.D.Chip.state c.args.card_b.now) c.mend.ensures.most) c.accept_anew.ensures.goes.most);
 }
 
 pub returns-in_err-accept_anew-2-clause-resumed : goal.returns-in_err-accept_anew-2-clause-resumed
@@ -1060,7 +1064,7 @@ returns-in_err-accept_anew-2-clause-promises g c = record {
 pub returns-in_err-accept_anew-2-clause-held : goal.returns-in_err-accept_anew-2-clause-held
 returns-in_err-accept_anew-2-clause-held g c = record {
   held = c.accept_anew-2.ensures.held.held;
-  cause = subst (λ (f : Bool). HasCause (g.M.Medium.state c.args.unit.now) (g.M.Medium.state c.accept_anew-2.new.unit) f) (failed-two g c) (cause_after c.in_ok-mend.ensures.cause (cause_after c.in_ok-accept_anew.ensures.held.cause c.in_err-accept_anew-2.ensures.held.cause));
+  cause = subst (λ (f : Bool). HasCause (g.M.Medium.state c.args.unit.now) (g.M.Medium.state c.accept_anew-2.new.unit) f) (failed-two g c) (cause_after c.in_ok-mend.ensures.goes.cause (cause_after c.in_ok-accept_anew.ensures.held.cause c.in_err-accept_anew-2.ensures.held.cause));
 }
 
 pub returns-in_err-accept_anew-2-clause-goes : goal.returns-in_err-accept_anew-2-clause-goes
@@ -1068,6 +1072,9 @@ returns-in_err-accept_anew-2-clause-goes g c = record {
   later = later-two g (goal.at.returns-in_err-accept_anew-2-clause-goes g c).After-accept_anew-2;
   calm = calm-two g (goal.at.returns-in_err-accept_anew-2-clause-goes g c).After-accept_anew-2;
   more = more-two g (goal.at.returns-in_err-accept_anew-2-clause-goes g c).After-accept_anew-2;
+  most =
+      wrote-more (34 + 24 + 24) 94 (0 + 1072 + 1072) 2152 (devices (g.M.Medium.state c.args.unit.now) (g.C.Chip.state c.args.card_a.now) (g.D.Chip.state c.args.card_b.now)) (devices (g.M.Medium.state c.accept_anew-2.new.unit) (g.C.Chip.state c.accept_anew-2.new.card_a) (g.D.Chip.state c.accept_anew-2.new.card_b)) (omega arith) (omega arith)
+      (wrote-then (34 + 24) 24 (0 + 1072) 1072 (devices (g.M.Medium.state c.args.unit.now) (g.C.Chip.state c.args.card_a.now) (g.D.Chip.state c.args.card_b.now)) (devices (g.M.Medium.state c.accept_anew.new.unit) (g.C.Chip.state c.accept_anew.new.card_a) (g.D.Chip.state c.accept_anew.new.card_b)) (devices (g.M.Medium.state c.accept_anew-2.new.unit) (g.C.Chip.state c.accept_anew-2.new.card_a) (g.D.Chip.state c.accept_anew-2.new.card_b)) (wrote-then 34 24 0 1072 (devices (g.M.Medium.state c.args.unit.now) (g.C.Chip.state c.args.card_a.now) (g.D.Chip.state c.args.card_b.now)) (devices (g.M.Medium.state c.mend.new.unit) (g.C.Chip.state c.args.card_a.now) (g.D.Chip.state c.args.card_b.now)) (devices (g.M.Medium.state c.accept_anew.new.unit) (g.C.Chip.state c.accept_anew.new.card_a) (g.D.Chip.state c.accept_anew.new.card_b)) (wrote-unit 34 0 (g.M.Medium.state c.args.unit.now) (g.M.Medium.state c.mend.new.unit) (g.C.Chip.state c.args.card_a.now) (g.D.Chip.state c.args.card_b.now) c.mend.ensures.most) c.accept_anew.ensures.goes.most) c.accept_anew-2.ensures.goes.most);
 }
 
 pub returns-then-is_first-clause-resumed : goal.returns-then-is_first-clause-resumed
@@ -1126,7 +1133,7 @@ returns-then-is_first-clause-promises g c = record {
 pub returns-then-is_first-clause-held : goal.returns-then-is_first-clause-held
 returns-then-is_first-clause-held g c = record {
   held = c.accept_anew-2.ensures.held.held;
-  cause = cause_after c.in_ok-mend.ensures.cause (cause_after c.in_ok-accept_anew.ensures.held.cause c.in_ok-accept_anew-2.ensures.held.cause);
+  cause = cause_after c.in_ok-mend.ensures.goes.cause (cause_after c.in_ok-accept_anew.ensures.held.cause c.in_ok-accept_anew-2.ensures.held.cause);
 }
 
 pub returns-then-is_first-clause-goes : goal.returns-then-is_first-clause-goes
@@ -1134,6 +1141,9 @@ returns-then-is_first-clause-goes g c = record {
   later = later-two g (goal.at.returns-then-is_first-clause-goes g c).After-accept_anew-2;
   calm = calm-two g (goal.at.returns-then-is_first-clause-goes g c).After-accept_anew-2;
   more = more-two g (goal.at.returns-then-is_first-clause-goes g c).After-accept_anew-2;
+  most =
+      wrote-more (34 + 24 + 24) 94 (0 + 1072 + 1072) 2152 (devices (g.M.Medium.state c.args.unit.now) (g.C.Chip.state c.args.card_a.now) (g.D.Chip.state c.args.card_b.now)) (devices (g.M.Medium.state c.accept_anew-2.new.unit) (g.C.Chip.state c.accept_anew-2.new.card_a) (g.D.Chip.state c.accept_anew-2.new.card_b)) (omega arith) (omega arith)
+      (wrote-then (34 + 24) 24 (0 + 1072) 1072 (devices (g.M.Medium.state c.args.unit.now) (g.C.Chip.state c.args.card_a.now) (g.D.Chip.state c.args.card_b.now)) (devices (g.M.Medium.state c.accept_anew.new.unit) (g.C.Chip.state c.accept_anew.new.card_a) (g.D.Chip.state c.accept_anew.new.card_b)) (devices (g.M.Medium.state c.accept_anew-2.new.unit) (g.C.Chip.state c.accept_anew-2.new.card_a) (g.D.Chip.state c.accept_anew-2.new.card_b)) (wrote-then 34 24 0 1072 (devices (g.M.Medium.state c.args.unit.now) (g.C.Chip.state c.args.card_a.now) (g.D.Chip.state c.args.card_b.now)) (devices (g.M.Medium.state c.mend.new.unit) (g.C.Chip.state c.args.card_a.now) (g.D.Chip.state c.args.card_b.now)) (devices (g.M.Medium.state c.accept_anew.new.unit) (g.C.Chip.state c.accept_anew.new.card_a) (g.D.Chip.state c.accept_anew.new.card_b)) (wrote-unit 34 0 (g.M.Medium.state c.args.unit.now) (g.M.Medium.state c.mend.new.unit) (g.C.Chip.state c.args.card_a.now) (g.D.Chip.state c.args.card_b.now) c.mend.ensures.most) c.accept_anew.ensures.goes.most) c.accept_anew-2.ensures.goes.most);
 }
 
 pub returns-clause-resumed : goal.returns-clause-resumed
@@ -1211,7 +1221,7 @@ returns-clause-promises g c = record {
 pub returns-clause-held : goal.returns-clause-held
 returns-clause-held g c = record {
   held = c.note_gap.ensures.held.held;
-  cause = cause_after c.in_ok-mend.ensures.cause (cause_after c.in_ok-accept_anew.ensures.held.cause (cause_after c.in_ok-accept_anew-2.ensures.held.cause c.note_gap.ensures.held.cause));
+  cause = cause_after c.in_ok-mend.ensures.goes.cause (cause_after c.in_ok-accept_anew.ensures.held.cause (cause_after c.in_ok-accept_anew-2.ensures.held.cause c.note_gap.ensures.held.cause));
 }
 
 pub returns-clause-goes : goal.returns-clause-goes
@@ -1222,30 +1232,8 @@ returns-clause-goes g c = record {
       let cards = more-two g (both g c) in
       let gap = c.note_gap.ensures.goes.more in
       omega (arith, cards, gap);
+  most =
+      wrote-more (34 + 24 + 24 + 12) 94 (0 + 1072 + 1072 + 8) 2152 (devices (g.M.Medium.state c.args.unit.now) (g.C.Chip.state c.args.card_a.now) (g.D.Chip.state c.args.card_b.now)) (devices (g.M.Medium.state c.note_gap.new.unit) (g.C.Chip.state c.note_gap.new.card_a) (g.D.Chip.state c.note_gap.new.card_b)) (omega arith) (omega arith)
+      (wrote-then (34 + 24 + 24) 12 (0 + 1072 + 1072) 8 (devices (g.M.Medium.state c.args.unit.now) (g.C.Chip.state c.args.card_a.now) (g.D.Chip.state c.args.card_b.now)) (devices (g.M.Medium.state c.accept_anew-2.new.unit) (g.C.Chip.state c.accept_anew-2.new.card_a) (g.D.Chip.state c.accept_anew-2.new.card_b)) (devices (g.M.Medium.state c.note_gap.new.unit) (g.C.Chip.state c.note_gap.new.card_a) (g.D.Chip.state c.note_gap.new.card_b))
+      (wrote-then (34 + 24) 24 (0 + 1072) 1072 (devices (g.M.Medium.state c.args.unit.now) (g.C.Chip.state c.args.card_a.now) (g.D.Chip.state c.args.card_b.now)) (devices (g.M.Medium.state c.accept_anew.new.unit) (g.C.Chip.state c.accept_anew.new.card_a) (g.D.Chip.state c.accept_anew.new.card_b)) (devices (g.M.Medium.state c.accept_anew-2.new.unit) (g.C.Chip.state c.accept_anew-2.new.card_a) (g.D.Chip.state c.accept_anew-2.new.card_b)) (wrote-then 34 24 0 1072 (devices (g.M.Medium.state c.args.unit.now) (g.C.Chip.state c.args.card_a.now) (g.D.Chip.state c.args.card_b.now)) (devices (g.M.Medium.state c.mend.new.unit) (g.C.Chip.state c.args.card_a.now) (g.D.Chip.state c.args.card_b.now)) (devices (g.M.Medium.state c.accept_anew.new.unit) (g.C.Chip.state c.accept_anew.new.card_a) (g.D.Chip.state c.accept_anew.new.card_b)) (wrote-unit 34 0 (g.M.Medium.state c.args.unit.now) (g.M.Medium.state c.mend.new.unit) (g.C.Chip.state c.args.card_a.now) (g.D.Chip.state c.args.card_b.now) c.mend.ensures.most) c.accept_anew.ensures.goes.most) c.accept_anew-2.ensures.goes.most) c.note_gap.ensures.goes.most);
 }
-
--- ---- its writes
-
-pub returns-in_err-mend-clause-most : goal.returns-in_err-mend-clause-most
-returns-in_err-mend-clause-most g c = wrote-more 34 94 0 2152 (devices (g.M.Medium.state c.args.unit.now) (g.C.Chip.state c.args.card_a.now) (g.D.Chip.state c.args.card_b.now)) (devices (g.M.Medium.state c.mend.new.unit) (g.C.Chip.state c.args.card_a.now) (g.D.Chip.state c.args.card_b.now)) (omega arith) (omega arith) (wrote-unit 34 0 (g.M.Medium.state c.args.unit.now) (g.M.Medium.state c.mend.new.unit) (g.C.Chip.state c.args.card_a.now) (g.D.Chip.state c.args.card_b.now) c.mend.ensures.most)
-
-pub returns-in_err-accept_anew-clause-most : goal.returns-in_err-accept_anew-clause-most
-returns-in_err-accept_anew-clause-most g c =
-    wrote-more (34 + 24) 94 (0 + 1072) 2152 (devices (g.M.Medium.state c.args.unit.now) (g.C.Chip.state c.args.card_a.now) (g.D.Chip.state c.args.card_b.now)) (devices (g.M.Medium.state c.accept_anew.new.unit) (g.C.Chip.state c.accept_anew.new.card_a) (g.D.Chip.state c.accept_anew.new.card_b)) (omega arith) (omega arith)
-    (wrote-then 34 24 0 1072 (devices (g.M.Medium.state c.args.unit.now) (g.C.Chip.state c.args.card_a.now) (g.D.Chip.state c.args.card_b.now)) (devices (g.M.Medium.state c.mend.new.unit) (g.C.Chip.state c.args.card_a.now) (g.D.Chip.state c.args.card_b.now)) (devices (g.M.Medium.state c.accept_anew.new.unit) (g.C.Chip.state c.accept_anew.new.card_a) (g.D.Chip.state c.accept_anew.new.card_b)) (wrote-unit 34 0 (g.M.Medium.state c.args.unit.now) (g.M.Medium.state c.mend.new.unit) (g.C.Chip.state c.args.card_a.now) (g.D.Chip.state c.args.card_b.now) c.mend.ensures.most) c.accept_anew.ensures.most)
-
-pub returns-in_err-accept_anew-2-clause-most : goal.returns-in_err-accept_anew-2-clause-most
-returns-in_err-accept_anew-2-clause-most g c =
-    wrote-more (34 + 24 + 24) 94 (0 + 1072 + 1072) 2152 (devices (g.M.Medium.state c.args.unit.now) (g.C.Chip.state c.args.card_a.now) (g.D.Chip.state c.args.card_b.now)) (devices (g.M.Medium.state c.accept_anew-2.new.unit) (g.C.Chip.state c.accept_anew-2.new.card_a) (g.D.Chip.state c.accept_anew-2.new.card_b)) (omega arith) (omega arith)
-    (wrote-then (34 + 24) 24 (0 + 1072) 1072 (devices (g.M.Medium.state c.args.unit.now) (g.C.Chip.state c.args.card_a.now) (g.D.Chip.state c.args.card_b.now)) (devices (g.M.Medium.state c.accept_anew.new.unit) (g.C.Chip.state c.accept_anew.new.card_a) (g.D.Chip.state c.accept_anew.new.card_b)) (devices (g.M.Medium.state c.accept_anew-2.new.unit) (g.C.Chip.state c.accept_anew-2.new.card_a) (g.D.Chip.state c.accept_anew-2.new.card_b)) (wrote-then 34 24 0 1072 (devices (g.M.Medium.state c.args.unit.now) (g.C.Chip.state c.args.card_a.now) (g.D.Chip.state c.args.card_b.now)) (devices (g.M.Medium.state c.mend.new.unit) (g.C.Chip.state c.args.card_a.now) (g.D.Chip.state c.args.card_b.now)) (devices (g.M.Medium.state c.accept_anew.new.unit) (g.C.Chip.state c.accept_anew.new.card_a) (g.D.Chip.state c.accept_anew.new.card_b)) (wrote-unit 34 0 (g.M.Medium.state c.args.unit.now) (g.M.Medium.state c.mend.new.unit) (g.C.Chip.state c.args.card_a.now) (g.D.Chip.state c.args.card_b.now) c.mend.ensures.most) c.accept_anew.ensures.most) c.accept_anew-2.ensures.most)
-
-pub returns-then-is_first-clause-most : goal.returns-then-is_first-clause-most
-returns-then-is_first-clause-most g c =
-    wrote-more (34 + 24 + 24) 94 (0 + 1072 + 1072) 2152 (devices (g.M.Medium.state c.args.unit.now) (g.C.Chip.state c.args.card_a.now) (g.D.Chip.state c.args.card_b.now)) (devices (g.M.Medium.state c.accept_anew-2.new.unit) (g.C.Chip.state c.accept_anew-2.new.card_a) (g.D.Chip.state c.accept_anew-2.new.card_b)) (omega arith) (omega arith)
-    (wrote-then (34 + 24) 24 (0 + 1072) 1072 (devices (g.M.Medium.state c.args.unit.now) (g.C.Chip.state c.args.card_a.now) (g.D.Chip.state c.args.card_b.now)) (devices (g.M.Medium.state c.accept_anew.new.unit) (g.C.Chip.state c.accept_anew.new.card_a) (g.D.Chip.state c.accept_anew.new.card_b)) (devices (g.M.Medium.state c.accept_anew-2.new.unit) (g.C.Chip.state c.accept_anew-2.new.card_a) (g.D.Chip.state c.accept_anew-2.new.card_b)) (wrote-then 34 24 0 1072 (devices (g.M.Medium.state c.args.unit.now) (g.C.Chip.state c.args.card_a.now) (g.D.Chip.state c.args.card_b.now)) (devices (g.M.Medium.state c.mend.new.unit) (g.C.Chip.state c.args.card_a.now) (g.D.Chip.state c.args.card_b.now)) (devices (g.M.Medium.state c.accept_anew.new.unit) (g.C.Chip.state c.accept_anew.new.card_a) (g.D.Chip.state c.accept_anew.new.card_b)) (wrote-unit 34 0 (g.M.Medium.state c.args.unit.now) (g.M.Medium.state c.mend.new.unit) (g.C.Chip.state c.args.card_a.now) (g.D.Chip.state c.args.card_b.now) c.mend.ensures.most) c.accept_anew.ensures.most) c.accept_anew-2.ensures.most)
-
-pub returns-clause-most : goal.returns-clause-most
-returns-clause-most g c =
-    wrote-more (34 + 24 + 24 + 12) 94 (0 + 1072 + 1072 + 8) 2152 (devices (g.M.Medium.state c.args.unit.now) (g.C.Chip.state c.args.card_a.now) (g.D.Chip.state c.args.card_b.now)) (devices (g.M.Medium.state c.note_gap.new.unit) (g.C.Chip.state c.note_gap.new.card_a) (g.D.Chip.state c.note_gap.new.card_b)) (omega arith) (omega arith)
-    (wrote-then (34 + 24 + 24) 12 (0 + 1072 + 1072) 8 (devices (g.M.Medium.state c.args.unit.now) (g.C.Chip.state c.args.card_a.now) (g.D.Chip.state c.args.card_b.now)) (devices (g.M.Medium.state c.accept_anew-2.new.unit) (g.C.Chip.state c.accept_anew-2.new.card_a) (g.D.Chip.state c.accept_anew-2.new.card_b)) (devices (g.M.Medium.state c.note_gap.new.unit) (g.C.Chip.state c.note_gap.new.card_a) (g.D.Chip.state c.note_gap.new.card_b))
-    (wrote-then (34 + 24) 24 (0 + 1072) 1072 (devices (g.M.Medium.state c.args.unit.now) (g.C.Chip.state c.args.card_a.now) (g.D.Chip.state c.args.card_b.now)) (devices (g.M.Medium.state c.accept_anew.new.unit) (g.C.Chip.state c.accept_anew.new.card_a) (g.D.Chip.state c.accept_anew.new.card_b)) (devices (g.M.Medium.state c.accept_anew-2.new.unit) (g.C.Chip.state c.accept_anew-2.new.card_a) (g.D.Chip.state c.accept_anew-2.new.card_b)) (wrote-then 34 24 0 1072 (devices (g.M.Medium.state c.args.unit.now) (g.C.Chip.state c.args.card_a.now) (g.D.Chip.state c.args.card_b.now)) (devices (g.M.Medium.state c.mend.new.unit) (g.C.Chip.state c.args.card_a.now) (g.D.Chip.state c.args.card_b.now)) (devices (g.M.Medium.state c.accept_anew.new.unit) (g.C.Chip.state c.accept_anew.new.card_a) (g.D.Chip.state c.accept_anew.new.card_b)) (wrote-unit 34 0 (g.M.Medium.state c.args.unit.now) (g.M.Medium.state c.mend.new.unit) (g.C.Chip.state c.args.card_a.now) (g.D.Chip.state c.args.card_b.now) c.mend.ensures.most) c.accept_anew.ensures.most) c.accept_anew-2.ensures.most) c.note_gap.ensures.most)

@@ -128,15 +128,6 @@ returns-in-Run-clause-room g c = λ left offs insertions actions h.
     on_ok c.drive.result (λ well some. ok_gives c.drive.result (c.drive.ensures.room left offs insertions actions
     (room-less cuts_from run o (c.in-Run.seconds + left) (c.in-Run.seconds + left) (0 + offs) offs (k + insertions) (k + insertions) (a + actions) (a + actions) (omega arith) (omega arith) (omega arith) (omega arith) here)) well)
 
-pub returns-in-Act-clause-later : goal.returns-in-Act-clause-later
-returns-in-Act-clause-later g c = after-same (devices (g.M.Medium.state c.args.unit.now) (g.C.Chip.state c.args.card_a.now) (g.D.Chip.state c.args.card_b.now))
-
-pub returns-in-Off-clause-later : goal.returns-in-Off-clause-later
-returns-in-Off-clause-later g c = after-same (devices (g.M.Medium.state c.args.unit.now) (g.C.Chip.state c.args.card_a.now) (g.D.Chip.state c.args.card_b.now))
-
-pub returns-in-Run-clause-later : goal.returns-in-Run-clause-later
-returns-in-Run-clause-later g c = c.drive.ensures.later
-
 -- ---- what is recorded, with its events and rings
 
 pub returns-in-Act-clause-ringed : goal.returns-in-Act-clause-ringed
@@ -183,37 +174,30 @@ returns-in-Run-clause-cards g c = λ many o done few r time.
     subst (λ (i : Item). HasRunBy RunCarded c.drive.result o (done ++ seconds_at c.args.run.now.next acts i) c.drive.new.run c.drive.new.outcome (devices (g.M.Medium.state c.drive.new.unit) (g.C.Chip.state c.drive.new.card_a) (g.D.Chip.state c.drive.new.card_b))) (sym c.in-Run.is)
     (c.drive.ensures.cards many (omega (arith, few, many)) o done r time)
 
--- ---- how often the unit broke down
-
-pub returns-in-Act-clause-broke : goal.returns-in-Act-clause-broke
-returns-in-Act-clause-broke g c = broke-none c.args.outcome.now.breaks.items {old = (g.M.Medium.state c.args.unit.now)} {new = (g.M.Medium.state c.args.unit.now)} (omega arith)
-
-pub returns-in-Off-clause-broke : goal.returns-in-Off-clause-broke
-returns-in-Off-clause-broke g c = broke-behind _ {old = (g.M.Medium.state c.args.unit.now)} {new = (g.M.Medium.state c.args.unit.now)} (ap (λ (l : Listed Break). l.items) c.off.ensures.breaks) (off-uncut _ _ _) (omega arith)
-
-pub returns-in-Run-clause-broke : goal.returns-in-Run-clause-broke
-returns-in-Run-clause-broke g c = c.drive.ensures.broke
-
--- ---- where no tear of a failed call is told no card has broken down
-
-pub returns-in-Act-clause-calm : goal.returns-in-Act-clause-calm
-returns-in-Act-clause-calm g c = calm-same (devices (g.M.Medium.state c.args.unit.now) (g.C.Chip.state c.args.card_a.now) (g.D.Chip.state c.args.card_b.now))
-
-pub returns-in-Off-clause-calm : goal.returns-in-Off-clause-calm
-returns-in-Off-clause-calm g c = calm-told (devices (g.M.Medium.state c.args.unit.now) (g.C.Chip.state c.args.card_a.now) (g.D.Chip.state c.args.card_b.now)) _ (ap (λ (l : Listed Break). l.items) c.off.ensures.breaks) (off-calm _ _ _)
-
-pub returns-in-Run-clause-calm : goal.returns-in-Run-clause-calm
-returns-in-Run-clause-calm g c = c.drive.ensures.calm
-
 -- ---- its writes
 
-pub returns-in-Act-clause-most : goal.returns-in-Act-clause-most
-returns-in-Act-clause-most g c = writes-none (item_seconds c.args.item) (first_waiting c.args.item c.args.from c.args.to - c.args.from) (devices (g.M.Medium.state c.args.unit.now) (g.C.Chip.state c.args.card_a.now) (g.D.Chip.state c.args.card_b.now))
+pub returns-in-Act-clause-goes : goal.returns-in-Act-clause-goes
+returns-in-Act-clause-goes g c = record {
+  later = after-same (devices (g.M.Medium.state c.args.unit.now) (g.C.Chip.state c.args.card_a.now) (g.D.Chip.state c.args.card_b.now));
+  calm = calm-same (devices (g.M.Medium.state c.args.unit.now) (g.C.Chip.state c.args.card_a.now) (g.D.Chip.state c.args.card_b.now));
+  broke = broke-none c.args.outcome.now.breaks.items {old = (g.M.Medium.state c.args.unit.now)} {new = (g.M.Medium.state c.args.unit.now)} (omega arith);
+  most = writes-none (item_seconds c.args.item) (first_waiting c.args.item c.args.from c.args.to - c.args.from) (devices (g.M.Medium.state c.args.unit.now) (g.C.Chip.state c.args.card_a.now) (g.D.Chip.state c.args.card_b.now));
+}
 
-pub returns-in-Off-clause-most : goal.returns-in-Off-clause-most
-returns-in-Off-clause-most g c = writes-none (item_seconds c.args.item) (first_waiting c.args.item c.args.from c.args.to - c.args.from) (devices (g.M.Medium.state c.args.unit.now) (g.C.Chip.state c.args.card_a.now) (g.D.Chip.state c.args.card_b.now))
+pub returns-in-Off-clause-goes : goal.returns-in-Off-clause-goes
+returns-in-Off-clause-goes g c = record {
+  later = after-same (devices (g.M.Medium.state c.args.unit.now) (g.C.Chip.state c.args.card_a.now) (g.D.Chip.state c.args.card_b.now));
+  calm = calm-told (devices (g.M.Medium.state c.args.unit.now) (g.C.Chip.state c.args.card_a.now) (g.D.Chip.state c.args.card_b.now)) _ (ap (λ (l : Listed Break). l.items) c.off.ensures.breaks) (off-calm _ _ _);
+  broke = broke-behind _ {old = (g.M.Medium.state c.args.unit.now)} {new = (g.M.Medium.state c.args.unit.now)} (ap (λ (l : Listed Break). l.items) c.off.ensures.breaks) (off-uncut _ _ _) (omega arith);
+  most = writes-none (item_seconds c.args.item) (first_waiting c.args.item c.args.from c.args.to - c.args.from) (devices (g.M.Medium.state c.args.unit.now) (g.C.Chip.state c.args.card_a.now) (g.D.Chip.state c.args.card_b.now));
+}
 
-pub returns-in-Run-clause-most : goal.returns-in-Run-clause-most
-returns-in-Run-clause-most g c =
-    subst (λ (i : Item). WritesFor (item_seconds i) (first_waiting i c.args.from c.args.to - c.args.from) (devices (g.M.Medium.state c.args.unit.now) (g.C.Chip.state c.args.card_a.now) (g.D.Chip.state c.args.card_b.now)) (devices (g.M.Medium.state c.drive.new.unit) (g.C.Chip.state c.drive.new.card_a) (g.D.Chip.state c.drive.new.card_b))) (sym c.in-Run.is)
-    (writes-more c.in-Run.seconds c.in-Run.seconds (c.args.to - c.args.from) (c.args.to + 1 - c.args.from) (devices (g.M.Medium.state c.args.unit.now) (g.C.Chip.state c.args.card_a.now) (g.D.Chip.state c.args.card_b.now)) (devices (g.M.Medium.state c.drive.new.unit) (g.C.Chip.state c.drive.new.card_a) (g.D.Chip.state c.drive.new.card_b)) (omega arith) (omega arith) c.drive.ensures.most)
+pub returns-in-Run-clause-goes : goal.returns-in-Run-clause-goes
+returns-in-Run-clause-goes g c = record {
+  later = c.drive.ensures.later;
+  calm = c.drive.ensures.calm;
+  broke = c.drive.ensures.broke;
+  most =
+      subst (λ (i : Item). WritesFor (item_seconds i) (first_waiting i c.args.from c.args.to - c.args.from) (devices (g.M.Medium.state c.args.unit.now) (g.C.Chip.state c.args.card_a.now) (g.D.Chip.state c.args.card_b.now)) (devices (g.M.Medium.state c.drive.new.unit) (g.C.Chip.state c.drive.new.card_a) (g.D.Chip.state c.drive.new.card_b))) (sym c.in-Run.is)
+      (writes-more c.in-Run.seconds c.in-Run.seconds (c.args.to - c.args.from) (c.args.to + 1 - c.args.from) (devices (g.M.Medium.state c.args.unit.now) (g.C.Chip.state c.args.card_a.now) (g.D.Chip.state c.args.card_b.now)) (devices (g.M.Medium.state c.drive.new.unit) (g.C.Chip.state c.drive.new.card_a) (g.D.Chip.state c.drive.new.card_b)) (omega arith) (omega arith) c.drive.ensures.most);
+}

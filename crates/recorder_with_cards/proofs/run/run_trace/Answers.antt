@@ -52,7 +52,7 @@ returns-in_err-opened-clause-refused g c =
     let h : IfErr c.from_residual.result
     (IsRefused c.args.trace.now.start (devices (g.U.Medium.state c.args.unit.now) (g.C.Chip.state c.args.card_a.now) (g.C.Chip.state c.args.card_b.now)) (devices (g.U.Medium.state c.judge.new.unit) (g.C.Chip.state c.judge.new.card_a) (g.C.Chip.state c.judge.new.card_b)))
     = first_of (search rules, grind (arith, common_steps)) in
-    if-err c.from_residual.result (λ fault is. inl (is, c.judge.ensures.unit, c.judge.ensures.card_a, c.judge.ensures.card_b, refl)) h
+    if-err c.from_residual.result (λ fault is. inl (is, c.judge.ensures.same.unit, c.judge.ensures.same.card_a, c.judge.ensures.same.card_b, refl)) h
 
 pub loop-i-init : goal.loop-i-init
 loop-i-init g c =
@@ -62,8 +62,8 @@ loop-i-init g c =
     let keeper = c.new-run.ensures.keeper in
     let next = c.new-run.ensures.starts.next in
     let dark : is_lit run.power ≡ false = ap is_lit c.new-run.ensures.starts.power in
-    let a_none : run.keeper.cabin.cards.a.accepted ≡ None = ap (λ (k : Keeper). k.cabin.cards.a.accepted) keeper ∙ e.found_a.none in
-    let b_none : run.keeper.cabin.cards.b.accepted ≡ None = ap (λ (k : Keeper). k.cabin.cards.b.accepted) keeper ∙ e.found_b.none in
+    let a_none : run.keeper.cabin.cards.a.accepted ≡ None = ap (λ (k : Keeper). k.cabin.cards.a.accepted) keeper ∙ e.found.card_a.none in
+    let b_none : run.keeper.cabin.cards.b.accepted ≡ None = ap (λ (k : Keeper). k.cabin.cards.b.accepted) keeper ∙ e.found.card_b.none in
     let slots = ap (λ (k : Keeper). k.cabin.slots) keeper in
     record {
       first = omega arith;
@@ -71,13 +71,13 @@ loop-i-init g c =
         low = let low = q.well.first.0 in omega (arith, low, next);
         small = let last = q.well.within.1 in omega (arith, last, next);
         held = record {
-          is_unit = c.judge.ensures.is_unit q.unit;
+          is_unit = c.judge.ensures.same.is_unit q.unit;
           odometer = c.new-run.ensures.odometer;
           minute = let none = ap (λ (k : Keeper). k.cabin.slots.minute) keeper in omega (arith, none);
           card_a = subst (λ (k : Keeper). CardAt k.cabin.cards.a (g.C.Chip.card c.judge.new.card_a) (g.C.Chip.state c.judge.new.card_a)) (sym keeper)
-              (record { port = e.found_a.port; size = let same = c.judge.ensures.card_a.leaves.size in let size = q.card_a in omega (arith, same, size) });
+              (record { port = e.found.card_a.port; size = let same = c.judge.ensures.same.card_a.leaves.size in let size = q.card_a in omega (arith, same, size) });
           card_b = subst (λ (k : Keeper). CardAt k.cabin.cards.b (g.C.Chip.card c.judge.new.card_b) (g.C.Chip.state c.judge.new.card_b)) (sym keeper)
-              (record { port = e.found_b.port; size = let same = c.judge.ensures.card_b.leaves.size in let size = q.card_b in omega (arith, same, size) });
+              (record { port = e.found.card_b.port; size = let same = c.judge.ensures.same.card_b.leaves.size in let size = q.card_b in omega (arith, same, size) });
           stand = (0, None, c.new-run.ensures.stands 0);
         };
         dark = λ no. record { stands = c.new-run.ensures.stands; bare = none-yet run.keeper.cabin.cards a_none b_none };
@@ -88,30 +88,30 @@ loop-i-init g c =
           (room-start run c.args.outcome.now c.args.trace.now.items c.new-run.ensures.starts.power (no-falls run.keeper.cabin slots a_none b_none) (no-seats run.keeper.cabin slots) q.reserved);
       unfound = let none = c.new-run.ensures.starts.unfound in omega (arith, none);
       waits = waits-none c.args.trace.now.items;
-      later = record { unit = state-as-it-was (g.U.Medium.state c.args.unit.now) (g.U.Medium.state c.judge.new.unit) c.judge.ensures.unit; card_a = state-as-it-was (g.C.Chip.state c.args.card_a.now) (g.C.Chip.state c.judge.new.card_a) c.judge.ensures.card_a; card_b = state-as-it-was (g.C.Chip.state c.args.card_b.now) (g.C.Chip.state c.judge.new.card_b) c.judge.ensures.card_b };
-      calm = record { card_a = card-rests refl (e.card_a_works.unbroken refl); card_b = card-rests refl (e.card_b_works.unbroken refl) };
-      broke = broke-none c.args.outcome.now.breaks.items {old = (g.U.Medium.state c.args.unit.now)} {new = (g.U.Medium.state c.judge.new.unit)} (e.unit_works.unbroken refl);
+      later = record { unit = state-as-it-was (g.U.Medium.state c.args.unit.now) (g.U.Medium.state c.judge.new.unit) c.judge.ensures.same.unit; card_a = state-as-it-was (g.C.Chip.state c.args.card_a.now) (g.C.Chip.state c.judge.new.card_a) c.judge.ensures.same.card_a; card_b = state-as-it-was (g.C.Chip.state c.args.card_b.now) (g.C.Chip.state c.judge.new.card_b) c.judge.ensures.same.card_b };
+      calm = record { card_a = card-rests refl (e.works.card_a.unbroken refl); card_b = card-rests refl (e.works.card_b.unbroken refl) };
+      broke = broke-none c.args.outcome.now.breaks.items {old = (g.U.Medium.state c.args.unit.now)} {new = (g.U.Medium.state c.judge.new.unit)} (e.works.unit.unbroken refl);
       most =
-          let u = c.judge.ensures.unit.clock in
-          let p = c.judge.ensures.card_a.clock in
-          let q = c.judge.ensures.card_b.clock in
+          let u = c.judge.ensures.same.unit.clock in
+          let p = c.judge.ensures.same.card_a.clock in
+          let q = c.judge.ensures.same.card_b.clock in
           record { unit = omega (arith, u); card_a = omega (arith, p); card_b = omega (arith, q) };
       time = λ h.
-          let u = c.judge.ensures.unit.clock in
-          let p = c.judge.ensures.card_a.clock in
-          let q = c.judge.ensures.card_b.clock in
+          let u = c.judge.ensures.same.unit.clock in
+          let p = c.judge.ensures.same.card_a.clock in
+          let q = c.judge.ensures.same.card_b.clock in
           record { unit = omega (arith, h.unit, u); card_a = omega (arith, h.card_a, p); card_b = omega (arith, h.card_b, q) };
       told = λ x a b h.
           let began : Devices = devices (g.U.Medium.state c.args.unit.now) (g.C.Chip.state c.args.card_a.now) (g.C.Chip.state c.args.card_b.now) in
           let now : Devices = devices (g.U.Medium.state c.judge.new.unit) (g.C.Chip.state c.judge.new.card_a) (g.C.Chip.state c.judge.new.card_b) in
-          let ready : RunIsOpened (opened_with x a b) c.args.trace.now.start c.in_ok-opened.opened began now = e.begins (opened_with x a b) (begins-with x a b [] (record { breaks = []; refused = []; finds = [] }) began h) in
+          let ready : RunIsOpened (opened_with x a b) c.args.trace.now.start c.in_ok-opened.opened began now = e.begins (opened_with x a b) (begins-with x a b [] (record { breaks = []; refused = []; finds = [] }) [] began h) in
           (may-record x a b c.args.trace.now.start began now c.in_ok-opened.opened ready, is-found x a b c.args.trace.now.start began now c.in_ok-opened.opened ready);
       cards = λ x a b h time few.
           let began : Devices = devices (g.U.Medium.state c.args.unit.now) (g.C.Chip.state c.args.card_a.now) (g.C.Chip.state c.args.card_b.now) in
           let now : Devices = devices (g.U.Medium.state c.judge.new.unit) (g.C.Chip.state c.judge.new.card_a) (g.C.Chip.state c.judge.new.card_b) in
           let start : ℕ = c.args.trace.now.start in
           let opened = c.in_ok-opened.opened in
-          let ready : RunIsOpened (opened_with x a b) start opened began now = e.begins (opened_with x a b) (begins-with x a b [] (record { breaks = []; refused = []; finds = [] }) began h) in
+          let ready : RunIsOpened (opened_with x a b) start opened began now = e.begins (opened_with x a b) (begins-with x a b [] (record { breaks = []; refused = []; finds = [] }) [] began h) in
           let chips = chip_of (g.C.Chip.card c.judge.new.card_a) (g.C.Chip.card c.judge.new.card_b) in
           let low = c.new-run.ensures.odometer in
           let same_odometer = ap (λ (k : Keeper). k.odometer) keeper in
@@ -120,16 +120,16 @@ loop-i-init g c =
           (both (λ k. IsCoherent (card_of now k)) (g.met.C.Chip.coherent c.judge.new.card_a) (g.met.C.Chip.coherent c.judge.new.card_b))
           (g.met.U.Medium.coherent c.judge.new.unit)
           chips
-          (both (λ k. IsFoundOn (known_of opened k) (chips k) (card_of now k)) e.found_a e.found_b)
+          (both (λ k. IsFoundOn (known_of opened k) (chips k) (card_of now k)) e.found.card_a e.found.card_b)
           (both (λ k. All (λ n. n < 256) (card_image (opened_with x a b) k)) (all-bytes a (c.holds_bytes.ensures.told a h.of_a.tells)) (all-bytes b (c.holds_bytes-2.ensures.told b h.of_b.tells)))
-          (both (λ k. (card_of now k).clock ≡ (card_of began k).clock) c.judge.ensures.card_a.clock c.judge.ensures.card_b.clock)
+          (both (λ k. (card_of now k).clock ≡ (card_of began k).clock) c.judge.ensures.same.card_a.clock c.judge.ensures.same.card_b.clock)
           (more-devices (g.U.Medium.state c.args.unit.now) (g.U.Medium.state c.judge.new.unit) (g.C.Chip.state c.args.card_a.now) (g.C.Chip.state c.judge.new.card_a) (g.C.Chip.state c.args.card_b.now) (g.C.Chip.state c.judge.new.card_b)
-          c.judge.ensures.unit.breakdowns (e.card_a_works.unbroken refl) (e.card_b_works.unbroken refl))
-          (omega (arith, low, same_odometer))
+          c.judge.ensures.same.unit.breakdowns (e.works.card_a.unbroken refl) (e.works.card_b.unbroken refl))
+          (omega (arith, low, same_odometer)) (c.judge.ensures.same.is_unit c.requires.unit)
           run c.args.outcome.now c.new-run.ensures.starts.power next c.new-run.ensures.starts.begun c.new-run.ensures.starts.unfound (ap (λ (k : Keeper). k.memory) keeper) slots
           (both (λ k. known_in run.keeper.cabin.cards k ≡ known_of opened k) (ap (λ (k : Keeper). k.cabin.cards.a) keeper) (ap (λ (k : Keeper). k.cabin.cards.b) keeper))
           (none-yet run.keeper.cabin.cards a_none b_none)
-          (ap (λ (l : Listed Break). l.items) q.reserved.breaks) (ap (λ (l : Listed Refused). l.items) q.reserved.refused) (ap (λ (l : Listed Find). l.items) q.reserved.finds) (ap (λ (l : Listed Mark). l.items) q.reserved.marks) c.new-run.ensures.starts.noted c.judge.ensures.unit.clock);
+          (ap (λ (l : Listed Break). l.items) q.reserved.breaks) (ap (λ (l : Listed Refused). l.items) q.reserved.refused) (ap (λ (l : Listed Find). l.items) q.reserved.finds) (ap (λ (l : Listed Mark). l.items) q.reserved.marks) c.new-run.ensures.starts.noted c.judge.ensures.same.unit.clock);
     }
 
 -- ---- an item
@@ -178,9 +178,9 @@ loop-i-preserved g c =
           f.idle f.room);
       unfound = e.unfound;
       waits = subst (λ (n : ℕ). Waits items n (i + 1)) (sym waits) (waits-more items i c.loop-i.first item c.get-item.ensures v.first c.requires.well.runs v.waits);
-      time = λ h. v.time (after-time f.later h);
-      later = after-then (devices (g.U.Medium.state c.args.unit.now) (g.C.Chip.state c.args.card_a.now) (g.C.Chip.state c.args.card_b.now)) (devices (g.U.Medium.state c.loop-i.unit) (g.C.Chip.state c.loop-i.card_a) (g.C.Chip.state c.loop-i.card_b)) (devices (g.U.Medium.state c.go_on.new.unit) (g.C.Chip.state c.go_on.new.card_a) (g.C.Chip.state c.go_on.new.card_b)) v.later f.later;
-      calm = calm-then (devices (g.U.Medium.state c.args.unit.now) (g.C.Chip.state c.args.card_a.now) (g.C.Chip.state c.args.card_b.now)) (devices (g.U.Medium.state c.loop-i.unit) (g.C.Chip.state c.loop-i.card_a) (g.C.Chip.state c.loop-i.card_b)) (devices (g.U.Medium.state c.go_on.new.unit) (g.C.Chip.state c.go_on.new.card_a) (g.C.Chip.state c.go_on.new.card_b)) v.calm f.calm;
+      time = λ h. v.time (after-time f.goes.later h);
+      later = after-then (devices (g.U.Medium.state c.args.unit.now) (g.C.Chip.state c.args.card_a.now) (g.C.Chip.state c.args.card_b.now)) (devices (g.U.Medium.state c.loop-i.unit) (g.C.Chip.state c.loop-i.card_a) (g.C.Chip.state c.loop-i.card_b)) (devices (g.U.Medium.state c.go_on.new.unit) (g.C.Chip.state c.go_on.new.card_a) (g.C.Chip.state c.go_on.new.card_b)) v.later f.goes.later;
+      calm = calm-then (devices (g.U.Medium.state c.args.unit.now) (g.C.Chip.state c.args.card_a.now) (g.C.Chip.state c.args.card_b.now)) (devices (g.U.Medium.state c.loop-i.unit) (g.C.Chip.state c.loop-i.card_a) (g.C.Chip.state c.loop-i.card_b)) (devices (g.U.Medium.state c.go_on.new.unit) (g.C.Chip.state c.go_on.new.card_a) (g.C.Chip.state c.go_on.new.card_b)) v.calm f.goes.calm;
       most =
           let was = total-parts items i in
           let now = total-parts items (i + 1) in
@@ -188,8 +188,8 @@ loop-i-preserved g c =
           subst (λ (n : ℕ). WritesFor (total_seconds (take (i + 1) items)) n (devices (g.U.Medium.state c.args.unit.now) (g.C.Chip.state c.args.card_a.now) (g.C.Chip.state c.args.card_b.now)) (devices (g.U.Medium.state c.go_on.new.unit) (g.C.Chip.state c.go_on.new.card_a) (g.C.Chip.state c.go_on.new.card_b))) (sym waits)
           (writes-more (total_seconds (take i items) + item_seconds item) (total_seconds (take (i + 1) items)) (c.loop-i.first + (first_waiting item c.loop-i.first i - c.loop-i.first)) (first_waiting item c.loop-i.first i)
           (devices (g.U.Medium.state c.args.unit.now) (g.C.Chip.state c.args.card_a.now) (g.C.Chip.state c.args.card_b.now)) (devices (g.U.Medium.state c.go_on.new.unit) (g.C.Chip.state c.go_on.new.card_a) (g.C.Chip.state c.go_on.new.card_b)) (omega (arith, was, now, s)) (omega (arith, on))
-          (writes-then (total_seconds (take i items)) (item_seconds item) c.loop-i.first (first_waiting item c.loop-i.first i - c.loop-i.first) (devices (g.U.Medium.state c.args.unit.now) (g.C.Chip.state c.args.card_a.now) (g.C.Chip.state c.args.card_b.now)) (devices (g.U.Medium.state c.loop-i.unit) (g.C.Chip.state c.loop-i.card_a) (g.C.Chip.state c.loop-i.card_b)) (devices (g.U.Medium.state c.go_on.new.unit) (g.C.Chip.state c.go_on.new.card_a) (g.C.Chip.state c.go_on.new.card_b)) v.most f.most));
-      broke = broke-then v.broke f.broke;
+          (writes-then (total_seconds (take i items)) (item_seconds item) c.loop-i.first (first_waiting item c.loop-i.first i - c.loop-i.first) (devices (g.U.Medium.state c.args.unit.now) (g.C.Chip.state c.args.card_a.now) (g.C.Chip.state c.args.card_b.now)) (devices (g.U.Medium.state c.loop-i.unit) (g.C.Chip.state c.loop-i.card_a) (g.C.Chip.state c.loop-i.card_b)) (devices (g.U.Medium.state c.go_on.new.unit) (g.C.Chip.state c.go_on.new.card_a) (g.C.Chip.state c.go_on.new.card_b)) v.most f.goes.most));
+      broke = broke-then v.broke f.goes.broke;
       told = v.told;
       cards = λ x a b h time few.
           let began : Devices = devices (g.U.Medium.state c.args.unit.now) (g.C.Chip.state c.args.card_a.now) (g.C.Chip.state c.args.card_b.now) in
@@ -202,7 +202,7 @@ loop-i-preserved g c =
           let parts = total-parts items i in
           let at = v.next in
           let here : number_after start (take i items) ≡ c.loop-i.run.next = omega (arith, parts, at) in
-          let was = v.cards x a b h (after-time f.later time) few in
+          let was = v.cards x a b h (after-time f.goes.later time) few in
           subst (λ (ss : List TraceSecond). RunCarded o ss c.go_on.new.run c.go_on.new.outcome now)
           (sym (seconds-more start items i c.loop-i.first item c.loop-i.run.next c.get-item.ensures here v.waits))
           (f.cards many o (seconds_of start (take i items)) little was time);
@@ -245,9 +245,9 @@ returns-clause-begun g c = λ x a b h. (c.loop-i.invariant.told x a b h).0
 pub returns-in_err-opened-clause-fault : goal.returns-in_err-opened-clause-fault
 returns-in_err-opened-clause-fault g c = λ x a b h time few.
     let began : Devices = devices (g.U.Medium.state c.args.unit.now) (g.C.Chip.state c.args.card_a.now) (g.C.Chip.state c.args.card_b.now) in
-    let why = c.in_err-opened.ensures.begins (opened_with x a b) (begins-with x a b [] (record { breaks = []; refused = []; finds = [] }) began h) in
+    let why = c.in_err-opened.ensures.begins (opened_with x a b) (begins-with x a b [] (record { breaks = []; refused = []; finds = [] }) [] began h) in
     let cause : IfErr c.from_residual.result (IsRefusedAs (opened_with x a b) c.args.trace.now.start began (devices (g.U.Medium.state c.judge.new.unit) (g.C.Chip.state c.judge.new.card_a) (g.C.Chip.state c.judge.new.card_b))) = first_of (search rules, grind (arith, common_steps)) in
-    if-err c.from_residual.result (λ fault is. (record { cause = is; same_unit = c.judge.ensures.unit; same_a = c.judge.ensures.card_a; same_b = c.judge.ensures.card_b }, refl)) cause
+    if-err c.from_residual.result (λ fault is. (record { cause = is; same_unit = c.judge.ensures.same.unit; same_a = c.judge.ensures.same.card_a; same_b = c.judge.ensures.same.card_b }, refl)) cause
 
 pub returns-in_err-go_on-clause-fault : goal.returns-in_err-go_on-clause-fault
 returns-in_err-go_on-clause-fault g c = λ x a b h time few.
@@ -257,16 +257,16 @@ returns-in_err-go_on-clause-fault g c = λ x a b h time few.
     let many = v.waits.count in
     let first = v.first in
     let low : c.loop-i.i < length items = omega (arith, c.loop-i-test.true, c.len-i-end.ensures) in
-    absurd (f.cards many (origin_of x a b c.args.trace.now.start (devices (g.U.Medium.state c.args.unit.now) (g.C.Chip.state c.args.card_a.now) (g.C.Chip.state c.args.card_b.now))) (seconds_of c.args.trace.now.start (take c.loop-i.i items)) (omega (arith, many, few, low, first)) (v.cards x a b h (after-time f.later time) few) time)
+    absurd (f.cards many (origin_of x a b c.args.trace.now.start (devices (g.U.Medium.state c.args.unit.now) (g.C.Chip.state c.args.card_a.now) (g.C.Chip.state c.args.card_b.now))) (seconds_of c.args.trace.now.start (take c.loop-i.i items)) (omega (arith, many, few, low, first)) (v.cards x a b h (after-time f.goes.later time) few) time)
 
 pub returns-clause-later : goal.returns-clause-later
 returns-clause-later g c = c.loop-i.invariant.later
 
 pub returns-in_err-go_on-clause-later : goal.returns-in_err-go_on-clause-later
-returns-in_err-go_on-clause-later g c = after-then (devices (g.U.Medium.state c.args.unit.now) (g.C.Chip.state c.args.card_a.now) (g.C.Chip.state c.args.card_b.now)) (devices (g.U.Medium.state c.loop-i.unit) (g.C.Chip.state c.loop-i.card_a) (g.C.Chip.state c.loop-i.card_b)) (devices (g.U.Medium.state c.go_on.new.unit) (g.C.Chip.state c.go_on.new.card_a) (g.C.Chip.state c.go_on.new.card_b)) c.loop-i.invariant.later c.in_err-go_on.ensures.later
+returns-in_err-go_on-clause-later g c = after-then (devices (g.U.Medium.state c.args.unit.now) (g.C.Chip.state c.args.card_a.now) (g.C.Chip.state c.args.card_b.now)) (devices (g.U.Medium.state c.loop-i.unit) (g.C.Chip.state c.loop-i.card_a) (g.C.Chip.state c.loop-i.card_b)) (devices (g.U.Medium.state c.go_on.new.unit) (g.C.Chip.state c.go_on.new.card_a) (g.C.Chip.state c.go_on.new.card_b)) c.loop-i.invariant.later c.in_err-go_on.ensures.goes.later
 
 pub returns-in_err-opened-clause-later : goal.returns-in_err-opened-clause-later
-returns-in_err-opened-clause-later g c = record { unit = state-as-it-was (g.U.Medium.state c.args.unit.now) (g.U.Medium.state c.judge.new.unit) c.judge.ensures.unit; card_a = state-as-it-was (g.C.Chip.state c.args.card_a.now) (g.C.Chip.state c.judge.new.card_a) c.judge.ensures.card_a; card_b = state-as-it-was (g.C.Chip.state c.args.card_b.now) (g.C.Chip.state c.judge.new.card_b) c.judge.ensures.card_b }
+returns-in_err-opened-clause-later g c = record { unit = state-as-it-was (g.U.Medium.state c.args.unit.now) (g.U.Medium.state c.judge.new.unit) c.judge.ensures.same.unit; card_a = state-as-it-was (g.C.Chip.state c.args.card_a.now) (g.C.Chip.state c.judge.new.card_a) c.judge.ensures.same.card_a; card_b = state-as-it-was (g.C.Chip.state c.args.card_b.now) (g.C.Chip.state c.judge.new.card_b) c.judge.ensures.same.card_b }
 
 -- ---- how often the unit broke down
 
@@ -276,11 +276,11 @@ returns-clause-broke g c = broke-all (log_of c.loop-i.outcome) (ap (λ (l : List
 pub returns-in_err-go_on-clause-broke : goal.returns-in_err-go_on-clause-broke
 returns-in_err-go_on-clause-broke g c =
     let was = c.loop-i.invariant.later.unit.faults in
-    let more = c.in_err-go_on.ensures.later.unit.faults in
-    broke-all (log_of c.go_on.new.outcome) (ap (λ (l : Listed Break). l.items) c.requires.reserved.breaks) (omega (arith, was, more)) (broke-then c.loop-i.invariant.broke c.in_err-go_on.ensures.broke)
+    let more = c.in_err-go_on.ensures.goes.later.unit.faults in
+    broke-all (log_of c.go_on.new.outcome) (ap (λ (l : Listed Break). l.items) c.requires.reserved.breaks) (omega (arith, was, more)) (broke-then c.loop-i.invariant.broke c.in_err-go_on.ensures.goes.broke)
 
 pub returns-in_err-opened-clause-broke : goal.returns-in_err-opened-clause-broke
-returns-in_err-opened-clause-broke g c = broke-nothing (log_of c.args.outcome.now) (ap (λ (l : Listed Break). l.items) c.requires.reserved.breaks) c.judge.ensures.unit.faults c.judge.ensures.unit.breakdowns
+returns-in_err-opened-clause-broke g c = broke-nothing (log_of c.args.outcome.now) (ap (λ (l : Listed Break). l.items) c.requires.reserved.breaks) c.judge.ensures.same.unit.faults c.judge.ensures.same.unit.breakdowns
 
 pub returns-clause-calm : goal.returns-clause-calm
 returns-clause-calm g c = calm-all (log_of c.loop-i.outcome) (ap (λ (l : Listed Break). l.items) c.requires.reserved.breaks) c.loop-i.invariant.broke
@@ -311,11 +311,11 @@ returns-in_err-go_on-clause-most g c =
     let low : i < length items = omega (arith, c.loop-i-test.true, c.len-i-end.ensures) in
     writes-more (total_seconds (take i items) + item_seconds item) (total_seconds items) (c.loop-i.first + (first_waiting item c.loop-i.first i - c.loop-i.first)) (length items) (devices (g.U.Medium.state c.args.unit.now) (g.C.Chip.state c.args.card_a.now) (g.C.Chip.state c.args.card_b.now)) (devices (g.U.Medium.state c.go_on.new.unit) (g.C.Chip.state c.go_on.new.card_a) (g.C.Chip.state c.go_on.new.card_b))
     (omega (arith, all, s)) (omega (arith, on, most, low))
-    (writes-then (total_seconds (take i items)) (item_seconds item) c.loop-i.first (first_waiting item c.loop-i.first i - c.loop-i.first) (devices (g.U.Medium.state c.args.unit.now) (g.C.Chip.state c.args.card_a.now) (g.C.Chip.state c.args.card_b.now)) (devices (g.U.Medium.state c.loop-i.unit) (g.C.Chip.state c.loop-i.card_a) (g.C.Chip.state c.loop-i.card_b)) (devices (g.U.Medium.state c.go_on.new.unit) (g.C.Chip.state c.go_on.new.card_a) (g.C.Chip.state c.go_on.new.card_b)) v.most c.in_err-go_on.ensures.most)
+    (writes-then (total_seconds (take i items)) (item_seconds item) c.loop-i.first (first_waiting item c.loop-i.first i - c.loop-i.first) (devices (g.U.Medium.state c.args.unit.now) (g.C.Chip.state c.args.card_a.now) (g.C.Chip.state c.args.card_b.now)) (devices (g.U.Medium.state c.loop-i.unit) (g.C.Chip.state c.loop-i.card_a) (g.C.Chip.state c.loop-i.card_b)) (devices (g.U.Medium.state c.go_on.new.unit) (g.C.Chip.state c.go_on.new.card_a) (g.C.Chip.state c.go_on.new.card_b)) v.most c.in_err-go_on.ensures.goes.most)
 
 pub returns-in_err-opened-clause-most : goal.returns-in_err-opened-clause-most
 returns-in_err-opened-clause-most g c =
-    let u = c.judge.ensures.unit.clock in
-    let p = c.judge.ensures.card_a.clock in
-    let q = c.judge.ensures.card_b.clock in
+    let u = c.judge.ensures.same.unit.clock in
+    let p = c.judge.ensures.same.card_a.clock in
+    let q = c.judge.ensures.same.card_b.clock in
     record { unit = omega (arith, u); card_a = omega (arith, p); card_b = omega (arith, q) }

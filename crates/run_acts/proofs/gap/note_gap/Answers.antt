@@ -176,6 +176,7 @@ returns-in_default-clause-goes g c = record {
   later = later-same (devices (g.M.Medium.state c.args.unit.now) (g.C.Chip.state c.args.card_a.now) (g.D.Chip.state c.args.card_b.now));
   calm = calm-same (devices (g.M.Medium.state c.args.unit.now) (g.C.Chip.state c.args.card_a.now) (g.D.Chip.state c.args.card_b.now));
   more = omega arith;
+  most = wrote-none 12 8 (devices (g.M.Medium.state c.args.unit.now) (g.C.Chip.state c.args.card_a.now) (g.D.Chip.state c.args.card_b.now));
 }
 
 pub returns-in_err-note_event-clause-noted : goal.returns-in_err-note_event-clause-noted
@@ -266,6 +267,7 @@ returns-in_err-note_event-clause-goes g c = record {
   later = later-of-unit (g.M.Medium.state c.args.unit.now) (g.M.Medium.state c.note_event.new.unit) (g.C.Chip.state c.args.card_a.now) (g.D.Chip.state c.args.card_b.now) (state-by (g.M.Medium.state c.args.unit.now) (g.M.Medium.state c.note_event.new.unit) _ c.note_event.ensures.journal.later c.note_event.ensures.cause) (event-leaves-speeds c.card_gap-event.result.kind (fault_bytes c.card_gap-event.result) (g.M.Medium.state c.args.unit.now) (g.M.Medium.state c.note_event.new.unit) (g.met.M.Medium.coherent c.args.unit.now) c.note_event.ensures.moments);
   calm = calm-of-unit (g.M.Medium.state c.args.unit.now) (g.M.Medium.state c.note_event.new.unit) (g.C.Chip.state c.args.card_a.now) (g.D.Chip.state c.args.card_b.now);
   more = omega arith;
+  most = record { unit = (let one = c.in_err-note_event.ensures.most in omega (arith, one)); card_a = omega arith; card_b = omega arith };
 }
 
 pub returns-in_err-note_in-clause-noted : goal.returns-in_err-note_in-clause-noted
@@ -393,6 +395,14 @@ returns-in_err-note_in-clause-goes g c = record {
   later = later-then (devices (g.M.Medium.state c.args.unit.now) (g.C.Chip.state c.args.card_a.now) (g.D.Chip.state c.args.card_b.now)) (devices (g.M.Medium.state c.note_event.new.unit) (g.C.Chip.state c.args.card_a.now) (g.D.Chip.state c.args.card_b.now)) (devices (g.M.Medium.state c.note_in.new.unit) (g.C.Chip.state c.note_in.new.card_a) (g.D.Chip.state c.note_in.new.card_b)) (later-of-unit (g.M.Medium.state c.args.unit.now) (g.M.Medium.state c.note_event.new.unit) (g.C.Chip.state c.args.card_a.now) (g.D.Chip.state c.args.card_b.now) (state-by (g.M.Medium.state c.args.unit.now) (g.M.Medium.state c.note_event.new.unit) _ c.note_event.ensures.journal.later c.note_event.ensures.cause) (event-leaves-speeds c.card_gap-event.result.kind (fault_bytes c.card_gap-event.result) (g.M.Medium.state c.args.unit.now) (g.M.Medium.state c.note_event.new.unit) (g.met.M.Medium.coherent c.args.unit.now) c.note_event.ensures.moments)) c.note_in.ensures.goes.later;
   calm = calm-then (devices (g.M.Medium.state c.args.unit.now) (g.C.Chip.state c.args.card_a.now) (g.D.Chip.state c.args.card_b.now)) (devices (g.M.Medium.state c.note_event.new.unit) (g.C.Chip.state c.args.card_a.now) (g.D.Chip.state c.args.card_b.now)) (devices (g.M.Medium.state c.note_in.new.unit) (g.C.Chip.state c.note_in.new.card_a) (g.D.Chip.state c.note_in.new.card_b)) (calm-of-unit (g.M.Medium.state c.args.unit.now) (g.M.Medium.state c.note_event.new.unit) (g.C.Chip.state c.args.card_a.now) (g.D.Chip.state c.args.card_b.now)) c.note_in.ensures.goes.calm;
   more = c.note_in.ensures.goes.more;
+  most =
+      let one = c.in_ok-note_event.ensures.most in
+      let next = c.in_err-note_in.ensures.goes.most in
+      record {
+        unit = (let a = next.unit in omega (arith, one, a));
+        card_a = (let a = next.card_a in omega (arith, a));
+        card_b = (let a = next.card_b in omega (arith, a));
+      };
 }
 
 pub returns-clause-noted : goal.returns-clause-noted
@@ -559,33 +569,13 @@ returns-clause-goes g c = record {
   later = later-then (devices (g.M.Medium.state c.args.unit.now) (g.C.Chip.state c.args.card_a.now) (g.D.Chip.state c.args.card_b.now)) (devices (g.M.Medium.state c.note_event.new.unit) (g.C.Chip.state c.args.card_a.now) (g.D.Chip.state c.args.card_b.now)) (devices (g.M.Medium.state c.note_in-2.new.unit) (g.C.Chip.state c.note_in-2.new.card_a) (g.D.Chip.state c.note_in-2.new.card_b)) (later-of-unit (g.M.Medium.state c.args.unit.now) (g.M.Medium.state c.note_event.new.unit) (g.C.Chip.state c.args.card_a.now) (g.D.Chip.state c.args.card_b.now) (state-by (g.M.Medium.state c.args.unit.now) (g.M.Medium.state c.note_event.new.unit) _ c.note_event.ensures.journal.later c.note_event.ensures.cause) (event-leaves-speeds c.card_gap-event.result.kind (fault_bytes c.card_gap-event.result) (g.M.Medium.state c.args.unit.now) (g.M.Medium.state c.note_event.new.unit) (g.met.M.Medium.coherent c.args.unit.now) c.note_event.ensures.moments)) (later-then (devices (g.M.Medium.state c.note_event.new.unit) (g.C.Chip.state c.args.card_a.now) (g.D.Chip.state c.args.card_b.now)) (devices (g.M.Medium.state c.note_in.new.unit) (g.C.Chip.state c.note_in.new.card_a) (g.D.Chip.state c.note_in.new.card_b)) (devices (g.M.Medium.state c.note_in-2.new.unit) (g.C.Chip.state c.note_in-2.new.card_a) (g.D.Chip.state c.note_in-2.new.card_b)) c.note_in.ensures.goes.later c.note_in-2.ensures.goes.later);
   calm = calm-then (devices (g.M.Medium.state c.args.unit.now) (g.C.Chip.state c.args.card_a.now) (g.D.Chip.state c.args.card_b.now)) (devices (g.M.Medium.state c.note_event.new.unit) (g.C.Chip.state c.args.card_a.now) (g.D.Chip.state c.args.card_b.now)) (devices (g.M.Medium.state c.note_in-2.new.unit) (g.C.Chip.state c.note_in-2.new.card_a) (g.D.Chip.state c.note_in-2.new.card_b)) (calm-of-unit (g.M.Medium.state c.args.unit.now) (g.M.Medium.state c.note_event.new.unit) (g.C.Chip.state c.args.card_a.now) (g.D.Chip.state c.args.card_b.now)) (calm-then (devices (g.M.Medium.state c.note_event.new.unit) (g.C.Chip.state c.args.card_a.now) (g.D.Chip.state c.args.card_b.now)) (devices (g.M.Medium.state c.note_in.new.unit) (g.C.Chip.state c.note_in.new.card_a) (g.D.Chip.state c.note_in.new.card_b)) (devices (g.M.Medium.state c.note_in-2.new.unit) (g.C.Chip.state c.note_in-2.new.card_a) (g.D.Chip.state c.note_in-2.new.card_b)) c.note_in.ensures.goes.calm c.note_in-2.ensures.goes.calm);
   more = (let a = c.note_in.ensures.goes.more in let b = c.note_in-2.ensures.goes.more in omega (arith, a, b));
+  most =
+      let one = c.in_ok-note_event.ensures.most in
+      let next = c.in_ok-note_in.ensures.goes.most in
+      let last = c.note_in-2.ensures.goes.most in
+      record {
+        unit = (let a = next.unit in let b = last.unit in omega (arith, one, a, b));
+        card_a = (let a = next.card_a in let b = last.card_a in omega (arith, a, b));
+        card_b = (let a = next.card_b in let b = last.card_b in omega (arith, a, b));
+      };
 }
-
--- ---- its writes
-
-pub returns-in_default-clause-most : goal.returns-in_default-clause-most
-returns-in_default-clause-most g c = wrote-none 12 8 (devices (g.M.Medium.state c.args.unit.now) (g.C.Chip.state c.args.card_a.now) (g.D.Chip.state c.args.card_b.now))
-
-pub returns-in_err-note_event-clause-most : goal.returns-in_err-note_event-clause-most
-returns-in_err-note_event-clause-most g c = record { unit = (let one = c.in_err-note_event.ensures.most in omega (arith, one)); card_a = omega arith; card_b = omega arith }
-
-pub returns-in_err-note_in-clause-most : goal.returns-in_err-note_in-clause-most
-returns-in_err-note_in-clause-most g c =
-    let one = c.in_ok-note_event.ensures.most in
-    let next = c.in_err-note_in.ensures.most in
-    record {
-      unit = (let a = next.unit in omega (arith, one, a));
-      card_a = (let a = next.card_a in omega (arith, a));
-      card_b = (let a = next.card_b in omega (arith, a));
-    }
-
-pub returns-clause-most : goal.returns-clause-most
-returns-clause-most g c =
-    let one = c.in_ok-note_event.ensures.most in
-    let next = c.in_ok-note_in.ensures.most in
-    let last = c.note_in-2.ensures.most in
-    record {
-      unit = (let a = next.unit in let b = last.unit in omega (arith, one, a, b));
-      card_a = (let a = next.card_a in let b = last.card_a in omega (arith, a, b));
-      card_b = (let a = next.card_b in let b = last.card_b in omega (arith, a, b));
-    }

@@ -199,6 +199,7 @@ returns-in-A-clause-goes g c = record {
   later = later g (there-a g c) (side-a g c) c.note_on.ensures;
   calm = calm g (there-a g c) (side-a g c) c.note_on.ensures;
   more = more-noted A c.args.slot (now_moment c.args.run.now) c.args.run.now c.note_on.new.run c.args.breaks.now c.note_on.new.breaks c.note_on.ensures.noted.0 c.note_on.ensures.noted.1;
+  most = record { unit = c.note_on.ensures.most.0; card_a = c.note_on.ensures.most.1; card_b = omega arith };
 }
 
 pub returns-in-B-clause-going : goal.returns-in-B-clause-going
@@ -239,6 +240,7 @@ returns-in-B-clause-goes g c = record {
   later = later g (there-b g c) (side-b g c) c.note_on-in-B.ensures;
   calm = calm g (there-b g c) (side-b g c) c.note_on-in-B.ensures;
   more = more-noted B c.args.slot (now_moment c.args.run.now) c.args.run.now c.note_on-in-B.new.run c.args.breaks.now c.note_on-in-B.new.breaks c.note_on-in-B.ensures.noted.0 c.note_on-in-B.ensures.noted.1;
+  most = record { unit = c.note_on-in-B.ensures.most.0; card_a = omega arith; card_b = c.note_on-in-B.ensures.most.1 };
 }
 
 -- ---- there is nobody to note it for
@@ -297,6 +299,7 @@ returns-in_default-clause-goes g c = record {
   later = later-same (devices (g.M.Medium.state c.args.unit.now) (g.C.Chip.state c.args.card_a.now) (g.D.Chip.state c.args.card_b.now));
   calm = calm-same (devices (g.M.Medium.state c.args.unit.now) (g.C.Chip.state c.args.card_a.now) (g.D.Chip.state c.args.card_b.now));
   more = omega arith;
+  most = wrote-none 4 4 (devices (g.M.Medium.state c.args.unit.now) (g.C.Chip.state c.args.card_a.now) (g.D.Chip.state c.args.card_b.now));
 }
 
 pub returns-in_default-number_in-clause-noted : goal.returns-in_default-number_in-clause-noted
@@ -344,18 +347,5 @@ returns-in_default-number_in-clause-goes g c = record {
   later = later-same (devices (g.M.Medium.state c.args.unit.now) (g.C.Chip.state c.args.card_a.now) (g.D.Chip.state c.args.card_b.now));
   calm = calm-same (devices (g.M.Medium.state c.args.unit.now) (g.C.Chip.state c.args.card_a.now) (g.D.Chip.state c.args.card_b.now));
   more = omega arith;
+  most = wrote-none 4 4 (devices (g.M.Medium.state c.args.unit.now) (g.C.Chip.state c.args.card_a.now) (g.D.Chip.state c.args.card_b.now));
 }
-
--- ---- its writes
-
-pub returns-in_default-clause-most : goal.returns-in_default-clause-most
-returns-in_default-clause-most g c = wrote-none 4 4 (devices (g.M.Medium.state c.args.unit.now) (g.C.Chip.state c.args.card_a.now) (g.D.Chip.state c.args.card_b.now))
-
-pub returns-in_default-number_in-clause-most : goal.returns-in_default-number_in-clause-most
-returns-in_default-number_in-clause-most g c = wrote-none 4 4 (devices (g.M.Medium.state c.args.unit.now) (g.C.Chip.state c.args.card_a.now) (g.D.Chip.state c.args.card_b.now))
-
-pub returns-in-A-clause-most : goal.returns-in-A-clause-most
-returns-in-A-clause-most g c = record { unit = c.note_on.ensures.most.0; card_a = c.note_on.ensures.most.1; card_b = omega arith }
-
-pub returns-in-B-clause-most : goal.returns-in-B-clause-most
-returns-in-B-clause-most g c = record { unit = c.note_on-in-B.ensures.most.0; card_a = omega arith; card_b = c.note_on-in-B.ensures.most.1 }

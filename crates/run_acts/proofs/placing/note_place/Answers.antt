@@ -58,10 +58,10 @@ use Rattle.run_acts.proofs.RingedPlace.{IsThere, who-enters, place-goes}
 use Rattle.run_acts.specs.CardNotes.{NotesOn, NotesOnCards}
 use Rattle.run_acts.proofs.CardNotes.{on-none, both-cards}
 use Rattle.run_acts.proofs.CardActs.{place-cards}
-use Rattle.run_acts.specs.CardWrites.{MayTakePlace, PlaceOn}
+use Rattle.run_acts.specs.CardWrites.{MayHavePlace, MayTakePlace, PlaceOn}
 use Rattle.tacho_types.specs.declared.places.PlaceEntry.{PlaceEntry}
 use Rattle.run_minutes.specs.declared.keeper.Moment.{Moment}
-use Rattle.run_acts.proofs.CardPlaces.{PlaceCall, call-unbegun, call-made}
+use Rattle.run_acts.proofs.CardPlaces.{PlaceCall, call-unbegun, call-made, may-unbegun}
 use Rattle.run_acts.proofs.CardWrites.{place-unit, place-bare, place-any, seat-bare}
 use Rattle.run_minutes.proofs.Calm.{calm-of-unit, calm-same, calm-then}
 use Rattle.run_acts.proofs.OneCard.{OneCard, unit-is, card-is, later-by, calm-by, keeps-by, apart-by, notes-by, known-noted, only-noted, more-noted, room-noted, calm-noted, held-noted, going-noted, none-there, on_a, on_b}
@@ -221,9 +221,14 @@ module _ (g : Over) (c : In_ok-note_place g) (k : OneCard c.in-Some.card (g.C.Ch
       (subst (λ (x : State). WritesPlace (Some c.in-Some-number_in.number) c.args.entry.now (is_err k.result) x k.unit) (unit-is k.which (g.M.Medium.state c.args.unit.now) (k.state k.before) k.beside)
       (subst (λ (o : Option FullCardNumber). WritesPlace o c.args.entry.now (is_err k.result) (g.M.Medium.state c.args.unit.now) k.unit) (numbered g c) (writes (subst (λ (x : State). is_some x.image ≡ true) (sym (unit-is k.which (g.M.Medium.state c.args.unit.now) (k.state k.before) k.beside)) tells)))))
       (subst (λ (m : Devices). AreLeftMore m last) (k.beside_it (g.M.Medium.state c.args.unit.now)) keeps)
-      (λ a at_. subst (λ (x : State). PlaceCall e.noted.0 (is_err k.result) a.session.application c.args.entry.now (card_of start k.which) x) (card-is k.which k.unit (k.state k.after) k.beside)
-      (subst (λ (x : State). PlaceCall e.noted.0 (is_err k.result) a.session.application c.args.entry.now x (k.state k.after)) (card-is k.which (g.M.Medium.state c.args.unit.now) (k.state k.before) k.beside)
-      (call-of e.noted.0 (is_err k.result) k.which c.args.run.now k.new c.args.slot c.args.at c.args.breaks.now k.breaks a c.args.entry.now (k.state k.before) (k.state k.after) e.noted.1 at_ e.shows.on_card e.shows.places)))
+      (λ a at_. (
+        subst (λ (x : State). PlaceCall e.noted.0 (is_err k.result) a.session.application c.args.entry.now (card_of start k.which) x) (card-is k.which k.unit (k.state k.after) k.beside)
+            (subst (λ (x : State). PlaceCall e.noted.0 (is_err k.result) a.session.application c.args.entry.now x (k.state k.after)) (card-is k.which (g.M.Medium.state c.args.unit.now) (k.state k.before) k.beside)
+            (call-of e.noted.0 (is_err k.result) k.which c.args.run.now k.new c.args.slot c.args.at c.args.breaks.now k.breaks a c.args.entry.now (k.state k.before) (k.state k.after) e.noted.1 at_ e.shows.on_card e.shows.places)),
+        subst (λ (x : State). MayHavePlace a.session.application c.args.entry.now (card_of start k.which) x) (card-is k.which k.unit (k.state k.after) k.beside)
+            (subst (λ (x : State). MayHavePlace a.session.application c.args.entry.now x (k.state k.after)) (card-is k.which (g.M.Medium.state c.args.unit.now) (k.state k.before) k.beside)
+            (subst (λ (q : Option Accepted). MayTakePlace q c.args.entry.now (k.state k.before) (k.state k.after)) at_ e.shows.places)),
+      ))
       (λ j apart. apart-by k.which (g.M.Medium.state c.args.unit.now) k.unit (k.state k.before) (k.state k.after) k.beside j apart))
 
   on-card : (card : Card) → card_in (seat_in c.args.run.now.keeper.cabin.slots.seats c.args.slot) ≡ Some card → PlaceOn (session_of c.args.run.now.keeper.cabin.cards card) (session_of k.new.keeper.cabin.cards card) (is_err k.result) c.args.entry.now (card_of (first g c) card) (card_of last card)
@@ -381,6 +386,7 @@ returns-in_default-clause-goes g c = record {
   later = later-same (devices (g.M.Medium.state c.args.unit.now) (g.C.Chip.state c.args.card_a.now) (g.D.Chip.state c.args.card_b.now));
   calm = calm-same (devices (g.M.Medium.state c.args.unit.now) (g.C.Chip.state c.args.card_a.now) (g.D.Chip.state c.args.card_b.now));
   more = omega arith;
+  most = wrote-none 9 5 (devices (g.M.Medium.state c.args.unit.now) (g.C.Chip.state c.args.card_a.now) (g.D.Chip.state c.args.card_b.now));
 }
 
 pub returns-in_default-number_in-clause-placed : goal.returns-in_default-number_in-clause-placed
@@ -451,6 +457,7 @@ returns-in_default-number_in-clause-goes g c = record {
   later = later-same (devices (g.M.Medium.state c.args.unit.now) (g.C.Chip.state c.args.card_a.now) (g.D.Chip.state c.args.card_b.now));
   calm = calm-same (devices (g.M.Medium.state c.args.unit.now) (g.C.Chip.state c.args.card_a.now) (g.D.Chip.state c.args.card_b.now));
   more = omega arith;
+  most = wrote-none 9 5 (devices (g.M.Medium.state c.args.unit.now) (g.C.Chip.state c.args.card_a.now) (g.D.Chip.state c.args.card_b.now));
 }
 
 -- ---- the note on the unit fails
@@ -553,9 +560,12 @@ returns-in_err-note_place-clause-promises g c = record {
       (numbered-session run.keeper.cabin.cards (seat_in run.keeper.cabin.slots.seats c.args.slot) card number there told) (ungiven_of lit.span) lit.cabin c.requires.at c.requires.acting.small (record { run = refl; told = none })
       (λ tells. subst (λ (o : Option FullCardNumber). WritesPlace o c.args.entry.now (is_err c.from_residual.result) U V) told ((returns-in_err-note_place-clause-leaves g c).rings tells))
       (record { unit = c.note_place.ensures.journal.keeps; card_a = λ t x le at. at; card_b = λ t x le at. at })
-      (λ a at_. both-cards (λ k. PlaceCall false (is_err c.from_residual.result) a.session.application c.args.entry.now (card_of (devices U A0 B0) k) (card_of (devices V A0 B0) k))
-      (subst (λ (q : Bool). PlaceCall false q a.session.application c.args.entry.now A0 A0) failed (call-unbegun a.session.application c.args.entry.now A0))
-      (subst (λ (q : Bool). PlaceCall false q a.session.application c.args.entry.now B0 B0) failed (call-unbegun a.session.application c.args.entry.now B0)) card)
+      (λ a at_. (
+        both-cards (λ k. PlaceCall false (is_err c.from_residual.result) a.session.application c.args.entry.now (card_of (devices U A0 B0) k) (card_of (devices V A0 B0) k))
+            (subst (λ (q : Bool). PlaceCall false q a.session.application c.args.entry.now A0 A0) failed (call-unbegun a.session.application c.args.entry.now A0))
+            (subst (λ (q : Bool). PlaceCall false q a.session.application c.args.entry.now B0 B0) failed (call-unbegun a.session.application c.args.entry.now B0)) card,
+        both-cards (λ k. MayHavePlace a.session.application c.args.entry.now (card_of (devices U A0 B0) k) (card_of (devices V A0 B0) k)) (may-unbegun a.session.application c.args.entry.now A0) (may-unbegun a.session.application c.args.entry.now B0) card,
+      ))
       (λ k apart. both-cards (λ k. (y : List ℕ) → (card_of (devices V A0 B0) k).may_leave y → (card_of (devices U A0 B0) k).may_leave y) (λ y left. left) (λ y left. left) k);
   cards =
       let run = c.args.run.now in
@@ -584,6 +594,7 @@ returns-in_err-note_place-clause-goes g c = record {
       (place-leaves (unit_place_bytes c.in-Some-number_in.number c.args.entry.now) (g.M.Medium.state c.args.unit.now) (g.M.Medium.state c.note_place.new.unit) (g.met.M.Medium.coherent c.args.unit.now) c.note_place.ensures.moments);
   calm = calm-of-unit (g.M.Medium.state c.args.unit.now) (g.M.Medium.state c.note_place.new.unit) (g.C.Chip.state c.args.card_a.now) (g.D.Chip.state c.args.card_b.now);
   more = omega arith;
+  most = record { unit = (let one = c.in_err-note_place.ensures.most in omega (arith, one)); card_a = omega arith; card_b = omega arith };
 }
 
 -- ---- card a, and card b
@@ -630,6 +641,14 @@ returns-in-A-clause-goes g c = record {
   later = later g (noted-first-a g c) (side-a g c) c.note_place_in.ensures;
   calm = calm g (noted-first-a g c) (side-a g c) c.note_place_in.ensures;
   more = more-noted A c.args.slot c.args.at c.args.run.now c.note_place_in.new.run c.args.breaks.now c.note_place_in.new.breaks c.note_place_in.ensures.noted.0 c.note_place_in.ensures.noted.1;
+  most =
+      let one = c.in_ok-note_place.ensures.most in
+      let next = c.note_place_in.ensures.most in
+      record {
+        unit = (let a = next.0 in omega (arith, one, a));
+        card_a = next.1;
+        card_b = omega arith;
+      };
 }
 
 pub returns-in-B-clause-going : goal.returns-in-B-clause-going
@@ -674,35 +693,12 @@ returns-in-B-clause-goes g c = record {
   later = later g (noted-first-b g c) (side-b g c) c.note_place_in-in-B.ensures;
   calm = calm g (noted-first-b g c) (side-b g c) c.note_place_in-in-B.ensures;
   more = more-noted B c.args.slot c.args.at c.args.run.now c.note_place_in-in-B.new.run c.args.breaks.now c.note_place_in-in-B.new.breaks c.note_place_in-in-B.ensures.noted.0 c.note_place_in-in-B.ensures.noted.1;
+  most =
+      let one = c.in_ok-note_place.ensures.most in
+      let next = c.note_place_in-in-B.ensures.most in
+      record {
+        unit = (let a = next.0 in omega (arith, one, a));
+        card_b = next.1;
+        card_a = omega arith;
+      };
 }
-
--- ---- its writes
-
-pub returns-in_default-clause-most : goal.returns-in_default-clause-most
-returns-in_default-clause-most g c = wrote-none 9 5 (devices (g.M.Medium.state c.args.unit.now) (g.C.Chip.state c.args.card_a.now) (g.D.Chip.state c.args.card_b.now))
-
-pub returns-in_default-number_in-clause-most : goal.returns-in_default-number_in-clause-most
-returns-in_default-number_in-clause-most g c = wrote-none 9 5 (devices (g.M.Medium.state c.args.unit.now) (g.C.Chip.state c.args.card_a.now) (g.D.Chip.state c.args.card_b.now))
-
-pub returns-in_err-note_place-clause-most : goal.returns-in_err-note_place-clause-most
-returns-in_err-note_place-clause-most g c = record { unit = (let one = c.in_err-note_place.ensures.most in omega (arith, one)); card_a = omega arith; card_b = omega arith }
-
-pub returns-in-A-clause-most : goal.returns-in-A-clause-most
-returns-in-A-clause-most g c =
-    let one = c.in_ok-note_place.ensures.most in
-    let next = c.note_place_in.ensures.most in
-    record {
-      unit = (let a = next.0 in omega (arith, one, a));
-      card_a = next.1;
-      card_b = omega arith;
-    }
-
-pub returns-in-B-clause-most : goal.returns-in-B-clause-most
-returns-in-B-clause-most g c =
-    let one = c.in_ok-note_place.ensures.most in
-    let next = c.note_place_in-in-B.ensures.most in
-    record {
-      unit = (let a = next.0 in omega (arith, one, a));
-      card_b = next.1;
-      card_a = omega arith;
-    }

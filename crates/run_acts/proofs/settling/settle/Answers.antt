@@ -1,9 +1,14 @@
-use Rattle.std.proofs.Common.{suc, ◌≡◌, ℕ, ◌*◌, ◌/◌, ◌≤◌, length, refl, ap, arith}
+use Rattle.std.proofs.Common.{suc, ◌≡◌, ℕ, ◌*◌, ◌/◌, ◌≤◌, None, length, refl, ap, arith}
 use Rattle.std.specs.Prelude.{is_err}
 use Rattle.tach_media.proofs.Runs.{on_ok}
 use Rattle.minute_model.specs.Span.{ungiven_of, settled}
 use Rattle.minute_rules.proofs.GoingOn.{owing-few}
+use Rattle.log_model.specs.Log.{In}
+use Rattle.run_rings.specs.Spans.{with_second}
 use Rattle.run_minutes.specs.Minutes.{AreKept, KeepingState}
+use Rattle.run_minutes.specs.Decided.{odometers_of}
+use Rattle.run_acts.specs.Recording.{values_of}
+use Rattle.run_acts.specs.Settling.{settled_run}
 use Rattle.run_acts.specs.declared.run.Run.{Run}
 use Rattle.run_acts.specs.declared.run.Power.{Power}
 use Rattle.run_acts.specs.Room.{waiting}
@@ -21,7 +26,8 @@ use Rattle.run_acts.proofs.SettledEvented.{settling-events}
 use Rattle.safety_model.specs.Safe.{Devices}
 use Rattle.run_promise.specs.Between.{devices}
 use Rattle.run_acts.proofs.CardStays.{timed-still}
-use Rattle.run_acts.proofs.CardPlaces.{timed-places}
+use Rattle.run_acts.proofs.CardPlaces.{timed-stays}
+use Rattle.run_acts.proofs.Readings.{values-read}
 use Rattle.run_acts.proofs.Due.{Decides}
 use Rattle.run_acts.specs.Devices.{DevicesGoOn}
 use Rattle.run_acts.proofs.settling.settle.Given.{Over}
@@ -119,8 +125,10 @@ returns-clause-keeps g c =
           h.0 h.1 c.requires.small (c.settle-decided.ensures.settled h.1.span h.1.stands) (given h.1.span h.1.stands) k.goes.odometer b.reach b.is b.books
           (went g c)
           (g.met.M.Medium.coherent c.args.unit.now) c.requires.held.is_unit b.noted o done s n waits here r time untold evented;
-      cards = λ o done s n waits here r time. timed-still o r.origin (first g c) (last g c) (its o done s (suc n) waits (omega arith) here r time).1;
-      places = λ o done s n waits here r time. timed-places o r.origin (first g c) (last g c) (its o done s (suc n) waits (omega arith) here r time).1;
+      cards = λ o done s n waits here r time. timed-still o r.origin (odometers_of old.keeper items) (first g c) (last g c) (its o done s (suc n) waits (omega arith) here r time).1;
+      places = λ o done s n waits here r time spans t now.
+          timed-stays o r.origin (odometers_of old.keeper items) (first g c) (last g c) (its o done s (suc n) waits (omega arith) here r time).1 (with_second spans old.keeper.odometer t)
+          (values-read o done s (In (suc n)) waits None items (values_of (settled_run c.settle-decided.new.self old) c.args.outcome.now) (first g c) r.within spans old.keeper.odometer t now old.keeper refl);
     }
 
 pub returns-clause-behind : goal.returns-clause-behind
@@ -196,25 +204,21 @@ returns-clause-takes g c =
       refused = omega arith;
     }
 
--- ---- all goes on
-
-pub returns-clause-goes : goal.returns-clause-goes
-returns-clause-goes g c = c.keep_all.ensures.goes
-
-pub returns-clause-speeds : goal.returns-clause-speeds
-returns-clause-speeds g c = c.keep_all.ensures.speeds
-
 -- ---- its writes
 
-pub returns-clause-most : goal.returns-clause-most
-returns-clause-most g c =
-    let h = c.requires.going in
-    let d = decided g (goal.at.returns-clause-most g c).After-as_slice in
-    let is = settled-ungiven h.0 (c.args.run.now.next / 60) c.args.run.now h.1 in
-    let count = d.count in
-    let sum = owing-sum c.args.run.now.minutes h.1.span h.1.stands in
-    let end = h.1.next in
-    let some = (owing-few h.1.span c.args.run.now.minutes h.1.stands).0 in
-    let few : length c.settle-decided.result.items ≤ 3 = omega (arith, is, count, sum, end, some) in
-    wrote-more (26 * length c.settle-decided.result.items) 78 (34 * length c.settle-decided.result.items) 102 (first g (goal.at.returns-clause-most g c).After-keep_all) (last g (goal.at.returns-clause-most g c).After-keep_all)
-    (omega (arith, few)) (omega (arith, few)) (rw c.as_slice.ensures.value at c.keep_all.ensures.most)
+pub returns-clause-goes : goal.returns-clause-goes
+returns-clause-goes g c = record {
+  keeping = c.keep_all.ensures.goes;
+  speeds = c.keep_all.ensures.speeds;
+  most =
+      let h = c.requires.going in
+      let d = decided g (goal.at.returns-clause-goes g c).After-as_slice in
+      let is = settled-ungiven h.0 (c.args.run.now.next / 60) c.args.run.now h.1 in
+      let count = d.count in
+      let sum = owing-sum c.args.run.now.minutes h.1.span h.1.stands in
+      let end = h.1.next in
+      let some = (owing-few h.1.span c.args.run.now.minutes h.1.stands).0 in
+      let few : length c.settle-decided.result.items ≤ 3 = omega (arith, is, count, sum, end, some) in
+      wrote-more (26 * length c.settle-decided.result.items) 78 (98 * length c.settle-decided.result.items) 294 (first g (goal.at.returns-clause-goes g c).After-keep_all) (last g (goal.at.returns-clause-goes g c).After-keep_all)
+      (omega (arith, few)) (omega (arith, few)) (rw c.as_slice.ensures.value at c.keep_all.ensures.most);
+}

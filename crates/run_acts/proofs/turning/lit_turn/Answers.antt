@@ -299,21 +299,6 @@ returns-then-is_err-clause-leaves g c = record {
       (brought g (goal.at.returns-then-is_err-clause-leaves g c).After-is_err true c.if-is_err.true c.cut.new.self (told-cut g c) c.cut.ensures.run (is-cut g c));
 }
 
-pub returns-then-is_err-clause-goes : goal.returns-then-is_err-clause-goes
-returns-then-is_err-clause-goes g c = record {
-  later = c.keep_turn-kept.ensures.goes.all.later;
-  calm =
-      let p = (goal.at.returns-then-is_err-clause-goes g c).After-is_err in
-      calm-more (first_devices g p) (last_devices g p) _ c.keep_turn-kept.ensures.goes.all.calm (ap (λ (l : Listed Break). l.items) c.cut.ensures.breaks) refl;
-  more =
-      let more = c.keep_turn-kept.ensures.goes.all.more in
-      let told = ap (λ (b : Listed Break). length b.items) c.cut.ensures.breaks ∙ lines-length (cut_at (c.args.run.now.next + c.args.n - 1) true c.args.begun ∷ []) c.keep_turn-kept.new.outcome.breaks in
-      omega (arith, more, told);
-  broke =
-      cut-broke _ _ _ _ _ (g.M.Medium.state c.args.unit.now) (g.M.Medium.state c.keep_turn-kept.new.unit) (is_err c.keep_turn-kept.result) (c.requires.going.lit (ap is_lit c.requires.lit)).ready.unit_ready.works c.keep_turn-kept.ensures.stands.cause
-      (sym c.is_err.ensures.value ∙ c.if-is_err.true) (turn-uncut _ _ _ _ _ _ _ _ _ c.keep_turn-kept.ensures.kept.kept) (ap (λ (l : Listed Break). l.items) c.cut.ensures.breaks);
-}
-
 pub returns-else-is_err-clause-turned : goal.returns-else-is_err-clause-turned
 returns-else-is_err-clause-turned g c = record {
   seconds = turned g (goal.at.returns-else-is_err-clause-turned g c).After-is_err false c.if-is_err.false c.keep_turn-kept.new.run c.keep_turn-kept.new.outcome refl refl;
@@ -333,16 +318,6 @@ returns-else-is_err-clause-leaves g c = record {
       (brought g (goal.at.returns-else-is_err-clause-leaves g c).After-is_err false c.if-is_err.false c.keep_turn-kept.new.run c.keep_turn-kept.new.outcome refl refl);
 }
 
-pub returns-else-is_err-clause-goes : goal.returns-else-is_err-clause-goes
-returns-else-is_err-clause-goes g c = record {
-  later = c.keep_turn-kept.ensures.goes.all.later;
-  calm = c.keep_turn-kept.ensures.goes.all.calm;
-  more = c.keep_turn-kept.ensures.goes.all.more;
-  broke = uncut-broke _ _ (g.M.Medium.state c.args.unit.now) (g.M.Medium.state c.keep_turn-kept.new.unit) (is_err c.keep_turn-kept.result) c.keep_turn-kept.ensures.stands.cause (sym c.is_err.ensures.value ∙ c.if-is_err.false) (turn-uncut _ _ _ _ _ _ _ _ _ c.keep_turn-kept.ensures.kept.kept);
-}
-
--- ---- its writes
-
 -- three minutes at most are decided
 module _ (g : Over) (c : After-is_err g) where
   few-decided : length c.feed-decided.result.items ≤ 3
@@ -355,13 +330,32 @@ module _ (g : Over) (c : After-is_err g) where
       let some = (owing-few l.span c.args.run.now.minutes l.stands).0 in
       omega (arith, count, least, sum, next, some)
 
-  wrote : WroteAtMost 93 102 (first_devices g c) (last_devices g c)
+  wrote : WroteAtMost 93 294 (first_devices g c) (last_devices g c)
   wrote =
       let few = few-decided in
-      wrote-more (26 * length c.feed-decided.result.items + 15) 93 (34 * length c.feed-decided.result.items) 102 (first_devices g c) (last_devices g c) (omega (arith, few)) (omega (arith, few)) (rw c.as_slice.ensures.value at c.keep_turn-kept.ensures.most)
+      wrote-more (26 * length c.feed-decided.result.items + 15) 93 (98 * length c.feed-decided.result.items) 294 (first_devices g c) (last_devices g c) (omega (arith, few)) (omega (arith, few)) (rw c.as_slice.ensures.value at c.keep_turn-kept.ensures.most)
 
-pub returns-then-is_err-clause-most : goal.returns-then-is_err-clause-most
-returns-then-is_err-clause-most g c = wrote g (goal.at.returns-then-is_err-clause-most g c).After-is_err
+pub returns-then-is_err-clause-goes : goal.returns-then-is_err-clause-goes
+returns-then-is_err-clause-goes g c = record {
+  later = c.keep_turn-kept.ensures.goes.all.later;
+  calm =
+      let p = (goal.at.returns-then-is_err-clause-goes g c).After-is_err in
+      calm-more (first_devices g p) (last_devices g p) _ c.keep_turn-kept.ensures.goes.all.calm (ap (λ (l : Listed Break). l.items) c.cut.ensures.breaks) refl;
+  more =
+      let more = c.keep_turn-kept.ensures.goes.all.more in
+      let told = ap (λ (b : Listed Break). length b.items) c.cut.ensures.breaks ∙ lines-length (cut_at (c.args.run.now.next + c.args.n - 1) true c.args.begun ∷ []) c.keep_turn-kept.new.outcome.breaks in
+      omega (arith, more, told);
+  broke =
+      cut-broke _ _ _ _ _ (g.M.Medium.state c.args.unit.now) (g.M.Medium.state c.keep_turn-kept.new.unit) (is_err c.keep_turn-kept.result) (c.requires.going.lit (ap is_lit c.requires.lit)).ready.unit_ready.works c.keep_turn-kept.ensures.stands.cause
+      (sym c.is_err.ensures.value ∙ c.if-is_err.true) (turn-uncut _ _ _ _ _ _ _ _ _ c.keep_turn-kept.ensures.kept.kept) (ap (λ (l : Listed Break). l.items) c.cut.ensures.breaks);
+  most = wrote g (goal.at.returns-then-is_err-clause-goes g c).After-is_err;
+}
 
-pub returns-else-is_err-clause-most : goal.returns-else-is_err-clause-most
-returns-else-is_err-clause-most g c = wrote g (goal.at.returns-else-is_err-clause-most g c).After-is_err
+pub returns-else-is_err-clause-goes : goal.returns-else-is_err-clause-goes
+returns-else-is_err-clause-goes g c = record {
+  later = c.keep_turn-kept.ensures.goes.all.later;
+  calm = c.keep_turn-kept.ensures.goes.all.calm;
+  more = c.keep_turn-kept.ensures.goes.all.more;
+  broke = uncut-broke _ _ (g.M.Medium.state c.args.unit.now) (g.M.Medium.state c.keep_turn-kept.new.unit) (is_err c.keep_turn-kept.result) c.keep_turn-kept.ensures.stands.cause (sym c.is_err.ensures.value ∙ c.if-is_err.false) (turn-uncut _ _ _ _ _ _ _ _ _ c.keep_turn-kept.ensures.kept.kept);
+  most = wrote g (goal.at.returns-else-is_err-clause-goes g c).After-is_err;
+}

@@ -184,6 +184,7 @@ returns-then-not-is_lit-clause-goes g c = record {
   calm = calm-same (devices (g.M.Medium.state c.args.unit.now) (g.C.Chip.state c.args.card_a.now) (g.D.Chip.state c.args.card_b.now));
   more = omega arith;
   broke = broke-none c.args.outcome.now.breaks.items {old = (g.M.Medium.state c.args.unit.now)} {new = (g.M.Medium.state c.args.unit.now)} (omega arith);
+  most = wrote-none 93 294 (devices (g.M.Medium.state c.args.unit.now) (g.C.Chip.state c.args.card_a.now) (g.D.Chip.state c.args.card_b.now));
 }
 
 pub returns-clause-turned : goal.returns-clause-turned
@@ -273,12 +274,5 @@ returns-clause-goes g c = record {
   calm = c.lit_turn.ensures.goes.calm;
   more = c.lit_turn.ensures.goes.more;
   broke = c.lit_turn.ensures.goes.broke;
+  most = c.lit_turn.ensures.goes.most;
 }
-
--- ---- its writes
-
-pub returns-then-not-is_lit-clause-most : goal.returns-then-not-is_lit-clause-most
-returns-then-not-is_lit-clause-most g c = wrote-none 93 102 (devices (g.M.Medium.state c.args.unit.now) (g.C.Chip.state c.args.card_a.now) (g.D.Chip.state c.args.card_b.now))
-
-pub returns-clause-most : goal.returns-clause-most
-returns-clause-most g c = c.lit_turn.ensures.most

@@ -36,8 +36,10 @@ use Rattle.run_acts.specs.Recording.{RunFails, GoesOnOrFails, log_of, IsNow, Run
 use Rattle.run_acts.specs.Settling.{RecordsSettling}
 use Rattle.run_acts.proofs.Asked.{withdraws-one}
 use Rattle.run_acts.proofs.WithdrawnRecorded.{acting_at, moment-is, settling-cut, closing-recorded, settled-evented, closing-evented, untorn-then, sat-there, settled-still, settled-places, closed-places, closed-still}
-use Rattle.run_note_record.specs.OnCards.{PlacesStay}
-use Rattle.run_acts.proofs.CardPlaces.{stay-then}
+use Rattle.run_rings.specs.Spans.{with_second}
+use Rattle.run_note_record.specs.OnCards.{CardsStay}
+use Rattle.run_acts.proofs.CardPlaces.{stays-then}
+use Rattle.run_acts.proofs.Readings.{spans-here}
 use Rattle.run_acts.specs.Faults.{NotesSettling}
 use Rattle.run_acts.specs.Noting.{NotesWithdrawing, closed_events}
 use Rattle.run_acts.proofs.NotedEvents.{same-noted, noted-any}
@@ -273,16 +275,16 @@ module _ (g : Over) (c : In_ok-settle g) (k : OneCard c.in-Some.card (g.C.Chip.s
       }
 
   more : length c.args.outcome.now.breaks.items ≤ length k.breaks.items
-  more = let told_more = c.settle.ensures.goes.all.more in let length_is = lines in omega (arith, told_more, length_is)
+  more = let told_more = c.settle.ensures.goes.keeping.all.more in let length_is = lines in omega (arith, told_more, length_is)
 
   later : AreLater first_ last
   later =
-      later-then first_ between last (subst (λ (m : Devices). AreLater first_ m) (k.beside_it (g.M.Medium.state c.settle.new.unit)) (settled-later c.settle.ensures.goes c.settle.ensures.speeds))
+      later-then first_ between last (subst (λ (m : Devices). AreLater first_ m) (k.beside_it (g.M.Medium.state c.settle.new.unit)) (settled-later c.settle.ensures.goes.keeping c.settle.ensures.goes.speeds))
       (later-by k.which (g.M.Medium.state c.settle.new.unit) k.unit (k.state k.before) (k.state k.after) k.beside (state-by (g.M.Medium.state c.settle.new.unit) k.unit _ closes.writes.journal.later closes.behind.cause) closes.goes.later closes.writes.speeds)
 
   calm : AreCalm c.args.outcome.now.breaks.items k.breaks.items first_ last
   calm =
-      calm-then first_ between last (subst (λ (m : Devices). AreCalm c.args.outcome.now.breaks.items c.settle.new.outcome.breaks.items first_ m) (k.beside_it (g.M.Medium.state c.settle.new.unit)) c.settle.ensures.goes.all.calm)
+      calm-then first_ between last (subst (λ (m : Devices). AreCalm c.args.outcome.now.breaks.items c.settle.new.outcome.breaks.items first_ m) (k.beside_it (g.M.Medium.state c.settle.new.unit)) c.settle.ensures.goes.keeping.all.calm)
       (calm-by k.which (g.M.Medium.state c.settle.new.unit) k.unit (k.state k.before) (k.state k.after) k.beside closes.goes.calm)
 
   -- which card it is that was there
@@ -344,7 +346,7 @@ module _ (g : Over) (c : In_ok-settle g) (k : OneCard c.in-Some.card (g.C.Chip.s
 
   rings_ : is_some (g.M.Medium.state c.args.unit.now).image ≡ true → WithdrawsSo (card_in (seat_in c.args.run.now.keeper.cabin.slots.seats c.args.slot)) c.args.slot c.args.at (is_err k.result) c.args.run.now k.new c.args.outcome.now told (g.M.Medium.state c.args.unit.now) k.unit
   rings_ tells =
-      let n = closes.shows.rings (c.in_ok-settle.ensures.goes.unit_tells ∙ tells) in
+      let n = closes.shows.rings (c.in_ok-settle.ensures.goes.keeping.unit_tells ∙ tells) in
       subst (λ (q : Option Card). WithdrawsSo q c.args.slot c.args.at (is_err k.result) c.args.run.now k.new c.args.outcome.now told (g.M.Medium.state c.args.unit.now) k.unit) (sym seat)
       (inr (record {
         closed = record { between = c.settle.new.run; told = c.settle.new.outcome; settled_first = settled-first g c; closing = n.closing; closed = n.closed; outcome = refl };
@@ -381,7 +383,7 @@ module _ (g : Over) (c : In_ok-settle g) (k : OneCard c.in-Some.card (g.C.Chip.s
         let going = going-with g c k.which k.is in
         let r = c.in_ok-settle.ensures.keeps in
         let n_ = closes.closed in
-        let rung = closes.shows.rings (c.settle.ensures.goes.unit_tells ∙ w.within.there.unit) in
+        let rung = closes.shows.rings (c.settle.ensures.goes.keeping.unit_tells ∙ w.within.there.unit) in
         subst (λ (q : ℕ). GoesOnOrFails (is_err k.result) o done s (In q) [] k.new told last w.within.b) (sym n)
         (closing-recorded o done s front rest c.args.slot are speed now.speed_is k.which c.args.run.now c.settle.new.run c.args.outcome.now c.settle.new.outcome first_ w seat allowed (ungiven_of c.requires.acting.going.span) c.requires.acting.going.cabin minutes r.decided (r.given w.within.sp w.within.minutes)
         k.state (g.M.Medium.state c.settle.new.unit) k.unit k.beside k.before k.after (g.met.M.Medium.coherent c.settle.new.unit) k.whole k.size closes.shows.left closes.bare closes.writes.journal (is_err k.result) closes.behind.cause going.span going.stands going.next
@@ -415,18 +417,18 @@ module _ (g : Over) (c : In_ok-settle g) (k : OneCard c.in-Some.card (g.C.Chip.s
     left : HaveLeftMore o first_ last
     left =
         more-left o first_ last (w.within.powered.lit.unit.unit_holds [] []).later w.within.there.clocks
-        (keeps-by k.which first_ (g.M.Medium.state c.settle.new.unit) k.unit (k.state k.before) (k.state k.after) k.beside (subst (λ (m : Devices). AreLeftMore first_ m) (k.beside_it (g.M.Medium.state c.settle.new.unit)) (settled-left c.settle.ensures.goes)) (subst (λ (m : Devices). AreLater first_ m) (k.beside_it (g.M.Medium.state c.settle.new.unit)) (settled-later c.settle.ensures.goes c.settle.ensures.speeds)) closes.writes.journal.keeps
+        (keeps-by k.which first_ (g.M.Medium.state c.settle.new.unit) k.unit (k.state k.before) (k.state k.after) k.beside (subst (λ (m : Devices). AreLeftMore first_ m) (k.beside_it (g.M.Medium.state c.settle.new.unit)) (settled-left c.settle.ensures.goes.keeping)) (subst (λ (m : Devices). AreLater first_ m) (k.beside_it (g.M.Medium.state c.settle.new.unit)) (settled-later c.settle.ensures.goes.keeping c.settle.ensures.goes.speeds)) closes.writes.journal.keeps
         (closing-left k.state k.before k.after (session_of c.settle.new.run.keeper.cabin.cards k.which) closes.shows.left closes.bare))
 
-    places : PlacesStay o first_ last
-    places =
+    places : (spans : List SpanFrom) (t : Rattle.log_model.specs.Course.ToldSecond) → RingsWithin o done s w.within.b.run.log front c.args.run.now (log_of c.args.outcome.now) spans t first_ → CardsStay o (with_second spans c.args.run.now.keeper.odometer t) first_ last
+    places spans t rings =
         let r = c.in_ok-settle.ensures.keeps in
         let v = c.in_ok-settle.ensures.keeps in
         let settles =
         left-there (λ m run. PlacesSettling v.decided m run c.settle.new.run c.args.outcome.now first_ between) c.args.slot c.args.at (acting_at s.number (suc (length front))) c.args.run.now c.leave.new.self c.leave.ensures.kept moment
         (subst (λ (m : Devices). PlacesSettling v.decided c.args.at (with_cabin c.leave.new.self c.args.run.now) c.settle.new.run c.args.outcome.now first_ m) (k.beside_it (g.M.Medium.state c.settle.new.unit)) v.places) in
-        stay-then o first_ between last (settled-places o done s front rest c.args.slot are speed now.speed_is k.which c.args.run.now c.settle.new.run c.args.outcome.now c.settle.new.outcome first_ w seat allowed (ungiven_of c.requires.acting.going.span) c.requires.acting.going.cabin minutes v.decided (v.given w.within.sp w.within.minutes) between settles time-then)
-        (closed-places o done s front rest c.args.slot are speed now.speed_is k.which c.args.run.now c.settle.new.run c.args.outcome.now c.settle.new.outcome first_ w seat allowed (ungiven_of c.requires.acting.going.span) c.requires.acting.going.cabin minutes r.decided (r.given w.within.sp w.within.minutes) k.state (g.M.Medium.state c.settle.new.unit) k.unit k.beside k.before k.after k.whole k.size closes.shows.left closes.bare records time-then)
+        stays-then o (with_second spans c.args.run.now.keeper.odometer t) first_ between last (settled-places o done s front rest c.args.slot are speed now.speed_is k.which c.args.run.now c.settle.new.run c.args.outcome.now c.settle.new.outcome first_ w seat allowed (ungiven_of c.requires.acting.going.span) c.requires.acting.going.cabin minutes v.decided (v.given w.within.sp w.within.minutes) between settles time-then spans t (spans-here o done s w.within.b.run.log front c.args.run.now (log_of c.args.outcome.now) spans t first_ rings))
+        (closed-places o done s front rest c.args.slot are speed now.speed_is k.which c.args.run.now c.settle.new.run c.args.outcome.now c.settle.new.outcome first_ w seat allowed (ungiven_of c.requires.acting.going.span) c.requires.acting.going.cabin minutes r.decided (r.given w.within.sp w.within.minutes) k.state (g.M.Medium.state c.settle.new.unit) k.unit k.beside k.before k.after k.whole k.size closes.shows.left closes.bare records time-then (with_second spans c.args.run.now.keeper.odometer t))
 
     shows : StillShow o first_ last
     shows =
@@ -449,7 +451,7 @@ module _ (g : Over) (c : In_ok-settle g) (k : OneCard c.in-Some.card (g.C.Chip.s
     ringed spans t rings =
         let lit = c.requires.acting.going in
         let r = c.in_ok-settle.ensures.keeps in
-        let n_ = closes.shows.rings (c.settle.ensures.goes.unit_tells ∙ w.within.there.unit) in
+        let n_ = closes.shows.rings (c.settle.ensures.goes.keeping.unit_tells ∙ w.within.there.unit) in
         let entries = entry-of c.args.run.now.noted (session_of c.args.run.now.keeper.cabin.cards k.which) (lit.entries k.which) in
         let closed = subst (λ (m : Moment). IsClosed k.which c.args.slot m c.settle.new.run k.new c.settle.new.outcome.breaks k.breaks n_.closing) moment n_.closed in
         let writes : ClosesRings n_.closing (session_of c.settle.new.run.keeper.cabin.cards k.which) (acting_at s.number (suc (length front))) (is_err k.result) c.settle.new.run (g.M.Medium.state c.args.unit.now) last.unit =
@@ -458,10 +460,10 @@ module _ (g : Over) (c : In_ok-settle g) (k : OneCard c.in-Some.card (g.C.Chip.s
         (closes-behind n_.closing (session_of c.settle.new.run.keeper.cabin.cards k.which) c.args.at (is_err k.result) c.settle.new.run (g.M.Medium.state c.args.unit.now) (g.M.Medium.state c.settle.new.unit) k.unit leaves n_.rings)) in
         let from_is : w.within.from ≡ ungiven_of lit.span = let to = w.within.until in let same = same-ungiven c.args.run.now.minutes w.within.sp lit.span w.within.minutes lit.stands in omega (arith, to, same) in
         let later_ = (settled-decides None (c.args.run.now.next / 60) c.args.run.now lit kept.decided c.requires.acting.small (kept.given lit.span lit.stands)).from in
-        closing-ringed o done s front rest c.args.slot are speed now.speed_is k.which c.args.run.now c.settle.new.run c.args.outcome.now c.settle.new.outcome first_ last w seat allowed false kept left places spans t rings (ungiven_of c.requires.acting.going.span) c.requires.acting.going.cabin small entries
+        closing-ringed o done s front rest c.args.slot are speed now.speed_is k.which c.args.run.now c.settle.new.run c.args.outcome.now c.settle.new.outcome first_ last w seat allowed false kept left spans t (places spans t rings) rings (ungiven_of c.requires.acting.going.span) c.requires.acting.going.cabin small entries
         k.new k.breaks n_.closing closed minutes
         (λ had has. untorn-then o done s front rest c.args.slot are speed now.speed_is k.which c.args.run.now c.settle.new.run c.args.outcome.now c.settle.new.outcome first_ w seat allowed (ungiven_of c.requires.acting.going.span) c.requires.acting.going.cabin minutes r.decided (r.given w.within.sp w.within.minutes) between records time-then had has)
-        (λ had none. gone-told o done s front rest c.args.slot are speed now.speed_is k.which c.args.run.now c.settle.new.run c.args.outcome.now c.settle.new.outcome first_ last w seat allowed false kept left places spans t rings (ungiven_of c.requires.acting.going.span) c.requires.acting.going.cabin small entries kept.kept w.within.from
+        (λ had none. gone-told o done s front rest c.args.slot are speed now.speed_is k.which c.args.run.now c.settle.new.run c.args.outcome.now c.settle.new.outcome first_ last w seat allowed false kept left spans t (places spans t rings) rings (ungiven_of c.requires.acting.going.span) c.requires.acting.going.cabin small entries kept.kept w.within.from
         (sat-there o done s front rest c.args.slot are speed now.speed_is k.which c.args.run.now c.settle.new.run c.args.outcome.now c.settle.new.outcome first_ w seat allowed (ungiven_of c.requires.acting.going.span) c.requires.acting.going.cabin minutes r.decided (r.given w.within.sp w.within.minutes) had)
         (subst (λ (low : ℕ). All (λ (m : Minute). low ≤ m.minute) kept.decided) (sym from_is) later_) had none)
         (is_err k.result) writes
@@ -540,6 +542,7 @@ returns-in_default-clause-goes g c = record {
   later = later-same (devices (g.M.Medium.state c.args.unit.now) (g.C.Chip.state c.args.card_a.now) (g.D.Chip.state c.args.card_b.now));
   calm = calm-same (devices (g.M.Medium.state c.args.unit.now) (g.C.Chip.state c.args.card_a.now) (g.D.Chip.state c.args.card_b.now));
   more = omega arith;
+  most = wrote-none 82 302 (devices (g.M.Medium.state c.args.unit.now) (g.C.Chip.state c.args.card_a.now) (g.D.Chip.state c.args.card_b.now));
 }
 
 -- ---- the keeping fails
@@ -572,7 +575,7 @@ module _ (g : Over) (c : After-from_residual g) where
         subst (λ (q : Bool). GoesOnOrFails q o done s (In c.args.at.begun) [] c.settle.new.run c.settle.new.outcome end w.within.b) failed
         (subst (λ (q : ℕ). RunFails o done s (In q) c.settle.new.run c.settle.new.outcome end) (sym n)
         (settling-cut o done s front rest c.args.slot are speed now.speed_is c.in-Some.card c.args.run.now c.settle.new.run c.args.outcome.now c.settle.new.outcome start w seat-left allowed (ungiven_of c.requires.acting.going.span) c.requires.acting.going.cabin (c.in_err-settle.ensures.settled.minutes w.within.sp w.within.minutes) r.decided (r.given w.within.sp w.within.minutes) end
-        (left-there (λ m run. RecordsSettling r.decided m true run c.settle.new.run c.args.outcome.now c.settle.new.outcome start end) c.args.slot c.args.at (acting_at s.number (suc (length front))) c.args.run.now c.leave.new.self c.leave.ensures.kept at-moment r.recorded) time c.settle.ensures.goes.memory))
+        (left-there (λ m run. RecordsSettling r.decided m true run c.settle.new.run c.args.outcome.now c.settle.new.outcome start end) c.args.slot c.args.at (acting_at s.number (suc (length front))) c.args.run.now c.leave.new.self c.leave.ensures.kept at-moment r.recorded) time c.settle.ensures.goes.keeping.memory))
 
     cut-evented : EventedNow o done s w.within.b.run Acting (log_of c.args.outcome.now) start → EventsGoOn (is_err c.from_residual.result) o done s w.within.b.run (In c.args.at.begun) Acting (log_of c.settle.new.outcome) end
     cut-evented events_ =
@@ -583,7 +586,7 @@ module _ (g : Over) (c : After-from_residual g) where
         (left-there (λ m run. EventsSettling v.decided m true run c.settle.new.run c.args.outcome.now c.settle.new.outcome start end) c.args.slot c.args.at (acting_at s.number (suc (length front))) c.args.run.now c.leave.new.self c.leave.ensures.kept at-moment v.evented) events_ time))
 
     cut-left : HaveLeftMore o start end
-    cut-left = more-left o start end (w.within.powered.lit.unit.unit_holds [] []).later w.within.there.clocks (settled-left c.settle.ensures.goes)
+    cut-left = more-left o start end (w.within.powered.lit.unit.unit_holds [] []).later w.within.there.clocks (settled-left c.settle.ensures.goes.keeping)
 
     cut-ringed : (spans : List SpanFrom) (t : Rattle.log_model.specs.Course.ToldSecond) → RingsWithin o done s w.within.b.run.log front c.args.run.now (log_of c.args.outcome.now) spans t start
         → RingsGoOn (is_err c.from_residual.result) o done s w.within.b (front ++ Withdraw c.args.slot ∷ []) c.settle.new.run (log_of c.settle.new.outcome) spans t end
@@ -592,11 +595,11 @@ module _ (g : Over) (c : After-from_residual g) where
         let lit = c.requires.acting.going in
         let low : s.number < 2 ^ 32 = let most = c.requires.acting.small in let same = now.number in omega (arith, most, same) in
         let v = c.in_err-settle.ensures.keeps in
-        let stay = settled-places o done s front rest c.args.slot are speed now.speed_is c.in-Some.card c.args.run.now c.settle.new.run c.args.outcome.now c.settle.new.outcome start w seat-left allowed (ungiven_of c.requires.acting.going.span) c.requires.acting.going.cabin (c.in_err-settle.ensures.settled.minutes w.within.sp w.within.minutes) v.decided (v.given w.within.sp w.within.minutes) end (left-there (λ m run. PlacesSettling v.decided m run c.settle.new.run c.args.outcome.now start end) c.args.slot c.args.at (acting_at s.number (suc (length front))) c.args.run.now c.leave.new.self c.leave.ensures.kept at-moment v.places) time in
+        let stay = settled-places o done s front rest c.args.slot are speed now.speed_is c.in-Some.card c.args.run.now c.settle.new.run c.args.outcome.now c.settle.new.outcome start w seat-left allowed (ungiven_of c.requires.acting.going.span) c.requires.acting.going.cabin (c.in_err-settle.ensures.settled.minutes w.within.sp w.within.minutes) v.decided (v.given w.within.sp w.within.minutes) end (left-there (λ m run. PlacesSettling v.decided m run c.settle.new.run c.args.outcome.now start end) c.args.slot c.args.at (acting_at s.number (suc (length front))) c.args.run.now c.leave.new.self c.leave.ensures.kept at-moment v.places) time spans t (spans-here o done s w.within.b.run.log front c.args.run.now (log_of c.args.outcome.now) spans t start rings) in
         subst (λ (q : Bool). RingsGoOn q o done s w.within.b (front ++ Withdraw c.args.slot ∷ []) c.settle.new.run (log_of c.settle.new.outcome) spans t end) failed
         (settling-ringed o done s front rest c.args.slot are speed now.speed_is card c.args.run.now c.settle.new.run c.args.outcome.now c.settle.new.outcome start end w seat-left allowed true
         (left-there (λ m run. IsSettled m true run c.settle.new.run c.args.outcome.now c.settle.new.outcome) c.args.slot c.args.at (acting_at s.number (suc (length front))) c.args.run.now c.leave.new.self c.leave.ensures.kept at-moment c.in_err-settle.ensures.settled)
-        cut-left stay spans t rings (ungiven_of lit.span) lit.cabin low (entry-of c.args.run.now.noted (session_of c.args.run.now.keeper.cabin.cards card) (lit.entries card))
+        cut-left spans t stay rings (ungiven_of lit.span) lit.cabin low (entry-of c.args.run.now.noted (session_of c.args.run.now.keeper.cabin.cards card) (lit.entries card))
         (settling-leaves c.args.at true (with_cabin c.leave.new.self c.args.run.now) c.settle.new.run c.args.outcome.now c.settle.new.outcome (g.M.Medium.state c.args.unit.now) (g.M.Medium.state c.settle.new.unit) (settled-noted c.in_err-settle.ensures.keeps)))
 
     cut-cards : CardsIn o done s w.within.b.run.log front (log_of c.args.outcome.now) start → CardsGoOn (is_err c.from_residual.result) o done s w.within.b.run.log (front ++ Withdraw c.args.slot ∷ []) (log_of c.settle.new.outcome) end
@@ -662,9 +665,10 @@ returns-in_err-settle-clause-held g c = record {
 
 pub returns-in_err-settle-clause-goes : goal.returns-in_err-settle-clause-goes
 returns-in_err-settle-clause-goes g c = record {
-  later = settled-later c.settle.ensures.goes c.settle.ensures.speeds;
-  calm = c.settle.ensures.goes.all.calm;
-  more = c.settle.ensures.goes.all.more;
+  later = settled-later c.settle.ensures.goes.keeping c.settle.ensures.goes.speeds;
+  calm = c.settle.ensures.goes.keeping.all.calm;
+  more = c.settle.ensures.goes.keeping.all.more;
+  most = wrote-more 78 82 294 302 _ _ (omega arith) (omega arith) c.settle.ensures.goes.most;
 }
 
 -- ---- card a, and card b
@@ -721,6 +725,14 @@ returns-in-A-clause-goes g c = record {
   later = later g (kept-a g c) (side-a g c) c.close.ensures;
   calm = calm g (kept-a g c) (side-a g c) c.close.ensures;
   more = more g (kept-a g c) (side-a g c) c.close.ensures;
+  most =
+      let first = c.settle.ensures.goes.most in
+      let next = c.close.ensures.most in
+      record {
+        unit = (let a = first.unit in let b = next.0 in omega (arith, a, b));
+        card_a = (let a = first.card_a in let b = next.1 in omega (arith, a, b));
+        card_b = (let a = first.card_b in omega (arith, a));
+      };
 }
 
 pub returns-in-B-clause-going : goal.returns-in-B-clause-going
@@ -775,32 +787,12 @@ returns-in-B-clause-goes g c = record {
   later = later g (kept-b g c) (side-b g c) c.close-in-B.ensures;
   calm = calm g (kept-b g c) (side-b g c) c.close-in-B.ensures;
   more = more g (kept-b g c) (side-b g c) c.close-in-B.ensures;
+  most =
+      let first = c.settle.ensures.goes.most in
+      let next = c.close-in-B.ensures.most in
+      record {
+        unit = (let a = first.unit in let b = next.0 in omega (arith, a, b));
+        card_b = (let a = first.card_b in let b = next.1 in omega (arith, a, b));
+        card_a = (let a = first.card_a in omega (arith, a));
+      };
 }
-
--- ---- its writes
-
-pub returns-in_default-clause-most : goal.returns-in_default-clause-most
-returns-in_default-clause-most g c = wrote-none 82 110 (devices (g.M.Medium.state c.args.unit.now) (g.C.Chip.state c.args.card_a.now) (g.D.Chip.state c.args.card_b.now))
-
-pub returns-in_err-settle-clause-most : goal.returns-in_err-settle-clause-most
-returns-in_err-settle-clause-most g c = wrote-more 78 82 102 110 _ _ (omega arith) (omega arith) c.settle.ensures.most
-
-pub returns-in-A-clause-most : goal.returns-in-A-clause-most
-returns-in-A-clause-most g c =
-    let first = c.settle.ensures.most in
-    let next = c.close.ensures.most in
-    record {
-      unit = (let a = first.unit in let b = next.0 in omega (arith, a, b));
-      card_a = (let a = first.card_a in let b = next.1 in omega (arith, a, b));
-      card_b = (let a = first.card_b in omega (arith, a));
-    }
-
-pub returns-in-B-clause-most : goal.returns-in-B-clause-most
-returns-in-B-clause-most g c =
-    let first = c.settle.ensures.most in
-    let next = c.close-in-B.ensures.most in
-    record {
-      unit = (let a = first.unit in let b = next.0 in omega (arith, a, b));
-      card_b = (let a = first.card_b in let b = next.1 in omega (arith, a, b));
-      card_a = (let a = first.card_a in omega (arith, a));
-    }

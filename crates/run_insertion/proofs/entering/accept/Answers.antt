@@ -1,5 +1,5 @@
 use Rattle.std.proofs.lemmas.Grind.{common_steps}
-use Rattle.std.proofs.Common.{rules, arith, inl, ◌≡◌, ◌∙◌, ◌≤◌, ℕ, true, None, Ok, refl, ap, sym, subst, [], ◌∷◌}
+use Rattle.std.proofs.Common.{rules, arith, inl, ◌≡◌, ◌∙◌, ℕ, true, None, Ok, refl, ap, sym, subst, [], ◌∷◌}
 use Rattle.std.specs.Prelude.{is_err, Result, Err}
 use Rattle.card_layout.specs.declared.files.Application.{Application}
 use Rattle.card_layout.specs.Application.{place_of_field}
@@ -51,12 +51,12 @@ returns-in_default-clause-entered g c =
       Unread,
       entered-unread e k c.args.noted.now c.args.outcome.now U X M (g.met.C.Chip.coherent c.wake.new.card) c.wake.ensures.leaves (g.met.C.Chip.coherent c.args.card.now) c.in_default.ensures.cause
           (is_err c.tear.result) c.tear.new.self c.tear.new.breaks W keeper c.tear.ensures.torn.told notes,
-      λ f w m named low. let may = woken-may e k (Err UNTOLD) U X M Z (g.met.M.Medium.coherent c.args.unit.now) (g.met.C.Chip.coherent c.args.card.now) c.wake.ensures.leaves c.wake.ensures.clock c.requires.bare f w m in record {
-        taken = torn-carried f (with_standing e.which Out w) e (record k { cabin = with_sizes_of e.which (Err UNTOLD) k.cabin }) c.tear.new.self U W M Z (is_err c.tear.result) (still-bare e k (Err UNTOLD) U X M Z (g.met.M.Medium.coherent c.args.unit.now) (g.met.C.Chip.coherent c.args.card.now) c.wake.ensures.leaves c.wake.ensures.clock c.requires.bare) may.found (g.met.M.Medium.coherent c.args.unit.now) may.powered keeper c.tear.ensures.leaves.journal c.tear.ensures.behind.cause;
+      λ f w m named low. let may = woken-may e k (Err UNTOLD) U X M Z (g.met.M.Medium.coherent c.args.unit.now) (g.met.C.Chip.coherent c.args.card.now) c.wake.ensures.leaves c.wake.ensures.clock c.requires.may.come.bare f w m in record {
+        taken = torn-carried f (with_standing e.which Out w) e (record k { cabin = with_sizes_of e.which (Err UNTOLD) k.cabin }) c.tear.new.self U W M Z (is_err c.tear.result) (still-bare e k (Err UNTOLD) U X M Z (g.met.M.Medium.coherent c.args.unit.now) (g.met.C.Chip.coherent c.args.card.now) c.wake.ensures.leaves c.wake.ensures.clock c.requires.may.come.bare) may.found (g.met.M.Medium.coherent c.args.unit.now) may.powered keeper c.tear.ensures.leaves.journal c.tear.ensures.behind.cause;
         found = found-fallen true f e (record k { cabin = with_sizes_of e.which (Err UNTOLD) k.cabin }) c.tear.new.self keeper may.found;
         told = tt;
-        timed = λ valid. woken-timed e k (Err UNTOLD) U X M Z (g.met.M.Medium.coherent c.args.unit.now) (g.met.C.Chip.coherent c.args.card.now) c.wake.ensures.leaves c.wake.ensures.clock c.requires.bare f w m;
-        untouched = λ same. inl (woken-untouched e k (Err UNTOLD) U X M Z (g.met.M.Medium.coherent c.args.unit.now) (g.met.C.Chip.coherent c.args.card.now) c.wake.ensures.leaves c.wake.ensures.clock c.requires.bare f w m same);
+        timed = λ valid. woken-timed e k (Err UNTOLD) U X M Z (g.met.M.Medium.coherent c.args.unit.now) (g.met.C.Chip.coherent c.args.card.now) c.wake.ensures.leaves c.wake.ensures.clock c.requires.may.come.bare f w m;
+        untouched = λ same. inl (woken-untouched e k (Err UNTOLD) U X M Z (g.met.M.Medium.coherent c.args.unit.now) (g.met.C.Chip.coherent c.args.card.now) c.wake.ensures.leaves c.wake.ensures.clock c.requires.may.come.bare f w m same);
         opens = λ valid. tt;
       },
     )
@@ -83,7 +83,7 @@ returns-in-Ok-sizes-clause-entered g c =
       entered-judged e k c.args.noted.now c.args.outcome.now U X M (g.met.C.Chip.coherent c.wake.new.card) c.wake.ensures.leaves c.wake.ensures.clock c.in-Ok.ensures.cause app failed c.accept_by.new.keeper
           c.accept_by.new.noted c.accept_by.new.outcome W Y measured_.2 (let most = largest_image app measured_.0.good in let size = measured_.0.size in omega (arith, most, size)) (g.met.C.Chip.coherent c.accept_by.new.card) ended.0
           (sits-works e (record k { cabin = with_sizes_of e.which (Ok app) k.cabin }) c.accept_by.new.keeper c.args.noted.now ended.0 (g.C.Chip.card c.accept_by.new.card) Y j.left.keeper c.accept_by.ensures.behind.card) j,
-      λ f w m named low. woken-known e k (Ok app) U X M Z (g.met.M.Medium.coherent c.args.unit.now) (g.met.C.Chip.coherent c.args.card.now) c.wake.ensures.leaves c.wake.ensures.clock c.requires.bare ended.0 failed c.accept_by.new.keeper W Y f w m ((subst (λ (b : Cabin). BooksJudged ended.0 e failed (record k { cabin = b }) c.accept_by.new.keeper U W M Y Z) kept ended.2) f (with_standing e.which Out w) (woken-may e k (Ok app) U X M Z (g.met.M.Medium.coherent c.args.unit.now) (g.met.C.Chip.coherent c.args.card.now) c.wake.ensures.leaves c.wake.ensures.clock c.requires.bare f w m) named (out-now e.which w) low),
+      λ f w m named low. woken-known e k (Ok app) U X M Z (g.met.M.Medium.coherent c.args.unit.now) (g.met.C.Chip.coherent c.args.card.now) c.wake.ensures.leaves c.wake.ensures.clock c.requires.may.come.bare ended.0 failed c.accept_by.new.keeper W Y f w m ((subst (λ (b : Cabin). BooksJudged ended.0 e failed (record k { cabin = b }) c.accept_by.new.keeper U W M Y Z) kept ended.2) f (with_standing e.which Out w) (woken-may e k (Ok app) U X M Z (g.met.M.Medium.coherent c.args.unit.now) (g.met.C.Chip.coherent c.args.card.now) c.wake.ensures.leaves c.wake.ensures.clock c.requires.may.come.bare f w m) named (out-now e.which w) low),
     )
 
 -- ---- a field of them is bad
@@ -106,12 +106,12 @@ returns-in-Err-clause-entered g c =
     let notes = subst (λ (b : Cabin). HasNoted IsOnUnit IsComing (notes_by (Unfit APPLICATION_FILE (place_of_field field)) e c.args.noted.now b) failed U W) kept c.refuse.ensures.notes in
     let r = subst (λ (b : Cabin). HasEntered e failed k (record k { cabin = b }) c.args.noted.now c.args.noted.now o c.refuse.new.outcome U W X M (Unsized field) × BooksEntered (Unsized field) e failed k (record k { cabin = b }) U W X M Z) (sym kept) (
       entered-unsized e k c.args.noted.now o U X M (g.met.C.Chip.coherent c.wake.new.card) c.wake.ensures.leaves c.in-Ok.ensures.cause field failed c.refuse.new.outcome W bad told notes,
-      λ f w m named low. let may = woken-may e k (Err field) U X M Z (g.met.M.Medium.coherent c.args.unit.now) (g.met.C.Chip.coherent c.args.card.now) c.wake.ensures.leaves c.wake.ensures.clock c.requires.bare f w m in record {
+      λ f w m named low. let may = woken-may e k (Err field) U X M Z (g.met.M.Medium.coherent c.args.unit.now) (g.met.C.Chip.coherent c.args.card.now) c.wake.ensures.leaves c.wake.ensures.clock c.requires.may.come.bare f w m in record {
         taken = noted-carried e.which f (with_standing e.which Out w) (with_sizes_of e.which (Err field) k.cabin).cards U W M Z failed may.found (g.met.M.Medium.coherent c.args.unit.now) may.powered c.refuse.ensures.journal c.refuse.ensures.cause;
         found = may.found;
         told = tt;
-        timed = λ valid. woken-timed e k (Err field) U X M Z (g.met.M.Medium.coherent c.args.unit.now) (g.met.C.Chip.coherent c.args.card.now) c.wake.ensures.leaves c.wake.ensures.clock c.requires.bare f w m;
-        untouched = λ same. inl (woken-untouched e k (Err field) U X M Z (g.met.M.Medium.coherent c.args.unit.now) (g.met.C.Chip.coherent c.args.card.now) c.wake.ensures.leaves c.wake.ensures.clock c.requires.bare f w m same);
+        timed = λ valid. woken-timed e k (Err field) U X M Z (g.met.M.Medium.coherent c.args.unit.now) (g.met.C.Chip.coherent c.args.card.now) c.wake.ensures.leaves c.wake.ensures.clock c.requires.may.come.bare f w m;
+        untouched = λ same. inl (woken-untouched e k (Err field) U X M Z (g.met.M.Medium.coherent c.args.unit.now) (g.met.C.Chip.coherent c.args.card.now) c.wake.ensures.leaves c.wake.ensures.clock c.requires.may.come.bare f w m same);
         opens = λ valid. does-read (own_sizes (found_of f e.which).image) X M c.wake.ensures.leaves;
       },
     ) in
@@ -166,7 +166,7 @@ returns-in-Ok-sizes-clause-behind g c = record {
       c.accept_by.ensures.behind.rows card (subst (λ (b : Cabin). HasItsRow b.cards U card) (sym c.measure-2.ensures.kept) (row-measured c.args.entering.which c.in-Ok.sizes c.args.keeper.now.cabin.cards U card h));
   stands =
       λ from le s.
-      c.accept_by.ensures.behind.stands from (subst (λ (b : Cabin). b.slots.minute ≤ from) (sym c.measure-2.ensures.kept) le) (c.measure-2.ensures.stands from None s);
+      c.accept_by.ensures.behind.stands from le (c.measure-2.ensures.stands from None s);
   cause = first_of (search rules, grind (arith, common_steps));
   card = first_of (search rules, grind (arith, common_steps));
   size = first_of (search rules, grind (arith, common_steps));
@@ -190,7 +190,7 @@ returns-in-Err-clause-behind g c = record {
   card =
       let kept = c.measure-2.ensures.kept ∙ ap (λ (s : Result Application ℕ). with_sizes_of c.args.entering.which s c.args.keeper.now.cabin) c.in-Err.is in
       subst (λ (b : Cabin). CardMayBeCalled (known_of b.cards c.args.entering.which) (g.C.Chip.card c.wake.new.card) (g.C.Chip.state c.wake.new.card)) (sym kept)
-      (unsized-ready c.args.entering.which c.args.keeper.now.cabin c.in-Err.field (g.C.Chip.card c.wake.new.card) (g.C.Chip.state c.wake.new.card) c.requires.bare);
+      (unsized-ready c.args.entering.which c.args.keeper.now.cabin c.in-Err.field (g.C.Chip.card c.wake.new.card) (g.C.Chip.state c.wake.new.card) c.requires.may.come.bare);
   size = first_of (search rules, grind (arith, common_steps));
 }
 
@@ -210,3 +210,28 @@ returns-in-Ok-sizes-clause-most g c = let same = c.wake.ensures.clock in let las
 
 pub returns-in-Err-clause-most : goal.returns-in-Err-clause-most
 returns-in-Err-clause-most g c = let same = c.wake.ensures.clock in let last = c.refuse.ensures.most in (omega (arith, last), omega (arith, same))
+
+-- ---- what its judging asks
+
+pub accept_by-requires-clause-may : goal.accept_by-requires-clause-may
+accept_by-requires-clause-may g c = record {
+  come = record {
+    seat = first_of (search rules, grind (arith, common_steps));
+    elsewhere = first_of (search rules, grind (arith, common_steps));
+    minute = first_of (search rules, grind (arith, common_steps));
+    second = c.requires.may.come.second;
+    fits = c.requires.may.come.fits;
+    bare = first_of (search rules, grind (arith, common_steps));
+    break_room = c.requires.may.come.break_room;
+    find_room = c.requires.may.come.find_room;
+  };
+  late = c.requires.may.late;
+  last = c.requires.may.last;
+}
+
+pub accept_by-requires-clause-card : goal.accept_by-requires-clause-card
+accept_by-requires-clause-card g c = record {
+  sizes = first_of (search rules, grind (arith, common_steps));
+  port = first_of (search rules, grind (arith, common_steps));
+  works = first_of (search rules, grind (arith, common_steps));
+}

@@ -1,4 +1,5 @@
-use Rattle.std.proofs.Common.{◌≡◌, ℕ, Bool, true, rules, Option, Some, None, List, IfSome, option_map, refl, sym, subst, arith}
+use Rattle.std.proofs.lemmas.Grind.{common_steps}
+use Rattle.std.proofs.Common.{◌≡◌, ℕ, Bool, true, rules, inl, arith, Option, Some, None, List, IfSome, option_map, refl, sym, subst}
 use Rattle.std.specs.Prelude.{is_err}
 use Rattle.tacho_types.specs.declared.card_number.FullCardNumber.{FullCardNumber}
 use Rattle.unit_owed.specs.Rows.{IsRowFor}
@@ -8,7 +9,7 @@ use Rattle.tacho_types.specs.CardNumber.{card_number_bytes}
 use Rattle.tach_media.proofs.Runs.{on_ok, ok_gives}
 use Rattle.run_crew.specs.declared.cabin.Cabin.{Cabin}
 use Rattle.run_minutes.specs.Keeping.{HasItsRow}
-use Rattle.run_minutes.proofs.Units.{agrees-noted, has-row, row-noted, row-for-noted}
+use Rattle.run_minutes.proofs.Units.{unit-stays, agrees-noted, has-row, row-noted, row-for-noted}
 use Rattle.run_devices.specs.Told.{arranged}
 use Rattle.run_insertion.specs.Entering.{insertion_of, seated}
 use Rattle.run_insertion.specs.Told.{IsCarriedOn, with_brought, carried_row}
@@ -19,9 +20,11 @@ use Rattle.run_insertion.proofs.Notes.{not_cut, notes-then, insertion-noted, row
 use Rattle.run_insertion.proofs.Seats.{row-seated, rows-seated}
 use Rattle.run_insertion.proofs.seating.seat.Goals as goal
 
-pub begin-requires-clause-agrees : goal.begin-requires-clause-agrees
-begin-requires-clause-agrees g c =
-    agrees-noted (g.met.M.Medium.coherent c.args.unit.now) (g.met.M.Medium.coherent c.note_insertion.new.unit) c.requires.ready.works c.note_insertion.ensures.journal c.args.keeper.now.journal c.requires.ready.agrees
+pub begin-requires-clause-ready : goal.begin-requires-clause-ready
+begin-requires-clause-ready g c = record {
+  unit = unit-stays c.note_insertion.ensures.journal c.requires.ready.is_unit;
+  agrees = agrees-noted (g.met.M.Medium.coherent c.args.unit.now) (g.met.M.Medium.coherent c.note_insertion.new.unit) c.requires.ready.works c.note_insertion.ensures.journal c.args.keeper.now.journal c.requires.ready.agrees;
+}
 
 pub returns-clause-seated : goal.returns-clause-seated
 returns-clause-seated g c =
@@ -32,7 +35,7 @@ returns-clause-seated g c =
       record {
         by = ((c.in_ok-entry.ensures.below, c.in_ok-entry.ensures.index), search rules, search rules);
         notes = notes-then IsOnUnit IsComing (insertion-noted c.insertion_of.result insertion c.insertion_of.ensures (λ well. c.in_ok-entry.ensures.noted) c.note_insertion.ensures.moments)
-            (row-noted-so c.args.look.now.number e.at.second (known_of k.cabin.cards (other e.which)).number _ c.begin.result c.begin.ensures.begun c.begin.ensures.moments (search rules));
+            (row-noted-so c.args.look.now.number e.at.second (known_of k.cabin.cards (other e.which)).number _ c.begin.result c.begin.ensures.leaves.begun c.begin.ensures.leaves.moments (search rules));
       },
     )
 
@@ -55,26 +58,6 @@ begin-requires-clause-row g c =
     subst (λ (o : Option (List ℕ)). IfSome (g.M.Medium.state c.note_insertion.new.unit).image (IsRowFor c.args.row number o)) spared
     (row-for-noted (g.met.M.Medium.coherent c.args.unit.now) (g.met.M.Medium.coherent c.note_insertion.new.unit) c.requires.ready.works c.note_insertion.ensures.journal c.args.row number told c.requires.row)
 
-pub returns-clause-row : goal.returns-clause-row
-returns-clause-row g c =
-    let V = g.M.Medium.state c.begin.new.unit in
-    on_ok c.begin.result (λ well.
-    subst (λ (b : Cabin). HasItsRow b.cards V c.args.entering.which) (sym c.accept.ensures.kept)
-    (row-seated c.args.entering.slot c.args.entering.which c.args.look.now.number c.args.row _ c.args.keeper.now.cabin V c.requires.low (ok_gives c.begin.result c.begin.ensures.row well)))
-
-pub returns-clause-rows : goal.returns-clause-rows
-returns-clause-rows g c = λ card h.
-    let cards = c.args.keeper.now.cabin.cards in
-    let U = g.M.Medium.state c.args.unit.now in
-    let M = g.M.Medium.state c.note_insertion.new.unit in
-    let V = g.M.Medium.state c.begin.new.unit in
-    on_ok c.begin.result (λ well.
-    subst (λ (b : Cabin). HasItsRow b.cards V card) (sym c.accept.ensures.kept)
-    (rows-seated c.args.entering.slot c.args.entering.which card c.args.look.now.number c.args.row _ c.args.keeper.now.cabin M V c.requires.low
-    (ok_gives c.begin.result c.begin.ensures.row well)
-    (λ r n told had. ok_gives c.begin.result (c.begin.ensures.spares r n (search (rules, told)) had) well)
-    (has-row cards cards U M card refl refl (row-noted (g.met.M.Medium.coherent c.args.unit.now) (g.met.M.Medium.coherent c.note_insertion.new.unit) c.requires.ready.works c.note_insertion.ensures.journal) h)))
-
 pub returns-clause-booked : goal.returns-clause-booked
 returns-clause-booked g c = λ f w m.
     let k = c.args.keeper.now in
@@ -86,7 +69,7 @@ returns-clause-booked g c = λ f w m.
     let Z = g.D.Chip.state c.args.others.now in
     let failed = is_err c.begin.result in
     let booked = seat-carried f w k e c.args.look.now c.args.session c.args.row c.in_ok-entry.entry c.args.noted.now U V W X Z m (g.met.M.Medium.coherent c.args.unit.now) (g.met.M.Medium.coherent c.note_insertion.new.unit) c.note_insertion.ensures.journal c.in_ok-entry.ensures.cause
-    _ (search rules) failed c.begin.ensures.cause c.begin.ensures.tells c.begin.ensures.holds c.begin.ensures.mine c.begin.ensures.other k.journal.kept in
+    _ (search rules) failed c.begin.ensures.goes.cause c.begin.ensures.goes.tells c.begin.ensures.rules.holds c.begin.ensures.rules.mine c.begin.ensures.rules.others k.journal.kept in
     let kept : c.accept.new.self ≡ seated c.args.look.now c.args.session c.args.row c.in_ok-entry.entry c.args.noted.now e k.cabin = search rules in
     subst (λ (b : Cabin). IsCarriedOn failed f (carried_row failed c.args.session e k.journal.kept w) b.cards (arranged e.which W X Z)) (sym kept) booked
 
@@ -102,6 +85,40 @@ returns-in_err-entry-clause-booked g c = λ f w m.
     subst (λ (b : Bool). IsCarriedOn b f (carried_row b c.args.session e k.journal.kept w) k.cabin.cards (arranged e.which V X Z)) failed
     (noted-carried e.which f (with_brought e.which k.journal.kept w) k.cabin.cards U V X Z true m.found (g.met.M.Medium.coherent c.args.unit.now)
     (brought-powered f w k.cabin.cards e.which U X Z m.found e.at.second c.args.session.minute m.put.entered m.late m.powered k.journal.kept) c.note_insertion.ensures.journal c.in_err-entry.ensures.cause)
+
+pub returns-clause-behind : goal.returns-clause-behind
+returns-clause-behind g c = record {
+  ready = first_of (search rules, grind (arith, common_steps));
+  rows =
+      λ card h.
+      let cards = c.args.keeper.now.cabin.cards in
+      let U = g.M.Medium.state c.args.unit.now in
+      let M = g.M.Medium.state c.note_insertion.new.unit in
+      let V = g.M.Medium.state c.begin.new.unit in
+      on_ok c.begin.result (λ well.
+      subst (λ (b : Cabin). HasItsRow b.cards V card) (sym c.accept.ensures.kept)
+      (rows-seated c.args.entering.slot c.args.entering.which card c.args.look.now.number c.args.row _ c.args.keeper.now.cabin M V c.requires.low
+      (ok_gives c.begin.result c.begin.ensures.stands.row well)
+      (λ r n told had. ok_gives c.begin.result (c.begin.ensures.stands.spares r n (search (rules, told)) had) well)
+      (has-row cards cards U M card refl refl (row-noted (g.met.M.Medium.coherent c.args.unit.now) (g.met.M.Medium.coherent c.note_insertion.new.unit) c.requires.ready.works c.note_insertion.ensures.journal) h)));
+  row =
+      let V = g.M.Medium.state c.begin.new.unit in
+      on_ok c.begin.result (λ well.
+      subst (λ (b : Cabin). HasItsRow b.cards V c.args.entering.which) (sym c.accept.ensures.kept)
+      (row-seated c.args.entering.slot c.args.entering.which c.args.look.now.number c.args.row _ c.args.keeper.now.cabin V c.requires.low (ok_gives c.begin.result c.begin.ensures.stands.row well)));
+  -- its session was opened in this second's minute, and holds no entry by hand yet
+  stands = λ from le late s. c.accept.ensures.stands from le (rw c.new.ensures (late, omega arith, inl refl)) s;
+  cause = first_of (search rules, grind (arith, common_steps));
+}
+
+pub returns-in_err-entry-clause-behind : goal.returns-in_err-entry-clause-behind
+returns-in_err-entry-clause-behind g c = record {
+  ready = first_of (search rules, grind (arith, common_steps));
+  rows = first_of (search rules, grind (arith, common_steps));
+  row = first_of (search rules, grind (arith, common_steps));
+  stands = first_of (search rules, grind (arith, common_steps));
+  cause = first_of (search rules, grind (arith, common_steps));
+}
 
 -- ---- its writes
 

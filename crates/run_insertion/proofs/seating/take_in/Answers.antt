@@ -68,10 +68,10 @@ returns-clause-ended g c =
 pub note_entered-requires-clause-card : goal.note_entered-requires-clause-card
 note_entered-requires-clause-card g c =
     let s = c.in_ok-seat.ensures.seated in
-    seated-ready c.args.entered.look c.args.entered.session c.args.entered.row c.args.entering false c.args.keeper.now c.seat.new.keeper c.args.noted.now c.seat.new.noted (g.M.Medium.state c.args.unit.now).image s.0 c.args.app (g.C.Chip.card c.args.card.now) (g.C.Chip.state c.args.card.now) s.1.by c.requires.bare c.requires.sizes c.requires.session c.requires.port c.requires.works
+    seated-ready c.args.entered.look c.args.entered.session c.args.entered.row c.args.entering false c.args.keeper.now c.seat.new.keeper c.args.noted.now c.seat.new.noted (g.M.Medium.state c.args.unit.now).image s.0 c.args.app (g.C.Chip.card c.args.card.now) (g.C.Chip.state c.args.card.now) s.1.by c.requires.come.bare c.requires.card.sizes c.requires.session c.requires.card.port c.requires.card.works
 
 pub returns-clause-row : goal.returns-clause-row
-returns-clause-row g c = if-any _ (c.note_entered.ensures.behind.rows c.args.entering.which c.in_ok-seat.ensures.row)
+returns-clause-row g c = if-any _ (c.note_entered.ensures.behind.rows c.args.entering.which c.in_ok-seat.ensures.behind.row)
 
 -- ---- where no tear of a failed call is told no card has broken down
 
@@ -79,11 +79,14 @@ pub returns-in_err-seat-clause-behind : goal.returns-in_err-seat-clause-behind
 returns-in_err-seat-clause-behind g c = record {
   ready = first_of (search rules, grind (arith, common_steps));
   rows = first_of (search rules, grind (arith, common_steps));
-  stands = first_of (search rules, grind (arith, common_steps));
+  stands =
+      λ from le s.
+      let early : c.args.keeper.now.cabin.slots.minute ≤ from = let minute = c.requires.come.minute in omega (arith, minute, le) in
+      c.seat.ensures.behind.stands from early le s;
   cause = first_of (search rules, grind (arith, common_steps));
   card =
       let s = c.in_err-seat.ensures.seated in
-      seated-ready c.args.entered.look c.args.entered.session c.args.entered.row c.args.entering true c.args.keeper.now c.seat.new.keeper c.args.noted.now c.seat.new.noted (g.M.Medium.state c.args.unit.now).image s.0 c.args.app (g.C.Chip.card c.args.card.now) (g.C.Chip.state c.args.card.now) s.1.by c.requires.bare c.requires.sizes c.requires.session c.requires.port c.requires.works;
+      seated-ready c.args.entered.look c.args.entered.session c.args.entered.row c.args.entering true c.args.keeper.now c.seat.new.keeper c.args.noted.now c.seat.new.noted (g.M.Medium.state c.args.unit.now).image s.0 c.args.app (g.C.Chip.card c.args.card.now) (g.C.Chip.state c.args.card.now) s.1.by c.requires.come.bare c.requires.card.sizes c.requires.session c.requires.card.port c.requires.card.works;
   size = first_of (search rules, grind (arith, common_steps));
 }
 
@@ -108,7 +111,8 @@ returns-clause-behind g c = record {
       λ from le s.
       let t = c.in_ok-seat.ensures.seated in
       let same = seated-minute c.args.entered.look c.args.entered.session c.args.entered.row c.args.entering false c.args.keeper.now c.seat.new.keeper c.args.noted.now c.seat.new.noted (g.M.Medium.state c.args.unit.now).image t.0 t.1.by in
-      c.note_entered.ensures.behind.stands from (subst (λ (m : ℕ). m ≤ from) (sym same) le) (c.in_ok-seat.ensures.stands from le s);
+      let early : c.args.keeper.now.cabin.slots.minute ≤ from = let minute = c.requires.come.minute in omega (arith, minute, le) in
+      c.note_entered.ensures.behind.stands from (subst (λ (m : ℕ). m ≤ from) (sym same) early) (c.in_ok-seat.ensures.behind.stands from early le s);
   cause = first_of (search rules, grind (arith, common_steps));
   card = c.note_entered.ensures.behind.card;
   size = c.note_entered.ensures.behind.size;

@@ -1,47 +1,36 @@
+use Rattle.std.proofs.lemmas.Grind.{common_steps}
+use Rattle.std.proofs.Common.{rules, arith}
 use Rattle.run_opening.proofs.AsItWas.{as-it-is}
 use Rattle.run_opening.proofs.opening.judge_each.Goals as goal
 
-pub returns-in_err-opened-clause-unit : goal.returns-in_err-opened-clause-unit
-returns-in_err-opened-clause-unit g c = c.judge_unit.ensures.same
+pub returns-in_err-opened-clause-same : goal.returns-in_err-opened-clause-same
+returns-in_err-opened-clause-same g c = record { unit = c.judge_unit.ensures.same; is_unit = c.judge_unit.ensures.unit; card_a = as-it-is (g.C.Chip.state c.args.card_a.now); card_b = as-it-is (g.D.Chip.state c.args.card_b.now) }
 
-pub returns-in_err-opened-clause-card_a : goal.returns-in_err-opened-clause-card_a
-returns-in_err-opened-clause-card_a g c = as-it-is (g.C.Chip.state c.args.card_a.now)
+pub returns-in_err-a-clause-same : goal.returns-in_err-a-clause-same
+returns-in_err-a-clause-same g c = record { unit = c.judge_unit.ensures.same; is_unit = c.judge_unit.ensures.unit; card_a = c.judge_card.ensures.same; card_b = as-it-is (g.D.Chip.state c.args.card_b.now) }
 
-pub returns-in_err-opened-clause-card_b : goal.returns-in_err-opened-clause-card_b
-returns-in_err-opened-clause-card_b g c = as-it-is (g.D.Chip.state c.args.card_b.now)
+pub returns-in_err-b-clause-same : goal.returns-in_err-b-clause-same
+returns-in_err-b-clause-same g c = record { unit = c.judge_unit.ensures.same; is_unit = c.judge_unit.ensures.unit; card_a = c.judge_card.ensures.same; card_b = c.judge_card-2.ensures.same }
 
-pub returns-in_err-a-clause-unit : goal.returns-in_err-a-clause-unit
-returns-in_err-a-clause-unit g c = c.judge_unit.ensures.same
+pub returns-in_err-judge_numbers-clause-same : goal.returns-in_err-judge_numbers-clause-same
+returns-in_err-judge_numbers-clause-same g c = record { unit = c.judge_unit.ensures.same; is_unit = c.judge_unit.ensures.unit; card_a = c.judge_card.ensures.same; card_b = c.judge_card-2.ensures.same }
 
-pub returns-in_err-a-clause-card_a : goal.returns-in_err-a-clause-card_a
-returns-in_err-a-clause-card_a g c = c.judge_card.ensures.same
+pub returns-clause-same : goal.returns-clause-same
+returns-clause-same g c = record { unit = c.judge_unit.ensures.same; is_unit = c.judge_unit.ensures.unit; card_a = c.judge_card.ensures.same; card_b = c.judge_card-2.ensures.same }
 
-pub returns-in_err-a-clause-card_b : goal.returns-in_err-a-clause-card_b
-returns-in_err-a-clause-card_b g c = as-it-is (g.D.Chip.state c.args.card_b.now)
+-- ---- all were judged
 
-pub returns-in_err-b-clause-unit : goal.returns-in_err-b-clause-unit
-returns-in_err-b-clause-unit g c = c.judge_unit.ensures.same
+pub returns-clause-found : goal.returns-clause-found
+returns-clause-found g c = record {
+  unit = first_of (search rules, grind (arith, common_steps));
+  card_a = first_of (search rules, grind (arith, common_steps));
+  card_b = first_of (search rules, grind (arith, common_steps));
+  two = first_of (search rules, grind (arith, common_steps));
+}
 
-pub returns-in_err-b-clause-card_a : goal.returns-in_err-b-clause-card_a
-returns-in_err-b-clause-card_a g c = c.judge_card.ensures.same
-
-pub returns-in_err-b-clause-card_b : goal.returns-in_err-b-clause-card_b
-returns-in_err-b-clause-card_b g c = c.judge_card-2.ensures.same
-
-pub returns-in_err-judge_numbers-clause-unit : goal.returns-in_err-judge_numbers-clause-unit
-returns-in_err-judge_numbers-clause-unit g c = c.judge_unit.ensures.same
-
-pub returns-in_err-judge_numbers-clause-card_a : goal.returns-in_err-judge_numbers-clause-card_a
-returns-in_err-judge_numbers-clause-card_a g c = c.judge_card.ensures.same
-
-pub returns-in_err-judge_numbers-clause-card_b : goal.returns-in_err-judge_numbers-clause-card_b
-returns-in_err-judge_numbers-clause-card_b g c = c.judge_card-2.ensures.same
-
-pub returns-clause-unit : goal.returns-clause-unit
-returns-clause-unit g c = c.judge_unit.ensures.same
-
-pub returns-clause-card_a : goal.returns-clause-card_a
-returns-clause-card_a g c = c.judge_card.ensures.same
-
-pub returns-clause-card_b : goal.returns-clause-card_b
-returns-clause-card_b g c = c.judge_card-2.ensures.same
+pub returns-clause-works : goal.returns-clause-works
+returns-clause-works g c = record {
+  unit = first_of (search rules, grind (arith, common_steps));
+  card_a = first_of (search rules, grind (arith, common_steps));
+  card_b = first_of (search rules, grind (arith, common_steps));
+}

@@ -13,10 +13,10 @@ each-whole unit a b first second A = first
 each-whole unit a b first second B = second
 
 pub returns : goal.returns
-returns g z = λ r f w from p decodes found followed log book carried accounts untouched.
+returns g z = λ r f w from p decodes found followed log book carried hands accounts untouched.
     let unit = g.N.Medium.state z.args.unit.now in
     let a = g.E.Chip.state z.args.card_a.now in
     let b = g.F.Chip.state z.args.card_b.now in
     safe-followed r f w (devices (g.M.Medium.state z.args.old_unit.now) (g.C.Chip.state z.args.old_a.now) (g.D.Chip.state z.args.old_b.now)) (devices unit a b)
     (g.met.N.Medium.coherent z.args.unit.now) (each-whole unit a b (g.met.E.Chip.coherent z.args.card_a.now) (g.met.F.Chip.coherent z.args.card_b.now)) decodes from followed.order followed.early found
-    (ends-follow r from (last_kept r.unit) p w.book followed log book) carried (λ c valid. ends-brought r c from p w.book (w.brought c) followed log book (accounts c valid)) untouched
+    (ends-follow r from (last_kept r.unit) p w.book followed log book) carried hands (λ c valid. ends-brought r c from p w.book (w.brought c) followed log book (accounts c valid)) untouched

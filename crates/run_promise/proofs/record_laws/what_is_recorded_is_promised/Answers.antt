@@ -11,9 +11,9 @@ each-whole unit a b first second A = first
 each-whole unit a b first second B = second
 
 pub returns : goal.returns
-returns g z = λ o done p t marks w decodes found same recorded carried book told beside.
+returns g z = λ o done p t marks stops w decodes found same recorded carried book told beside hands.
     let unit = g.N.Medium.state z.args.unit.now in
     let a = g.E.Chip.state z.args.card_a.now in
     let b = g.F.Chip.state z.args.card_b.now in
-    ends-run o done p t marks w (devices (g.M.Medium.state z.args.old_unit.now) (g.C.Chip.state z.args.old_a.now) (g.D.Chip.state z.args.old_b.now)) (devices unit a b) recorded found carried book told beside
+    ends-run o done p t marks stops w (devices (g.M.Medium.state z.args.old_unit.now) (g.C.Chip.state z.args.old_a.now) (g.D.Chip.state z.args.old_b.now)) (devices unit a b) recorded found carried book told beside hands
     (g.met.N.Medium.coherent z.args.unit.now) (each-whole unit a b (g.met.E.Chip.coherent z.args.card_a.now) (g.met.F.Chip.coherent z.args.card_b.now)) decodes same

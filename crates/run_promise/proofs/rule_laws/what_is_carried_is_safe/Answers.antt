@@ -11,9 +11,9 @@ each-whole unit a b first second A = first
 each-whole unit a b first second B = second
 
 pub returns : goal.returns
-returns g z = λ r f w from decodes order early found follows carried brought untouched.
+returns g z = λ r f w from decodes order early found follows carried hands brought untouched.
     let unit = g.N.Medium.state z.args.unit.now in
     let a = g.E.Chip.state z.args.card_a.now in
     let b = g.F.Chip.state z.args.card_b.now in
     safe-followed r f w (devices (g.M.Medium.state z.args.old_unit.now) (g.C.Chip.state z.args.old_a.now) (g.D.Chip.state z.args.old_b.now)) (devices unit a b)
-    (g.met.N.Medium.coherent z.args.unit.now) (each-whole unit a b (g.met.E.Chip.coherent z.args.card_a.now) (g.met.F.Chip.coherent z.args.card_b.now)) decodes from order early found follows carried brought untouched
+    (g.met.N.Medium.coherent z.args.unit.now) (each-whole unit a b (g.met.E.Chip.coherent z.args.card_a.now) (g.met.F.Chip.coherent z.args.card_b.now)) decodes from order early found follows carried hands brought untouched

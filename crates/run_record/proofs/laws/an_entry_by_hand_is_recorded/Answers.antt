@@ -1,5 +1,5 @@
 use Rattle.run_promise.specs.Between.{devices}
-use Rattle.run_record.proofs.Acting.{hand-recorded}
+use Rattle.run_record.proofs.ByHand.{hand-recorded}
 use Rattle.run_record.proofs.laws.an_entry_by_hand_is_recorded.Goals as goal
 
 pub returns : goal.returns

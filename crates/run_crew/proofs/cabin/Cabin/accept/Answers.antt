@@ -17,12 +17,12 @@ returns-clause-kept c =
     ∙ ap (λ (k : Cards). record { slots = put_in c.args.slot c.args.card (Some c.args.accepted.session.minute) c.args.self.now.slots; cards = k }) cards
 
 pub returns-clause-stands : goal.returns-clause-stands
-returns-clause-stands c = λ from early h.
+returns-clause-stands c = λ from early holds h.
     let slots : c.put.new.self ≡ put_in c.args.slot c.args.card (Some c.args.accepted.session.minute) c.args.self.now.slots =
     c.put.ensures.kept ∙ ap (λ (n : ℕ). put_in c.args.slot c.args.card (Some n) c.args.self.now.slots) c.newest_minute-newest.ensures in
     let cards : c.set_session.new.self ≡ with_session c.args.card (Some c.args.accepted) (with_number c.args.card c.args.number c.args.row c.args.self.now.cards) =
     c.set_session.ensures ∙ ap (with_session c.args.card (Some c.args.accepted)) c.name.ensures in
     subst (λ (s : Kept). CabinIsSound from None (record { slots = s; cards = c.set_session.new.self })) (sym slots)
     (subst (λ (k : Cards). CabinIsSound from None (record { slots = put_in c.args.slot c.args.card (Some c.args.accepted.session.minute) c.args.self.now.slots; cards = k })) (sym cards)
-    (accept-stands c.args.self.now c.args.card c.args.number c.args.row c.args.accepted from early c.requires.sizes h c.args.slot c.requires.seat c.requires.elsewhere
+    (accept-stands c.args.self.now c.args.card c.args.number c.args.row c.args.accepted from early c.requires.sizes holds h c.args.slot c.requires.seat c.requires.elsewhere
     (subst KnowsNewest slots (c.put.ensures.newest h.newest))))

@@ -1,3 +1,4 @@
+use Rattle.std.proofs.lemmas.Grind.{common_steps}
 use Rattle.std.proofs.Common.{rules, ◌≡◌, ◌∙◌, Bool, true, false, ap, subst, refl, arith}
 use Rattle.std.specs.Prelude.{is_err}
 use Rattle.activity_codec.specs.declared.values.Slot.TheVariants.{Driver, CoDriver}
@@ -64,7 +65,7 @@ returns-in_err-commit-clause-booked g c = λ says.
     (put-at c.args.present.driver c.kept_in-driver.result.entry (entry_in c.args.minute.now Driver) false c.args.self.now.cabin.cards c.args.self.now.cabin.cards U U1 X Y (ap (λ (k : Kept). k.entry) c.kept_in-driver.ensures) refl c.in_ok-owe_to.ensures.booked) c.in_ok-owe_to.ensures.travelled U2
     (put-at c.args.present.codriver c.kept_in-codriver.result.entry (entry_in c.args.minute.now CoDriver) false c.owe_to.new.self.cabin.cards c.args.self.now.cabin.cards U1 U2 X Y (ap (λ (k : Kept). k.entry) c.kept_in-codriver.ensures)
     (ap (λ (k : Keeper). k.cabin.cards) {y = c.args.self.now} c.in_ok-owe_to.ensures.same) c.in_ok-owe_to-2.ensures.booked) c.in_ok-owe_to-2.ensures.travelled V true
-    (g.met.M.Medium.coherent c.owe_to-2.new.unit) (g.met.C.Chip.coherent c.args.card_a.now) (g.met.D.Chip.coherent c.args.card_b.now) e.tells e.cause e.holds e.first e.second e.views e.travelled
+    (g.met.M.Medium.coherent c.owe_to-2.new.unit) (g.met.C.Chip.coherent c.args.card_a.now) (g.met.D.Chip.coherent c.args.card_b.now) e.goes.tells e.goes.cause e.rules.holds e.rules.first e.rules.second e.leaves.views e.leaves.travelled
     (ap (λ (k : Keeper). k.cabin.cards) (c.in_ok-owe_to-2.ensures.same ∙ c.in_ok-owe_to.ensures.same)))
 
 -- ---- or it has it
@@ -82,7 +83,7 @@ returns-clause-booked g c = λ says.
     (put-at c.args.present.driver c.kept_in-driver.result.entry (entry_in c.args.minute.now Driver) false c.args.self.now.cabin.cards c.args.self.now.cabin.cards U U1 X Y (ap (λ (k : Kept). k.entry) c.kept_in-driver.ensures) refl c.in_ok-owe_to.ensures.booked) c.in_ok-owe_to.ensures.travelled U2
     (put-at c.args.present.codriver c.kept_in-codriver.result.entry (entry_in c.args.minute.now CoDriver) false c.owe_to.new.self.cabin.cards c.args.self.now.cabin.cards U1 U2 X Y (ap (λ (k : Kept). k.entry) c.kept_in-codriver.ensures)
     (ap (λ (k : Keeper). k.cabin.cards) {y = c.args.self.now} c.in_ok-owe_to.ensures.same) c.in_ok-owe_to-2.ensures.booked) c.in_ok-owe_to-2.ensures.travelled V false
-    (g.met.M.Medium.coherent c.owe_to-2.new.unit) (g.met.C.Chip.coherent c.args.card_a.now) (g.met.D.Chip.coherent c.args.card_b.now) e.tells e.cause e.holds e.first e.second e.views e.travelled
+    (g.met.M.Medium.coherent c.owe_to-2.new.unit) (g.met.C.Chip.coherent c.args.card_a.now) (g.met.D.Chip.coherent c.args.card_b.now) e.goes.tells e.goes.cause e.rules.holds e.rules.first e.rules.second e.leaves.views e.leaves.travelled
     (ap (λ (k : Keeper). k.cabin.cards) (c.in_ok-owe_to-2.ensures.same ∙ c.in_ok-owe_to.ensures.same))
 
 -- ---- the unit goes on
@@ -103,27 +104,35 @@ returns-in_err-commit-clause-goes g c =
     let km = kept_minute c.args.minute.now in
     let n = c.args.minute.now.odometer.0 in
     unit-by failed (unit-then c.in_ok-owe_to.ensures.goes (unit-then c.in_ok-owe_to-2.ensures.goes
-    (unit-moments true (g.M.Medium.state c.owe_to-2.new.unit) (g.M.Medium.state c.commit.new.unit) (IsKeeping km n) (g.met.M.Medium.coherent c.owe_to-2.new.unit) (g.met.M.Medium.coherent c.commit.new.unit) c.in_err-commit.ensures.moments
-    (keeping-speeds km n) (λ x y h. keeping-nothing km n x y h) c.in_err-commit.ensures.cause)))
+    (unit-moments true (g.M.Medium.state c.owe_to-2.new.unit) (g.M.Medium.state c.commit.new.unit) (IsKeeping km n) (g.met.M.Medium.coherent c.owe_to-2.new.unit) (g.met.M.Medium.coherent c.commit.new.unit) c.in_err-commit.ensures.leaves.moments
+    (keeping-speeds km n) (λ x y h. keeping-nothing km n x y h) c.in_err-commit.ensures.goes.cause)))
 
 pub returns-clause-goes : goal.returns-clause-goes
 returns-clause-goes g c =
     let km = kept_minute c.args.minute.now in
     let n = c.args.minute.now.odometer.0 in
     unit-then c.in_ok-owe_to.ensures.goes (unit-then c.in_ok-owe_to-2.ensures.goes
-    (unit-moments false (g.M.Medium.state c.owe_to-2.new.unit) (g.M.Medium.state c.commit.new.unit) (IsKeeping km n) (g.met.M.Medium.coherent c.owe_to-2.new.unit) (g.met.M.Medium.coherent c.commit.new.unit) c.in_ok-commit.ensures.moments
-    (keeping-speeds km n) (λ x y h. keeping-nothing km n x y h) c.in_ok-commit.ensures.cause))
+    (unit-moments false (g.M.Medium.state c.owe_to-2.new.unit) (g.M.Medium.state c.commit.new.unit) (IsKeeping km n) (g.met.M.Medium.coherent c.owe_to-2.new.unit) (g.met.M.Medium.coherent c.commit.new.unit) c.in_ok-commit.ensures.leaves.moments
+    (keeping-speeds km n) (λ x y h. keeping-nothing km n x y h) c.in_ok-commit.ensures.goes.cause))
 
 -- ---- how it stands
 
 pub owe_to-requires-2-clause-ready : goal.owe_to-requires-2-clause-ready
 owe_to-requires-2-clause-ready g c = c.in_ok-owe_to.ensures.stands.ready refl
 
-pub commit-requires-clause-unit : goal.commit-requires-clause-unit
-commit-requires-clause-unit g c = c.in_ok-owe_to-2.ensures.stands.unit
+pub commit-requires-clause-ready : goal.commit-requires-clause-ready
+commit-requires-clause-ready g c = record {
+  unit = c.in_ok-owe_to-2.ensures.stands.unit;
+  agrees = (c.in_ok-owe_to-2.ensures.stands.ready refl).agrees;
+}
 
-pub commit-requires-clause-agrees : goal.commit-requires-clause-agrees
-commit-requires-clause-agrees g c = (c.in_ok-owe_to-2.ensures.stands.ready refl).agrees
+pub commit-requires-clause-may : goal.commit-requires-clause-may
+commit-requires-clause-may g c = record {
+  low = c.requires.low;
+  later = let same : c.owe_to-2.new.self.journal.kept ≡ c.args.self.now.journal.kept = ap (λ (k : Keeper). k.journal.kept) (c.in_ok-owe_to-2.ensures.same ∙ c.in_ok-owe_to.ensures.same) in let later = c.requires.later in omega (arith, same, later);
+  small = let small = c.requires.small in first_of (omega (arith, small), search rules, grind (arith, common_steps));
+  odometer = c.requires.odometer;
+}
 
 pub returns-in_err-owe_to-clause-stands : goal.returns-in_err-owe_to-clause-stands
 returns-in_err-owe_to-clause-stands g c =
@@ -138,12 +147,12 @@ returns-in_err-owe_to-2-clause-stands g c =
 pub returns-in_err-commit-clause-stands : goal.returns-in_err-commit-clause-stands
 returns-in_err-commit-clause-stands g c =
     let failed : true ≡ is_err c.from_residual-in_err-commit.result = search rules in
-    unit-stands-by failed (unit-stands-cut c.args.self.now (record c.owe_to-2.new.self { journal = c.commit.new.journal }) (g.M.Medium.state c.args.unit.now) (g.M.Medium.state c.commit.new.unit) c.commit.ensures.unit)
+    unit-stands-by failed (unit-stands-cut c.args.self.now (record c.owe_to-2.new.self { journal = c.commit.new.journal }) (g.M.Medium.state c.args.unit.now) (g.M.Medium.state c.commit.new.unit) c.commit.ensures.stands.unit)
 
 pub returns-clause-stands : goal.returns-clause-stands
 returns-clause-stands g c =
     unit-stands-then c.in_ok-owe_to.ensures.stands (unit-stands-then c.in_ok-owe_to-2.ensures.stands
-    (journal-stands c.owe_to-2.new.self c.commit.new.journal (g.M.Medium.state c.owe_to-2.new.unit) (g.M.Medium.state c.commit.new.unit) false c.commit.ensures.unit c.in_ok-commit.ensures.cause (λ well. c.in_ok-commit.ensures.agrees) (λ well. c.in_ok-commit.ensures.rows)))
+    (journal-stands c.owe_to-2.new.self c.commit.new.journal (g.M.Medium.state c.owe_to-2.new.unit) (g.M.Medium.state c.commit.new.unit) false c.commit.ensures.stands.unit c.in_ok-commit.ensures.goes.cause (λ well. c.in_ok-commit.ensures.stands.agrees) (λ well. c.in_ok-commit.ensures.stands.rows)))
 
 -- ---- its writes
 

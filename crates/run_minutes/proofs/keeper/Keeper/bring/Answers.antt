@@ -20,6 +20,7 @@ use Rattle.run_minutes.proofs.Speeds.{fault-leaves}
 use Rattle.run_minutes.proofs.Later.{state-by, after-of-a, after-of-b}
 use Rattle.run_minutes.proofs.Calm.{brought-calm, calm-of-a, calm-of-b}
 use Rattle.run_minutes.proofs.Rests.{brought-rests, rest-of-a, rest-of-b}
+use Rattle.run_minutes.specs.Writes.{keep_most}
 use Rattle.run_minutes.proofs.Writes.{wrote-none}
 use Rattle.run_minutes.proofs.keeper.Keeper.bring.Goals as goal
 
@@ -191,7 +192,7 @@ returns-in-Some-B-clause-calls g c =
 -- ---- its writes
 
 pub returns-in-None-clause-most : goal.returns-in-None-clause-most
-returns-in-None-clause-most g c = wrote-none 4 17 (devices (g.M.Medium.state c.args.unit.now) (g.C.Chip.state c.args.card_a.now) (g.D.Chip.state c.args.card_b.now))
+returns-in-None-clause-most g c = wrote-none 4 keep_most (devices (g.M.Medium.state c.args.unit.now) (g.C.Chip.state c.args.card_a.now) (g.D.Chip.state c.args.card_b.now))
 
 pub returns-in-Some-A-clause-most : goal.returns-in-Some-A-clause-most
 returns-in-Some-A-clause-most g c = record { unit = c.bring_to.ensures.most.0; card_a = c.bring_to.ensures.most.1; card_b = omega arith }

@@ -1,5 +1,5 @@
 use Rattle.std.proofs.lemmas.Grind.{common_steps}
-use Rattle.std.proofs.Common.{rules, ◌≡◌, ◌∙◌, ℕ, ◌+◌, Bool, true, false, Some, None, refl, ap, sym, subst, arith}
+use Rattle.std.proofs.Common.{rules, ◌≡◌, ◌∙◌, ℕ, ◌+◌, Bool, true, false, Option, Some, None, IfSome, refl, ap, sym, subst, arith}
 use Rattle.std.specs.Prelude.{is_err, [], ◌∷◌}
 use Rattle.tach_media.specs.Medium.{HasCause}
 use Rattle.tach_media.proofs.Runs.{ok_gives, starts}
@@ -8,18 +8,30 @@ use Rattle.run_crew.specs.declared.cards.Accepted.{Accepted}
 use Rattle.run_crew.specs.declared.cards.Cards.{Cards}
 use Rattle.run_crew.specs.declared.cabin.Cabin.{Cabin}
 use Rattle.run_crew.specs.Cards.{session_of, with_session}
-use Rattle.run_crew.specs.Cabin.{CabinIsSound, torn_out, left_from, slot_with, crew_of}
+use Rattle.run_crew.specs.Cabin.{CabinIsSound, MayKeepAt, torn_out, left_from, slot_with, crew_of}
 use Rattle.run_crew.proofs.Moves.{kept-stands}
+use Rattle.run_crew.proofs.Sessions.{begun_holds}
 use Rattle.run_minutes.specs.declared.keeper.Keeper.{Keeper}
 use Rattle.run_crew.specs.declared.cards.Known.{Known}
 use Rattle.run_minutes.specs.Owing.{BooksCard}
 use Rattle.run_minutes.specs.Keeping.{HasItsRow, Still, Has, Fell, IsNotingFault, with_lines}
+use Rattle.run_minutes.proofs.CardBrought.{hands-few}
 use Rattle.run_minutes.proofs.Units.{row-beside}
 use Rattle.run_minutes.proofs.Sessions.{session-twice, stands-later, torn-stands}
 use Rattle.run_minutes.proofs.Fates.{has-brought, fell-brought, still-brought}
 use Rattle.run_minutes.proofs.CardBooked.{session-set, no-session, none-there, session-unset, booked-still, booked-fell, booked-has}
 use Rattle.run_minutes.proofs.Later.{state-same, state-by}
 use Rattle.run_minutes.proofs.keeper.Keeper.bring_to.Goals as goal
+
+-- ---- its keep may be asked for: the entries by hand that its session holds lie before the minute
+
+pub keep_on_card-requires-clause-may : goal.keep_on_card-requires-clause-may
+keep_on_card-requires-clause-may g c = record {
+  later = (subst (λ (o : Option Accepted). IfSome o (MayKeepAt c.args.kept.now.entry.minute)) (sym c.in-Some.ensures.taken) c.requires.behind).lie;
+  first = c.requires.first;
+  last = c.requires.last;
+  fits = c.requires.fits;
+}
 
 -- ---- it has no session
 
@@ -54,7 +66,7 @@ pub returns-then-is_err-clause-brought : goal.returns-then-is_err-clause-brought
 returns-then-is_err-clause-brought g c =
     let k = c.args.self.now in
     let bad : is_err c.keep_on_card.result ≡ true = sym c.is_err.ensures.value ∙ c.if-is_err.true in
-    let cause = subst (λ (b : Bool). HasCause (g.C.Chip.state c.args.card.now) (g.C.Chip.state c.keep_on_card.new.card) b) bad c.keep_on_card.ensures.cause in
+    let cause = subst (λ (b : Bool). HasCause (g.C.Chip.state c.args.card.now) (g.C.Chip.state c.keep_on_card.new.card) b) bad c.keep_on_card.ensures.card.cause in
     let keeper =
     c.tear.ensures.torn.keeper ∙ ap (λ (cards : Cards). record k { cabin = torn_out c.args.which c.args.at.second (record { slots = k.cabin.slots; cards = cards }) }) c.take.ensures.left
     ∙ ap (λ (cards : Cards). record k { cabin = record { slots = left_from (slot_with k.cabin.slots.seats c.args.which) c.args.at.second k.cabin.slots; cards = cards } }) (session-twice c.args.which None None k.cabin.cards) in (
@@ -63,7 +75,7 @@ returns-then-is_err-clause-brought g c =
           (is_err c.tear.result) c.in-Some.accepted c.tear.new.breaks (sym c.in-Some.ensures.taken) cause keeper c.tear.ensures.torn.told (λ well. ok_gives c.tear.result c.tear.ensures.leaves.noted well),
       c.tear.ensures.leaves.moments,
       booked-fell c.args.which c.args.kept.now k.cabin.cards (g.M.Medium.state c.args.unit.now) (g.C.Chip.state c.args.card.now) c.tear.new.self.cabin.cards (g.C.Chip.state c.keep_on_card.new.card) (g.C.Chip.card c.args.card.now) c.in-Some.accepted
-          (g.met.M.Medium.coherent c.args.unit.now) (g.met.C.Chip.coherent c.args.card.now) (g.met.C.Chip.coherent c.keep_on_card.new.card) (sym c.in-Some.ensures.taken) c.requires.card c.requires.behind c.keep_on_card.ensures.moments
+          (g.met.M.Medium.coherent c.args.unit.now) (g.met.C.Chip.coherent c.args.card.now) (g.met.C.Chip.coherent c.keep_on_card.new.card) (sym c.in-Some.ensures.taken) c.requires.card c.requires.behind c.keep_on_card.ensures.keeps.moments
           (ap (λ (q : Keeper). session_of q.cabin.cards c.args.which) keeper ∙ session-set c.args.which None k.cabin.cards),
     )
 
@@ -82,22 +94,23 @@ pub returns-clause-brought : goal.returns-clause-brought
 returns-clause-brought g c =
     let k = c.args.self.now in
     let well : is_err c.keep_on_card.result ≡ false = sym c.is_err.ensures.value ∙ c.if-is_err.false in
-    let cause = subst (λ (b : Bool). HasCause (g.C.Chip.state c.args.card.now) (g.C.Chip.state c.keep_on_card.new.card) b) well c.keep_on_card.ensures.cause in
-    let after : Accepted = record { session = c.keep_on_card.new.session; entry = c.in-Some.accepted.entry; noted = c.in-Some.accepted.noted } in
+    let cause = subst (λ (b : Bool). HasCause (g.C.Chip.state c.args.card.now) (g.C.Chip.state c.keep_on_card.new.card) b) well c.keep_on_card.ensures.card.cause in
+    let after : Accepted = record { session = c.keep_on_card.new.session; held = c.keep_on_card.new.held; entry = c.in-Some.accepted.entry; noted = c.in-Some.accepted.noted } in
     let cards = c.set_session.ensures ∙ ap (λ (q : Cards). with_session c.args.which (Some after) q) c.take.ensures.left ∙ session-twice c.args.which None (Some after) k.cabin.cards in
-    let last = ok_gives c.keep_on_card.result c.keep_on_card.ensures.last well in (
+    let held = ok_gives c.keep_on_card.result c.keep_on_card.ensures.session.held well in
+    let last = ok_gives c.keep_on_card.result c.keep_on_card.ensures.session.last well in (
       Has after c.clock.result,
       has-brought c.args.which c.args.kept.now c.args.at k (record k { cabin = record { slots = k.cabin.slots; cards = c.set_session.new.self } }) c.args.marks.now c.args.breaks.now
           (g.M.Medium.state c.args.unit.now) (g.M.Medium.state c.args.unit.now) (g.C.Chip.state c.args.card.now) (g.C.Chip.state c.keep_on_card.new.card)
           c.in-Some.accepted after c.clock.result c.add.new.self (sym c.in-Some.ensures.taken)
-          (record { application = c.keep_on_card.ensures.same.0; registration = c.keep_on_card.ensures.same.1; minute = last.0; odometer = last.1; entry = refl; noted = refl })
+          (record { application = c.keep_on_card.ensures.session.same.0; registration = c.keep_on_card.ensures.session.same.1; minute = last.0; odometer = last.1; held = held; entry = refl; noted = refl })
           c.clock.ensures cause (ap (λ (q : Cards). record k { cabin = record { slots = k.cabin.slots; cards = q } }) cards)
           (c.add.ensures ∙ ap (λ (d : Device). with_lines (record { device = d; minute = c.args.kept.now.entry.minute; clock = c.clock.result } ∷ []) c.args.marks.now) c.device_of.ensures),
       starts (g.M.Medium.state c.args.unit.now) (IsNotingFault (Has after c.clock.result) c.args.at.second (crew_of (record { slots = k.cabin.slots; cards = c.set_session.new.self }))),
       booked-has c.args.which c.args.kept.now k.cabin.cards (g.M.Medium.state c.args.unit.now) (g.C.Chip.state c.args.card.now) c.set_session.new.self (g.C.Chip.state c.keep_on_card.new.card) (g.C.Chip.card c.args.card.now) c.in-Some.accepted
-          (g.met.M.Medium.coherent c.args.unit.now) (g.met.C.Chip.coherent c.args.card.now) (g.met.C.Chip.coherent c.keep_on_card.new.card) (sym c.in-Some.ensures.taken) c.requires.card c.requires.behind c.keep_on_card.ensures.moments
-          after c.clock.result (ap (λ (q : Cards). session_of q c.args.which) cards ∙ session-set c.args.which (Some after) k.cabin.cards) cause.works c.keep_on_card.ensures.same.0 last.0 c.keep_on_card.ensures.same.1 last.1
-          (ok_gives c.keep_on_card.result c.keep_on_card.ensures.kept well) (ok_gives c.keep_on_card.result c.keep_on_card.ensures.settled well) c.clock.ensures,
+          (g.met.M.Medium.coherent c.args.unit.now) (g.met.C.Chip.coherent c.args.card.now) (g.met.C.Chip.coherent c.keep_on_card.new.card) (sym c.in-Some.ensures.taken) c.requires.card c.requires.behind c.keep_on_card.ensures.keeps.moments
+          after c.clock.result (ap (λ (q : Cards). session_of q c.args.which) cards ∙ session-set c.args.which (Some after) k.cabin.cards) cause.works c.keep_on_card.ensures.session.same.0 last.0 c.keep_on_card.ensures.session.same.1 last.1 held
+          (ok_gives c.keep_on_card.result c.keep_on_card.ensures.keeps.is well) (ok_gives c.keep_on_card.result c.keep_on_card.ensures.card.settled well) c.clock.ensures,
     )
 
 pub returns-clause-stands : goal.returns-clause-stands
@@ -105,12 +118,12 @@ returns-clause-stands g c = λ from leaving le h.
     let k = c.args.self.now in
     let m : ℕ = c.args.kept.now.entry.minute in
     let well : is_err c.keep_on_card.result ≡ false = sym c.is_err.ensures.value ∙ c.if-is_err.false in
-    let after : Accepted = record { session = c.keep_on_card.new.session; entry = c.in-Some.accepted.entry; noted = c.in-Some.accepted.noted } in
+    let after : Accepted = record { session = c.keep_on_card.new.session; held = c.keep_on_card.new.held; entry = c.in-Some.accepted.entry; noted = c.in-Some.accepted.noted } in
     let cards = c.set_session.ensures ∙ ap (λ (q : Cards). with_session c.args.which (Some after) q) c.take.ensures.left ∙ session-twice c.args.which None (Some after) k.cabin.cards in
-    let last = ok_gives c.keep_on_card.result c.keep_on_card.ensures.last well in
+    let last = ok_gives c.keep_on_card.result c.keep_on_card.ensures.session.last well in
     let now : after.session.minute ≡ m = last.0 in
     subst (λ (q : Cards). CabinIsSound (m + 1) leaving (record { slots = k.cabin.slots; cards = q })) (sym cards)
-    (kept-stands from m c.args.which c.in-Some.accepted after k.cabin leaving le (sym c.in-Some.ensures.taken) c.keep_on_card.ensures.same.0 (omega (arith, now)) h)
+    (kept-stands from m c.args.which c.in-Some.accepted after k.cabin leaving le (sym c.in-Some.ensures.taken) c.keep_on_card.ensures.session.same.0 (omega (arith, now)) (begun_holds (m + 1) m c.in-Some.accepted.held after (ok_gives c.keep_on_card.result c.keep_on_card.ensures.session.held well)) h)
 
 -- ---- a card without a session is as it was
 
@@ -182,7 +195,7 @@ returns-then-is_err-clause-goes g c = record {
   keeps = first_of (search rules, grind (arith, common_steps));
   tells = first_of (search rules, grind (arith, common_steps));
   broken = let torn = c.tear.ensures.torn.keeper in first_of (search rules, grind (arith, common_steps));
-  later = state-by (g.C.Chip.state c.args.card.now) (g.C.Chip.state c.keep_on_card.new.card) (is_err c.keep_on_card.result) c.keep_on_card.ensures.moments.later c.keep_on_card.ensures.cause;
+  later = state-by (g.C.Chip.state c.args.card.now) (g.C.Chip.state c.keep_on_card.new.card) (is_err c.keep_on_card.result) c.keep_on_card.ensures.keeps.moments.later c.keep_on_card.ensures.card.cause;
 }
 
 pub returns-clause-behind : goal.returns-clause-behind
@@ -193,7 +206,7 @@ returns-clause-behind g c = record {
       λ card h.
       let U = g.M.Medium.state c.args.unit.now in
       let k = c.args.self.now in
-      let after : Accepted = record { session = c.keep_on_card.new.session; entry = c.in-Some.accepted.entry; noted = c.in-Some.accepted.noted } in
+      let after : Accepted = record { session = c.keep_on_card.new.session; held = c.keep_on_card.new.held; entry = c.in-Some.accepted.entry; noted = c.in-Some.accepted.noted } in
       let cards = c.set_session.ensures ∙ ap (λ (q : Cards). with_session c.args.which (Some after) q) c.take.ensures.left ∙ session-twice c.args.which None (Some after) k.cabin.cards in
       subst (λ (q : Cards). HasItsRow q U card) (sym cards) (row-beside c.args.which (Some after) k.cabin.cards U card h);
   card = first_of (search rules, grind (arith, common_steps));
@@ -205,7 +218,7 @@ returns-clause-goes g c = record {
   keeps = first_of (search rules, grind (arith, common_steps));
   tells = first_of (search rules, grind (arith, common_steps));
   broken = first_of (search rules, grind (arith, common_steps));
-  later = state-by (g.C.Chip.state c.args.card.now) (g.C.Chip.state c.keep_on_card.new.card) (is_err c.keep_on_card.result) c.keep_on_card.ensures.moments.later c.keep_on_card.ensures.cause;
+  later = state-by (g.C.Chip.state c.args.card.now) (g.C.Chip.state c.keep_on_card.new.card) (is_err c.keep_on_card.result) c.keep_on_card.ensures.keeps.moments.later c.keep_on_card.ensures.card.cause;
 }
 
 -- ---- its writes
@@ -217,7 +230,11 @@ pub returns-in_default-take-clause-most : goal.returns-in_default-take-clause-mo
 returns-in_default-take-clause-most g c = (omega arith, omega arith)
 
 pub returns-then-is_err-clause-most : goal.returns-then-is_err-clause-most
-returns-then-is_err-clause-most g c = (c.tear.ensures.most, c.keep_on_card.ensures.most)
+returns-then-is_err-clause-most g c =
+    let few = hands-few c.in-Some.accepted c.args.kept.now.entry.minute (subst (λ (o : Option Accepted). IfSome o (MayKeepAt c.args.kept.now.entry.minute)) (sym c.in-Some.ensures.taken) c.requires.behind) in
+    (c.tear.ensures.most, omega (arith, few, c.keep_on_card.ensures.most))
 
 pub returns-clause-most : goal.returns-clause-most
-returns-clause-most g c = (omega arith, c.keep_on_card.ensures.most)
+returns-clause-most g c =
+    let few = hands-few c.in-Some.accepted c.args.kept.now.entry.minute (subst (λ (o : Option Accepted). IfSome o (MayKeepAt c.args.kept.now.entry.minute)) (sym c.in-Some.ensures.taken) c.requires.behind) in
+    (omega arith, omega (arith, few, c.keep_on_card.ensures.most))

@@ -6,28 +6,29 @@ use Rattle.card_session.specs.declared.session.Kept.{Kept}
 use Rattle.log_model.specs.declared.lines.Mark.{Mark}
 use Rattle.run_outcome.specs.Lines.{Listed}
 use Rattle.tach_media.proofs.Runs.{cause_after}
-use Rattle.run_crew.specs.Cabin.{CabinIsSound, IsBehind}
+use Rattle.run_crew.specs.Cabin.{CabinIsSound, IsReadyFor}
 use Rattle.run_minutes.specs.declared.keeper.Keeper.{Keeper}
 use Rattle.safety_model.specs.Safe.{card_of}
 use Rattle.run_promise.specs.Found.{found_of}
 use Rattle.run_promise.specs.Between.{devices}
 use Rattle.unit_minutes.specs.declared.notes.Notes.{Notes}
-use Rattle.run_minutes.specs.Keeping.{CardMayBeCalled, Still, IsBrought, cabin_by, kept_in, state_at, most_tears}
+use Rattle.run_minutes.specs.Keeping.{CardMayBeCalled, Still, IsBrought, cabin_by, kept_in, session_at, held_in, state_at, most_tears}
 use Rattle.run_minutes.specs.Minutes.{unit_mark}
 use Rattle.run_minutes.specs.Owing.{BooksBrought}
 use Rattle.run_minutes.proofs.CardEvents.{stays-self}
 use Rattle.run_minutes.proofs.MinuteBooked.{timed-at, clock-rests, booked-cut, booked-whole}
 use Rattle.run_minutes.proofs.Faults.{brought-notes, round-cut, round-whole}
 use Rattle.run_minutes.proofs.Counts.{tears-one, lines-length, first-stays, second-stays}
-use Rattle.run_minutes.proofs.Rounds.{told-of, told-same, brought-minute, brought-tears, brought-tear-room, brought-marks, brought-mark-room, cut-is, cut-told, whole-driver, whole-codriver, whole-is, whole-told}
+use Rattle.run_minutes.proofs.Rounds.{told-of, told-same, round-of, brought-minute, brought-tears, brought-tear-room, brought-marks, brought-mark-room, cut-is, cut-told, whole-driver, whole-codriver, whole-is, whole-told}
 use Rattle.run_minutes.proofs.Units.{unit-stays}
-use Rattle.run_minutes.proofs.Seats.{stays-none, other-behind}
+use Rattle.run_minutes.proofs.Seats.{stays-none, other-ready}
 use Rattle.run_speeds.proofs.Leaving.{leaves-then}
 use Rattle.run_crew.specs.declared.cards.Cards.{Cards}
 use Rattle.run_minutes.specs.Kept.{Keeps}
 use Rattle.run_minutes.specs.Stand.{StandsAfter, KeepingGoes, standing}
 use Rattle.run_minutes.proofs.Sessions.{stands-later}
 use Rattle.run_minutes.proofs.Goes.{goes_of_unit, keeping_then, bare-none}
+use Rattle.run_minutes.specs.Writes.{keep_most, minute_most}
 use Rattle.run_minutes.proofs.Writes.{wrote-then, wrote-more, wrote-unit}
 use Rattle.run_minutes.proofs.keeper.Keeper.keep_minute.Goals as goal
 
@@ -51,7 +52,7 @@ returns-in_err-acknowledge-clause-kept g c =
     subst (λ (f : Bool). Keeps m p c.args.at f s t) failed (record {
       round = None;
       is = (refl, told-same c.acknowledge.new.self k c.acknowledge.new.marks c.args.marks.now c.args.breaks.now c.args.breaks.now keeper same.1 refl);
-      books = λ says. λ f w start v leg may gone odometer time. (c.in_err-acknowledge.ensures.booked says f w start v leg (record { booked = may.booked; comes = may.comes }) gone odometer time.unit, timed-at f U V X Y (devices V X Y) (λ card valid. stays-self (found_of f card) (card_of (devices V X Y) card)), λ well. absurd (cc));
+      books = λ says. λ f w start v leg may gone odometer time. (c.in_err-acknowledge.ensures.booked says f w start v leg (record { booked = may.booked; comes = may.comes }) gone odometer time.unit, timed-at f (m.odometer.0 ∷ []) U V X Y (devices V X Y) (λ card valid. stays-self (found_of f card) (m.odometer.0 ∷ []) (card_of (devices V X Y) card)), λ well. absurd (cc));
       noted = c.in_err-acknowledge.ensures.goes.quiet;
       last = λ well. absurd (cc);
       marks = omega (arith, few);
@@ -95,7 +96,7 @@ bring-requires-clause-may g c = record {
       let o = c.args.present.driver in
       let m = c.args.minute.now.minute in
       let e : c.kept_in-driver.result.entry.minute ≡ m = ap (λ (q : Kept). q.entry.minute) c.kept_in-driver.ensures in
-      subst (λ (n : ℕ). IsBehind c.acknowledge.new.self.cabin.cards n o) (sym e) (subst (λ (q : Keeper). IsBehind q.cabin.cards m o) (sym c.acknowledge.ensures.keeper) c.requires.may.kept.driver);
+      subst (λ (n : ℕ). IsReadyFor c.acknowledge.new.self.cabin.cards n o) (sym e) (subst (λ (q : Keeper). IsReadyFor q.cabin.cards m o) (sym c.acknowledge.ensures.keeper) c.requires.may.kept.driver);
   first =
       let e : c.kept_in-driver.result.entry.minute ≡ c.args.minute.now.minute = ap (λ (q : Kept). q.entry.minute) c.kept_in-driver.ensures in
       let low : 1440 ≤ c.args.minute.now.minute = c.requires.may.low in
@@ -151,7 +152,7 @@ returns-in_err-bring-clause-kept g c =
     let s = standing c.args.self.now c.args.marks.now c.args.breaks.now (g.M.Medium.state c.args.unit.now) (g.C.Chip.state c.args.card_a.now) (g.D.Chip.state c.args.card_b.now) (g.C.Chip.card c.args.card_a.now) (g.D.Chip.card c.args.card_b.now) in
     let u = standing c.bring.new.self c.bring.new.marks c.bring.new.breaks (g.M.Medium.state c.bring.new.unit) (g.C.Chip.state c.bring.new.card_a) (g.D.Chip.state c.bring.new.card_b) (g.C.Chip.card c.bring.new.card_a) (g.D.Chip.card c.bring.new.card_b) in
     subst (λ (f : Bool). Keeps m p c.args.at f s u) failed (record {
-      round = Some (record { journal = c.acknowledge.new.self.journal; clock = clock; driver = was.0; codriver = Still });
+      round = Some (round-of p c.args.at.second k.cabin c.acknowledge.new.self.journal clock was.0 Still);
       is = (
         cut-is p m c.args.at k c.args.marks.now c.args.breaks.now c.acknowledge.new.self.journal clock notes.0 notes.1 c.acknowledge.new.self c.acknowledge.ensures.keeper c.acknowledge.new.marks c.in_ok-acknowledge.ensures.marked
             c.bring.new.self c.bring.new.marks c.bring.new.breaks was.0 U V X Y b,
@@ -161,8 +162,9 @@ returns-in_err-bring-clause-kept g c =
       );
       books = λ says. booked-cut m p says c.requires.may.kept.apart k c.acknowledge.new.self c.args.marks.now c.acknowledge.new.marks c.args.breaks.now (ap (λ (q : Keeper). q.cabin.cards) c.acknowledge.ensures.keeper) (g.M.Medium.state c.args.unit.now) U A0 B0
           (c.in_ok-acknowledge.ensures.booked says) true was.0 c.bring.new.self c.args.at.second b.keeper V A1 B1 first refl (g.met.M.Medium.coherent c.acknowledge.new.unit) c.bring.ensures.journal (told-of c.bring.new.self c.bring.new.marks c.bring.new.breaks)
-          (record { journal = c.acknowledge.new.self.journal; clock = clock; driver = was.0; codriver = Still }) refl refl refl;
-      noted = round-cut p c.args.at (record { journal = c.acknowledge.new.self.journal; clock = clock; driver = was.0; codriver = Still }) k.cabin (g.M.Medium.state c.args.unit.now) U V refl c.in_ok-acknowledge.ensures.goes.quiet
+          (round-of p c.args.at.second k.cabin c.acknowledge.new.self.journal clock was.0 Still) refl refl refl
+          (sym (ap (λ (q : Keeper). held_in (session_at q.cabin.cards p.driver)) c.acknowledge.ensures.keeper));
+      noted = round-cut p c.args.at (round-of p c.args.at.second k.cabin c.acknowledge.new.self.journal clock was.0 Still) k.cabin (g.M.Medium.state c.args.unit.now) U V refl c.in_ok-acknowledge.ensures.goes.quiet
           (brought-notes p.driver (kept_in m Driver) c.args.at true c.acknowledge.new.self c.bring.new.self c.acknowledge.new.marks c.bring.new.marks c.args.breaks.now c.bring.new.breaks was.0 U V X Y b
           (g.met.M.Medium.coherent c.acknowledge.new.unit) (g.met.M.Medium.coherent c.bring.new.unit) was.2 c.in_err-bring.ensures.stands.cause k.cabin (ap (λ (q : Keeper). q.cabin) c.acknowledge.ensures.keeper));
       last = λ well. absurd (cc);
@@ -207,9 +209,9 @@ bring-requires-2-clause-may g c = record {
       let m = c.args.minute.now.minute in
       let was = c.in_ok-bring.ensures.brought in
       let e : c.kept_in-codriver.result.entry.minute ≡ m = ap (λ (q : Kept). q.entry.minute) c.kept_in-codriver.ensures in
-      let first : IsBehind c.acknowledge.new.self.cabin.cards m p = subst (λ (q : Keeper). IsBehind q.cabin.cards m p) (sym c.acknowledge.ensures.keeper) c.requires.may.kept.codriver in
-      subst (λ (n : ℕ). IsBehind c.bring.new.self.cabin.cards n p) (sym e)
-      (subst (λ (q : Keeper). IsBehind q.cabin.cards m p) (sym was.1.keeper) (other-behind o p c.requires.may.kept.apart was.0 c.args.at.second c.acknowledge.new.self.cabin m first));
+      let first : IsReadyFor c.acknowledge.new.self.cabin.cards m p = subst (λ (q : Keeper). IsReadyFor q.cabin.cards m p) (sym c.acknowledge.ensures.keeper) c.requires.may.kept.codriver in
+      subst (λ (n : ℕ). IsReadyFor c.bring.new.self.cabin.cards n p) (sym e)
+      (subst (λ (q : Keeper). IsReadyFor q.cabin.cards m p) (sym was.1.keeper) (other-ready o p c.requires.may.kept.apart was.0 c.args.at.second c.acknowledge.new.self.cabin m first));
   first =
       let e : c.kept_in-codriver.result.entry.minute ≡ c.args.minute.now.minute = ap (λ (q : Kept). q.entry.minute) c.kept_in-codriver.ensures in
       let low : 1440 ≤ c.args.minute.now.minute = c.requires.may.low in
@@ -276,7 +278,7 @@ returns-clause-kept g c =
     let more = brought-marks _ _ _ _ _ _ _ _ _ _ _ _ _ _ _ is.1 in
     let here : length c.acknowledge.new.marks.items ≡ length c.args.marks.now.items + 1 = ap (λ (l : Listed Mark). length l.items) c.in_ok-acknowledge.ensures.marked ∙ lines-length (unit_mark m.minute clock ∷ []) c.args.marks.now in
     record {
-      round = Some (record { journal = j; clock = clock; driver = was.0; codriver = is.0 });
+      round = Some (round-of p c.args.at.second k.cabin j clock was.0 is.0);
       is = (
         whole-is p m c.args.at k c.args.marks.now c.args.breaks.now j clock notes.0 notes.1 c.acknowledge.new.self c.acknowledge.ensures.keeper c.acknowledge.new.marks c.in_ok-acknowledge.ensures.marked
             c.bring.new.self c.bring-2.new.self c.bring.new.marks c.bring-2.new.marks c.bring.new.breaks c.bring-2.new.breaks failed was.0 is.0 U V (state_at p.driver A0 B0) (state_at p.driver A1 B1) V W (state_at p.codriver A1 B1) (state_at p.codriver A2 B2) b d,
@@ -297,8 +299,10 @@ returns-clause-kept g c =
           booked-whole m p says c.requires.may.kept.apart k c.acknowledge.new.self c.args.marks.now c.acknowledge.new.marks c.args.breaks.now (ap (λ (q : Keeper). q.cabin.cards) c.acknowledge.ensures.keeper) (g.M.Medium.state c.args.unit.now) U A0 B0
           (c.in_ok-acknowledge.ensures.booked says) false was.0 c.bring.new.self c.args.at.second b.keeper V A1 B1 first refl failed is.0 c.bring-2.new.self d.keeper W A2 B2 second
           (λ none. clock-rests g.C.Chip.state c.bring.new.card_a c.bring-2.new.card_a (c.bring-2.ensures.calls.out.card_a none)) (λ none. clock-rests g.D.Chip.state c.bring.new.card_b c.bring-2.new.card_b (c.bring-2.ensures.calls.out.card_b none))
-          (g.met.M.Medium.coherent c.acknowledge.new.unit) c.bring.ensures.journal (g.met.M.Medium.coherent c.bring.new.unit) c.bring-2.ensures.journal c.bring-2.new.marks c.bring-2.new.breaks (record { journal = j; clock = clock; driver = was.0; codriver = is.0 }) refl refl refl;
-      noted = round-whole p c.args.at failed (record { journal = j; clock = clock; driver = was.0; codriver = is.0 }) k.cabin (g.M.Medium.state c.args.unit.now) U V W c.in_ok-acknowledge.ensures.goes.quiet
+          (g.met.M.Medium.coherent c.acknowledge.new.unit) c.bring.ensures.journal (g.met.M.Medium.coherent c.bring.new.unit) c.bring-2.ensures.journal c.bring-2.new.marks c.bring-2.new.breaks (round-of p c.args.at.second k.cabin j clock was.0 is.0) refl refl refl
+          (sym (ap (λ (q : Keeper). held_in (session_at q.cabin.cards p.driver)) c.acknowledge.ensures.keeper))
+          (sym (ap (λ (q : Keeper). held_in (session_at q.cabin.cards p.codriver)) b.keeper ∙ ap (λ (q : Keeper). held_in (session_at (cabin_by was.0 p.driver c.args.at.second q.cabin).cards p.codriver)) c.acknowledge.ensures.keeper));
+      noted = round-whole p c.args.at failed (round-of p c.args.at.second k.cabin j clock was.0 is.0) k.cabin (g.M.Medium.state c.args.unit.now) U V W c.in_ok-acknowledge.ensures.goes.quiet
           (brought-notes p.driver (kept_in m Driver) c.args.at false c.acknowledge.new.self c.bring.new.self c.acknowledge.new.marks c.bring.new.marks c.args.breaks.now c.bring.new.breaks was.0 U V (state_at p.driver A0 B0) (state_at p.driver A1 B1) b
           (g.met.M.Medium.coherent c.acknowledge.new.unit) (g.met.M.Medium.coherent c.bring.new.unit) was.2 c.in_ok-bring.ensures.stands.cause k.cabin (ap (λ (q : Keeper). q.cabin) c.acknowledge.ensures.keeper))
           (brought-notes p.codriver (kept_in m CoDriver) c.args.at failed c.bring.new.self c.bring-2.new.self c.bring.new.marks c.bring-2.new.marks c.bring.new.breaks c.bring-2.new.breaks is.0 V W (state_at p.codriver A1 B1) (state_at p.codriver A2 B2) d
@@ -387,7 +391,7 @@ returns-in_err-acknowledge-clause-most g c =
     let Y = g.D.Chip.state c.args.card_b.now in
     let U = g.M.Medium.state c.args.unit.now in
     let V = g.M.Medium.state c.acknowledge.new.unit in
-    wrote-more 18 26 0 34 (devices U X Y) (devices V X Y) (omega arith) (omega arith) (wrote-unit 18 0 U V X Y c.acknowledge.ensures.most)
+    wrote-more 18 26 0 minute_most (devices U X Y) (devices V X Y) (omega arith) (omega arith) (wrote-unit 18 0 U V X Y c.acknowledge.ensures.most)
 
 pub returns-in_err-bring-clause-most : goal.returns-in_err-bring-clause-most
 returns-in_err-bring-clause-most g c =
@@ -396,7 +400,7 @@ returns-in_err-bring-clause-most g c =
     let U = g.M.Medium.state c.args.unit.now in
     let V = g.M.Medium.state c.acknowledge.new.unit in
     let last = devices (g.M.Medium.state c.bring.new.unit) (g.C.Chip.state c.bring.new.card_a) (g.D.Chip.state c.bring.new.card_b) in
-    wrote-more (18 + 4) 26 (0 + 17) 34 (devices U X Y) last (omega arith) (omega arith) (wrote-then 18 4 0 17 (devices U X Y) (devices V X Y) last (wrote-unit 18 0 U V X Y c.acknowledge.ensures.most) c.bring.ensures.most)
+    wrote-more (18 + 4) 26 (0 + keep_most) minute_most (devices U X Y) last (omega arith) (omega arith) (wrote-then 18 4 0 keep_most (devices U X Y) (devices V X Y) last (wrote-unit 18 0 U V X Y c.acknowledge.ensures.most) c.bring.ensures.most)
 
 pub returns-clause-most : goal.returns-clause-most
 returns-clause-most g c =
@@ -406,5 +410,5 @@ returns-clause-most g c =
     let V = g.M.Medium.state c.acknowledge.new.unit in
     let mid = devices (g.M.Medium.state c.bring.new.unit) (g.C.Chip.state c.bring.new.card_a) (g.D.Chip.state c.bring.new.card_b) in
     let last = devices (g.M.Medium.state c.bring-2.new.unit) (g.C.Chip.state c.bring-2.new.card_a) (g.D.Chip.state c.bring-2.new.card_b) in
-    wrote-more (18 + (4 + 4)) 26 (0 + (17 + 17)) 34 (devices U X Y) last (omega arith) (omega arith)
-    (wrote-then 18 (4 + 4) 0 (17 + 17) (devices U X Y) (devices V X Y) last (wrote-unit 18 0 U V X Y c.acknowledge.ensures.most) (wrote-then 4 4 17 17 (devices V X Y) mid last c.bring.ensures.most c.bring-2.ensures.most))
+    wrote-more (18 + (4 + 4)) 26 (0 + (keep_most + keep_most)) minute_most (devices U X Y) last (omega arith) (omega arith)
+    (wrote-then 18 (4 + 4) 0 (keep_most + keep_most) (devices U X Y) (devices V X Y) last (wrote-unit 18 0 U V X Y c.acknowledge.ensures.most) (wrote-then 4 4 keep_most keep_most (devices V X Y) mid last c.bring.ensures.most c.bring-2.ensures.most))

@@ -19,14 +19,14 @@ use Rattle.run_minutes.proofs.keeper.Keeper.owe_to.Goals as goal
 pub returns-in-A-clause-booked : goal.returns-in-A-clause-booked
 returns-in-A-clause-booked g c =
     books-put-a c.args.present c.args.self.now.cabin.cards c.args.entry.now (card_number_bytes c.number_or_zeros-number.result) _ (g.M.Medium.state c.args.unit.now) (g.M.Medium.state c.owe.new.unit) (g.C.Chip.state c.args.card_a.now) (g.D.Chip.state c.args.card_b.now)
-    (g.met.M.Medium.coherent c.args.unit.now) c.requires.row c.owe.ensures.tells c.owe.ensures.cause c.owe.ensures.holds c.in-Some.card c.in-Some.is c.in-A.is
-    (ap (λ (n : FullCardNumber). card_number_bytes n) (c.number_or_zeros-number.ensures ∙ ap (λ (known : Known). number_or_no_card known.number) c.of-known.ensures)) c.owe.ensures.mine c.owe.ensures.other
+    (g.met.M.Medium.coherent c.args.unit.now) c.requires.row c.owe.ensures.goes.tells c.owe.ensures.goes.cause c.owe.ensures.rules.holds c.in-Some.card c.in-Some.is c.in-A.is
+    (ap (λ (n : FullCardNumber). card_number_bytes n) (c.number_or_zeros-number.ensures ∙ ap (λ (known : Known). number_or_no_card known.number) c.of-known.ensures)) c.owe.ensures.rules.mine c.owe.ensures.rules.others
 
 pub returns-in-B-clause-booked : goal.returns-in-B-clause-booked
 returns-in-B-clause-booked g c =
     books-put-b c.args.present c.args.self.now.cabin.cards c.args.entry.now (card_number_bytes c.number_or_zeros-number.result) _ (g.M.Medium.state c.args.unit.now) (g.M.Medium.state c.owe-in-B.new.unit) (g.C.Chip.state c.args.card_a.now) (g.D.Chip.state c.args.card_b.now)
-    (g.met.M.Medium.coherent c.args.unit.now) c.requires.row c.owe-in-B.ensures.tells c.owe-in-B.ensures.cause c.owe-in-B.ensures.holds c.in-Some.card c.in-Some.is c.in-B.is
-    (ap (λ (n : FullCardNumber). card_number_bytes n) (c.number_or_zeros-number.ensures ∙ ap (λ (known : Known). number_or_no_card known.number) c.of-known.ensures)) c.owe-in-B.ensures.mine c.owe-in-B.ensures.other
+    (g.met.M.Medium.coherent c.args.unit.now) c.requires.row c.owe-in-B.ensures.goes.tells c.owe-in-B.ensures.goes.cause c.owe-in-B.ensures.rules.holds c.in-Some.card c.in-Some.is c.in-B.is
+    (ap (λ (n : FullCardNumber). card_number_bytes n) (c.number_or_zeros-number.ensures ∙ ap (λ (known : Known). number_or_no_card known.number) c.of-known.ensures)) c.owe-in-B.ensures.rules.mine c.owe-in-B.ensures.rules.others
 
 -- ---- the unit goes on
 
@@ -37,15 +37,15 @@ pub returns-in-A-clause-goes : goal.returns-in-A-clause-goes
 returns-in-A-clause-goes g c =
     let number = card_number_bytes c.number_or_zeros-number.result in
     let e = c.args.entry.now in
-    unit-moments _ (g.M.Medium.state c.args.unit.now) (g.M.Medium.state c.owe.new.unit) (IsPutting number e) (g.met.M.Medium.coherent c.args.unit.now) (g.met.M.Medium.coherent c.owe.new.unit) c.owe.ensures.moments
-    (putting-speeds number e) (λ x y h. putting-nothing number e x y h) c.owe.ensures.cause
+    unit-moments _ (g.M.Medium.state c.args.unit.now) (g.M.Medium.state c.owe.new.unit) (IsPutting number e) (g.met.M.Medium.coherent c.args.unit.now) (g.met.M.Medium.coherent c.owe.new.unit) c.owe.ensures.leaves.moments
+    (putting-speeds number e) (λ x y h. putting-nothing number e x y h) c.owe.ensures.goes.cause
 
 pub returns-in-B-clause-goes : goal.returns-in-B-clause-goes
 returns-in-B-clause-goes g c =
     let number = card_number_bytes c.number_or_zeros-number.result in
     let e = c.args.entry.now in
-    unit-moments _ (g.M.Medium.state c.args.unit.now) (g.M.Medium.state c.owe-in-B.new.unit) (IsPutting number e) (g.met.M.Medium.coherent c.args.unit.now) (g.met.M.Medium.coherent c.owe-in-B.new.unit) c.owe-in-B.ensures.moments
-    (putting-speeds number e) (λ x y h. putting-nothing number e x y h) c.owe-in-B.ensures.cause
+    unit-moments _ (g.M.Medium.state c.args.unit.now) (g.M.Medium.state c.owe-in-B.new.unit) (IsPutting number e) (g.met.M.Medium.coherent c.args.unit.now) (g.met.M.Medium.coherent c.owe-in-B.new.unit) c.owe-in-B.ensures.leaves.moments
+    (putting-speeds number e) (λ x y h. putting-nothing number e x y h) c.owe-in-B.ensures.goes.cause
 
 -- ---- how it stands
 
@@ -55,14 +55,14 @@ returns-in_default-clause-stands g c = unit-stands-none c.args.self.now (g.M.Med
 pub returns-in-A-clause-stands : goal.returns-in-A-clause-stands
 returns-in-A-clause-stands g c =
     let V = g.M.Medium.state c.owe.new.unit in
-    journal-stands c.args.self.now c.owe.new.journal (g.M.Medium.state c.args.unit.now) V (is_err c.owe.result) c.owe.ensures.unit c.owe.ensures.cause
-    (λ well. subst (λ (j : Notes). IfSome V.image (Agrees j)) (sym c.owe.ensures.same) (ok_gives c.owe.result c.owe.ensures.agrees well)) (λ well r n h. ok_gives c.owe.result (c.owe.ensures.rows r n h) well)
+    journal-stands c.args.self.now c.owe.new.journal (g.M.Medium.state c.args.unit.now) V (is_err c.owe.result) c.owe.ensures.stands.unit c.owe.ensures.goes.cause
+    (λ well. subst (λ (j : Notes). IfSome V.image (Agrees j)) (sym c.owe.ensures.stands.same) (ok_gives c.owe.result c.owe.ensures.stands.agrees well)) (λ well r n h. ok_gives c.owe.result (c.owe.ensures.stands.rows r n h) well)
 
 pub returns-in-B-clause-stands : goal.returns-in-B-clause-stands
 returns-in-B-clause-stands g c =
     let V = g.M.Medium.state c.owe-in-B.new.unit in
-    journal-stands c.args.self.now c.owe-in-B.new.journal (g.M.Medium.state c.args.unit.now) V (is_err c.owe-in-B.result) c.owe-in-B.ensures.unit c.owe-in-B.ensures.cause
-    (λ well. subst (λ (j : Notes). IfSome V.image (Agrees j)) (sym c.owe-in-B.ensures.same) (ok_gives c.owe-in-B.result c.owe-in-B.ensures.agrees well)) (λ well r n h. ok_gives c.owe-in-B.result (c.owe-in-B.ensures.rows r n h) well)
+    journal-stands c.args.self.now c.owe-in-B.new.journal (g.M.Medium.state c.args.unit.now) V (is_err c.owe-in-B.result) c.owe-in-B.ensures.stands.unit c.owe-in-B.ensures.goes.cause
+    (λ well. subst (λ (j : Notes). IfSome V.image (Agrees j)) (sym c.owe-in-B.ensures.stands.same) (ok_gives c.owe-in-B.result c.owe-in-B.ensures.stands.agrees well)) (λ well r n h. ok_gives c.owe-in-B.result (c.owe-in-B.ensures.stands.rows r n h) well)
 
 -- ---- the row of the card
 
@@ -96,3 +96,15 @@ returns-in-A-clause-most g c = c.owe.ensures.most
 
 pub returns-in-B-clause-most : goal.returns-in-B-clause-most
 returns-in-B-clause-most g c = c.owe-in-B.ensures.most
+
+pub owe-requires-clause-ready : goal.owe-requires-clause-ready
+owe-requires-clause-ready g c = record {
+  unit = c.requires.ready.is_unit;
+  agrees = c.requires.ready.agrees;
+}
+
+pub owe-requires-in-B-clause-ready : goal.owe-requires-in-B-clause-ready
+owe-requires-in-B-clause-ready g c = record {
+  unit = c.requires.ready.is_unit;
+  agrees = c.requires.ready.agrees;
+}

@@ -1,0 +1,224 @@
+-- Each vehicle entry of a card is so, at each moment of each call on it: a keep, a closing, an insertion and a note.
+use Rattle.std.proofs.Common.{◌≡◌, inl, inr, ℕ, suc, ◌+◌, ◌*◌, ◌≤◌, Bool, true, false, cond, Option, Some, None, IfSome, List, [], ◌∷◌, ◌++◌, length, sym, ◌∙◌, ap, subst, arith, option_map}
+use Rattle.activity_codec.specs.declared.values.Activity.{Activity}
+use Rattle.activity_codec.specs.declared.values.Activity.TheVariants.{Rest}
+use Rattle.activity_codec.specs.declared.entries.Entry.{Entry}
+use Rattle.tacho_types.specs.declared.texts.Registration.{Registration}
+use Rattle.card_layout.specs.declared.files.Application.{Application}
+use Rattle.card_layout.specs.Application.{IsApplication}
+use Rattle.card_layout.specs.Files.{place_of, image_size_of}
+use Rattle.gated_ring.specs.Ring.{PointsInside}
+use Rattle.gated_ring.proofs.Elsewhere.{points_elsewhere}
+use Rattle.card_image.specs.Beside.{HaveSameVehicles}
+use Rattle.card_image.specs.Fields.{file, vehicle_ring}
+use Rattle.card_image.specs.Judging.{IsValid}
+use Rattle.card_files.specs.declared.vehicle.Vehicle.{Vehicle}
+use Rattle.card_model.specs.Days.{Day}
+use Rattle.card_retention.specs.Shown.{is_open}
+use Rattle.card_session.specs.Vehicles.{Vehicles, any_stands, on_newest, renewed, behind_first, with_vehicle, with_room}
+use Rattle.card_session.specs.Books.{Book, mark_of, with_entry, closed, closed_days, used, used_until, measured, measured_to, goes_on_with, begun_vehicle, vehicle_counter, vehicles_with, last_used}
+use Rattle.card_session.specs.Sessions.{Session, book_of}
+use Rattle.card_session.specs.Moments.{IsKeepMoment, IsBeforeUse, IsCloseMoment}
+use Rattle.card_session.specs.Cards.{IsCardKeeping, IsCardClosing, ended, grown}
+use Rattle.card_session.specs.Inserting.{lacked, with_cut, with_owed, IsReplaying, repaired, IsRepairMoment, IsStill, IsRepaired, IsShut, InsertingClosed, InsertingOpen, IsCardInserting}
+use Rattle.card_session.proofs.OnCard.{ring_shape}
+use Rattle.card_session.proofs.Composing.{told_book}
+use Rattle.card_session.proofs.InsertingCards.{noted_same, noting_same}
+use Rattle.card_session.proofs.InsertingUse.{use_inside}
+use Rattle.card_session.proofs.InsertingOpen.{opening_same, reopening_same}
+use Rattle.card_session.proofs.InsertingAgain.{noted_keeps}
+use Rattle.card_session.proofs.Stopping.{ended_same}
+use Rattle.card_string.proofs.SameBook.{same_book}
+use Rattle.device_calls.specs.CardNotes.{IsNote}
+use Rattle.run_devices.specs.Registered.{RingIn, AreIn}
+use Rattle.run_devices.proofs.NotedCard.{note-book}
+
+-- ---- what stays so with another last use
+module _ (P : Vehicle → Type 0) (used-is : (seconds : ℕ) (v : Vehicle) → P v → P (used seconds v)) where
+  renewed-one : (f : Vehicle → Vehicle) → ((v : Vehicle) → P v → P (f v)) → (o : Option Vehicle) → IfSome o P → IfSome (option_map f o) P
+  renewed-one f keeps None is = tt
+  renewed-one f keeps (Some v) is = keeps v is
+
+  renewed-ring : (f : Vehicle → Vehicle) → ((v : Vehicle) → P v → P (f v)) → (os : List (Option Vehicle)) → RingIn P os → RingIn P (on_newest f os)
+  renewed-ring f keeps [] is = tt
+  renewed-ring f keeps (None ∷ os) is = by (any_stands os) (renewed-ring f keeps os is)
+    where
+      by : (b : Bool) → RingIn P (on_newest f os) → RingIn P (cond b (None ∷ on_newest f os) (None ∷ os))
+      by true behind = behind
+      by false behind = is
+  renewed-ring f keeps (Some v ∷ os) is = by (any_stands os) (renewed-ring f keeps os is.1)
+    where
+      by : (b : Bool) → RingIn P (on_newest f os) → RingIn P (cond b (Some v ∷ on_newest f os) (Some (f v) ∷ os))
+      by true behind = (is.0, behind)
+      by false behind = (keeps v is.0, is.1)
+
+  renewed-in : (f : Vehicle → Vehicle) → ((v : Vehicle) → P v → P (f v)) → (v : Vehicles) → AreIn P v → AreIn P (renewed f v)
+  renewed-in f keeps v is = record { newest = renewed-one f keeps v.newest is.newest; ring = renewed-ring f keeps v.ring is.ring }
+
+  behind-in : (os : List (Option Vehicle)) → RingIn P os → RingIn P (behind_first os)
+  behind-in [] is = tt
+  behind-in (None ∷ os) is = is
+  behind-in (Some v ∷ os) is = is.1
+
+  one-behind : (os : List (Option Vehicle)) (w : Vehicle) → RingIn P os → P w → RingIn P (os ++ Some w ∷ [])
+  one-behind [] w is here = (here, tt)
+  one-behind (None ∷ os) w is here = one-behind os w is here
+  one-behind (Some v ∷ os) w is here = (is.0, one-behind os w is.1 here)
+
+  closed-in : (size : ℕ) (act : Activity) (b : Book) → AreIn P b.vehicles → AreIn P (closed size act b).vehicles
+  closed-in size act b is = by (is_open (mark_of b) b.days)
+    where
+      by : (o : Bool) → AreIn P (cond o (let c : Book = record { days = closed_days size (mark_of b) act b.days; vehicles = last_used (60 * suc (mark_of b)) b.vehicles } in c) b).vehicles
+      by true = renewed-in (used (60 * suc (mark_of b))) (used-is (60 * suc (mark_of b))) b.vehicles is
+      by false = is
+
+  same-in : (v w : Vehicles) → w ≡ v → AreIn P v → AreIn P w
+  same-in v w same is = subst (AreIn P) (sym same) is
+
+  close-in : (size : ℕ) (act : Activity) (b : Book) (days : List Day) (vehicles : Vehicles) → AreIn P b.vehicles → IsCloseMoment size act b days vehicles → AreIn P vehicles
+  close-in size act b days vehicles is (inl old) = same-in b.vehicles vehicles old.0 is
+  close-in size act b days vehicles is (inr new) = same-in (closed size act b).vehicles vehicles new.1 (closed-in size act b is)
+
+  -- and with an odometer value at its end, or as an entry of this vehicle begins
+  module _ (size : ℕ) (registration : Registration) (odometer : ℕ) (measured-is : (v : Vehicle) → P v → P (measured odometer v)) (begun-is : (minute : ℕ) (counter : List ℕ) → P (begun_vehicle registration odometer minute counter)) where
+    vehicles-in : (minute : ℕ) (v : Vehicles) → AreIn P v → AreIn P (vehicles_with registration odometer minute v)
+    vehicles-in minute v is = by (goes_on_with registration minute v.newest)
+      where
+        by : (b : Bool) → AreIn P (cond b (renewed (used_until odometer (60 * minute)) v) (with_vehicle (begun_vehicle registration odometer minute (vehicle_counter v.newest)) v))
+        by true = renewed-in (used_until odometer (60 * minute)) (λ w here. used-is (60 * minute) (measured odometer w) (measured-is w here)) v is
+        by false = record { newest = begun-is minute (vehicle_counter v.newest); ring = one-behind (behind_first v.ring) (begun_vehicle registration odometer minute (vehicle_counter v.newest)) (behind-in v.ring is.ring) (begun-is minute (vehicle_counter v.newest)) }
+
+    use-in : (minute : ℕ) (v w : Vehicles) → AreIn P v → IsBeforeUse registration odometer minute v w → AreIn P w
+    use-in minute v w is (inl same) = same-in v w same is
+    use-in minute v w is (inr (inl on)) = same-in (measured_to odometer v) w on.1 (renewed-in (measured odometer) measured-is v is)
+    use-in minute v w is (inr (inr room)) = same-in (with_room v) w room.1 (record { newest = is.newest; ring = behind-in v.ring is.ring })
+
+    entry-in : (more : ℕ) (b : Book) (e : Entry) → AreIn P b.vehicles → AreIn P (with_entry size registration odometer more b e).vehicles
+    entry-in more b e is = vehicles-in e.minute b.vehicles is
+
+    keep-in : (more : ℕ) (e : Entry) (b : Book) (days : List Day) (vehicles : Vehicles) → AreIn P b.vehicles → IsKeepMoment size registration odometer more e b days vehicles → AreIn P vehicles
+    keep-in more e b days vehicles is (inl old) = same-in b.vehicles vehicles old.0 is
+    keep-in more e b days vehicles is (inr (now, inl before)) = use-in e.minute b.vehicles vehicles is before
+    keep-in more e b days vehicles is (inr (now, inr new)) = same-in (with_entry size registration odometer more b e).vehicles vehicles new (entry-in more b e is)
+
+    owed-in : (es : List Entry) (b : Book) → AreIn P b.vehicles → AreIn P (with_owed size registration odometer es b).vehicles
+    owed-in [] b is = is
+    owed-in (e ∷ es) b is = owed-in es (with_entry size registration odometer 0 b e) (entry-in 0 b e is)
+
+    replaying-in : (es : List Entry) (b : Book) (days : List Day) (vehicles : Vehicles) → AreIn P b.vehicles → IsReplaying size registration odometer es b days vehicles → AreIn P vehicles
+    replaying-in [] b days vehicles is book = same-in b.vehicles vehicles book.1 is
+    replaying-in (e ∷ es) b days vehicles is (inl moment) = keep-in 0 e b days vehicles is moment
+    replaying-in (e ∷ es) b days vehicles is (inr rest) = replaying-in es (with_entry size registration odometer 0 b e) days vehicles (entry-in 0 b e is) rest
+
+    repairing-in : (owed : List Entry) (b : Book) (days : List Day) (vehicles : Vehicles) → AreIn P b.vehicles → IsRepairMoment size registration odometer owed b days vehicles → AreIn P vehicles
+    repairing-in owed b days vehicles is (inl cutting) = same-in b.vehicles vehicles cutting.1 is
+    repairing-in owed b days vehicles is (inr replaying) = replaying-in (lacked (mark_of b) owed) (with_cut (mark_of b) b) days vehicles is replaying
+
+    repaired-in : (owed : List Entry) (b : Book) → AreIn P b.vehicles → AreIn P (repaired size registration odometer owed b).vehicles
+    repaired-in owed b is = owed-in (lacked (mark_of b) owed) (with_cut (mark_of b) b) is
+
+  -- ---- OF A CARD'S IMAGE
+  abbrev On : Application → List ℕ → Type 0
+  On app x = AreIn P (book_of app x).vehicles
+
+  same-on : (app : Application) (x y : List ℕ) → book_of app y ≡ book_of app x → On app x → On app y
+  same-on app x y same is = subst (λ (b : Book). AreIn P b.vehicles) (sym same) is
+
+  -- a keep
+  pub keep-is : (s : Session) (e : Entry) (odometer : ℕ) → ((v : Vehicle) → P v → P (measured odometer v)) → ((minute : ℕ) (counter : List ℕ) → P (begun_vehicle s.registration odometer minute counter)) → (x y : List ℕ) → On s.application x → IsCardKeeping s e odometer x y → On s.application y
+  keep-is s e odometer measured-is begun-is x y is keeping =
+      keep-in s.application.activity s.registration odometer measured-is begun-is (grown s.odometer odometer) e (book_of s.application x) (book_of s.application y).days (book_of s.application y).vehicles is keeping.card.told
+
+  shutting-on : (app : Application) (act : Activity) (x y : List ℕ) → On app x → IsCloseMoment app.activity act (book_of app x) (book_of app y).days (book_of app y).vehicles → On app y
+  shutting-on app act x y is moment = close-in app.activity act (book_of app x) (book_of app y).days (book_of app y).vehicles is moment
+
+  -- a closing
+  pub close-is : (s : Session) (act : Activity) (x y : List ℕ) → IsApplication s.application → image_size_of s.application ≤ length x → On s.application x → IsCardClosing s act x y → On s.application y
+  close-is s act x y sound fits is (inl card) = shutting-on s.application act x y is card.told
+  close-is s act x y sound fits is (inr done) =
+      let k : List ℕ = done.before in
+      let side = ended_same s.application sound k (omega (arith, fits, done.card.outside.same_length)) done.card.points in
+      let same : book_of s.application y ≡ book_of s.application k = ap (book_of s.application) done.session ∙ same_book s.application sound k (ended s.application k) done.card.points side.0 side.1 in
+      same-on s.application k y same (shutting-on s.application act x k is (inr done.card.told))
+
+  -- a note
+  pub note-is : (app : Application) → IsApplication app → (x : List ℕ) → IsValid app x → (y : List ℕ) → IsNote app x y → On app x → On app y
+  note-is app sound x valid y note is = same-on app x y (note-book app sound x valid y note) is
+
+  -- an insertion
+  module _ (app : Application) (sound : IsApplication app) (registration : Registration) (long : length registration.0 ≡ 15) (now : ℕ) (x : List ℕ) (fits : image_size_of app ≤ length x) (is : On app x) where
+    still-on : (y : List ℕ) → IsStill app x y → On app y
+    still-on y still = same-on app x y (told_book app (book_of app x) x y still) is
+
+    shut-on : (x1 x2 : List ℕ) → On app x1 → IsShut app x1 x2 → On app x2
+    shut-on x1 x2 on shut = shutting-on app Rest x1 x2 on (inr shut.told)
+
+    closed-on : (y : List ℕ) → InsertingClosed app registration now x y → On app y
+    closed-on y (inl still) = still-on y still
+    closed-on y (inr (x1, still, inl shutting)) = shutting-on app Rest x1 y (still-on x1 still) shutting.told
+    closed-on y (inr (x1, still, inr (x2, shut, opening))) =
+        let side = opening_same app registration now long x2 y (omega (arith, use_inside app, fits, still.outside.same_length, shut.outside.same_length)) opening in
+        same-on app x2 y (same_book app sound x2 y shut.points side.0 side.1) (shut-on x1 x2 (still-on x1 still) shut)
+
+    module _ (odometer : ℕ) (measured-is : (v : Vehicle) → P v → P (measured odometer v)) (begun-is : (minute : ℕ) (counter : List ℕ) → P (begun_vehicle registration odometer minute counter)) (owed : List Entry) where
+      repaired-on : (x1 x2 : List ℕ) → IsStill app x x1 → IsRepaired app registration odometer owed x1 x2 → On app x2
+      repaired-on x1 x2 still mended =
+          same-in (repaired app.activity registration odometer owed (book_of app x1)).vehicles (book_of app x2).vehicles mended.told.1
+          (repaired-in app.activity registration odometer measured-is begun-is owed (book_of app x1) (still-on x1 still))
+
+      open-on : (y : List ℕ) → InsertingOpen app registration odometer owed now x y → On app y
+      open-on y (inl still) = still-on y still
+      open-on y (inr (x1, still, inl repairing)) =
+          repairing-in app.activity registration odometer measured-is begun-is owed (book_of app x1) (book_of app y).days (book_of app y).vehicles (still-on x1 still) repairing.told
+      open-on y (inr (x1, still, inr (x2, mended, inl noting))) =
+          let side = noting_same app now x2 y noting in same-on app x2 y (same_book app sound x2 y mended.points side.0 side.1) (repaired-on x1 x2 still mended)
+      open-on y (inr (x1, still, inr (x2, mended, inr (x3, noted, inl shutting)))) =
+          let side = noted_same app now x2 x3 noted in
+          shutting-on app Rest x3 y (same-on app x2 x3 (same_book app sound x2 x3 mended.points side.0 side.1) (repaired-on x1 x2 still mended)) shutting.told
+      open-on y (inr (x1, still, inr (x2, mended, inr (x3, noted, inr (x4, shut, reopening))))) =
+          let two : image_size_of app ≤ length x2 = omega (arith, fits, still.outside.same_length, mended.outside.same_length) in
+          let side = noted_same app now x2 x3 noted in
+          let third : On app x3 = same-on app x2 x3 (same_book app sound x2 x3 mended.points side.0 side.1) (repaired-on x1 x2 still mended) in
+          let room : place_of app (file 0x0507) + 19 ≤ length x4 = omega (arith, use_inside app, two, (noted_keeps app now x2 x3 (omega (arith, use_inside app, two)) noted).1, shut.outside.same_length) in
+          let last = reopening_same app registration now long x4 y room reopening in
+          same-on app x4 y (same_book app sound x4 y shut.points last.0 last.1) (shut-on x3 x4 third shut)
+
+      pub inserting-is : (y : List ℕ) → IsCardInserting app registration odometer owed now x y → On app y
+      inserting-is y (inl shut) = closed-on y shut.1
+      inserting-is y (inr unclosed) = open-on y unclosed.1
+
+-- ---- THE POINTER of their ring is an index behind each of these
+
+-- where the bytes stay it stays one
+pub points-by : (app : Application) → IsApplication app → (x y : List ℕ) → PointsInside (vehicle_ring app) x → HaveSameVehicles app x y → PointsInside (vehicle_ring app) y
+points-by app sound x y points same = points_elsewhere (vehicle_ring app) (ring_shape app sound) x y same points
+
+pub close-points : (s : Session) (act : Activity) (x y : List ℕ) → IsApplication s.application → image_size_of s.application ≤ length x → IsCardClosing s act x y → PointsInside (vehicle_ring s.application) y
+close-points s act x y sound fits (inl card) = card.points
+close-points s act x y sound fits (inr done) =
+    let k : List ℕ = done.before in
+    let side = ended_same s.application sound k (omega (arith, fits, done.card.outside.same_length)) done.card.points in
+    subst (λ (l : List ℕ). PointsInside (vehicle_ring s.application) l) (sym done.session) (points-by s.application sound k (ended s.application k) done.card.points side.1)
+
+module _ (app : Application) (sound : IsApplication app) (registration : Registration) (long : length registration.0 ≡ 15) (now : ℕ) (x : List ℕ) (fits : image_size_of app ≤ length x) where
+  closed-points : (y : List ℕ) → InsertingClosed app registration now x y → PointsInside (vehicle_ring app) y
+  closed-points y (inl still) = still.points
+  closed-points y (inr (x1, still, inl shutting)) = shutting.points
+  closed-points y (inr (x1, still, inr (x2, shut, opening))) =
+      let side = opening_same app registration now long x2 y (omega (arith, use_inside app, fits, still.outside.same_length, shut.outside.same_length)) opening in
+      points-by app sound x2 y shut.points side.1
+
+  module _ (odometer : ℕ) (owed : List Entry) where
+    open-points : (y : List ℕ) → InsertingOpen app registration odometer owed now x y → PointsInside (vehicle_ring app) y
+    open-points y (inl still) = still.points
+    open-points y (inr (x1, still, inl repairing)) = repairing.points
+    open-points y (inr (x1, still, inr (x2, mended, inl noting))) = points-by app sound x2 y mended.points (noting_same app now x2 y noting).1
+    open-points y (inr (x1, still, inr (x2, mended, inr (x3, noted, inl shutting)))) = shutting.points
+    open-points y (inr (x1, still, inr (x2, mended, inr (x3, noted, inr (x4, shut, reopening))))) =
+        let two : image_size_of app ≤ length x2 = omega (arith, fits, still.outside.same_length, mended.outside.same_length) in
+        let room : place_of app (file 0x0507) + 19 ≤ length x4 = omega (arith, use_inside app, two, (noted_keeps app now x2 x3 (omega (arith, use_inside app, two)) noted).1, shut.outside.same_length) in
+        points-by app sound x4 y shut.points (reopening_same app registration now long x4 y room reopening).1
+
+    pub inserting-points : (y : List ℕ) → IsCardInserting app registration odometer owed now x y → PointsInside (vehicle_ring app) y
+    inserting-points y (inl shut) = closed-points y shut.1
+    inserting-points y (inr unclosed) = open-points y unclosed.1

@@ -1,0 +1,247 @@
+-- The vehicle entries of a card are measured: over calls one after another, and at each moment of a keep, a closing and an insertion.
+use Rattle.std.proofs.Common.{◌≡◌, ◌∙◌, ◌⊎◌, inl, inr, ⊎_elim, ℕ, ◌+◌, ◌<◌, ◌≤◌, Option, Some, None, IfSome, List, [], ◌∷◌, Contains, length, refl, sym, ap, subst, arith}
+use Rattle.std.proofs.lemmas.List.Elements.{Contains-push}
+use Rattle.activity_codec.specs.declared.values.Activity.{Activity}
+use Rattle.activity_codec.specs.declared.entries.Entry.{Entry}
+use Rattle.tach_media.specs.Medium.{State, IsCoherent, LeavesOnly, SameOutside, bytes_at}
+use Rattle.tach_media.proofs.Runs.{at_image}
+use Rattle.tacho_types.specs.declared.numbers.Odometer.{Odometer}
+use Rattle.tacho_types.specs.declared.texts.Registration.{Registration}
+use Rattle.card_layout.proofs.Images.{part_after, part_before}
+use Rattle.card_layout.specs.declared.files.Application.{Application}
+use Rattle.card_layout.specs.Application.{IsApplication}
+use Rattle.card_layout.specs.Files.{files_of, place_of, size_of, image_size_of}
+use Rattle.card_files.specs.declared.card_event.CardEvent.{CardEvent}
+use Rattle.card_files.specs.Noting.{IsNotingEvent, IsEventNoted}
+use Rattle.card_files.specs.Rings.{event_ring}
+use Rattle.card_files.specs.declared.vehicle.Vehicle.{Vehicle}
+use Rattle.card_files.proofs.Sets.{set_inside}
+use Rattle.gated_ring.specs.Ring.{place_of as entry_place, size_of as ring_size}
+use Rattle.gated_ring.proofs.Places.{place_high}
+use Rattle.card_image.specs.Beside.{HaveSameVehicles}
+use Rattle.card_image.specs.Fields.{file, place_ring, vehicle_ring}
+use Rattle.card_session.specs.Vehicles.{Vehicles}
+use Rattle.card_session.specs.Books.{used, measured, begun_vehicle}
+use Rattle.card_session.specs.Sessions.{Session, IsSession, book_of}
+use Rattle.card_session.specs.Cards.{IsCardKeeping, IsCardClosing}
+use Rattle.card_session.specs.Inserting.{IsCardInserting}
+use Rattle.card_session.proofs.OnCard.{ring_shape}
+use Rattle.card_session.proofs.Round.{vehicles_same}
+use Rattle.run_devices.specs.Registered.{RingIn, AreIn, HasOne, SomeIs}
+use Rattle.run_devices.specs.Measured.{GoesOnFrom, IsMeasured, AreMeasured, vehicles_by, GoesMeasured, MeasuresOn}
+use Rattle.run_devices.proofs.Entries.{keep-is, close-is, close-points, inserting-is, inserting-points, points-by}
+
+-- ---- entries of a card
+
+one-as : (A B : Vehicle → Type 0) → ((v : Vehicle) → A v → B v) → (os : List (Option Vehicle)) → HasOne A os → HasOne B os
+one-as A B as_ [] has = has
+one-as A B as_ (None ∷ os) has = one-as A B as_ os has
+one-as A B as_ (Some v ∷ os) has = ⊎_elim (λ here. inl (as_ v here)) (λ rest. inr (one-as A B as_ os rest)) has
+
+some-as : (A B : Vehicle → Type 0) → ((v : Vehicle) → A v → B v) → (v : Vehicles) → SomeIs A v → SomeIs B v
+some-as A B as_ v has = ⊎_elim (λ newest. inl (newest.0, newest.1, as_ newest.0 newest.2)) (λ one. inr (one-as A B as_ v.ring one)) has
+
+ring-as : (A B : Vehicle → Type 0) → ((v : Vehicle) → A v → B v) → (os : List (Option Vehicle)) → RingIn A os → RingIn B os
+ring-as A B as_ [] is = tt
+ring-as A B as_ (None ∷ os) is = ring-as A B as_ os is
+ring-as A B as_ (Some v ∷ os) is = (as_ v is.0, ring-as A B as_ os is.1)
+
+newest-as : (A B : Vehicle → Type 0) → ((v : Vehicle) → A v → B v) → (o : Option Vehicle) → IfSome o A → IfSome o B
+newest-as A B as_ None is = tt
+newest-as A B as_ (Some v) is = as_ v is
+
+in-as : (A B : Vehicle → Type 0) → ((v : Vehicle) → A v → B v) → (v : Vehicles) → AreIn A v → AreIn B v
+in-as A B as_ v is = record { newest = newest-as A B as_ v.newest is.newest; ring = ring-as A B as_ v.ring is.ring }
+
+-- one that is so, of which all are so
+one-of : (A B : Vehicle → Type 0) (os : List (Option Vehicle)) → RingIn A os → HasOne B os → (v : Vehicle) × A v × B v
+one-of A B [] is has = absurd has
+one-of A B (None ∷ os) is has = one-of A B os is has
+one-of A B (Some v ∷ os) is has = ⊎_elim (λ here. (v, is.0, here)) (λ rest. one-of A B os is.1 rest) has
+
+some-of : (A B : Vehicle → Type 0) (v : Vehicles) → AreIn A v → SomeIs B v → (w : Vehicle) × A w × B w
+some-of A B v is has = ⊎_elim
+    (λ newest. (newest.0, subst (λ (o : Option Vehicle). IfSome o A) newest.1 is.newest, newest.2))
+    (λ one. one-of A B v.ring is.ring one)
+    has
+
+-- what is so of each that stands there
+each-there : (A : Vehicle → Type 0) (os : List (Option Vehicle)) → ((w : Vehicle) → HasOne (λ v. v ≡ w) os → A w) → RingIn A os
+each-there A [] each = tt
+each-there A (None ∷ os) each = each-there A os each
+each-there A (Some v ∷ os) each = (each v (inl refl), each-there A os (λ w has. each w (inr has)))
+
+-- ---- measured
+
+on-itself : (w v : Vehicle) → w ≡ v → GoesOnFrom w v
+on-itself w v same = (ap (λ (u : Vehicle). u.registration) (sym same), ap (λ (u : Vehicle). u.first_use) (sym same), ap (λ (u : Vehicle). u.odometer_begin) (sym same))
+
+on-then : (u v w : Vehicle) → GoesOnFrom u v → GoesOnFrom v w → GoesOnFrom u w
+on-then u v w first next = (next.0 ∙ first.0, next.1 ∙ first.1, next.2 ∙ first.2)
+
+ends-itself : (w v : Vehicle) → w ≡ v → GoesOnFrom w v × (v.odometer_end ≡ w.odometer_end)
+ends-itself w v same = (on-itself w v same, ap (λ (u : Vehicle). u.odometer_end) (sym same))
+
+module _ (Is : ℕ → Type 0) where
+  -- AN IMAGE IS MEASURED BY ITSELF,
+  pub measured-itself : (v : Vehicles) → AreMeasured Is v v
+  measured-itself v = record { newest = newest v.newest refl; ring = each-there (IsMeasured Is v) v.ring there }
+    where
+      newest : (o : Option Vehicle) → v.newest ≡ o → IfSome o (IsMeasured Is v)
+      newest None is = tt
+      newest (Some w) is = record { begins = inr (inl (w, is, on-itself w w refl)); ends = inr (inl (w, is, ends-itself w w refl)) }
+
+      there : (w : Vehicle) → HasOne (λ u. u ≡ w) v.ring → IsMeasured Is v w
+      there w has = record {
+        begins = inr (inr (one-as (λ u. u ≡ w) (λ u. GoesOnFrom u w) (λ u same. on-itself u w same) v.ring has));
+        ends = inr (inr (one-as (λ u. u ≡ w) (λ u. GoesOnFrom u w × (w.odometer_end ≡ u.odometer_end)) (λ u same. ends-itself u w same) v.ring has));
+      }
+
+  -- by one that has the same,
+  pub measured-same : (v w : Vehicles) → w ≡ v → AreMeasured Is v w
+  measured-same v w same = subst (λ (u : Vehicles). AreMeasured Is v u) (sym same) (measured-itself v)
+
+  -- AND ONE AFTER ANOTHER
+  then-one : (u v : Vehicles) → AreMeasured Is u v → (z : Vehicle) → IsMeasured Is v z → IsMeasured Is u z
+  then-one u v first z is = record {
+    begins = ⊎_elim (λ here. inl here)
+        (λ some.
+        let y = some-of (IsMeasured Is u) (λ w. GoesOnFrom w z) v first some in
+        ⊎_elim
+        (λ value. inl (subst (λ (o : Odometer). Is o.0) (sym y.2.2) value))
+        (λ before. inr (some-as (λ w. GoesOnFrom w y.0) (λ w. GoesOnFrom w z) (λ w on. on-then w y.0 z on y.2) u before))
+        y.1.begins)
+        is.begins;
+    ends = ⊎_elim (λ here. inl here)
+        (λ some.
+        let y = some-of (IsMeasured Is u) (λ w. GoesOnFrom w z × (z.odometer_end ≡ w.odometer_end)) v first some in
+        ⊎_elim
+        (λ value. inl (subst (λ (o : Odometer). Is o.0) (sym y.2.1) value))
+        (λ before. inr (some-as (λ w. GoesOnFrom w y.0 × (y.0.odometer_end ≡ w.odometer_end)) (λ w. GoesOnFrom w z × (z.odometer_end ≡ w.odometer_end)) (λ w on. (on-then w y.0 z on.0 y.2.0, y.2.1 ∙ on.1)) u before))
+        y.1.ends)
+        is.ends;
+  }
+
+  pub measured-then : (u v w : Vehicles) → AreMeasured Is u v → AreMeasured Is v w → AreMeasured Is u w
+  measured-then u v w first next = in-as (IsMeasured Is v) (IsMeasured Is u) (then-one u v first) w next
+
+-- with more values
+pub measured-more : (Is Now : ℕ → Type 0) → ((n : ℕ) → Is n → Now n) → (v w : Vehicles) → AreMeasured Is v w → AreMeasured Now v w
+measured-more Is Now more v w is =
+    in-as (IsMeasured Is v) (IsMeasured Now v)
+    (λ z here. record { begins = ⊎_elim (λ value. inl (more z.odometer_begin.0 value)) (λ before. inr before) here.begins; ends = ⊎_elim (λ value. inl (more z.odometer_end.0 value)) (λ before. inr before) here.ends })
+    w is
+
+-- ---- BY A CALL
+
+module _ (Is : ℕ → Type 0) (old : Vehicles) where
+  used-so : (seconds : ℕ) (v : Vehicle) → IsMeasured Is old v → IsMeasured Is old (used seconds v)
+  used-so seconds v is = record { begins = is.begins; ends = is.ends }
+
+  measured-so : (odometer : ℕ) → Is odometer → (v : Vehicle) → IsMeasured Is old v → IsMeasured Is old (measured odometer v)
+  measured-so odometer here v is = record { begins = is.begins; ends = inl here }
+
+  begun-so : (registration : Registration) (odometer : ℕ) → Is odometer → (minute : ℕ) (counter : List ℕ) → IsMeasured Is old (begun_vehicle registration odometer minute counter)
+  begun-so registration odometer here minute counter = record { begins = inl here; ends = inl here }
+
+module _ (app : Application) (Is : ℕ → Type 0) where
+  -- no call
+  pub goes-itself : (x : List ℕ) → GoesMeasured app Is x x
+  goes-itself x points = (points, measured-itself Is (vehicles_by app x))
+
+  -- calls one after another
+  pub goes-then : (x y z : List ℕ) → GoesMeasured app Is x y → GoesMeasured app Is y z → GoesMeasured app Is x z
+  goes-then x y z first next points =
+      let one = first points in
+      let two = next one.0 in
+      (two.0, measured-then Is (vehicles_by app x) (vehicles_by app y) (vehicles_by app z) one.1 two.1)
+
+  -- with more values
+  pub goes-more : (Now : ℕ → Type 0) → ((n : ℕ) → Is n → Now n) → (x y : List ℕ) → GoesMeasured app Is x y → GoesMeasured app Now x y
+  goes-more Now more x y goes points =
+      let one = goes points in
+      (one.0, measured-more Is Now more (vehicles_by app x) (vehicles_by app y) one.1)
+
+  -- what leaves the bytes of the entries
+  pub bytes-go : IsApplication app → (x y : List ℕ) → HaveSameVehicles app x y → GoesMeasured app Is x y
+  unfolding book_of
+  bytes-go sound x y same points = (points-by app sound x y points same, measured-same Is (vehicles_by app x) (vehicles_by app y) (vehicles_same app (ring_shape app sound) x y same points))
+
+  -- an insertion
+  pub inserting-goes : IsApplication app → (registration : Registration) → length registration.0 ≡ 15 → (odometer : ℕ) → Is odometer → (owed : List Entry) (now : ℕ) (x y : List ℕ) → image_size_of app ≤ length x → IsCardInserting app registration odometer owed now x y → GoesMeasured app Is x y
+  inserting-goes sound registration long odometer here owed now x y fits inserting points =
+      let old : Vehicles = vehicles_by app x in (
+        inserting-points app sound registration long now x fits odometer owed y inserting,
+        inserting-is (IsMeasured Is old) (used-so Is old) app sound registration long now x fits (measured-itself Is old) odometer (measured-so Is old odometer here) (begun-so Is old registration odometer here) owed y inserting,
+      )
+
+module _ (Is : ℕ → Type 0) where
+  -- a keep
+  pub keep-goes : (s : Session) (e : Entry) (odometer : ℕ) (x y : List ℕ) → Is odometer → IsCardKeeping s e odometer x y → GoesMeasured s.application Is x y
+  keep-goes s e odometer x y here keeping points =
+      let old : Vehicles = vehicles_by s.application x in
+      (keeping.card.points, keep-is (IsMeasured Is old) (used-so Is old) s e odometer (measured-so Is old odometer here) (begun-so Is old s.registration odometer here) x y (measured-itself Is old) keeping)
+
+  -- a closing
+  pub close-goes : (s : Session) (act : Activity) (x y : List ℕ) → IsApplication s.application → image_size_of s.application ≤ length x → IsCardClosing s act x y → GoesMeasured s.application Is x y
+  close-goes s act x y sound fits closing points =
+      let old : Vehicles = vehicles_by s.application x in
+      (close-points s act x y sound fits closing, close-is (IsMeasured Is old) (used-so Is old) s act x y sound fits (measured-itself Is old) closing)
+
+-- ---- events and places lie beside them
+
+events-first : (app : Application) → place_of app (file 0x0502) + size_of app (file 0x0502) ≤ (vehicle_ring app).base
+unfolding files_of
+events-first app = omega arith
+
+places-behind : (app : Application) → (vehicle_ring app).base + ring_size (vehicle_ring app) ≤ (place_ring app).base
+unfolding files_of
+places-behind app = omega arith
+
+module _ (app : Application) (x c : List ℕ) where
+  event-beside : (kind i : ℕ) → i < (event_ring app kind).count → SameOutside (entry_place (event_ring app kind) i) (event_ring app kind).width x c → HaveSameVehicles app x c
+  event-beside kind i below outside =
+      part_after (entry_place (event_ring app kind) i) (event_ring app kind).width (vehicle_ring app).base (ring_size (vehicle_ring app)) x c outside (omega (arith, place_high (event_ring app kind) i below, set_inside app kind, events-first app))
+
+  -- an event that is noted, and a moment of that
+  pub event-vehicles : (e : CardEvent) → IsNotingEvent app e x c → HaveSameVehicles app x c
+  event-vehicles e noting = ⊎_elim
+      (λ same. ap (λ (l : List ℕ). bytes_at l (vehicle_ring app).base (ring_size (vehicle_ring app))) same)
+      (λ changed. ⊎_elim (λ absent. event-beside e.kind noting.place noting.takes.below absent.outside) (λ replaced. event-beside e.kind noting.place noting.takes.below replaced.outside) changed)
+      noting.entry
+
+  pub noted-vehicles : (e : CardEvent) → IsEventNoted app e x c → HaveSameVehicles app x c
+  noted-vehicles e noted = event-beside e.kind noted.place noted.takes.below noted.entry.outside
+
+  -- a place
+  pub place-vehicles : SameOutside (place_ring app).base (ring_size (place_ring app)) x c → HaveSameVehicles app x c
+  place-vehicles outside = part_before (place_ring app).base (ring_size (place_ring app)) (vehicle_ring app).base (ring_size (vehicle_ring app)) x c outside (places-behind app)
+
+-- ---- OF STATES
+
+module _ (app : Application) (values : List ℕ) where
+  pub measures-self : (X : State) → MeasuresOn app values X X
+  measures-self X y left = (y, left, goes-itself app (λ n. Contains values n) y)
+
+  pub measures-then : (X Y Z : State) → MeasuresOn app values X Y → MeasuresOn app values Y Z → MeasuresOn app values X Z
+  measures-then X Y Z first next z left =
+      let behind = next z left in
+      let was = first behind.0 behind.1 in
+      (was.0, was.1, goes-then app (λ n. Contains values n) was.0 behind.0 z was.2 behind.2)
+
+  pub measures-more : (now : List ℕ) → ((n : ℕ) → Contains values n → Contains now n) → (X Y : State) → MeasuresOn app values X Y → MeasuresOn app now X Y
+  measures-more now more X Y is y left =
+      let was = is y left in
+      (was.0, was.1, goes-more app (λ n. Contains values n) (λ n. Contains now n) more was.0 y was.2)
+
+-- a keep
+pub keeping-measures : (app : Application) (X Y : State) → IsCoherent X → (s : Session) (e : Entry) (odometer : ℕ) → s.application ≡ app → IfSome X.image (IsSession s) → LeavesOnly X Y (λ x y. IsSession s x → IsCardKeeping s e odometer x y) → MeasuresOn app (odometer ∷ []) X Y
+keeping-measures app X Y whole s e odometer sizes session run c left = ⊎_elim
+    (λ was. (c, was, goes-itself app (λ n. Contains (odometer ∷ []) n) c))
+    (λ one. (
+      one.0,
+      whole.is_left one.0 one.1,
+      subst (λ (a : Application). GoesMeasured a (λ n. Contains (odometer ∷ []) n) one.0 c) sizes
+          (keep-goes (λ n. Contains (odometer ∷ []) n) s e odometer one.0 c (Contains-push [] odometer) (one.2 (at_image (IsSession s) one.1 session))),
+    ))
+    (run.now c left)

@@ -1,0 +1,40 @@
+-- Of which odometer values the vehicle entries of a card tell (profile): over calls, whatever of them failed.
+use Rattle.std.specs.Prelude.{◌≡◌, ◌⊎◌, ℕ, List, Contains}
+use Rattle.tach_media.specs.Medium.{State}
+use Rattle.card_layout.specs.declared.files.Application.{Application}
+use Rattle.card_files.specs.declared.vehicle.Vehicle.{Vehicle}
+use Rattle.gated_ring.specs.Ring.{PointsInside}
+use Rattle.card_image.specs.Fields.{vehicle_ring}
+use Rattle.card_session.specs.Vehicles.{Vehicles}
+use Rattle.card_session.specs.Sessions.{book_of}
+use Rattle.run_devices.specs.Registered.{AreIn, SomeIs}
+
+-- a vehicle entry goes on: it has the vehicle, the first use and the odometer at the begin of another
+abbrev pub GoesOnFrom : (w v : Vehicle) → Type 0
+GoesOnFrom w v = (v.registration ≡ w.registration) × (v.first_use ≡ w.first_use)
+    × (v.odometer_begin ≡ w.odometer_begin)
+
+-- AN ENTRY IS MEASURED SO, by the entries before: the odometer at its begin is such a value, or it goes on from one of
+-- them; and so is the odometer at its end, or it is that of one from which it goes on.
+pub record IsMeasured (Is : ℕ → Type 0) (old : Vehicles) (v : Vehicle) : Type 0 where
+  pub begins : Is v.odometer_begin.0 ⊎ SomeIs (λ w. GoesOnFrom w v) old
+  pub ends : Is v.odometer_end.0 ⊎ SomeIs (λ w. GoesOnFrom w v × (v.odometer_end ≡ w.odometer_end)) old
+
+-- EACH VEHICLE ENTRY IS
+abbrev pub AreMeasured : (Is : ℕ → Type 0) → (old now : Vehicles) → Type 0
+AreMeasured Is old now = AreIn (IsMeasured Is old) now
+
+-- the vehicle entries of an image, by these sizes
+abbrev pub vehicles_by : Application → List ℕ → Vehicles
+vehicles_by app x = (book_of app x).vehicles
+
+-- AN IMAGE GOES ON FROM ANOTHER, by these sizes: where the pointer of its vehicle entries is an index it is one still,
+-- and they are measured so
+abbrev pub GoesMeasured : Application → (Is : ℕ → Type 0) → (x y : List ℕ) → Type 0
+GoesMeasured app Is x y = PointsInside (vehicle_ring app) x
+    → PointsInside (vehicle_ring app) y × AreMeasured Is (vehicles_by app x) (vehicles_by app y)
+
+-- CALLS MEASURE with these values: each image that a card may leave behind them goes on from one before, with no others
+abbrev pub MeasuresOn : Application → (values : List ℕ) → (old new : State) → Type 0
+MeasuresOn app values old new = (y : List ℕ) → new.may_leave y
+    → (x : List ℕ) × old.may_leave x × GoesMeasured app (λ n. Contains values n) x y

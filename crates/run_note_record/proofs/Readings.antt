@@ -1,0 +1,162 @@
+-- Readings of the odometer stay readings, as the power spans of a run go on.
+use Rattle.std.proofs.Common.{◌≡◌, ◌∙◌, ℕ, ◌+◌, Bool, true, false, cond, List, [], ◌∷◌, ◌++◌, refl, sym, ap, subst, append_assoc, append-nil}
+use Rattle.std.specs.Prelude.{sum_by}
+use Rattle.std.proofs.lemmas.List.{same_from_push}
+use Rattle.std.proofs.lemmas.List.Sums.{sum_by-cons}
+use Rattle.minute_model.specs.Second.{Second}
+use Rattle.log_model.specs.Course.{ToldSecond}
+use Rattle.log_model.specs.Spans.{seconds_in}
+use Rattle.note_model.specs.Odometer.{SpanFrom}
+use Rattle.unit_rule.specs.Odometer.{odometer_by}
+use Rattle.run_rings.specs.Spans.{go_on_from, with_second, AreAlike}
+use Rattle.run_note_record.specs.OnCards.{IsReading}
+use Rattle.run_note_record.proofs.Stored.{AtEnd, nothing, push, at-end}
+
+-- ---- the last of some spans
+
+-- it goes on with a second
+abbrev longer : SpanFrom → ToldSecond → SpanFrom
+longer s t = record { base = s.base; span = s.span ++ t ∷ [] }
+
+abbrev begun : (base : ℕ) → ToldSecond → SpanFrom
+begun base t = record { base = base; span = t ∷ [] }
+
+on-last : (earlier : List SpanFrom) (s : SpanFrom) (base : ℕ) (t : ToldSecond) → go_on_from (earlier ++ s ∷ []) base t ≡ earlier ++ longer s t ∷ []
+on-last [] s base t = refl
+on-last (x ∷ []) s base t = refl
+on-last (x ∷ y ∷ earlier) s base t = ap (λ (l : List SpanFrom). x ∷ l) (on-last (y ∷ earlier) s base t)
+
+on-behind : (earlier : List SpanFrom) (s next : SpanFrom) (later : List SpanFrom) (base : ℕ) (t : ToldSecond) → go_on_from (earlier ++ s ∷ next ∷ later) base t ≡ earlier ++ s ∷ go_on_from (next ∷ later) base t
+on-behind [] s next later base t = refl
+on-behind (x ∷ []) s next later base t = refl
+on-behind (x ∷ y ∷ earlier) s next later base t = ap (λ (l : List SpanFrom). x ∷ l) (on-behind (y ∷ earlier) s next later base t)
+
+-- ---- ONE SECOND MORE
+
+-- a span begins
+reads-begun : (spans : List SpanFrom) (s : SpanFrom) (n : ℕ) → IsReading spans n → IsReading (spans ++ s ∷ []) n
+reads-begun spans s n r = record {
+  earlier = r.earlier;
+  s = r.s;
+  later = r.later ++ s ∷ [];
+  are = ap (λ (l : List SpanFrom). l ++ s ∷ []) r.are ∙ append_assoc r.earlier (r.s ∷ r.later) (s ∷ []);
+  front = r.front;
+  behind = r.behind;
+  parts = r.parts;
+  is = r.is;
+}
+
+-- the last one goes on
+reads-on : (spans : List SpanFrom) (base : ℕ) (t : ToldSecond) (n : ℕ) → IsReading spans n → IsReading (go_on_from spans base t) n
+reads-on spans base t n r = by r.later refl
+  where
+    by : (later : List SpanFrom) → r.later ≡ later → IsReading (go_on_from spans base t) n
+    by [] is = record {
+      earlier = r.earlier;
+      s = longer r.s t;
+      later = [];
+      are = ap (λ (l : List SpanFrom). go_on_from l base t) (r.are ∙ ap (λ (l : List SpanFrom). r.earlier ++ r.s ∷ l) is) ∙ on-last r.earlier r.s base t;
+      front = r.front;
+      behind = r.behind ++ t ∷ [];
+      parts = ap (λ (l : List ToldSecond). l ++ t ∷ []) r.parts ∙ append_assoc r.front r.behind (t ∷ []);
+      is = r.is;
+    }
+    by (next ∷ later) is = record {
+      earlier = r.earlier;
+      s = r.s;
+      later = go_on_from (next ∷ later) base t;
+      are = ap (λ (l : List SpanFrom). go_on_from l base t) (r.are ∙ ap (λ (l : List SpanFrom). r.earlier ++ r.s ∷ l) is) ∙ on-behind r.earlier r.s next later base t;
+      front = r.front;
+      behind = r.behind;
+      parts = r.parts;
+      is = r.is;
+    }
+
+pub reads-with : (spans : List SpanFrom) (base : ℕ) (t : ToldSecond) (n : ℕ) → IsReading spans n → IsReading (with_second spans base t) n
+reads-with spans base t n r = by t.lit t.starts
+  where
+    by : (lit starts : Bool) → IsReading (cond lit (cond starts (spans ++ begun base t ∷ []) (go_on_from spans base t)) spans) n
+    by false starts = r
+    by true true = reads-begun spans (begun base t) n r
+    by true false = reads-on spans base t n r
+
+-- ---- WHATEVER IS TOLD of the last second
+
+-- what was driven
+abbrev pub driven_in : List ToldSecond → ℕ
+driven_in span = sum_by (λ (x : Second). x.speed) (seconds_in span)
+
+driven-last : (span : List ToldSecond) (t x : ToldSecond) → x.second.speed ≡ t.second.speed → driven_in (span ++ t ∷ []) ≡ driven_in (span ++ x ∷ [])
+driven-last [] t x same =
+    sum_by-cons (λ (s : Second). s.speed) t.second [] ∙ ap (λ (n : ℕ). n + sum_by (λ (s : Second). s.speed) []) (sym same) ∙ sym (sum_by-cons (λ (s : Second). s.speed) x.second [])
+driven-last (y ∷ span) t x same =
+    sum_by-cons (λ (s : Second). s.speed) y.second (seconds_in (span ++ t ∷ [])) ∙ ap (λ (n : ℕ). y.second.speed + n) (driven-last span t x same) ∙ sym (sum_by-cons (λ (s : Second). s.speed) y.second (seconds_in (span ++ x ∷ [])))
+
+-- of the last span
+abbrev ended : (base : ℕ) → List ToldSecond → ToldSecond → SpanFrom
+ended base span t = record { base = base; span = span ++ t ∷ [] }
+
+last-alike : (ss : List SpanFrom) (base : ℕ) (span : List ToldSecond) (t x : ToldSecond) → x.second.speed ≡ t.second.speed → (n : ℕ) → IsReading (ss ++ ended base span t ∷ []) n → IsReading (ss ++ ended base span x ∷ []) n
+last-alike ss base span t x speed n r = by r.later (at-end r.later) refl
+  where
+    -- the reading is one of the last span
+    in-last : (behind : List ToldSecond) → AtEnd behind → r.behind ≡ behind → r.s ≡ ended base span t → IsReading (ss ++ ended base span x ∷ []) n
+    in-last _ nothing is own =
+        let front : r.front ≡ span ++ t ∷ [] = sym (append-nil r.front) ∙ ap (λ (l : List ToldSecond). r.front ++ l) (sym is) ∙ sym r.parts ∙ ap (λ (s : SpanFrom). s.span) own in
+        record {
+          earlier = ss;
+          s = ended base span x;
+          later = [];
+          are = refl;
+          front = span ++ x ∷ [];
+          behind = [];
+          parts = sym (append-nil (span ++ x ∷ []));
+          is = r.is ∙ ap (λ (s : SpanFrom). odometer_by s.base (driven_in r.front)) own ∙ ap (λ (l : List ToldSecond). odometer_by base (driven_in l)) front ∙ ap (λ (m : ℕ). odometer_by base m) (driven-last span t x speed);
+        }
+    in-last _ (push behind y) is own =
+        let same = same_from_push (r.front ++ behind) span y t (append_assoc r.front behind (y ∷ []) ∙ ap (λ (l : List ToldSecond). r.front ++ l) (sym is) ∙ sym r.parts ∙ ap (λ (s : SpanFrom). s.span) own) in
+        record {
+          earlier = ss;
+          s = ended base span x;
+          later = [];
+          are = refl;
+          front = r.front;
+          behind = behind ++ x ∷ [];
+          parts = ap (λ (l : List ToldSecond). l ++ x ∷ []) (sym same.0) ∙ append_assoc r.front behind (x ∷ []);
+          is = r.is ∙ ap (λ (s : SpanFrom). odometer_by s.base (driven_in r.front)) own;
+        }
+
+    by : (later : List SpanFrom) → AtEnd later → r.later ≡ later → IsReading (ss ++ ended base span x ∷ []) n
+    by _ nothing is =
+        let same = same_from_push r.earlier ss r.s (ended base span t) (sym (r.are ∙ ap (λ (l : List SpanFrom). r.earlier ++ r.s ∷ l) is)) in
+        in-last r.behind (at-end r.behind) refl same.1
+    by _ (push later y) is =
+        let same = same_from_push (r.earlier ++ r.s ∷ later) ss y (ended base span t) (append_assoc r.earlier (r.s ∷ later) (y ∷ []) ∙ sym (r.are ∙ ap (λ (l : List SpanFrom). r.earlier ++ r.s ∷ l) is)) in
+        record {
+          earlier = r.earlier;
+          s = r.s;
+          later = later ++ ended base span x ∷ [];
+          are = ap (λ (l : List SpanFrom). l ++ ended base span x ∷ []) (sym same.0) ∙ append_assoc r.earlier (r.s ∷ later) (ended base span x ∷ []);
+          front = r.front;
+          behind = r.behind;
+          parts = r.parts;
+          is = r.is;
+        }
+
+on-alike : (spans : List SpanFrom) (base : ℕ) (t x : ToldSecond) → x.second.speed ≡ t.second.speed → (n : ℕ) → IsReading (go_on_from spans base t) n → IsReading (go_on_from spans base x) n
+on-alike spans base t x speed n = by spans (at-end spans)
+  where
+    by : (ss : List SpanFrom) → AtEnd ss → IsReading (go_on_from ss base t) n → IsReading (go_on_from ss base x) n
+    by _ nothing r = last-alike [] base [] t x speed n r
+    by _ (push ss y) r =
+        subst (λ (l : List SpanFrom). IsReading l n) (sym (on-last ss y base x)) (last-alike ss y.base y.span t x speed n (subst (λ (l : List SpanFrom). IsReading l n) (on-last ss y base t) r))
+
+pub reads-alike : (spans : List SpanFrom) (base : ℕ) (t x : ToldSecond) → AreAlike t x → (n : ℕ) → IsReading (with_second spans base t) n → IsReading (with_second spans base x) n
+reads-alike spans base t x alike n r =
+    subst (λ (lit : Bool). IsReading (cond lit (cond x.starts (spans ++ begun base x ∷ []) (go_on_from spans base x)) spans) n) (sym alike.lit)
+    (subst (λ (starts : Bool). IsReading (cond t.lit (cond starts (spans ++ begun base x ∷ []) (go_on_from spans base x)) spans) n) (sym alike.starts) (by t.lit t.starts r))
+  where
+    by : (lit starts : Bool) → IsReading (cond lit (cond starts (spans ++ begun base t ∷ []) (go_on_from spans base t)) spans) n → IsReading (cond lit (cond starts (spans ++ begun base x ∷ []) (go_on_from spans base x)) spans) n
+    by false starts h = h
+    by true true h = last-alike spans base [] t x alike.speed n h
+    by true false h = on-alike spans base t x alike.speed n h

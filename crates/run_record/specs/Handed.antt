@@ -1,0 +1,90 @@
+-- The entries by hand of a run, between two of its seconds and within one: what was asked and done so far, and what the
+-- sessions hold of it (profile).
+use Rattle.std.specs.Prelude.{◌≡◌, ◌⊎◌, ℕ, Option, None, List, ◌++◌, filter, take, true, All, map}
+use Rattle.trace_model.specs.declared.Action.{Action}
+use Rattle.trace_model.specs.declared.Card.{Card}
+use Rattle.trace_model.specs.Trace.{TraceSecond}
+use Rattle.log_model.specs.declared.lines.Mark.{Mark}
+use Rattle.log_model.specs.declared.lines.Refused.{Refused}
+use Rattle.log_model.specs.Log.{RunLog, Phase, In, Keeping}
+use Rattle.log_model.specs.Causes.{device_of}
+use Rattle.log_model.specs.Slots.{same_card}
+use Rattle.log_model.specs.Course.{Before, ToldSecond, Course, went}
+use Rattle.log_model.specs.ByHand.{Asked, asked_by, asked_of, done_by_hand, is_stop, is_stopped}
+use Rattle.history_model.specs.Minutes.{HistoryMinute}
+use Rattle.history_model.specs.Presence.{Start}
+use Rattle.note_model.specs.Done.{course_powered}
+use Rattle.card_image.specs.Own.{IsOwnValid}
+use Rattle.hand_model.specs.Written.{Hands}
+use Rattle.safety_model.specs.Unit.{marks_of}
+use Rattle.safety_model.specs.Hands.{Session, sessions_in, sessions_found}
+use Rattle.run_promise.specs.Found.{Found, found_of}
+use Rattle.run_promise.specs.Cards.{FirstKeep}
+use Rattle.run_crew.specs.declared.cards.Accepted.{Accepted}
+use Rattle.run_record.specs.HeldHands.{HandsGo, IsKnown, WasKnownLast}
+use Rattle.safety_model.specs.Stops.{told_at, asked_at}
+use Rattle.safety_model.specs.ByHand.{IsStoppedBy}
+
+-- the actions of a second up to a moment of it
+abbrev pub actions_to : Phase → List Action → List Action
+actions_to (In n) actions = take n actions
+actions_to Keeping actions = actions
+
+-- WHAT IS ASKED in a second with power up to some of its actions
+abbrev pub asked_to : RunLog → Before → TraceSecond → (front : List Action) → List Asked
+asked_to log before s front = asked_by log s 0 front (course_powered log before s)
+
+-- in the seconds before it, where the log was this as it began, and in it
+abbrev pub asked_so_far : (began : RunLog) → List TraceSecond → (log : RunLog) → TraceSecond → (front : List Action)
+    → List Asked
+asked_so_far began done log s front = asked_of began done ++ asked_to log (went began done).before s front
+
+-- of what was asked that of a card, and of this that which was done, where sessions refused these
+abbrev pub asked_for : Card → List Asked → List Asked
+asked_for c asked = filter (λ (a : Asked). same_card c a.sitting.card) asked
+
+abbrev pub done_for : Card → (stops : List Refused) → List Asked → List Asked
+done_for c stops asked = done_by_hand stops (asked_for c asked)
+
+-- the sessions of a card behind some seconds, and in one more with this course
+abbrev pub sessions_so_far : Card → List ToldSecond → (second : ℕ) → Course → List Session
+sessions_so_far c told u course = sessions_in c told ++ sessions_found c u course.found
+
+-- THE LINES OF SESSIONS tell of what was asked and is stopped: each of them, in its order
+pub record AreToldOf (stops : List Refused) (asked : List Asked) : Type 0 where
+  pub all : All (λ (l : Refused). is_stop l.fault ≡ true) stops
+  pub each : map told_at stops ≡ map asked_at (filter (is_stopped stops) asked)
+
+-- THE ENTRIES BY HAND of a run, where this was asked so far and these minutes are kept: so it is of each card that was
+-- valid, and of each that was asked of it; with which newest minute its session was accepted; and lines tell what was
+-- stopped
+pub record AreHanded (start : Start) (past : List HistoryMinute) (f : Found) (sessions : Card → List Session)
+    (asked : List Asked) (stops : List Refused) (marks : List Mark) (hands : Card → Hands)
+    (firsts : Card → List FirstKeep) (session : Card → Option Accepted) : Type 0 where
+  pub each : (c : Card) → IsOwnValid (found_of f c).image
+      → HandsGo (sessions c) (done_for c stops asked) (marks_of (device_of c) marks) (hands c) (firsts c) (session c)
+  pub known : (c : Card) → IsOwnValid (found_of f c).image
+      → WasKnownLast start past c (marks_of (device_of c) marks) (sessions c) (session c)
+  pub stopped : (c : Card) → IsOwnValid (found_of f c).image
+      → All (IsStoppedBy (IsKnown start past c) (sessions c) (done_for c stops asked) (marks_of (device_of c) marks)
+      stops) (asked_for c asked)
+  pub told : AreToldOf stops asked
+
+-- each session is as it was, or is over
+abbrev pub StayOrEnd : (session after : Card → Option Accepted) → Type 0
+StayOrEnd session after = (c : Card) → (after c ≡ session c) ⊎ (after c ≡ None)
+
+-- BETWEEN TWO SECONDS
+abbrev pub AreHandedBehind : Start → (past : List HistoryMinute) → Found → RunLog → List TraceSecond
+    → (stops : List Refused) → List Mark → (hands : Card → Hands) → (firsts : Card → List FirstKeep)
+    → (session : Card → Option Accepted) → Type 0
+AreHandedBehind start past f log done stops marks hands firsts session = AreHanded start past f
+    (λ c. sessions_in c (went log done).told) (asked_of log done) stops marks hands firsts session
+
+-- WITHIN A SECOND that began with this log, at a moment of it, with this course so far
+abbrev pub AreHandedIn : Start → (past : List HistoryMinute) → Found → (began : RunLog) → List TraceSecond
+    → TraceSecond → Phase → RunLog → Course → (stops : List Refused) → List Mark → (hands : Card → Hands)
+    → (firsts : Card → List FirstKeep) → (session : Card → Option Accepted) → Type 0
+AreHandedIn start past f began done s at log course stops marks hands firsts session = AreHanded start past f
+    (λ c. sessions_so_far c (went began done).told s.number course)
+    (asked_so_far began done log s (actions_to at s.actions)) stops marks hands firsts session
