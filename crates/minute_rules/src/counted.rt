@@ -4,7 +4,7 @@ ghost use Rattle.std.specs.List.{AllByRecursion};
 ghost use Rattle.activity_codec.specs.Activity.{is_driving};
 ghost use Rattle.std.specs.Bool.{OnFalse};
 ghost use Rattle.minute_rules.specs.Alike.{further};
-ghost use Rattle.minute_rules.specs.Counted.{Fits, closed, opened, with_driver, with_codriver, moved, waited, waits_on};
+ghost use Rattle.minute_rules.specs.Counted.{Fits, closed, moved, waited, waits_on};
 ghost use Rattle.minute_rules.specs.Counted.{past_waited, drivers_longest, class_by};
 
 use crate::tally::{Tally, tallies_differ};
@@ -32,103 +32,47 @@ pub struct Counted {
 }
 
 impl Counted {
-    /// The open seconds get this activity.
-    pub fn closed(self, act: Activity) -> Self
-        requires { self.driver.going_seconds + self.open_seconds ≤ 2 ^ 32 - 1 }
-        ensures { result ≡ closed act self }
-    {
-        Counted {
-            driver: self.driver.with(act, self.open_seconds),
-            open_seconds: 0,
-            drives: self.drives,
-            codriver: self.codriver,
-            travelled: self.travelled,
-        }
-    }
-
     /// The open seconds get this activity, where there are any.
     pub fn close(&mut self, act: Activity)
         requires { self.old.driver.going_seconds + self.old.open_seconds ≤ 2 ^ 32 - 1 }
         ensures { self.new ≡ closed act self.old }
     {
         if self.open_seconds > 0 {
-            *self = self.closed(act);
-        }
-    }
-
-    /// So many more of the driver's seconds.
-    pub fn with_driver(self, act: Activity, seconds: u32) -> Self
-        requires { self.driver.going_seconds + seconds ≤ 2 ^ 32 - 1 }
-        ensures { result ≡ with_driver act seconds self }
-    {
-        Counted {
-            driver: self.driver.with(act, seconds),
-            open_seconds: self.open_seconds,
-            drives: self.drives,
-            codriver: self.codriver,
-            travelled: self.travelled,
-        }
-    }
-
-    /// So many more of the co-driver's seconds.
-    pub fn with_codriver(self, act: Activity, seconds: u32) -> Self
-        requires { self.codriver.going_seconds + seconds ≤ 2 ^ 32 - 1 }
-        ensures { result ≡ with_codriver act seconds self }
-    {
-        Counted {
-            driver: self.driver,
-            open_seconds: self.open_seconds,
-            drives: self.drives,
-            codriver: self.codriver.with(act, seconds),
-            travelled: self.travelled,
+            self.driver.add(act, self.open_seconds);
+            self.open_seconds = 0;
         }
     }
 
     /// So many more of the driver's seconds at speed 0: they are open till the 120th second after the stop.
-    pub fn waited(self, waiting: Option<u32>, act: Activity, seconds: u32) -> Self
-        requires { self.driver.going_seconds + self.open_seconds + seconds ≤ 2 ^ 32 - 1 }
-        ensures { result ≡ waited waiting act seconds self }
+    pub fn wait(&mut self, waiting: Option<u32>, act: Activity, seconds: u32)
+        requires { self.old.driver.going_seconds + self.old.open_seconds + seconds ≤ 2 ^ 32 - 1 }
+        ensures { self.new ≡ waited waiting act seconds self.old }
     {
         let Some(count) = waiting else {
-            return self.with_driver(act, seconds);
+            self.driver.add(act, seconds);
+            return;
         };
         let left = WAIT.saturating_sub(count);
         if seconds <= left {
-            return self.opened(seconds);
+            self.open_seconds += seconds;
+            return;
         }
-        self.opened(left)
-            .closed(Activity::Work)
-            .with_driver(act, seconds - left)
-    }
-
-    /// So many more open seconds.
-    fn opened(self, seconds: u32) -> Self
-        requires { self.open_seconds + seconds ≤ 2 ^ 32 - 1 }
-        ensures { result ≡ opened seconds self }
-    {
-        Counted {
-            driver: self.driver,
-            open_seconds: self.open_seconds + seconds,
-            drives: self.drives,
-            codriver: self.codriver,
-            travelled: self.travelled,
-        }
+        self.open_seconds += left;
+        self.close(Activity::Work);
+        self.driver.add(act, seconds - left);
     }
 
     /// So many more moving seconds.
-    pub fn moved(self, seconds: u32, speed: u8) -> Self
-        requires driver { self.driver.going_seconds + seconds ≤ 2 ^ 32 - 1 }
-        requires codriver { self.codriver.going_seconds + seconds ≤ 2 ^ 32 - 1 }
-        requires travelled { self.travelled ≤ 255 * (2 ^ 32 - 1) }
-        ensures { result ≡ moved seconds speed self }
+    pub fn drive(&mut self, seconds: u32, speed: u8)
+        requires driver { self.old.driver.going_seconds + seconds ≤ 2 ^ 32 - 1 }
+        requires codriver { self.old.codriver.going_seconds + seconds ≤ 2 ^ 32 - 1 }
+        requires travelled { self.old.travelled ≤ 255 * (2 ^ 32 - 1) }
+        ensures { self.new ≡ moved seconds speed self.old }
     {
-        Counted {
-            driver: self.driver.with(Activity::Driving, seconds),
-            open_seconds: self.open_seconds,
-            drives: true,
-            codriver: self.codriver.with(Activity::Available, seconds),
-            travelled: self.travelled + seconds as u64 * speed as u64,
-        }
+        self.driver.add(Activity::Driving, seconds);
+        self.drives = true;
+        self.codriver.add(Activity::Available, seconds);
+        self.travelled += seconds as u64 * speed as u64;
     }
 
     /// The same, so much further on.

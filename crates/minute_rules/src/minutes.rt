@@ -398,10 +398,8 @@ impl Minutes {
     {
         let waiting = self.driver.waiting;
         end_late(&mut self.past, waiting, n, steps);
-        self.here = self
-            .here
-            .waited(waiting, self.driver.current.activity(), n)
-            .with_codriver(self.codriver.current.activity(), n);
+        self.here.wait(waiting, self.driver.current.activity(), n);
+        self.here.codriver.add(self.codriver.current.activity(), n);
         self.driver.waiting = still_waiting(waiting, n);
         self.next += n;
     }
@@ -413,7 +411,7 @@ impl Minutes {
         ensures cost { steps.new ≤ steps.old + 5 }
     {
         self.close(Activity::Work, steps);
-        self.here = self.here.moved(n, speed);
+        self.here.drive(n, speed);
         self.driver = DriverSlot {
             current: Pick::Work,
             waiting: Some(0),

@@ -48,6 +48,29 @@ impl Tally {
         }
     }
 
+    /// The same, where it stands.
+    pub fn add(&mut self, act: Activity, seconds: u32)
+        requires { self.old.going_seconds + seconds ≤ 2 ^ 32 - 1 }
+        ensures { self.new ≡ with_run self.old act seconds }
+    {
+        if seconds == 0 {
+            return;
+        }
+        if act == self.going {
+            self.going_seconds += seconds;
+            return;
+        }
+        if self.going_seconds < self.best_seconds {
+            self.going = act;
+            self.going_seconds = seconds;
+            return;
+        }
+        self.best = self.going;
+        self.best_seconds = self.going_seconds;
+        self.going = act;
+        self.going_seconds = seconds;
+    }
+
     /// The activity of the longest run, the latest of equally long ones.
     pub fn longest(self) -> Activity
         ensures { result ≡ longest_in self }
