@@ -1,13 +1,13 @@
--- Worked rows, computed by the checker: a bar of driving, one without a card, and minutes that were not recorded; a place, an event, and a mark
--- of another day.
+-- Worked rows, computed by the checker: a bar of driving, one without a card, and minutes that were not recorded; a place, an event, an entry
+-- by hand, and a mark of another day.
 use Rattle.std.proofs.Common.{◌≡◌, ℕ, ◌+◌, Bool, true, false, [], refl}
 use Rattle.std.specs.Prelude.{codes}
 use Rattle.std.specs.Fmt.{digits}
 use Rattle.activity_codec.specs.declared.values.Activity.{Activity}
-use Rattle.activity_codec.specs.declared.values.Activity.TheVariants.{Rest, Driving}
+use Rattle.activity_codec.specs.declared.values.Activity.TheVariants.{Rest, Work, Driving}
 use Rattle.view_model.specs.declared.Line.{Line}
 use Rattle.slot_bars.specs.declared.seen.Seen.{Seen}
-use Rattle.day_chart.specs.declared.mark.Sign.TheVariants.{Begin, Event}
+use Rattle.day_chart.specs.declared.mark.Sign.TheVariants.{Begin, Event, ByHand}
 use Rattle.day_chart.specs.Bars.{bar_text}
 use Rattle.day_chart.specs.Marks.{mark_text, day_mark_text}
 
@@ -41,6 +41,12 @@ happened : day_mark_text (codes "2010-03-01") 14669 (record { sign = Event; code
     ≡ codes "<use xlink:href=\"#mark-event\" x=\"280\"><title>2010-03-01 07:20 event 12</title></use>\n"
 unfolding digits
 happened = refl
+
+-- at 05:10
+handed : mark_text (codes "2010-03-01") (record { sign = ByHand Work; code = 0; second = 1267420200 })
+    ≡ codes "<use xlink:href=\"#mark-hand\" x=\"215\"><title>2010-03-01 05:10 by hand work</title></use>\n"
+unfolding digits
+handed = refl
 
 elsewhere : day_mark_text (codes "2010-03-02") 14670 (record { sign = Event; code = 0x12; second = 1267428000 }) ≡ []
 elsewhere = refl

@@ -30,9 +30,9 @@ abbrev pub lane_signs : List ℕ
 lane_signs = codes "<g id=\"signs\"><use xlink:href=\"#sign-drive\" transform=\"translate(788 13) scale(0.75)\"/><use xlink:href=\"#sign-work\" transform=\"translate(837 13) scale(0.75)\"/><use xlink:href=\"#sign-available\" transform=\"translate(886 13) scale(0.75)\"/><use xlink:href=\"#sign-rest\" transform=\"translate(935 13) scale(0.75)\"/></g>\n"
 
 -- the signs of the marks: a flag where a work period begins, its other side where it ends, a diamond for an event, a
--- cross for a fault
+-- cross for a fault, a square for an entry by hand
 abbrev pub mark_signs : List ℕ
-mark_signs = codes "<g id=\"mark-begin\"><path d=\"M0 -4V28\" stroke=\"#000\" stroke-width=\"0.8\"/><path d=\"M0 -4L6 -1L0 2Z\"/></g>\n<g id=\"mark-end\"><path d=\"M0 -4V28\" stroke=\"#000\" stroke-width=\"0.8\"/><path d=\"M0 -4L-6 -1L0 2Z\"/></g>\n<path id=\"mark-event\" d=\"M0 28L3 31L0 34L-3 31Z\"/>\n<path id=\"mark-fault\" d=\"M-3 28L3 34M3 28L-3 34\" stroke=\"#000\" stroke-width=\"1.4\"/>\n"
+mark_signs = codes "<g id=\"mark-begin\"><path d=\"M0 -4V28\" stroke=\"#000\" stroke-width=\"0.8\"/><path d=\"M0 -4L6 -1L0 2Z\"/></g>\n<g id=\"mark-end\"><path d=\"M0 -4V28\" stroke=\"#000\" stroke-width=\"0.8\"/><path d=\"M0 -4L-6 -1L0 2Z\"/></g>\n<path id=\"mark-event\" d=\"M0 28L3 31L0 34L-3 31Z\"/>\n<path id=\"mark-fault\" d=\"M-3 28L3 34M3 28L-3 34\" stroke=\"#000\" stroke-width=\"1.4\"/>\n<path id=\"mark-hand\" d=\"M-3 28H3V34H-3Z\" fill=\"none\" stroke=\"#000\" stroke-width=\"1.2\"/>\n"
 
 -- the axis: an hour is 30 units
 abbrev pub axis : List ℕ
@@ -52,7 +52,7 @@ legend_rest = codes "<rect x=\"384\" y=\"34\" width=\"20\" height=\"6\" fill=\"#
 
 -- the legend: the marks
 abbrev pub legend_marks : List ℕ
-legend_marks = codes "<use xlink:href=\"#mark-begin\" x=\"708\" y=\"12\"/><text x=\"717\" y=\"38\">work begins</text>\n<use xlink:href=\"#mark-end\" x=\"804\" y=\"12\"/><text x=\"808\" y=\"38\">ends</text>\n<use xlink:href=\"#mark-event\" x=\"852\" y=\"3\"/><text x=\"859\" y=\"38\">event</text>\n<use xlink:href=\"#mark-fault\" x=\"912\" y=\"3\"/><text x=\"919\" y=\"38\">fault</text>\n"
+legend_marks = codes "<use xlink:href=\"#mark-begin\" x=\"690\" y=\"12\"/><text x=\"699\" y=\"38\">work begins</text>\n<use xlink:href=\"#mark-end\" x=\"778\" y=\"12\"/><text x=\"782\" y=\"38\">ends</text>\n<use xlink:href=\"#mark-event\" x=\"822\" y=\"3\"/><text x=\"829\" y=\"38\">event</text>\n<use xlink:href=\"#mark-fault\" x=\"874\" y=\"3\"/><text x=\"881\" y=\"38\">fault</text>\n<use xlink:href=\"#mark-hand\" x=\"920\" y=\"3\"/><text x=\"927\" y=\"38\">by hand</text>\n"
 
 -- what stands in front of the bands: the height, the totals as the picture's text, what is drawn with, and the legend
 unfoldable pub frame_head : (height : ℕ) → (totals : List ℕ) → List ℕ

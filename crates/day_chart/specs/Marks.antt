@@ -1,8 +1,9 @@
--- The marks of the picture: places that were entered, events and faults (profile).
+-- The marks of the picture: places that were entered, events, faults and entries by hand (profile).
 use Rattle.std.specs.Prelude.{ℕ, ◌+◌, ◌/◌, ◌%◌, ◌==◌, nat_lt, if◌then◌else◌, List, [], ◌∷◌, ◌++◌, codes, decimal}
+use Rattle.activity_codec.specs.Names.{activity_name}
 use Rattle.day_totals.specs.Text.{duration_text}
 use Rattle.day_chart.specs.declared.mark.Sign.{Sign}
-use Rattle.day_chart.specs.declared.mark.Sign.TheVariants.{Begin, End, Event, Fault}
+use Rattle.day_chart.specs.declared.mark.Sign.TheVariants.{Begin, End, Event, Fault, ByHand}
 use Rattle.day_chart.specs.declared.mark.Mark.{Mark}
 use Rattle.day_chart.specs.Bars.{half_text}
 
@@ -12,6 +13,7 @@ sign_name Begin = codes "begin"
 sign_name End = codes "end"
 sign_name Event = codes "event"
 sign_name Fault = codes "fault"
+sign_name (ByHand act) = codes "hand"
 
 -- what a mark says in front of its code
 abbrev pub mark_words : Sign → List ℕ
@@ -19,6 +21,7 @@ mark_words Begin = codes " work period begins, country "
 mark_words End = codes " work period ends, country "
 mark_words Event = codes " event "
 mark_words Fault = codes " fault "
+mark_words (ByHand act) = codes " by hand "
 
 -- a hexadecimal digit, in lower case
 abbrev pub hex_digit : ℕ → ℕ
@@ -27,14 +30,17 @@ hex_digit n = if nat_lt n 10 then 48 + n else 87 + n
 abbrev pub two_hex : ℕ → List ℕ
 two_hex code = hex_digit (code / 16) ∷ hex_digit (code % 16) ∷ []
 
--- a country is a number, a type of events or faults has two hexadecimal digits, as the regulation writes it
+-- a country is a number, a type of events or faults has two hexadecimal digits, as the regulation writes it, and what was
+-- entered by hand is an activity
 abbrev pub code_text : Sign → ℕ → List ℕ
 code_text Begin code = decimal code
 code_text End code = decimal code
 code_text Event code = two_hex code
 code_text Fault code = two_hex code
+code_text (ByHand act) code = activity_name act
 
--- what a mark says: `2010-03-01 07:15 work period begins, country 17`, `2010-03-01 07:20 event 07`
+-- what a mark says: `2010-03-01 07:15 work period begins, country 17`, `2010-03-01 07:20 event 07`,
+-- `2010-03-01 05:10 by hand work`
 abbrev pub mark_title : (date : List ℕ) → Mark → List ℕ
 mark_title date mark = date ++ codes " " ++ duration_text (mark.second / 60 % 1440) ++ mark_words mark.sign
     ++ code_text mark.sign mark.code

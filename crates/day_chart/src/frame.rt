@@ -43,7 +43,7 @@ fn write_drawn(text: &mut Vec<u8>) -> Result<(), AllocError>
         b"<g id=\"signs\"><use xlink:href=\"#sign-drive\" transform=\"translate(788 13) scale(0.75)\"/><use xlink:href=\"#sign-work\" transform=\"translate(837 13) scale(0.75)\"/><use xlink:href=\"#sign-available\" transform=\"translate(886 13) scale(0.75)\"/><use xlink:href=\"#sign-rest\" transform=\"translate(935 13) scale(0.75)\"/></g>\n",
     )?;
     text.extend_from_slice(
-        b"<g id=\"mark-begin\"><path d=\"M0 -4V28\" stroke=\"#000\" stroke-width=\"0.8\"/><path d=\"M0 -4L6 -1L0 2Z\"/></g>\n<g id=\"mark-end\"><path d=\"M0 -4V28\" stroke=\"#000\" stroke-width=\"0.8\"/><path d=\"M0 -4L-6 -1L0 2Z\"/></g>\n<path id=\"mark-event\" d=\"M0 28L3 31L0 34L-3 31Z\"/>\n<path id=\"mark-fault\" d=\"M-3 28L3 34M3 28L-3 34\" stroke=\"#000\" stroke-width=\"1.4\"/>\n",
+        b"<g id=\"mark-begin\"><path d=\"M0 -4V28\" stroke=\"#000\" stroke-width=\"0.8\"/><path d=\"M0 -4L6 -1L0 2Z\"/></g>\n<g id=\"mark-end\"><path d=\"M0 -4V28\" stroke=\"#000\" stroke-width=\"0.8\"/><path d=\"M0 -4L-6 -1L0 2Z\"/></g>\n<path id=\"mark-event\" d=\"M0 28L3 31L0 34L-3 31Z\"/>\n<path id=\"mark-fault\" d=\"M-3 28L3 34M3 28L-3 34\" stroke=\"#000\" stroke-width=\"1.4\"/>\n<path id=\"mark-hand\" d=\"M-3 28H3V34H-3Z\" fill=\"none\" stroke=\"#000\" stroke-width=\"1.2\"/>\n",
     )?;
     text.extend_from_slice(
         b"<g id=\"axis\" text-anchor=\"middle\" font-size=\"8\"><path d=\"M60 28H780M60 28v6M90 28v3M120 28v3M150 28v3M180 28v3M210 28v3M240 28v6M270 28v3M300 28v3M330 28v3M360 28v3M390 28v3M420 28v6M450 28v3M480 28v3M510 28v3M540 28v3M570 28v3M600 28v6M630 28v3M660 28v3M690 28v3M720 28v3M750 28v3M780 28v6\" stroke=\"#000\" stroke-width=\"0.6\" fill=\"none\"/>\n",
@@ -58,7 +58,7 @@ fn write_drawn(text: &mut Vec<u8>) -> Result<(), AllocError>
         b"<rect x=\"384\" y=\"34\" width=\"20\" height=\"6\" fill=\"#fff\" stroke=\"#000\" stroke-width=\"0.6\"/><use xlink:href=\"#sign-rest\" x=\"408\" y=\"27\"/><text x=\"426\" y=\"38\">rest</text>\n<rect x=\"492\" y=\"28\" width=\"20\" height=\"12\" fill=\"none\" stroke=\"#777\" stroke-width=\"0.6\" stroke-dasharray=\"2 2\"/><text x=\"518\" y=\"38\">no card</text>\n<rect x=\"600\" y=\"16\" width=\"20\" height=\"24\" fill=\"#ddd\"/><text x=\"626\" y=\"38\">unknown</text>\n",
     )?;
     text.extend_from_slice(
-        b"<use xlink:href=\"#mark-begin\" x=\"708\" y=\"12\"/><text x=\"717\" y=\"38\">work begins</text>\n<use xlink:href=\"#mark-end\" x=\"804\" y=\"12\"/><text x=\"808\" y=\"38\">ends</text>\n<use xlink:href=\"#mark-event\" x=\"852\" y=\"3\"/><text x=\"859\" y=\"38\">event</text>\n<use xlink:href=\"#mark-fault\" x=\"912\" y=\"3\"/><text x=\"919\" y=\"38\">fault</text>\n",
+        b"<use xlink:href=\"#mark-begin\" x=\"690\" y=\"12\"/><text x=\"699\" y=\"38\">work begins</text>\n<use xlink:href=\"#mark-end\" x=\"778\" y=\"12\"/><text x=\"782\" y=\"38\">ends</text>\n<use xlink:href=\"#mark-event\" x=\"822\" y=\"3\"/><text x=\"829\" y=\"38\">event</text>\n<use xlink:href=\"#mark-fault\" x=\"874\" y=\"3\"/><text x=\"881\" y=\"38\">fault</text>\n<use xlink:href=\"#mark-hand\" x=\"920\" y=\"3\"/><text x=\"927\" y=\"38\">by hand</text>\n",
     )?;
     Ok(())
 }

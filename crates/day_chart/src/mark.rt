@@ -1,10 +1,11 @@
-//! A mark of the picture: a place that was entered, an event or a fault.
+//! A mark of the picture: a place that was entered, an event, a fault or an entry by hand.
 ghost use Rattle.std.specs.Prelude.{◌≡◌, ◌++◌, ◌<◌, OnOk};
 ghost use Rattle.day_chart.specs.Marks.{sign_name, mark_words, hex_digit, two_hex, code_text, mark_title, mark_text};
 ghost use Rattle.day_chart.specs.Marks.{day_mark_text, marks_text};
 
 use crate::bar::write_half;
 use crate::frame::write_number;
+use activity_codec::Activity;
 use day_totals::write_duration;
 use std::alloc::AllocError;
 
@@ -17,15 +18,17 @@ pub enum Sign {
     End,
     Event,
     Fault,
+    /// A driver has entered by hand what he did without his card.
+    ByHand(Activity),
 }
 
 /// A mark.
 #[derive(Clone, Copy, Debug, PartialEq, Eq)]
 pub struct Mark {
     pub sign: Sign,
-    /// Of a place its country, of an event or a fault its type.
+    /// Of a place its country, of an event or a fault its type, of an entry by hand 0.
     pub code: u8,
-    /// When the place was entered, or the event began.
+    /// When the place was entered, or the event or what was entered by hand began.
     pub second: u32,
 }
 
@@ -38,6 +41,7 @@ fn sign_name(sign: Sign) -> &'static [u8]
         Sign::End => b"end",
         Sign::Event => b"event",
         Sign::Fault => b"fault",
+        Sign::ByHand(_act) => b"hand",
     }
 }
 
@@ -50,6 +54,7 @@ fn mark_words(sign: Sign) -> &'static [u8]
         Sign::End => b" work period ends, country ",
         Sign::Event => b" event ",
         Sign::Fault => b" fault ",
+        Sign::ByHand(_act) => b" by hand ",
     }
 }
 
@@ -71,7 +76,7 @@ fn write_two_hex(text: &mut Vec<u8>, byte: u8) -> Result<(), AllocError>
 }
 
 /// Adds the code of a mark: of a place as a number, of an event or a fault as the regulation writes it, in two
-/// hexadecimal digits.
+/// hexadecimal digits; of an entry by hand the activity.
 fn write_code(text: &mut Vec<u8>, sign: Sign, code: u8) -> Result<(), AllocError>
     ensures { OnOk result (text.new.items ≡ text.old.items ++ code_text sign code) }
 {
@@ -80,6 +85,7 @@ fn write_code(text: &mut Vec<u8>, sign: Sign, code: u8) -> Result<(), AllocError
         Sign::End => write_number(text, code as u128),
         Sign::Event => write_two_hex(text, code),
         Sign::Fault => write_two_hex(text, code),
+        Sign::ByHand(act) => text.extend_from_slice(act.name()),
     }
 }
 

@@ -1,2 +1,3 @@
+pub mod HandMarks
 pub mod Shown
 pub mod Told

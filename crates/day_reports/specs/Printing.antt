@@ -1,12 +1,14 @@
 -- The totals and the picture of a file, of all its days or of the last so many (profile).
-use Rattle.std.specs.Prelude.{◌≡◌, ℕ, ◌/◌, Option, List, map}
+use Rattle.std.specs.Prelude.{◌≡◌, ℕ, ◌/◌, Option, List, ◌++◌, map}
 use Rattle.activity_codec.specs.declared.entries.Entry.{Entry}
+use Rattle.activity_codec.specs.declared.entries.Manual.{Manual}
 use Rattle.card_layout.specs.declared.files.Application.{Application}
 use Rattle.card_model.specs.Days.{Day}
 use Rattle.card_model.specs.Walk.{days_of}
 use Rattle.card_image.specs.CardFile.{FileEntry, IsCardFile, string_alone}
 use Rattle.unit_model.specs.Days.{UnitMinute}
 use Rattle.view_text.specs.Entries.{entry_shown}
+use Rattle.file_view.specs.ByHand.{ShowsByHand}
 use Rattle.file_view.specs.Histories.{minute_shown}
 use Rattle.file_view.specs.Showing.{ShowsCardFile}
 use Rattle.file_view.specs.UnitShowing.{ShowsUnitFile}
@@ -18,6 +20,7 @@ use Rattle.day_chart.specs.Chart.{IsUnitChart, IsCardChart}
 use Rattle.unit_marks.specs.Marks.{TellsMarks}
 use Rattle.unit_marks.specs.Entries.{TellsEntries}
 use Rattle.unit_marks.specs.Cards.{TellsCardEntries}
+use Rattle.day_reports.specs.Hands.{hand_marks}
 
 -- THE TOTALS of a unit file: of the minutes that its view shows, with its gaps and its distances
 pub record PrintsUnitTotals (last : Option ℕ) (bytes out : List ℕ) : Type 0 where
@@ -50,7 +53,7 @@ pub record PrintsCardTotals (last : Option ℕ) (bytes out : List ℕ) : Type 0 
   pub totals : IsCardTotals distances (map entry_shown entries) out
 
 -- THE PICTURE of a unit file, and of a card file: of the same minutes, with the totals as its text, and with the marks
--- of its places, events and faults
+-- of its places, events and faults, and of the entries by hand of a card
 pub record PrintsUnitChart (last : Option ℕ) (bytes out : List ℕ) : Type 0 where
   pub minutes : List UnitMinute
   pub gaps : List Gap
@@ -67,9 +70,11 @@ pub record PrintsCardChart (last : Option ℕ) (bytes out : List ℕ) : Type 0 w
   pub entries : List Entry
   pub distances : List Distance
   pub marks : List Mark
+  pub hands : List Manual
   pub text : List ℕ
   pub shows : ShowsCardFile last bytes entries
   pub tells : TellsDistances bytes distances
   pub marked : TellsCardEntries bytes marks
+  pub handed : ShowsByHand bytes hands
   pub totals : IsCardTotals distances (map entry_shown entries) text
-  pub chart : IsCardChart marks text (map entry_shown entries) out
+  pub chart : IsCardChart (marks ++ hand_marks hands) text (map entry_shown entries) out

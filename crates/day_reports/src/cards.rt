@@ -6,7 +6,8 @@ ghost use Rattle.file_view.specs.Showing.{ShowsCardFile};
 ghost use Rattle.day_reports.specs.Printing.{PrintsCardTotals, PrintsCardChart, TellsDistances};
 
 use crate::distances::card_distances;
-use file_view::{CardHistory, ViewFault, last_days, read_card_file};
+use crate::hands::add_hands;
+use file_view::{CardHistory, ViewFault, by_hand, last_days, read_card_file};
 use std::alloc::Global;
 use unit_marks::card_marks;
 
@@ -50,10 +51,15 @@ pub fn card_chart(alloc: Global, b: &[u8], last: Option<u32>) -> Result<Vec<u8>,
         Ok(distances) => distances,
         Err(fault) => return Err(fault),
     };
-    let marks = match card_marks(alloc, b) {
+    let mut marks = match card_marks(alloc, b) {
         Ok(marks) => marks,
         Err(fault) => return Err(fault),
     };
+    let entries = match by_hand(alloc, b) {
+        Ok(entries) => entries,
+        Err(fault) => return Err(fault),
+    };
+    add_hands(&mut marks, entries.as_slice())?;
     let lines = history.lines();
     let totals = day_totals::card_days_text(alloc, lines, distances.as_slice())?;
     let text = day_chart::card_chart(alloc, lines, marks.as_slice(), totals.as_slice())?;

@@ -3,6 +3,7 @@
 
 mod cards;
 mod distances;
+mod hands;
 mod units;
 
 pub use cards::{card_chart, card_totals};

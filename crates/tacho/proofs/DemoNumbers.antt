@@ -12,6 +12,7 @@ use Rattle.safety_model.specs.Recording.{Recording, history_of, lost_of, told_of
 use Rattle.safety_model.specs.Unit.{UnitSafe, issued_bytes}
 use Rattle.unit_rule.specs.OtherRows.{KeepsRows}
 use Rattle.safety_model.specs.Cards.{CardSafe}
+use Rattle.safety_model.specs.ByHand.{HandsSafe}
 use Rattle.safety_model.specs.Safe.{Devices, card_of, breakdowns_of, IsVerdict, WasFound}
 use Rattle.safety_model.specs.Side.{holder_of, notes_in, IsPrevious}
 use Rattle.unit_model.specs.Image.{recorded, last_kept}
@@ -70,6 +71,7 @@ module _ (x a b : List ℕ) (start : ℕ) (items : List Item) (out : Outcome) (p
         issued = subst (λ (n : ℕ). (y : List ℕ) → now.unit.left_since n y → issued_bytes y ≡ issued_bytes r.unit) unit h.ends.safe.issued;
         card = λ c. subst (λ (n : ℕ). CardSafe r c out.marks.items n (card_of now c)) (cards c) (h.ends.safe.card c);
         both = h.ends.safe.both;
+        hands = λ c. subst (λ (n : ℕ). HandsSafe r c out.marks.items n (card_of now c)) (cards c) (h.ends.safe.hands c);
       };
       caused = record {
         causes = subst (λ (m : Device → ℕ). Caused q.unit.clock (λ c. (card_of q c).clock) m) (λ i device. broken device i)
@@ -77,6 +79,8 @@ module _ (x a b : List ℕ) (start : ℕ) (items : List Item) (out : Outcome) (p
             (subst (λ (n : ℕ). Caused n (λ c. (card_of p c).clock) (breakdowns_of p)) unit h.ends.caused.causes));
         kept = λ br at. ⊎_elim (λ was_found. inl (subst (λ (n : ℕ). WasFound (now.unit.left_since n) br) unit was_found)) (λ none. inr none) (h.ends.caused.kept br at);
         complete = h.ends.caused.complete;
+        stops = h.ends.caused.stops;
+        each_stop = h.ends.caused.each_stop;
       };
       still = λ c none. h.ends.still c none ∙ broken (device_of c);
       brings = h.ends.brings;
@@ -93,6 +97,7 @@ module _ (x a b : List ℕ) (start : ℕ) (items : List Item) (out : Outcome) (p
     dense = h.dense;
     holders = λ c. subst (λ (n : ℕ). KeepsHolder r c n (card_of now c)) (cards c) (h.holders c);
     vehicles = λ c. subst (λ (n : ℕ). KeepsVehicles r c n (card_of now c)) (cards c) (h.vehicles c);
+    measures = h.measures;
     places = h.places;
     cards = λ c. subst (λ (n : ℕ). ShowsItsEvents r c n (card_of now c)) (cards c) (h.cards c);
     rows = subst (λ (n : ℕ). (y : List ℕ) → now.unit.left_since n y → KeepsRows r.unit r.card_a r.card_b y) unit h.rows;

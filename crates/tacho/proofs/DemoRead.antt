@@ -20,6 +20,7 @@ use Rattle.log_model.specs.Spans.{spans_of}
 use Rattle.safety_model.specs.Recording.{Recording, card_image, told_of, history_of, lost_of}
 use Rattle.safety_model.specs.Unit.{UnitSafe, UnitMarkHolds}
 use Rattle.safety_model.specs.Cards.{CardSafe, Agree}
+use Rattle.safety_model.specs.ByHand.{HandsSafe}
 use Rattle.safety_model.specs.Safe.{Devices, card_of, breakdowns_of, IsVerdict, WasFound}
 use Rattle.safety_model.specs.Side.{holder_of, notes_in, IsPrevious}
 use Rattle.run_promise.specs.Between.{devices}
@@ -177,6 +178,7 @@ module _ (U V : State) (is : IsRead U V) where
               issued = λ y left. h.ends.safe.issued y (back p.unit.clock y before left);
               card = λ c. cards c (h.ends.safe.card c);
               both = λ c u y valid. both-read c u y (h.ends.safe.both c u y valid);
+              hands = λ c. subst (λ (s : State). HandsSafe r c out.marks.items (card_of p c).clock s) (same-card c) (h.ends.safe.hands c);
             };
             caused = record {
               causes = record {
@@ -196,6 +198,8 @@ module _ (U V : State) (is : IsRead U V) where
               };
               kept = λ br at. ⊎_elim (λ was_found. inl (found-read br was_found)) (λ none. inr none) (h.ends.caused.kept br at);
               complete = h.ends.caused.complete;
+              stops = h.ends.caused.stops;
+              each_stop = h.ends.caused.each_stop;
             };
             still = λ c none. still-read c (h.ends.still c none);
             brings = h.ends.brings;
@@ -234,6 +238,7 @@ module _ (U V : State) (is : IsRead U V) where
           dense = record { insertions = λ dense y left. h.dense.insertions dense y (now-back y left); places = λ dense y left. h.dense.places dense y (now-back y left) };
           holders = λ c valid y left. h.holders c valid y (told-back c y left);
           vehicles = λ c valid y left. h.vehicles c valid y (told-back c y left);
+          measures = record { spans = h.measures.spans; are_spans = h.measures.are_spans; measures = λ c valid y left. h.measures.measures c valid y (card-back c y left) };
           places = record { spans = h.places.spans; are_spans = h.places.are_spans; shows = λ c valid y left. h.places.shows c valid y (card-back c y left) };
           cards = λ c. subst (λ (s : State). ShowsItsEvents r c (card_of p c).clock s) (same-card c) (h.cards c);
         }
@@ -248,4 +253,5 @@ anew-read x a b start items out old U V Y Z is h = record {
   unit_before = omega (arith, h.unit_before, is.clock);
   card_before = h.card_before;
   ends = ends-read U V is x a b start items out (began_at h.unit_clock h.card_clock old) Y Z h.unit_before h.ends;
+  writes = record { unit = (let most = h.writes.unit in omega (arith, most, is.clock)); card_a = h.writes.card_a; card_b = h.writes.card_b };
 }

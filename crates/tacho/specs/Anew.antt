@@ -1,7 +1,8 @@
 -- A run of a trace on a unit and a card that are made new before it (profile).
-use Rattle.std.specs.Prelude.{◌≡◌, ◌≤◌, ℕ, List, true, is_some}
+use Rattle.std.specs.Prelude.{◌≡◌, ◌≤◌, ℕ, List, true, is_some, length}
 use Rattle.tach_media.specs.Medium.{State, Rose}
 use Rattle.trace_model.specs.declared.Item.{Item}
+use Rattle.trace_model.specs.Trace.{total_seconds}
 use Rattle.unit_model.specs.NewImage.{new_image}
 use Rattle.unit_memory.specs.declared.format.Identity.{Identity}
 use Rattle.safety_model.specs.Safe.{Devices}
@@ -10,6 +11,7 @@ use Rattle.run_opening.specs.Opening.{faults_of}
 use Rattle.run_opening.specs.declared.fault.RunFault.TheVariants.{MediumFault, BadUnit, ClockBack, SameCard}
 use Rattle.run_outcome.specs.declared.outcome.Outcome.{Outcome}
 use Rattle.recorder_with_cards.specs.Ends.{EndsTrace}
+use Rattle.recorder_with_cards.specs.Writes.{WritesFor}
 use Rattle.tacho.specs.declared.anew.AnewFault.{AnewFault}
 use Rattle.tacho.specs.declared.anew.AnewFault.TheVariants.{Unmade, Kept}
 
@@ -36,7 +38,8 @@ pub record MayBeAnew (card_b : List ℕ) (old : Devices) : Type 0 where
   pub of_b : BeginsAs card_b old.card_b
 
 -- THE TRACE WAS RECORDED on a new unit, a new card a, and card b, with these images: once those were made, at these
--- clocks, all is recorded that a run promises.
+-- clocks, all is recorded that a run promises, and so many writes began at most, by the seconds of the trace and by its
+-- items.
 pub record EndsAnew (unit card_a card_b : List ℕ) (start : ℕ) (items : List Item) (out : Outcome)
     (old now : Devices) : Type 0 where
   pub unit_clock : ℕ
@@ -46,6 +49,7 @@ pub record EndsAnew (unit card_a card_b : List ℕ) (start : ℕ) (items : List 
   pub unit_before : unit_clock ≤ now.unit.clock
   pub card_before : card_clock ≤ now.card_a.clock
   pub ends : EndsTrace unit card_a card_b start items out (began_at unit_clock card_clock old) now
+  pub writes : WritesFor (total_seconds items) (length items) (began_at unit_clock card_clock old) now
 
 -- a device that is told to have failed has failed
 abbrev pub IsFailed : AnewFault → (old now : Devices) → Type 0

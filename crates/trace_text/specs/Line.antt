@@ -31,7 +31,7 @@ item_fields (Act (Place slot ending country region)) =
 item_fields (Act (Manual slot pick minute)) = codes "manual" ∷ slot_name slot ∷ pick_name pick ∷ decimal minute ∷ []
 
 -- the lines that a form knows behind `start`: the form of minutes `run` and `select`, that of the unit alone `off` too,
--- and the whole form all but `manual`, which no form knows: so it is a bad line in each trace
+-- and the whole form all
 abbrev pub knows : Form → Item → Bool
 knows Minutes (Run seconds speed) = true
 knows Minutes (Off seconds) = false
@@ -56,7 +56,7 @@ knows Whole (Act (Insert slot card)) = true
 knows Whole (Act (Withdraw slot)) = true
 knows Whole (Act (Tear slot)) = true
 knows Whole (Act (Place slot ending country region)) = true
-knows Whole (Act (Manual slot pick minute)) = false
+knows Whole (Act (Manual slot pick minute)) = true
 
 -- the seconds that a trace may begin with
 abbrev pub IsFirstSecond : ℕ → Type 0

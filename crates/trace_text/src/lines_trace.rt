@@ -14,7 +14,7 @@ pub enum Form {
     Minutes,
     /// What a run without cards can have: `run`, `off` and `select`.
     UnitAlone,
-    /// All that a run can have: `run`, `off` and all actions but `manual`, which no form has yet.
+    /// All that a run can have: `run`, `off` and all actions.
     Whole,
 }
 
@@ -25,7 +25,6 @@ impl Form {
     {
         match (self, item) {
             (Form::Whole, Item::Run { .. } | Item::Off { .. }) => true,
-            (Form::Whole, Item::Act(Action::Manual { .. })) => false,
             (Form::Whole, Item::Act(_)) => true,
             (Form::Minutes, Item::Run { .. } | Item::Act(Action::Select { .. })) => true,
             (Form::Minutes, Item::Off { .. } | Item::Act(_)) => false,

@@ -9,10 +9,12 @@ returns-clause-text c =
       entries = c.in-Ok.history;
       distances = c.in-Ok-card_distances.distances.items;
       marks = c.in-Ok-card_marks.marks.items;
+      hands = c.in-Ok-by_hand.entries.items;
       text = c.in_ok-totals.totals.items;
       shows = c.in-Ok.ensures.entries;
       tells = c.in-Ok-card_distances.ensures.distances;
       marked = c.in-Ok-card_marks.ensures.marks;
-      totals = rw (c.as_slice.ensures.value, shown) at c.in_ok-totals.ensures;
-      chart = rw (c.as_slice-2.ensures.value, c.as_slice-3.ensures.value, shown) at c.in_ok-text.ensures;
+      handed = c.in-Ok-by_hand.ensures.told;
+      totals = rw (c.as_slice-2.ensures.value, shown) at c.in_ok-totals.ensures;
+      chart = rw (c.as_slice-3.ensures.value, c.in_ok-add_hands.ensures, c.as_slice.ensures.value, c.as_slice-4.ensures.value, shown) at c.in_ok-text.ensures;
     }
