@@ -36,7 +36,7 @@ const PUT_IN: Item = Item::Run {
 #[test]
 fn each_kind_of_line_is_read(rt: HostRuntime) -> Result<(), Fail> {
     let text =
-        b"# a day\n\nstart 1267401600\nrun 3600 50\nselect codriver available\ninsert driver a\nwithdraw codriver\noff 60\ntear driver\nplace driver end 0 255";
+        b"# a day\n\nstart 1267401600\nrun 3600 50\nselect codriver available\ninsert driver a\nwithdraw codriver\noff 60\ntear driver\nplace driver end 0 255\nmanual codriver available 1439";
     let trace = match read(&rt, text, Form::Whole)? {
         Ok(trace) => trace,
         Err(fault) => return Err(Fail::from(fault)),
@@ -66,11 +66,16 @@ fn each_kind_of_line_is_read(rt: HostRuntime) -> Result<(), Fail> {
             country: 0,
             region: 255,
         }),
+        Item::Act(Action::Manual {
+            slot: Slot::CoDriver,
+            pick: Pick::Available,
+            minute: 1439,
+        }),
         PUT_IN,
     ];
     assert_eq!(rt; trace.start, 1267401600);
-    assert_eq!(rt; trace.items.len(), 9);
-    for i in 0..9 {
+    assert_eq!(rt; trace.items.len(), 10);
+    for i in 0..10 {
         assert_eq!(rt; *trace.items.get(i), items[i]);
     }
     Ok(())
@@ -78,7 +83,7 @@ fn each_kind_of_line_is_read(rt: HostRuntime) -> Result<(), Fail> {
 
 #[test]
 fn lines_that_are_none(rt: HostRuntime) -> Result<(), Fail> {
-    let bad: [&[u8]; 43] = [
+    let bad: [&[u8]; 42] = [
         b"start 86399",
         b"start 4294880896",
         b"start 086400",
@@ -110,7 +115,6 @@ fn lines_that_are_none(rt: HostRuntime) -> Result<(), Fail> {
         b"place driver begin 1",
         b"place driver begin 256 0",
         b"place driver begin 0 256",
-        b"manual driver work 300",
         b"manual driver work",
         b"manual driver work 1440",
         b"manual driver drive 300",
@@ -134,7 +138,7 @@ fn lines_that_are_none(rt: HostRuntime) -> Result<(), Fail> {
 #[test]
 fn each_form_has_its_lines(rt: HostRuntime) -> Result<(), Fail> {
     // each line behind `start`, whether it is one of the form of minutes, and of that of the unit alone
-    let lines: [(&[u8], bool, bool); 7] = [
+    let lines: [(&[u8], bool, bool); 8] = [
         (b"start 86400\nrun 1 0", true, true),
         (b"start 86400\nselect codriver work", true, true),
         (b"start 86400\noff 1", false, true),
@@ -142,6 +146,7 @@ fn each_form_has_its_lines(rt: HostRuntime) -> Result<(), Fail> {
         (b"start 86400\nwithdraw driver", false, false),
         (b"start 86400\ntear driver", false, false),
         (b"start 86400\nplace driver begin 1 1", false, false),
+        (b"start 86400\nmanual driver rest 0", false, false),
     ];
     for (text, of_minutes, of_unit) in lines {
         let minutes = fault_in(&rt, text, Form::Minutes)?;

@@ -16,6 +16,7 @@ use card_commands::read_sizes;
 use card_layout::{Application, LARGEST_IMAGE};
 use card_session::{CardSession, Kept};
 use device_calls::{NotEntered, begin, enter, keep_on_card, keep_on_unit, leave, mend};
+use hand_model::Held;
 use std::alloc::Global;
 use std::rt::HostRuntime;
 use std::test::Fail;
@@ -62,6 +63,7 @@ struct Drive {
     number: FullCardNumber,
     row: u32,
     session: CardSession,
+    held: Held,
     replayed: u8,
 }
 
@@ -206,6 +208,7 @@ fn put_in<M: Medium, C: Chip, D: Chip>(
         number,
         row,
         session: entered.session,
+        held: Held::new(second / 60),
         replayed: entered.replayed,
     })
 }
@@ -285,7 +288,18 @@ fn bring<M: Medium, C: Chip>(
     if kept.entry.minute <= drive.session.newest_minute() {
         return Err(Stopped);
     }
-    keep_on_card(unit, card, drive.app, &mut drive.session, Card::A, &kept)?;
+    let [] = drive.held.entries() else {
+        return Err(Stopped);
+    };
+    keep_on_card(
+        unit,
+        card,
+        drive.app,
+        &mut drive.session,
+        &mut drive.held,
+        Card::A,
+        &kept,
+    )?;
     Ok(())
 }
 

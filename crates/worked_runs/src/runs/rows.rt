@@ -445,6 +445,112 @@ fn what_is_refused(rt: HostRuntime) -> Result<(), Fail> {
     Ok(())
 }
 
+/// A card is put in at 06:00 of a day on which its driver has worked since 05:00, which is entered by hand; four
+/// minutes at rest.
+const BY_HAND: &[u8] = b"start 1267423200\ninsert driver a\nmanual driver work 300\nrun 240 0\n";
+
+/// The minute of its first second.
+const SIX: u32 = 21123720;
+
+/// It on new devices, and what the first card has of words.
+fn entered_by_hand(alloc: Global) -> Result<(Ran, bool), Fail> {
+    let mut d = new_devices(alloc, Stops::none(alloc))?;
+    let ran = d.run(alloc, BY_HAND)?;
+    let card = told_by_card(alloc, &mut d.card_a)?;
+    let by_card = card.last == SIX + 1
+        && card.words.as_slice() == [0x2000u16, 0x712C, 0x0168].as_slice();
+    Ok((ran, by_card))
+}
+
+/// The entry by hand stands before the session's first minute, and is no minute of the card.
+#[test]
+fn an_entry_by_hand(rt: HostRuntime) -> Result<(), Fail> {
+    let alloc = rt.alloc();
+    let (ran, by_card) = entered_by_hand(alloc)?;
+    assert!(rt; ran.has(2, 2));
+    assert_eq!(rt; (ran.breaks, ran.refused), (0, 0));
+    assert!(rt; by_card);
+    Ok(())
+}
+
+/// One that is not before the insertion is refused, with the newest minute of the card and the minute of the insertion.
+#[test]
+fn an_entry_by_hand_that_is_not_free(rt: HostRuntime) -> Result<(), Fail> {
+    let alloc = rt.alloc();
+    let text = b"start 1267423200\ninsert driver a\nmanual driver work 360\nrun 240 0\n";
+    let ran = run(alloc, text, Stops::none(alloc))?;
+    let refusal = Refused {
+        second: 1267423200,
+        fault: SlotFault::NotFree(0, SIX),
+        begun: 2,
+    };
+    assert!(rt; ran.has(2, 2) && ran.refused == 1);
+    assert_eq!(rt; ran.first_refusal, Some(refusal));
+    Ok(())
+}
+
+/// One that comes once the session has kept a minute is refused with that minute, and a ninth one with the number of
+/// those that are held.
+#[test]
+fn entries_by_hand_that_come_too_late_or_too_many(rt: HostRuntime) -> Result<(), Fail> {
+    let alloc = rt.alloc();
+    let late = b"start 1267423200\ninsert driver a\nrun 240 0\nmanual driver work 300\nrun 60 0\n";
+    let ran = run(alloc, late, Stops::none(alloc))?;
+    assert_eq!(rt;
+        ran.last_refusal.map(|r| r.fault),
+        Some(SlotFault::Begun(SIX))
+    );
+    let many =
+        b"start 1267423200\ninsert driver a\nmanual driver work 1\nmanual driver rest 2\nmanual driver work 3\nmanual driver rest 4\nmanual driver work 5\nmanual driver rest 6\nmanual driver work 7\nmanual driver rest 8\nmanual driver work 9\nrun 240 0\n";
+    let ran = run(alloc, many, Stops::none(alloc))?;
+    assert_eq!(rt; ran.last_refusal.map(|r| r.fault), Some(SlotFault::Full(8)));
+    assert!(rt; ran.has(2, 2) && ran.refused == 1);
+    Ok(())
+}
+
+/// Of a card that is pulled out before its first minute an entry by hand is lost: it has no day.
+#[test]
+fn a_tear_loses_an_entry_by_hand(rt: HostRuntime) -> Result<(), Fail> {
+    let alloc = rt.alloc();
+    let text =
+        b"start 1267423200\ninsert driver a\nmanual driver work 300\ntear driver\nrun 240 0\n";
+    let mut d = new_devices(alloc, Stops::none(alloc))?;
+    let ran = d.run(alloc, text)?;
+    let card = told_by_card(alloc, &mut d.card_a)?;
+    assert!(rt; ran.has(2, 0) && ran.breaks == 1);
+    assert!(rt; card.words.is_empty());
+    Ok(())
+}
+
+/// One at midnight begins its day alone.
+#[test]
+fn an_entry_by_hand_at_midnight(rt: HostRuntime) -> Result<(), Fail> {
+    let alloc = rt.alloc();
+    let text = b"start 1267423200\ninsert driver a\nmanual driver rest 0\nrun 240 0\n";
+    let mut d = new_devices(alloc, Stops::none(alloc))?;
+    let ran = d.run(alloc, text)?;
+    let card = told_by_card(alloc, &mut d.card_a)?;
+    assert!(rt; ran.has(2, 2));
+    assert!(rt; card.words.as_slice() == [0x6000u16, 0x0168].as_slice());
+    Ok(())
+}
+
+/// Power is gone and back within the last minute of a day, so the first minute of the card's session is that of the
+/// next midnight: an entry by hand of the day before is given up.
+#[test]
+fn an_entry_by_hand_of_the_day_before_is_given_up(rt: HostRuntime) -> Result<(), Fail> {
+    let alloc = rt.alloc();
+    let text =
+        b"start 1267487940\ninsert driver a\nrun 10 0\noff 20\nmanual driver work 1400\nrun 270 0\n";
+    let mut d = new_devices(alloc, Stops::none(alloc))?;
+    let ran = d.run(alloc, text)?;
+    let card = told_by_card(alloc, &mut d.card_a)?;
+    assert!(rt; ran.has(3, 2));
+    assert_eq!(rt; (ran.breaks, ran.refused), (1, 0));
+    assert!(rt; card.words.as_slice() == [0u16].as_slice());
+    Ok(())
+}
+
 /// Ten minutes of a drive with one card, with two, and a minute more of each.
 const TEN: &[u8] = b"start 1267401600\ninsert driver a\nrun 600 50\n";
 
