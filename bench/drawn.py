@@ -50,6 +50,12 @@ def drawn_card(file):
     return made
 
 
+def by_hand(slot):
+    """What the driver of a slot enters by hand, at rising minutes; those that are not free are refused."""
+    minutes = sorted(random.sample(range(1440), random.choice([0, 0, 1, 3, 9])))
+    return [f"manual {slot} {random.choice(['rest', 'available', 'work'])} {minute}" for minute in minutes]
+
+
 def drawn_trace():
     """The trace of some days of two drivers."""
     lines, slots, free = [f"start {FIRST + 60 * random.randrange(DAY)}"], {"driver": None, "codriver": None}, ["a", "b"]
@@ -59,6 +65,7 @@ def drawn_trace():
         if act < 2 and not slots[slot] and free:
             slots[slot] = free.pop(random.randrange(len(free)))
             lines.append(f"insert {slot} {slots[slot]}")
+            lines += by_hand(slot)
             lines.append("run 1 0")
         elif act == 2 and slots[slot]:
             free.append(slots[slot])
