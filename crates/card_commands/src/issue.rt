@@ -1,4 +1,4 @@
-ghost use Rattle.std.specs.Prelude.{◌≡◌, ◌≤◌, ◌<◌, length, option_map, OnOk, is_err};
+ghost use Rattle.std.specs.Prelude.{◌≡◌, ◌≤◌, ◌<◌, ◌+◌, ◌/◌, length, option_map, OnOk, is_err};
 ghost use Rattle.tach_media.specs.Medium.{LiesInside, LeavesOnly, IsSettled, HasCause, Rose, put, last_count};
 ghost use Rattle.card_layout.specs.Issue.{IsIssued};
 
@@ -20,6 +20,7 @@ pub fn issue<M: Medium>(medium: &mut M, image: &[u8]) -> Result<(), Failed>
     ensures settled { OnOk result ((M.state medium.new).clock < last_count → IsSettled (M.state medium.new)) }
     ensures clock { OnOk result (Rose (M.state medium.old).clock (M.state medium.new).clock) }
     ensures cause { HasCause (M.state medium.old) (M.state medium.new) (is_err result) }
+    ensures few { (M.state medium.new).clock ≤ (M.state medium.old).clock + (4 + length image.now / 255) }
 {
     let front = &image[..33];
     let card_type = &image[33..34];

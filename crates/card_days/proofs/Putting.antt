@@ -18,6 +18,7 @@ idle_cause {old} {mid} {new} {failed} idle next = record {
   breaks = λ was f. omega (arith, idle.breakdowns, next.breaks (idle.works ∙ was) f);
   unbroken = λ f. next.unbroken f ∙ idle.breakdowns;
   already = λ was. next.already (idle.works ∙ was) ∙ idle.breakdowns;
+  once = λ low. let few = next.once low in omega (arith, idle.breakdowns, few);
 }
 
 idle_settled : {old mid : State} → IsIdle old mid → IsSettled old → IsSettled mid
@@ -59,6 +60,7 @@ looks_then (inl first) (inr idle) = inl (record {
     breaks = λ was f. absurd (cc);
     unbroken = λ f. idle.breakdowns ∙ first.cause.unbroken f;
     already = λ was. idle.breakdowns ∙ first.cause.already was;
+    once = λ low. let same = first.cause.unbroken refl in omega (arith, idle.breakdowns, same);
   };
 })
 looks_then (inr idle) (inl next) = inl (record { same = λ fine. next.same fine ∙ idle.image; leaves = goes_same idle.leaves next.leaves; clock = next.clock ∙ idle.clock; cause = idle_cause idle next.cause })

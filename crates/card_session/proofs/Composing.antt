@@ -30,6 +30,7 @@ idle_cause {old} {mid} {new} {failed} idle next = record {
   breaks = λ was f. omega (arith, idle.breakdowns, next.breaks (idle.works ∙ was) f);
   unbroken = λ f. next.unbroken f ∙ idle.breakdowns;
   already = λ was. next.already (idle.works ∙ was) ∙ idle.breakdowns;
+  once = λ low. let few = next.once low in omega (arith, idle.breakdowns, few);
 }
 
 cause_idle : {old mid new : State} → HasCause old mid false → IsIdle mid new → HasCause old new false
@@ -42,6 +43,7 @@ cause_idle {old} {mid} {new} first idle = record {
   breaks = λ was f. absurd (cc);
   unbroken = λ f. idle.breakdowns ∙ first.unbroken f;
   already = λ was. idle.breakdowns ∙ first.already was;
+  once = λ low. let same = first.unbroken refl in omega (arith, idle.breakdowns, same);
 }
 
 idle_then : {old mid new : State} → IsIdle old mid → IsIdle mid new → IsIdle old new

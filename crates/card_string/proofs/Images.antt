@@ -1,9 +1,10 @@
 -- Each image of a card since the start of a run, over a call on it.
 use Rattle.std.proofs.Common.{◌≡◌, ◌≢◌, inl, inr, ⊎_elim, ℕ, ◌<◌, ◌≤◌, Bool, false, cond, filter, Some, List, [], ◌∷◌, ◌++◌, append_assoc, length, refl, sym, ◌∙◌, ap, subst, arith}
-use Rattle.std.specs.Prelude.{Contains, nat_le}
+use Rattle.std.specs.Prelude.{Contains, nat_le, max}
+use Rattle.card_retention.specs.Entries.{newest_word}
 use Rattle.std.proofs.lemmas.Bool.Decides.{nat_tests}
 use Rattle.std.proofs.lemmas.List.{append-nil}
-use Rattle.std.proofs.lemmas.List.Elements.{filter-append, Contains-append_right}
+use Rattle.std.proofs.lemmas.List.Elements.{filter-append, Contains-append_left, Contains-append_right}
 use Rattle.activity_codec.specs.declared.entries.Entry.{Entry}
 use Rattle.activity_codec.specs.declared.entries.Manual.{Manual}
 use Rattle.activity_codec.specs.declared.values.Activity.{Activity}
@@ -19,11 +20,11 @@ use Rattle.card_image.specs.Fields.{card_days, end_mark, session_time}
 use Rattle.card_image.specs.Judging.{IsValid}
 use Rattle.card_image.specs.Own.{own_sizes, own_view, KeepsOf}
 use Rattle.card_retention.specs.ByHand.{hands_in}
-use Rattle.hand_model.specs.AtStart.{HasDayOf, hands_at}
+use Rattle.hand_model.specs.AtStart.{HasDayOf, hands_at, marked_at, all_at, AreFirst, StaysTold}
 use Rattle.hand_model.specs.ByHand.{by_hand_in, by_hand_up_to}
 use Rattle.hand_model.specs.Written.{Hands, IsPartOf, entries_of, hands_of, and_sure, and_given}
 use Rattle.hand_model.proofs.Contained.{part_contains, in_contains}
-use Rattle.hand_model.proofs.Cuts.{part_first}
+use Rattle.hand_model.proofs.Cuts.{part_first, part_marks}
 use Rattle.hand_model.proofs.Written.{part_both, part_in, part_self, part_then, part_wider}
 use Rattle.card_image.specs.View.{card_view}
 use Rattle.card_session.specs.Sessions.{Session, IsSession}
@@ -34,7 +35,7 @@ use Rattle.card_session.specs.Repairs.{first_minute, newest_behind, lacked_by}
 use Rattle.card_session.proofs.InsertingAgain.{ended_keeps, inserting_keeps}
 use Rattle.card_session.proofs.InsertingUse.{use_inside}
 use Rattle.card_session.proofs.Marks.{sizes_still}
-use Rattle.card_string.specs.Since.{all_since, TellsSince, HoldsSince, SitsSince, IsReadySince}
+use Rattle.card_string.specs.Since.{all_since, last_of, TellsSince, HoldsSince, SitsSince, IsReadySince}
 use Rattle.card_string.specs.Each.{EachHolds, LeavesString}
 use Rattle.card_string.proofs.Since.{beside_holds, given_holds, later_holds, brought_holds}
 use Rattle.card_string.proofs.Kept.{holds_kept, keeps_more}
@@ -70,6 +71,47 @@ holds_part app image h brought next x k =
     (part_then (hands_in (sizes (card_days app x)) (t.first ++ hands_of k.written)) (t.first ++ hands_of k.written) (hands_at image ++ h.given) (part_in (sizes (card_days app x)) (t.first ++ hands_of k.written))
     (part_both t.first (hands_at image) (hands_of k.written) h.given (part_first image t.first t.are) k.lie.only))
 
+-- what a card tells by all of its words
+own_all_told : (x : List ℕ) → all_at x ≡ by_hand_up_to (last_of (own_sizes x) x) (card_days (own_sizes x) x)
+unfolding own_view card_view
+own_all_told x = refl
+
+all_told : (app : Application) (x : List ℕ) → own_sizes x ≡ app → all_at x ≡ by_hand_up_to (last_of app x) (card_days app x)
+all_told app x same = subst (λ (a : Application). all_at x ≡ by_hand_up_to (last_of a x) (card_days a x)) same (own_all_told x)
+
+-- a card whose session was broken off has one
+own_session_told : (x : List ℕ) → (own_view x).session ≡ session_time (own_sizes x) x
+unfolding own_view card_view
+own_session_told x = refl
+
+session_told : (app : Application) (x : List ℕ) → own_sizes x ≡ app → (own_view x).session ≡ session_time app x
+session_told app x same = subst (λ (a : Application). (own_view x).session ≡ session_time a x) same (own_session_told x)
+
+-- where no session is open it is some of those that it may tell, too
+pub holds_all : (app : Application) (image : List ℕ) (h : Hands) (brought : List Entry) (next : ℕ) (x : List ℕ) → own_sizes x ≡ app → HoldsSince app image h brought next x → (own_view x).session ≡ 0 → IsPartOf (all_at x) (hands_at image ++ h.given)
+holds_all app image h brought next x same k none = ⊎_elim
+    (λ goes.
+    let t = goes.hands in
+    subst (λ (l : List Manual). IsPartOf l (hands_at image ++ h.given)) (sym (all_told app x same ∙ t.told))
+    (part_then (hands_in (sizes (card_days app x)) (t.first ++ hands_of k.written)) (t.first ++ hands_of k.written) (hands_at image ++ h.given) (part_in (sizes (card_days app x)) (t.first ++ hands_of k.written))
+    (part_both t.first (hands_at image) (hands_of k.written) h.given (part_first image t.first t.are) k.lie.only)))
+    (λ broke. absurd (let open_ = broke.session in let is = session_told app x same in omega (arith, open_, is, none)))
+    k.stands
+
+-- those of the start are among the first ones
+first_marked : (image : List ℕ) (first : List Manual) (e : Manual) → AreFirst image first → Contains (marked_at image) e → Contains first e
+first_marked image first e (inl is) marked = subst (λ (l : List Manual). Contains l e) (sym is) marked
+first_marked image first e (inr whole) marked =
+    subst (λ (l : List Manual). Contains l e) (sym whole.1)
+    (part_contains (marked_at image) (all_at image) e (part_marks (own_view image).mark (max (own_view image).mark (newest_word (card_days (own_sizes image) image))) (card_days (own_sizes image) image) (omega arith)) marked)
+
+-- so each of them stays, where its day is there
+pub holds_stay : (app : Application) (image : List ℕ) (h : Hands) (brought : List Entry) (next : ℕ) (x : List ℕ) → HoldsSince app image h brought next x → StaysTold image app x
+holds_stay app image h brought next x k e marked day =
+    let t = since_marked app image h brought next x k in
+    subst (λ (l : List Manual). Contains l e) (sym (hands_told app x ∙ t.told))
+    (in_contains (sizes (card_days app x)) (t.first ++ hands_of k.written) e day (Contains-append_left t.first (hands_of k.written) e (first_marked image t.first e t.are marked)))
+
 -- and each that is sure, where its day is there
 pub holds_sure : (app : Application) (image : List ℕ) (h : Hands) (brought : List Entry) (next : ℕ) (x : List ℕ) (e : Manual) → HoldsSince app image h brought next x → Contains h.sure e → HasDayOf e.minute app x → Contains (by_hand_in app x) e
 holds_sure app image h brought next x e k sure day =
@@ -92,6 +134,12 @@ module _ (app : Application) (sound : IsApplication app) (image : List ℕ) (sta
     told = λ y left. ⊎_elim
         (λ still. subst (λ (l : List Manual). IsPartOf (by_hand_in app y) l) (append_assoc (hands_at image) h.given hands) (part_wider (by_hand_in app y) (hands_at image ++ h.given) hands (each.told y still)))
         (λ one. holds_part app image (and_given hands h) brought next y (made one.0 y one.1 one.2).1) (leaves.since began y began_before left);
+    behind = λ y left none. ⊎_elim
+        (λ still. subst (λ (l : List Manual). IsPartOf (all_at y) l) (append_assoc (hands_at image) h.given hands) (part_wider (all_at y) (hands_at image ++ h.given) hands (each.behind y still none)))
+        (λ one. let is = made one.0 y one.1 one.2 in holds_all app image (and_given hands h) brought next y is.0 is.1 none) (leaves.since began y began_before left);
+    stay = λ y left. ⊎_elim
+        (λ still. each.stay y still)
+        (λ one. holds_stay app image (and_given hands h) brought next y (made one.0 y one.1 one.2).1) (leaves.since began y began_before left);
   }
 
   pub each_on : (R : List ℕ → List ℕ → Type 0) (old new : State) → began ≤ old.clock → LeavesOnly old new R
@@ -106,6 +154,12 @@ module _ (app : Application) (sound : IsApplication app) (image : List ℕ) (sta
     told = λ y left. ⊎_elim
         (λ still. each.told y still)
         (λ one. holds_part app image h brought next y (made one.0 y one.1 one.2).1) (leaves.since began y began_before left);
+    behind = λ y left none. ⊎_elim
+        (λ still. each.behind y still none)
+        (λ one. let is = made one.0 y one.1 one.2 in holds_all app image h brought next y is.0 is.1 none) (leaves.since began y began_before left);
+    stay = λ y left. ⊎_elim
+        (λ still. each.stay y still)
+        (λ one. holds_stay app image h brought next y (made one.0 y one.1 one.2).1) (leaves.since began y began_before left);
   }
 
   module _ (old new : State) (whole : IsCoherent old) (began_before : began ≤ old.clock) (each : EachHolds app image h brought n began old) where
@@ -205,6 +259,8 @@ each_sure app image h hands brought next began card each sits = record {
   now = λ x may. ((each.now x may).0, sits_holds app image (and_sure hands h) brought next x (sits x may));
   since = each.since;
   told = each.told;
+  behind = each.behind;
+  stay = each.stay;
 }
 
 -- ---- further entries
@@ -228,4 +284,6 @@ module _ (app : Application) (image : List ℕ) (brought es : List Entry) (m n n
         sym (filter-append (λ (e : Entry). nat_le e.minute (own_view x).mark) brought es ∙ ap (λ (l : List Entry). filter (λ (e : Entry). nat_le e.minute (own_view x).mark) brought ++ l) (none_up (own_view x).mark (own_view x).mark (omega arith) es (late x left)) ∙ append-nil _) in
         (is.0, subst (λ (l : List Entry). KeepsOf image h.given (all_since image l) (own_view x).held) same is.1);
     told = each.told;
+    behind = each.behind;
+    stay = each.stay;
   }

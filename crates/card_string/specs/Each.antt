@@ -6,7 +6,7 @@ use Rattle.tach_media.specs.Medium.{State}
 use Rattle.card_layout.specs.declared.files.Application.{Application}
 use Rattle.card_image.specs.Fields.{session_time}
 use Rattle.hand_model.specs.ByHand.{by_hand_in}
-use Rattle.hand_model.specs.AtStart.{hands_at}
+use Rattle.hand_model.specs.AtStart.{all_at, hands_at, StaysTold}
 use Rattle.hand_model.specs.Written.{Hands, IsPartOf}
 use Rattle.card_image.specs.Own.{own_sizes, own_view, KeepsOf}
 use Rattle.card_session.specs.Sessions.{book_of}
@@ -25,6 +25,11 @@ pub record EachHolds (app : Application) (image : List ℕ) (hands : Hands) (bro
   pub since : (x : List ℕ) → card.left_since began x → (own_sizes x ≡ app) × KeepsSince image hands.given brought x
   -- what may be told of entries by hand
   pub told : (x : List ℕ) → card.left_since began x → IsPartOf (by_hand_in app x) (hands_at image ++ hands.given)
+  -- also behind the end mark, where no session is open
+  pub behind : (x : List ℕ) → card.left_since began x → (own_view x).session ≡ 0
+      → IsPartOf (all_at x) (hands_at image ++ hands.given)
+  -- and what stays told of them
+  pub stay : (x : List ℕ) → card.left_since began x → StaysTold image app x
 
 -- a write beside them leaves the sizes, the days with the vehicle entries, and the session time
 pub record LeavesString (app : Application) (x y : List ℕ) : Type 0 where

@@ -10,6 +10,16 @@ use tacho_types::FullCardNumber;
 use trace_model::Card;
 use unit_minutes::Journal;
 
+/// A row of the unit that is to be begun: of which number, from which session on, at which index, and the number whose
+/// row stays.
+#[derive(Clone, Copy)]
+pub struct NewRow {
+    pub number: FullCardNumber,
+    pub session: u32,
+    pub index: u32,
+    pub spared: Option<FullCardNumber>,
+}
+
 /// Begins the row of a card that was inserted, whose session began then. The row of the number that is spared stays:
 /// the other card's, where that has one. It is the row which `enter` told, and nothing is read.
 ///
@@ -22,26 +32,23 @@ pub fn begin<M: Medium, C: Chip, D: Chip>(
     mine: &C,
     others: &D,
     which: Card,
-    number: &FullCardNumber,
-    session: u32,
-    row: u32,
-    spared: Option<&FullCardNumber>,
+    row: NewRow,
 ) -> Result<(), Failed>
     requires ready { UnitIsReady journal.old (M.state unit.old) }
-    requires session { 0 < session }
-    requires low { row < 8 }
+    requires session { 0 < row.session }
+    requires low { row.index < 8 }
     requires row { IfSome (M.state unit.old).image
-        (IsRowFor row (card_number_bytes number.now) (option_map (λ s. card_number_bytes s.now) spared)) }
-    ensures stands { UnitStandsBegun result (card_number_bytes number.now) row
-        (option_map (λ s. card_number_bytes s.now) spared.entry) journal.old journal.new (M.state unit.old)
+        (IsRowFor row.index (card_number_bytes row.number) (option_map (λ n. card_number_bytes n) row.spared)) }
+    ensures stands { UnitStandsBegun result (card_number_bytes row.number) row.index
+        (option_map (λ n. card_number_bytes n) row.spared) journal.old journal.new (M.state unit.old)
         (M.state unit.new) }
-    ensures rules { RulesBegun which result (card_number_bytes number.now) session
-        (option_map (λ s. card_number_bytes s.now) spared.entry) (M.state unit.old) (M.state unit.new)
+    ensures rules { RulesBegun which result (card_number_bytes row.number) row.session
+        (option_map (λ n. card_number_bytes n) row.spared) (M.state unit.old) (M.state unit.new)
         (C.state mine.now) (D.state others.now) }
-    ensures leaves { LeavesBegun which result (card_number_bytes number.now) session
-        (option_map (λ s. card_number_bytes s.now) spared.entry) (M.state unit.old) (M.state unit.new) }
+    ensures leaves { LeavesBegun which result (card_number_bytes row.number) row.session
+        (option_map (λ n. card_number_bytes n) row.spared) (M.state unit.old) (M.state unit.new) }
     ensures goes { UnitAnswers (is_err result) (M.state unit.old) (M.state unit.new) }
     ensures most { (M.state unit.new).clock ≤ (M.state unit.old).clock + 7 }
 {
-    journal.begin_owed_at(unit, row, number, session)
+    journal.begin_owed_at(unit, row.index, &row.number, row.session)
 }

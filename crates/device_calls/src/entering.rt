@@ -37,6 +37,17 @@ pub struct Entered {
     pub row: u32,
 }
 
+/// How a card is put in: its sizes, when, into which vehicle and at which odometer, and the number whose row of the
+/// unit stays: the other card's, where that has one.
+#[derive(Clone, Copy)]
+pub struct CardInsertion {
+    pub app: Application,
+    pub time: TimeReal,
+    pub registration: Registration,
+    pub odometer: Odometer,
+    pub spared: Option<FullCardNumber>,
+}
+
 /// Why a card that was put in is not accepted.
 #[derive(Clone, Copy, Debug, PartialEq, Eq)]
 pub enum NotEntered {
@@ -64,29 +75,34 @@ fn refused_by(fault: InsertFault) -> NotEntered
 // A card that told this gets the entries that it is owed, and a session.
 fn insert_by<C: Medium>(
     card: &mut C,
-    app: &Application,
-    now: TimeReal,
-    registration: &Registration,
-    odometer: Odometer,
+    insertion: CardInsertion,
     look: CardLook,
     owed: Owed,
     row: u32,
 ) -> Result<Entered, NotEntered>
-    requires sizes { IsApplication app.now }
-    requires card { MayInsert app.now (C.state card.old) }
-    requires told { IfSome (C.state card.old).image (TellsSizes app.now) }
-    requires some { 1 ≤ now.0 }
-    requires last { now.0 / 60 < LATEST_MINUTE }
-    requires fits { odometer.0 < 2 ^ 24 }
-    requires owed { AreOwed now.0 owed.items }
-    ensures inserted { IsInsertedWith app.now registration.now odometer.0 now.0 owed.items look (C.state card.old)
+    requires sizes { IsApplication insertion.app }
+    requires card { MayInsert insertion.app (C.state card.old) }
+    requires told { IfSome (C.state card.old).image (TellsSizes insertion.app) }
+    requires some { 1 ≤ insertion.time.0 }
+    requires last { insertion.time.0 / 60 < LATEST_MINUTE }
+    requires fits { insertion.odometer.0 < 2 ^ 24 }
+    requires owed { AreOwed insertion.time.0 owed.items }
+    ensures inserted { IsInsertedWith insertion.app insertion.registration insertion.odometer.0 insertion.time.0
+        owed.items look (C.state card.old)
         (C.state card.new) result }
     ensures row { IfOk result (λ e. e.row ≡ row) }
     ensures leaves { LeavesOnly (C.state card.old) (C.state card.new) Anything }
-    ensures in_time { IsInTime app.now now.0 (C.state card.old) (C.state card.new) }
+    ensures in_time { IsInTime insertion.app insertion.time.0 (C.state card.old) (C.state card.new) }
     ensures most { (C.state card.new).clock ≤ (C.state card.old).clock + (DAYS_MOST + 84) }
 {
-    match CardSession::insert(card, app, now, registration, odometer, &owed) {
+    match CardSession::insert(
+        card,
+        &insertion.app,
+        insertion.time,
+        &insertion.registration,
+        insertion.odometer,
+        &owed,
+    ) {
         Ok(inserted) => Ok(Entered {
             look,
             owed,
@@ -103,40 +119,34 @@ fn enter_as<M: Medium, C: Medium>(
     unit: &mut M,
     journal: &Journal,
     card: &mut C,
-    app: &Application,
-    now: TimeReal,
-    registration: &Registration,
-    odometer: Odometer,
+    insertion: CardInsertion,
     look: CardLook,
-    spared: Option<&FullCardNumber>,
 ) -> Result<Entered, NotEntered>
     requires ready { UnitIsReady journal.now (M.state unit.old) }
-    requires sizes { IsApplication app.now }
-    requires card { MayInsert app.now (C.state card.old) }
-    requires told { IfSome (C.state card.old).image (TellsSizes app.now) }
-    requires looked { IfSome (C.state card.old).image (λ x. IsLook app.now x look) }
+    requires sizes { IsApplication insertion.app }
+    requires card { MayInsert insertion.app (C.state card.old) }
+    requires told { IfSome (C.state card.old).image (TellsSizes insertion.app) }
+    requires looked { IfSome (C.state card.old).image (λ x. IsLook insertion.app x look) }
     requires works { (C.state card.old).works ≡ true }
-    requires may { MayEnter now.0 odometer.0 journal.now }
-    ensures enters { IsEntering app.now registration.now odometer.0 now.0 (M.state unit.old) (M.state unit.new)
+    requires may { MayEnter insertion.time.0 insertion.odometer.0 journal.now }
+    ensures enters { IsEntering insertion.app insertion.registration insertion.odometer.0 insertion.time.0
+        (M.state unit.old) (M.state unit.new)
         (C.state card.old) (C.state card.new) result }
     ensures row { IfOk result (λ e. IfSome (M.state unit.old).image (IsRowFor e.row (card_number_bytes e.look.number)
-        (option_map (λ s. card_number_bytes s.now) spared.entry))) }
+        (option_map (λ n. card_number_bytes n) insertion.spared))) }
     ensures low { IfOk result (λ e. e.row < 8) }
     ensures leaves { LeavesOnly (C.state card.old) (C.state card.new) Anything }
-    ensures in_time { IsInTime app.now now.0 (C.state card.old) (C.state card.new) }
+    ensures in_time { IsInTime insertion.app insertion.time.0 (C.state card.old) (C.state card.new) }
     ensures most { (C.state card.new).clock ≤ (C.state card.old).clock + (DAYS_MOST + 84) }
 {
-    match journal.ask(unit, &look.number, look.session, look.newest_minute, spared) {
-        Ok(asked) => insert_by(
-            card,
-            app,
-            now,
-            registration,
-            odometer,
-            look,
-            asked.owed,
-            asked.row,
-        ),
+    match journal.ask(
+        unit,
+        &look.number,
+        look.session,
+        look.newest_minute,
+        insertion.spared.as_ref(),
+    ) {
+        Ok(asked) => insert_by(card, insertion, look, asked.owed, asked.row),
         Err(Failed) => Err(NotEntered::UnitFailed),
     }
 }
@@ -146,38 +156,25 @@ fn enter_by<M: Medium, C: Medium>(
     unit: &mut M,
     journal: &Journal,
     card: &mut C,
-    app: &Application,
-    now: TimeReal,
-    registration: &Registration,
-    odometer: Odometer,
-    spared: Option<&FullCardNumber>,
+    insertion: CardInsertion,
 ) -> Result<Entered, NotEntered>
     requires ready { UnitIsReady journal.now (M.state unit.old) }
-    requires sizes { IsApplication app.now }
-    requires card { MayInsert app.now (C.state card.old) }
-    requires told { IfSome (C.state card.old).image (TellsSizes app.now) }
-    requires may { MayEnter now.0 odometer.0 journal.now }
-    ensures enters { IsEntering app.now registration.now odometer.0 now.0 (M.state unit.old) (M.state unit.new)
+    requires sizes { IsApplication insertion.app }
+    requires card { MayInsert insertion.app (C.state card.old) }
+    requires told { IfSome (C.state card.old).image (TellsSizes insertion.app) }
+    requires may { MayEnter insertion.time.0 insertion.odometer.0 journal.now }
+    ensures enters { IsEntering insertion.app insertion.registration insertion.odometer.0 insertion.time.0
+        (M.state unit.old) (M.state unit.new)
         (C.state card.old) (C.state card.new) result }
     ensures row { IfOk result (λ e. IfSome (M.state unit.old).image (IsRowFor e.row (card_number_bytes e.look.number)
-        (option_map (λ s. card_number_bytes s.now) spared.entry))) }
+        (option_map (λ n. card_number_bytes n) insertion.spared))) }
     ensures low { IfOk result (λ e. e.row < 8) }
     ensures leaves { LeavesOnly (C.state card.old) (C.state card.new) Anything }
-    ensures in_time { IsInTime app.now now.0 (C.state card.old) (C.state card.new) }
+    ensures in_time { IsInTime insertion.app insertion.time.0 (C.state card.old) (C.state card.new) }
     ensures most { (C.state card.new).clock ≤ (C.state card.old).clock + (DAYS_MOST + 84) }
 {
-    match look(card, app) {
-        Ok(look) => enter_as(
-            unit,
-            journal,
-            card,
-            app,
-            now,
-            registration,
-            odometer,
-            look,
-            spared,
-        ),
+    match look(card, &insertion.app) {
+        Ok(look) => enter_as(unit, journal, card, insertion, look),
         Err(fault) => Err(refused_by(fault)),
     }
 }
@@ -205,36 +202,26 @@ pub fn enter<M: Medium, C: Chip, D: Chip>(
     card: &mut C,
     others: &D,
     which: Card,
-    app: Application,
-    now: TimeReal,
-    registration: &Registration,
-    odometer: Odometer,
-    spared: Option<&FullCardNumber>,
+    insertion: CardInsertion,
 ) -> Result<Entered, NotEntered>
     requires ready { UnitIsReady journal.now (M.state unit.old) }
-    requires port { IsPort app None (C.card card.old) (C.state card.old) }
-    requires told { IfSome (C.state card.old).image (TellsSizes app) }
-    requires may { MayEnter now.0 odometer.0 journal.now }
-    ensures enters { IsEntering app registration.now odometer.0 now.0 (M.state unit.old) (M.state unit.new)
+    requires port { IsPort insertion.app None (C.card card.old) (C.state card.old) }
+    requires told { IfSome (C.state card.old).image (TellsSizes insertion.app) }
+    requires may { MayEnter insertion.time.0 insertion.odometer.0 journal.now }
+    ensures enters { IsEntering insertion.app insertion.registration insertion.odometer.0 insertion.time.0
+        (M.state unit.old) (M.state unit.new)
         (C.state card.old) (C.state card.new) result }
-    ensures row { IsRowTold result (option_map (λ s. card_number_bytes s.now) spared.entry) (M.state unit.old) }
-    ensures rules { RulesEntering which app now.0 result (M.state unit.old) (M.state unit.new) (C.state card.old)
+    ensures row { IsRowTold result (option_map (λ n. card_number_bytes n) insertion.spared) (M.state unit.old) }
+    ensures rules { RulesEntering which insertion.app insertion.time.0 result (M.state unit.old) (M.state unit.new)
+        (C.state card.old)
         (C.state card.new) (D.state others.now) }
     ensures stands { UnitStandsAsked journal.now result (M.state unit.new) }
-    ensures card { CardStandsPutIn app now.0 (C.state card.old) (C.state card.new) (C.card card.new) }
-    ensures long { length registration.now.0 ≡ 15 }
+    ensures card { CardStandsPutIn insertion.app insertion.time.0 (C.state card.old) (C.state card.new)
+        (C.card card.new) }
+    ensures long { length insertion.registration.0 ≡ 15 }
     ensures most { (C.state card.new).clock ≤ (C.state card.old).clock + (DAYS_MOST + 84) }
 {
-    let _bytes = length_of(registration);
-    let mut port = Port::resume(&mut *card, app);
-    enter_by(
-        unit,
-        journal,
-        &mut port,
-        &app,
-        now,
-        registration,
-        odometer,
-        spared,
-    )
+    let _bytes = length_of(&insertion.registration);
+    let mut port = Port::resume(&mut *card, insertion.app);
+    enter_by(unit, journal, &mut port, insertion)
 }

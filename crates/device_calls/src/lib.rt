@@ -24,15 +24,15 @@ mod time_laws;
 // calls that are no steps
 mod calls;
 
-pub use beginning::begin;
+pub use beginning::{NewRow, begin};
 pub use calls::{look_by, note_event_on, note_place_on};
 pub use committing::commit;
-pub use entering::{Entered, NotEntered, enter};
+pub use entering::{CardInsertion, Entered, NotEntered, enter};
 pub use leaving::leave;
 pub use mending::mend;
 pub use on_card::keep_on_card;
-pub use on_unit::keep_on_unit;
-pub use owing::owe;
+pub use on_unit::{BothSaid, Said, keep_on_unit};
+pub use owing::{OwedEntry, owe};
 pub use step_laws::{
     a_card_out_of_its_slot_stands, a_card_sits_on, a_card_that_was_read_rests,
     a_first_acceptance_knows_its_words, a_note_on_a_card_leaves_the_rules,

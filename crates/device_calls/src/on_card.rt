@@ -2,6 +2,7 @@
 ghost use Rattle.std.specs.Prelude.{◌≡◌, ◌≤◌, ◌<◌, ◌+◌, ◌*◌, ℕ, true, None, List, [], ◌∷◌, OnOk};
 ghost use Rattle.std.specs.Prelude.{IfSome, length, is_some, is_err};
 ghost use Rattle.activity_codec.specs.declared.entries.Entry.{Entry};
+ghost use Rattle.trace_model.specs.declared.Card.{Card};
 ghost use Rattle.tach_media.specs.Medium.{HasCause, LeavesOnly, IsSettled, last_count};
 ghost use Rattle.card_retention.specs.Expected.{Counted};
 ghost use Rattle.card_retention.specs.Shown.{Bound};
@@ -22,7 +23,6 @@ use card_layout::Application;
 use card_session::{CardSession, Kept};
 use hand_model::Held;
 use tach_media::{Chip, Failed, Medium};
-use trace_model::Card;
 
 // A card behind a port keeps its entry.
 fn keep_by<M: Medium, C: Medium>(
@@ -30,7 +30,6 @@ fn keep_by<M: Medium, C: Medium>(
     card: &mut C,
     session: &mut CardSession,
     held: &mut Held,
-    which: Card,
     kept: &Kept,
 ) -> Result<(), Failed>
     requires card { MayKeep session.old.application (C.state card.old) }
@@ -39,7 +38,8 @@ fn keep_by<M: Medium, C: Medium>(
     ensures keeps { KeepsOnCard result kept.now session.old session.new held.old (C.state card.old) (C.state card.new) }
     ensures string { StringGoesOn result kept.now session.old session.new held.old (C.state card.old)
         (C.state card.new) }
-    ensures rule { (r : Both) (s : Started) (due : ℕ) (b : Book) (marks : List Mark) (time : ℕ) (slack : Bound)
+    ensures rule { (r : Both) (which : Card) (s : Started) (due : ℕ) (b : Book) (marks : List Mark) (time : ℕ)
+        (slack : Bound)
         (covered from : ℕ) (c : Counted) (all : List Entry)
         → is_some (M.state unit.now).image ≡ true → UnitFollowsBook s due b marks (M.state unit.now) → b.maybe ≡ None
         → CardHolds r which b (In time session.old.minute) [] (kept.now.entry ∷ []) (M.state unit.now)
@@ -67,7 +67,6 @@ pub fn keep_on_card<M: Medium, C: Chip>(
     app: Application,
     session: &mut CardSession,
     held: &mut Held,
-    which: Card,
     kept: &Kept,
 ) -> Result<(), Failed>
     requires port { IsPort app None (C.card card.old) (C.state card.old) }
@@ -77,7 +76,8 @@ pub fn keep_on_card<M: Medium, C: Chip>(
     ensures keeps { KeepsOnCard result kept.now session.old session.new held.old (C.state card.old) (C.state card.new) }
     ensures string { StringGoesOn result kept.now session.old session.new held.old (C.state card.old)
         (C.state card.new) }
-    ensures rule { (r : Both) (s : Started) (due : ℕ) (b : Book) (marks : List Mark) (time : ℕ) (slack : Bound)
+    ensures rule { (r : Both) (which : Card) (s : Started) (due : ℕ) (b : Book) (marks : List Mark) (time : ℕ)
+        (slack : Bound)
         (covered from : ℕ) (c : Counted) (all : List Entry)
         → is_some (M.state unit.now).image ≡ true → UnitFollowsBook s due b marks (M.state unit.now) → b.maybe ≡ None
         → CardHolds r which b (In time session.old.minute) [] (kept.now.entry ∷ []) (M.state unit.now)
@@ -90,5 +90,5 @@ pub fn keep_on_card<M: Medium, C: Chip>(
         ≤ (C.state card.old).clock + (17 + 4 * length (hands_for held.old kept.now.entry.minute)) }
 {
     let mut port = Port::resume(&mut *card, app);
-    keep_by(unit, &mut port, session, held, which, kept)
+    keep_by(unit, &mut port, session, held, kept)
 }

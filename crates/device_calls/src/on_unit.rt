@@ -11,12 +11,28 @@ ghost use Rattle.device_calls.specs.Calls.{MayBeCommitted, RulesOwingSome, UnitA
 ghost use Rattle.device_calls.specs.Calls.{UnitStandsCommitted, UnitStandsOwing};
 
 use crate::committing::commit;
-use crate::owing::owe;
+use crate::owing::{OwedEntry, owe};
 use activity_codec::Entry;
 use tach_media::{Chip, Failed, Medium};
 use tacho_types::FullCardNumber;
 use trace_model::Card;
 use unit_minutes::{Journal, KeptMinute};
+
+/// What a minute says on a card: on which, of which number, whose row is at this index, and the entry, if it says one.
+#[derive(Clone, Copy)]
+pub struct Said {
+    pub card: Card,
+    pub number: FullCardNumber,
+    pub row: u32,
+    pub entry: Option<Entry>,
+}
+
+/// What a minute says on both cards, in the order in which they are owed it.
+#[derive(Clone, Copy)]
+pub struct BothSaid {
+    pub one: Said,
+    pub two: Said,
+}
 
 // Puts the entry of the minute that comes, if it says one on this card, among those owed to it.
 fn owe_some<M: Medium, C: Chip, D: Chip>(
@@ -24,16 +40,13 @@ fn owe_some<M: Medium, C: Chip, D: Chip>(
     journal: &mut Journal,
     mine: &C,
     others: &D,
-    which: Card,
-    number: &FullCardNumber,
-    row: u32,
-    entry: Option<Entry>,
+    said: Said,
 ) -> Result<(), Failed>
     requires ready { UnitIsReady journal.old (M.state unit.old) }
-    requires row { IfSome entry (λ e. (row < 8)
-        × IfSome (M.state unit.old).image (IsRowAt row (card_number_bytes number.now))) }
+    requires row { IfSome said.entry (λ e. (said.row < 8)
+        × IfSome (M.state unit.old).image (IsRowAt said.row (card_number_bytes said.number))) }
     ensures stands { UnitStandsOwing result journal.old journal.new (M.state unit.old) (M.state unit.new) }
-    ensures rules { RulesOwingSome which result (card_number_bytes number.now) entry (M.state unit.old)
+    ensures rules { RulesOwingSome said.card result (card_number_bytes said.number) said.entry (M.state unit.old)
         (M.state unit.new) (C.state mine.now) (D.state others.now) }
     ensures clock { (M.state unit.old).clock ≤ (M.state unit.new).clock }
     ensures most { (M.state unit.new).clock ≤ (M.state unit.old).clock + 3 }
@@ -41,9 +54,16 @@ fn owe_some<M: Medium, C: Chip, D: Chip>(
     ensures cause { HasCause (M.state unit.old) (M.state unit.new) (is_err result)
         ⊎ ((is_err result ≡ false) × IsIdle (M.state unit.old) (M.state unit.new)) }
 {
-    match entry {
+    match said.entry {
         None => Ok(()),
-        Some(entry) => owe(unit, journal, mine, others, which, number, row, &entry),
+        Some(entry) => {
+            let owed = OwedEntry {
+                number: said.number,
+                row: said.row,
+                entry,
+            };
+            owe(unit, journal, mine, others, said.card, owed)
+        }
     }
 }
 
@@ -59,45 +79,40 @@ pub fn keep_on_unit<M: Medium, C: Chip, D: Chip>(
     journal: &mut Journal,
     first: &C,
     second: &D,
-    one: Card,
-    one_number: &FullCardNumber,
-    one_row: u32,
-    one_entry: Option<Entry>,
-    two: Card,
-    two_number: &FullCardNumber,
-    two_row: u32,
-    two_entry: Option<Entry>,
+    said: BothSaid,
     minute: &KeptMinute,
 ) -> Result<(), Failed>
     requires ready { UnitIsReady journal.old (M.state unit.old) }
-    requires first_row { IfSome one_entry (λ e. (one_row < 8) × IfSome (M.state unit.old).image
-        (IsRowAt one_row (card_number_bytes one_number.now))) }
-    requires second_row { IfSome two_entry
-        (λ e. (two_row < 8) × IfSome (M.state unit.old).image (IsRowAt two_row (card_number_bytes two_number.now))) }
+    requires first_row { IfSome said.one.entry (λ e. (said.one.row < 8) × IfSome (M.state unit.old).image
+        (IsRowAt said.one.row (card_number_bytes said.one.number))) }
+    requires second_row { IfSome said.two.entry
+        (λ e. (said.two.row < 8) × IfSome (M.state unit.old).image
+        (IsRowAt said.two.row (card_number_bytes said.two.number))) }
     requires may { MayBeCommitted minute.now journal.old }
     ensures stands { UnitStandsCommitted minute.now result journal.old journal.new (M.state unit.old)
         (M.state unit.new) }
     ensures kept { (k : Known) (y z : Standing) (i : HistoryMinute)
-        → AreBetween k one two (card_number_bytes one_number.now) (card_number_bytes two_number.now) y z
+        → AreBetween k said.one.card said.two.card (card_number_bytes said.one.number)
+        (card_number_bytes said.two.number) y z
         (M.state unit.old) (C.state first.now) (D.state second.now)
-        → IfSome one_entry (λ e. 1440 ≤ e.minute) → IfSome two_entry (λ e. 1440 ≤ e.minute)
-        → SaysBoth k one two i minute.now one_entry two_entry y z → (M.state unit.new).clock < last_count
-        → OnOk result (AreOwed (known_after k i (M.state unit.new).clock) one two one_entry two_entry y z
+        → IfSome said.one.entry (λ e. 1440 ≤ e.minute) → IfSome said.two.entry (λ e. 1440 ≤ e.minute)
+        → SaysBoth k said.one.card said.two.card i minute.now said.one.entry said.two.entry y z
+        → (M.state unit.new).clock < last_count
+        → OnOk result (AreOwed (known_after k i (M.state unit.new).clock) said.one.card said.two.card
+        said.one.entry said.two.entry y z
         (M.state unit.new) (C.state first.now) (D.state second.now)) }
     ensures cut { (k : Known) (y z : Standing) (i : HistoryMinute)
-        → AreBetween k one two (card_number_bytes one_number.now) (card_number_bytes two_number.now) y z
+        → AreBetween k said.one.card said.two.card (card_number_bytes said.one.number)
+        (card_number_bytes said.two.number) y z
         (M.state unit.old) (C.state first.now) (D.state second.now)
-        → IfSome one_entry (λ e. 1440 ≤ e.minute) → IfSome two_entry (λ e. 1440 ≤ e.minute)
-        → SaysBoth k one two i minute.now one_entry two_entry y z
-        → OnErr result (AreCutOff k one two i y z (M.state unit.new) (C.state first.now) (D.state second.now)) }
+        → IfSome said.one.entry (λ e. 1440 ≤ e.minute) → IfSome said.two.entry (λ e. 1440 ≤ e.minute)
+        → SaysBoth k said.one.card said.two.card i minute.now said.one.entry said.two.entry y z
+        → OnErr result (AreCutOff k said.one.card said.two.card i y z (M.state unit.new) (C.state first.now)
+        (D.state second.now)) }
     ensures goes { UnitAnswers (is_err result) (M.state unit.old) (M.state unit.new) }
     ensures most { (M.state unit.new).clock ≤ (M.state unit.old).clock + 18 }
 {
-    owe_some(
-        unit, journal, first, second, one, one_number, one_row, one_entry,
-    )?;
-    owe_some(
-        unit, journal, second, first, two, two_number, two_row, two_entry,
-    )?;
+    owe_some(unit, journal, first, second, said.one)?;
+    owe_some(unit, journal, second, first, said.two)?;
     commit(unit, journal, first, second, minute)
 }

@@ -10,6 +10,14 @@ use tacho_types::FullCardNumber;
 use trace_model::Card;
 use unit_minutes::Journal;
 
+/// An entry that a card is to be owed: of which number the card is, in which row of the unit, and the entry.
+#[derive(Clone, Copy)]
+pub struct OwedEntry {
+    pub number: FullCardNumber,
+    pub row: u32,
+    pub entry: Entry,
+}
+
 /// Puts the entry of the minute that comes next among those that are owed to a card which was accepted, in the slot or
 /// torn out since. The row of its number is the one at this index: nothing is read.
 ///
@@ -22,20 +30,18 @@ pub fn owe<M: Medium, C: Chip, D: Chip>(
     mine: &C,
     others: &D,
     which: Card,
-    number: &FullCardNumber,
-    row: u32,
-    entry: &Entry,
+    owed: OwedEntry,
 ) -> Result<(), Failed>
     requires ready { UnitIsReady journal.old (M.state unit.old) }
-    requires low { row < 8 }
-    requires row { IfSome (M.state unit.old).image (IsRowAt row (card_number_bytes number.now)) }
+    requires low { owed.row < 8 }
+    requires row { IfSome (M.state unit.old).image (IsRowAt owed.row (card_number_bytes owed.number)) }
     ensures stands { UnitStandsOwing result journal.old journal.new (M.state unit.old) (M.state unit.new) }
-    ensures rules { RulesOwing which result (card_number_bytes number.now) entry.now (M.state unit.old)
+    ensures rules { RulesOwing which result (card_number_bytes owed.number) owed.entry (M.state unit.old)
         (M.state unit.new) (C.state mine.now) (D.state others.now) }
-    ensures leaves { LeavesOwing which (card_number_bytes number.now) entry.now (M.state unit.old) (M.state unit.new)
+    ensures leaves { LeavesOwing which (card_number_bytes owed.number) owed.entry (M.state unit.old) (M.state unit.new)
         (C.state mine.now) }
     ensures goes { UnitAnswers (is_err result) (M.state unit.old) (M.state unit.new) }
     ensures most { (M.state unit.new).clock ≤ (M.state unit.old).clock + 3 }
 {
-    journal.put_owed_at(unit, row, entry)
+    journal.put_owed_at(unit, owed.row, &owed.entry)
 }

@@ -1,5 +1,5 @@
 -- The entries by hand of a card as a run finds it, and which of them an image may tell later (profile).
-use Rattle.std.specs.Prelude.{◌≡◌, ◌⊎◌, ℕ, ◌/◌, max, true, List, nat_eq, if◌then◌else◌}
+use Rattle.std.specs.Prelude.{◌≡◌, ◌⊎◌, ℕ, ◌/◌, max, true, List, Contains, nat_eq, if◌then◌else◌}
 use Rattle.activity_codec.specs.declared.entries.Manual.{Manual}
 use Rattle.card_layout.specs.declared.files.Application.{Application}
 use Rattle.card_retention.specs.Entries.{newest_word}
@@ -7,7 +7,7 @@ use Rattle.card_retention.specs.Shown.{sizes}
 use Rattle.card_retention.specs.Retains.{is_day}
 use Rattle.card_image.specs.Fields.{card_days}
 use Rattle.card_image.specs.Own.{own_sizes, own_view}
-use Rattle.hand_model.specs.ByHand.{by_hand_up_to}
+use Rattle.hand_model.specs.ByHand.{by_hand_up_to, by_hand_in}
 
 -- those up to its end mark, and all that its words tell
 abbrev pub marked_at : List ℕ → List Manual
@@ -28,3 +28,8 @@ AreFirst image first = (first ≡ marked_at image) ⊎ (((own_view image).sessio
 -- the days of an image have that of a minute
 abbrev pub HasDayOf : (minute : ℕ) → Application → List ℕ → Type 0
 HasDayOf minute app x = is_day (minute / 1440) (sizes (card_days app x)) ≡ true
+
+-- AN IMAGE TELLS THOSE OF THE START, up to its end mark, of each day that it has
+abbrev pub StaysTold : (image : List ℕ) → Application → List ℕ → Type 0
+StaysTold image app x = (e : Manual) → Contains (marked_at image) e → HasDayOf e.minute app x
+    → Contains (by_hand_in app x) e

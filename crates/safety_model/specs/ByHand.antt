@@ -6,8 +6,8 @@ use Rattle.activity_codec.specs.declared.entries.Manual.{Manual}
 use Rattle.trace_model.specs.declared.Card.{Card}
 use Rattle.tach_media.specs.Medium.{State}
 use Rattle.card_layout.specs.declared.files.Application.{Application}
-use Rattle.card_image.specs.Own.{own_sizes, IsOwnValid}
-use Rattle.hand_model.specs.AtStart.{hands_at, HasDayOf}
+use Rattle.card_image.specs.Own.{own_sizes, own_view, IsOwnValid}
+use Rattle.hand_model.specs.AtStart.{all_at, hands_at, HasDayOf, StaysTold}
 use Rattle.hand_model.specs.ByHand.{by_hand_in}
 use Rattle.hand_model.specs.Holding.{last_minute}
 use Rattle.hand_model.specs.Written.{IsPartOf}
@@ -74,6 +74,9 @@ module _ (r : Recording) (c : Card) where
   pub record HandsSafe (marks : List Mark) (since : ℕ) (card : State) : Type 0 where
     pub tells : IsOwnValid (card_image r c) → (x : List ℕ) → card.left_since since x → TellsHands x
     pub keeps : IsOwnValid (card_image r c) → KeepsHands marks card
+    pub behind : IsOwnValid (card_image r c) → (x : List ℕ) → card.left_since since x → (own_view x).session ≡ 0
+        → IsPartOf (all_at x) (hands_at (card_image r c) ++ hands_done r c)
+    pub stay : IsOwnValid (card_image r c) → (x : List ℕ) → card.left_since since x → StaysTold (card_image r c) app x
 
   -- ---- which are stopped
 

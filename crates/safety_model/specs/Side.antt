@@ -1,7 +1,6 @@
 -- What a run notes beside the minutes (profile): its notes and events, by its log and trace, and what an image of a
 -- card tells of the vehicle before.
-use Rattle.std.specs.Prelude.{◌≡◌, ℕ, Bool, not, Option, Some, None, List, [], ◌∷◌, replicate}
-use Rattle.std.specs.List.{list_all}
+use Rattle.std.specs.Prelude.{◌≡◌, ℕ, Option, Some, None, List, [], ◌∷◌, replicate}
 use Rattle.card_layout.specs.Fields.{field_at}
 use Rattle.trace_model.specs.declared.Card.{Card}
 use Rattle.tach_media.specs.Medium.{State}
@@ -10,32 +9,17 @@ use Rattle.unit_model.specs.Image.{number_of}
 use Rattle.card_files.specs.declared.vehicle.Vehicle.{Vehicle}
 use Rattle.device_rule.specs.Fields.{file_bytes, newest_vehicle}
 use Rattle.device_rule.specs.Own.{own_sizes, own_number}
-use Rattle.event_model.specs.declared.kinds.TheConstants.{CARD_NOT_VALID, TIME_OVERLAP, DRIVING_WITHOUT_CARD}
-use Rattle.event_model.specs.declared.kinds.TheConstants.{INSERTION_WHILE_DRIVING, SESSION_NOT_CLOSED, OVER_SPEEDING}
-use Rattle.event_model.specs.declared.kinds.TheConstants.{POWER_INTERRUPTION, CARD_FAULT}
 use Rattle.log_model.specs.Course.{Visit}
-use Rattle.note_model.specs.Done.{Done, done_of, has_failed_in}
+use Rattle.note_model.specs.Done.{Done, done_of}
 use Rattle.note_model.specs.Noted.{Note, notes_of}
 use Rattle.note_model.specs.Rings.{Holder}
 use Rattle.event_model.specs.Events.{Event, Tearing, events_of}
-use Rattle.note_model.specs.Events.{noting_second}
 use Rattle.safety_model.specs.Recording.{Recording, card_image}
 
 -- Identification (Appendix 2): issuing state, number, authority, issue, begin of validity, expiry, surname, first
 -- names, birth date, language
 abbrev pub identification_widths : List ℕ
 identification_widths = 1 ∷ 16 ∷ 36 ∷ 4 ∷ 4 ∷ 4 ∷ 36 ∷ 36 ∷ 4 ∷ 2 ∷ []
-
--- the types whose events the log and the trace tell, with the session times that were found open on the cards
-abbrev pub told_kinds : List ℕ
-told_kinds =
-    CARD_NOT_VALID ∷ TIME_OVERLAP ∷ DRIVING_WITHOUT_CARD ∷ INSERTION_WHILE_DRIVING ∷ SESSION_NOT_CLOSED ∷ OVER_SPEEDING
-    ∷ POWER_INTERRUPTION ∷ CARD_FAULT ∷ []
-
--- the begin of the first of some events, 0 without one
-abbrev pub first_begin : List Event → ℕ
-first_begin [] = 0
-first_begin (e ∷ events) = e.begin
 
 module _ (r : Recording) where
   -- the holder of a card, by its image at the start
@@ -61,10 +45,6 @@ module _ (r : Recording) where
   -- torn out so
   abbrev pub events_in : (sessions : ℕ → Visit → ℕ) → Tearing → (kind : ℕ) → List Event
   events_in sessions t kind = events_of kind (number_of r.unit SPEED_LIMIT) sessions t r.log r.trace
-
-  -- no event of the type was noted in a second in which a call on the unit failed
-  abbrev pub are_sure : (sessions : ℕ → Visit → ℕ) → Tearing → (kind : ℕ) → Bool
-  are_sure sessions t kind = list_all (λ e. not (has_failed_in r.log (noting_second e))) (events_in sessions t kind)
 
   -- the vehicle and the time of the newest vehicle entry; zeros without one
   abbrev pub TellsVehicle : Option Vehicle → List ℕ → ℕ → Type 0

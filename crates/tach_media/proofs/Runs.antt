@@ -93,6 +93,7 @@ cause_after {old} {mid} {new} {failed} first next = record {
   breaks = λ was f. rw (← first.unbroken refl) (next.breaks first.works f);
   unbroken = λ f. next.unbroken f ∙ first.unbroken refl;
   already = λ was. absurd (grind (arith, first.broken was));
+  once = λ low. let few = next.once low in let same = first.unbroken refl in omega (arith, few, same);
 }
 
 -- what is said of a told image
@@ -177,7 +178,7 @@ no_reads s works = record {
   same = λ fine. refl;
   leaves = starts s Unchanged;
   clock = refl;
-  cause = record { works = works; broken = λ was. sym was ∙ works; faults = omega arith; fault = λ f. absurd (cc); breakdowns = omega arith; breaks = λ was f. absurd (cc); unbroken = λ f. refl; already = λ was. refl };
+  cause = record { works = works; broken = λ was. sym was ∙ works; faults = omega arith; fault = λ f. absurd (cc); breakdowns = omega arith; breaks = λ was f. absurd (cc); unbroken = λ f. refl; already = λ was. refl; once = λ low. omega arith };
 }
 
 -- reads leave settled what was

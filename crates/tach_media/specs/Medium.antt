@@ -103,12 +103,18 @@ pub record HasCause (old new : State) (failed : Bool) : Type 0 where
   pub breaks : old.works ≡ true → failed ≡ true → Rose old.breakdowns new.breakdowns
   pub unbroken : failed ≡ false → new.breakdowns ≡ old.breakdowns
   pub already : old.works ≡ false → new.breakdowns ≡ old.breakdowns
+  -- and it is no more than one, until that count stands at its last value
+  pub once : new.breakdowns < last_count → new.breakdowns ≤ old.breakdowns + 1
 
 -- Over calls, however they ended, and calls of `revive`: so many of them at least broke the medium, or that count
 -- stands at its last value.
 pub record HasBroken (old new : State) (times : ℕ) : Type 0 where
   pub faults : old.faults ≤ new.faults
   pub breakdowns : min (old.breakdowns + times) last_count ≤ new.breakdowns
+
+-- And no more than so many, as long as that count stands below its last value.
+abbrev pub HasBrokenAtMost : (old new : State) → ℕ → Type 0
+HasBrokenAtMost old new times = new.breakdowns < last_count → new.breakdowns ≤ old.breakdowns + times
 
 -- a call breaks what works where it fails
 abbrev pub broken_by : (works failed : Bool) → ℕ

@@ -1,4 +1,4 @@
-ghost use Rattle.std.specs.Prelude.{◌≡◌, ◌≤◌, ◌<◌, [], length, option_map, OnOk, OnErr, is_err};
+ghost use Rattle.std.specs.Prelude.{◌≡◌, ◌≤◌, ◌<◌, ◌+◌, ◌/◌, [], length, option_map, OnOk, OnErr, is_err};
 ghost use Rattle.std.specs.Option.{ForSome};
 ghost use Rattle.card_layout.specs.declared.command.CardState.{CardState};
 ghost use Rattle.tach_media.specs.Medium.{State, IsCoherent, HoldsBytes, LeavesOnly, IsSettled, HasCause, Unchanged};
@@ -47,6 +47,7 @@ pub trait Chip {
         ensures settled { OnOk result ((state self.new).clock < last_count → IsSettled (state self.new)) }
         ensures clock { OnOk result (Rose (state self.old).clock (state self.new).clock) }
         ensures state { card self.new ≡ just_issued }
+        ensures few { (state self.new).clock ≤ (state self.old).clock + (4 + length image.now / 255) }
         ensures cause { HasCause (state self.old) (state self.new) (is_err result) };
 
     /// Makes a chip work again after a failure, with one of the images that a stop may leave, and resets it. The image

@@ -1,4 +1,4 @@
-ghost use Rattle.std.specs.Prelude.{◌≡◌, ◌≤◌, false, true};
+ghost use Rattle.std.specs.Prelude.{◌≡◌, ◌+◌, ◌≤◌, false, true};
 ghost use Rattle.tach_media.specs.Medium.{Rose};
 
 /// Whether a device works, how many of its calls have failed, and how many of those broke it.
@@ -32,6 +32,7 @@ impl Counts {
         ensures later_breakdowns { self.old.breakdowns ≤ self.new.breakdowns }
         ensures breaks { self.old.works ≡ true → Rose self.old.breakdowns self.new.breakdowns }
         ensures already { self.old.works ≡ false → self.new.breakdowns ≡ self.old.breakdowns }
+        ensures once { self.new.breakdowns ≤ self.old.breakdowns + 1 }
     {
         self.faults = self.faults.saturating_add(1);
         let _breakdowns = self.breakdowns;

@@ -1,7 +1,7 @@
-use Rattle.std.proofs.Common.{◌≡◌, inr, ℕ, ◌-◌, ◌≤◌, List, length, drop, ◌∙◌, arith, length-drop}
+use Rattle.std.proofs.Common.{◌≡◌, inr, ℕ, ◌+◌, ◌-◌, ◌≤◌, List, length, drop, ◌∙◌, subst, arith, length-drop}
 use Rattle.std.proofs.lemmas.List.{length-take-le}
 use Rattle.std.proofs.lemmas.Result.{on_ok_weaker}
-use Rattle.tach_media.specs.Medium.{put}
+use Rattle.tach_media.specs.Medium.{put, most_writes}
 use Rattle.tach_media.proofs.Ranges.{lies_part, lies_still}
 use Rattle.tach_media.proofs.Runs.{weaken, goes_by, image_then, image_both}
 use Rattle.card_commands.proofs.Issuing.{front_of, back_of, type_of, typeless, with_front, with_back, issued, first_write, second_write, third_write, fourth_write, old_aside}
@@ -119,3 +119,37 @@ returns-clause-clock g c = on_ok_weaker c.write_at-4.result (λ rose. omega (
 
 pub returns-clause-settled : goal.returns-clause-settled
 returns-clause-settled g c = on_ok_weaker c.write_at-4.result (λ settled. settled (omega (arith, length_type c.args.image.now c.requires.least))) c.write_at-4.ensures.settled
+
+-- ---- its writes
+
+pub returns-in_err-write_at-clause-few : goal.returns-in_err-write_at-clause-few
+returns-in_err-write_at-clause-few g c =
+    let one : (g.M.Medium.state c.write_at.new.self).clock ≤ (g.M.Medium.state c.args.medium.now).clock + 1 = c.write_at.ensures.few in
+    omega (arith, one)
+
+pub returns-in_err-write_at-2-clause-few : goal.returns-in_err-write_at-2-clause-few
+returns-in_err-write_at-2-clause-few g c =
+    let image = c.args.image.now in
+    let least = c.requires.least in
+    let one : (g.M.Medium.state c.write_at.new.self).clock ≤ (g.M.Medium.state c.args.medium.now).clock + 1 = c.write_at.ensures.few in
+    let two : (g.M.Medium.state c.write_at-2.new.self).clock ≤ (g.M.Medium.state c.write_at.new.self).clock + 1 = subst (λ (n : ℕ). (g.M.Medium.state c.write_at-2.new.self).clock ≤ (g.M.Medium.state c.write_at.new.self).clock + most_writes n) (length_front image least) c.write_at-2.ensures.few in
+    omega (arith, one, two)
+
+pub returns-in_err-write_at-3-clause-few : goal.returns-in_err-write_at-3-clause-few
+returns-in_err-write_at-3-clause-few g c =
+    let image = c.args.image.now in
+    let least = c.requires.least in
+    let one : (g.M.Medium.state c.write_at.new.self).clock ≤ (g.M.Medium.state c.args.medium.now).clock + 1 = c.write_at.ensures.few in
+    let two : (g.M.Medium.state c.write_at-2.new.self).clock ≤ (g.M.Medium.state c.write_at.new.self).clock + 1 = subst (λ (n : ℕ). (g.M.Medium.state c.write_at-2.new.self).clock ≤ (g.M.Medium.state c.write_at.new.self).clock + most_writes n) (length_front image least) c.write_at-2.ensures.few in
+    let three : (g.M.Medium.state c.write_at-3.new.self).clock ≤ (g.M.Medium.state c.write_at-2.new.self).clock + most_writes (length image - 34) = subst (λ (n : ℕ). (g.M.Medium.state c.write_at-3.new.self).clock ≤ (g.M.Medium.state c.write_at-2.new.self).clock + most_writes n) (length_back image least) c.write_at-3.ensures.few in
+    omega (arith, least, one, two, three)
+
+pub returns-clause-few : goal.returns-clause-few
+returns-clause-few g c =
+    let image = c.args.image.now in
+    let least = c.requires.least in
+    let one : (g.M.Medium.state c.write_at.new.self).clock ≤ (g.M.Medium.state c.args.medium.now).clock + 1 = c.write_at.ensures.few in
+    let two : (g.M.Medium.state c.write_at-2.new.self).clock ≤ (g.M.Medium.state c.write_at.new.self).clock + 1 = subst (λ (n : ℕ). (g.M.Medium.state c.write_at-2.new.self).clock ≤ (g.M.Medium.state c.write_at.new.self).clock + most_writes n) (length_front image least) c.write_at-2.ensures.few in
+    let three : (g.M.Medium.state c.write_at-3.new.self).clock ≤ (g.M.Medium.state c.write_at-2.new.self).clock + most_writes (length image - 34) = subst (λ (n : ℕ). (g.M.Medium.state c.write_at-3.new.self).clock ≤ (g.M.Medium.state c.write_at-2.new.self).clock + most_writes n) (length_back image least) c.write_at-3.ensures.few in
+    let four : (g.M.Medium.state c.write_at-4.new.self).clock ≤ (g.M.Medium.state c.write_at-3.new.self).clock + 1 = subst (λ (n : ℕ). (g.M.Medium.state c.write_at-4.new.self).clock ≤ (g.M.Medium.state c.write_at-3.new.self).clock + most_writes n) (length_type image least) c.write_at-4.ensures.few in
+    omega (arith, least, one, two, three, four)

@@ -25,9 +25,9 @@ returns-clause-enters g c =
     let Y = g.C.Chip.state c.enter_by.new.card.chip.now in
     let was : g.C.Chip.state c.resume-port.result.chip.now ≡ g.C.Chip.state c.args.card.now = search rules in
     let same = port_same c.resume-port.result.application c.enter_by.new.card.application name after X Y c.enter_by.ensures.leaves in
-    let enters = port_enters c.resume-port.result.application c.enter_by.new.card.application name after X Y c.args.app c.args.registration.now c.args.odometer.0 c.args.now.0 (g.M.Medium.state c.args.unit.now) (g.M.Medium.state c.enter_by.new.unit) same
+    let enters = port_enters c.resume-port.result.application c.enter_by.new.card.application name after X Y c.args.insertion.app c.args.insertion.registration c.args.insertion.odometer.0 c.args.insertion.time.0 (g.M.Medium.state c.args.unit.now) (g.M.Medium.state c.enter_by.new.unit) same
     c.enter_by.result c.enter_by.ensures.enters in
-    let moved = subst (λ (k : State). IsEntering c.args.app c.args.registration.now c.args.odometer.0 c.args.now.0 (g.M.Medium.state c.args.unit.now) (g.M.Medium.state c.enter_by.new.unit) k (g.C.Chip.state c.enter_by.new.card.chip.now) c.enter_by.result) was enters in
+    let moved = subst (λ (k : State). IsEntering c.args.insertion.app c.args.insertion.registration c.args.insertion.odometer.0 c.args.insertion.time.0 (g.M.Medium.state c.args.unit.now) (g.M.Medium.state c.enter_by.new.unit) k (g.C.Chip.state c.enter_by.new.card.chip.now) c.enter_by.result) was enters in
     search (rules, moved)
 
 pub returns-clause-row : goal.returns-clause-row
@@ -42,12 +42,12 @@ returns-clause-rules g c = record {
   others = λ r b z m d rule. unit-read r (other c.args.which) b z m d (g.M.Medium.state c.args.unit.now) (g.M.Medium.state c.enter_by.new.unit) (g.D.Chip.state c.args.others.now) (g.met.M.Medium.coherent c.args.unit.now) c.enter_by.ensures.enters.unit.leaves rule;
   mine =
       λ r s due b marks h none late tells tells_card asked rule.
-      entering-rule r c.args.which s due b marks c.args.app c.requires.port.good c.args.registration.now c.length_of-bytes.ensures c.args.odometer.0 c.args.now.0 (omega (arith, c.requires.may.last)) h none late (g.met.M.Medium.coherent c.args.unit.now) (g.met.M.Medium.coherent c.enter_by.new.unit)
-      (g.met.C.Chip.coherent c.args.card.now) (omega (arith, largest_image c.args.app c.requires.port.good, c.requires.port.size)) tells tells_card asked rule c.enter_by.result (returns-clause-enters g c);
+      entering-rule r c.args.which s due b marks c.args.insertion.app c.requires.port.good c.args.insertion.registration c.length_of-bytes.ensures c.args.insertion.odometer.0 c.args.insertion.time.0 (omega (arith, c.requires.may.last)) h none late (g.met.M.Medium.coherent c.args.unit.now) (g.met.M.Medium.coherent c.enter_by.new.unit)
+      (g.met.C.Chip.coherent c.args.card.now) (omega (arith, largest_image c.args.insertion.app c.requires.port.good, c.requires.port.size)) tells tells_card asked rule c.enter_by.result (returns-clause-enters g c);
   entered =
       λ r s due b marks h none late tells tells_card asked rule.
-      entered-answer r c.args.which s due b marks c.args.app c.requires.port.good c.args.registration.now c.length_of-bytes.ensures c.args.odometer.0 c.args.now.0 (omega (arith, c.requires.may.last)) h none late (g.met.M.Medium.coherent c.args.unit.now) (g.met.M.Medium.coherent c.enter_by.new.unit)
-      (g.met.C.Chip.coherent c.args.card.now) (g.met.C.Chip.coherent _) (omega (arith, largest_image c.args.app c.requires.port.good, c.requires.port.size)) tells tells_card asked rule c.enter_by.result (returns-clause-enters g c);
+      entered-answer r c.args.which s due b marks c.args.insertion.app c.requires.port.good c.args.insertion.registration c.length_of-bytes.ensures c.args.insertion.odometer.0 c.args.insertion.time.0 (omega (arith, c.requires.may.last)) h none late (g.met.M.Medium.coherent c.args.unit.now) (g.met.M.Medium.coherent c.enter_by.new.unit)
+      (g.met.C.Chip.coherent c.args.card.now) (g.met.C.Chip.coherent _) (omega (arith, largest_image c.args.insertion.app c.requires.port.good, c.requires.port.size)) tells tells_card asked rule c.enter_by.result (returns-clause-enters g c);
 }
 
 pub returns-clause-stands : goal.returns-clause-stands
@@ -75,8 +75,8 @@ returns-clause-card g c = record {
       let Y = g.C.Chip.state c.enter_by.new.card.chip.now in
       let was : g.C.Chip.state c.resume-port.result.chip.now ≡ g.C.Chip.state c.args.card.now = search rules in
       let same = port_same c.resume-port.result.application c.enter_by.new.card.application name after X Y c.enter_by.ensures.leaves in
-      let in_time = port_in_time c.resume-port.result.application c.enter_by.new.card.application name after X Y c.args.app c.args.registration.now c.args.odometer.0 c.args.now.0 (g.M.Medium.state c.args.unit.now) (g.M.Medium.state c.enter_by.new.unit) same c.enter_by.ensures.in_time in
-      let moved = subst (λ (s : State). IsInTime c.args.app c.args.now.0 s (g.C.Chip.state c.enter_by.new.card.chip.now)) was in_time in
+      let in_time = port_in_time c.resume-port.result.application c.enter_by.new.card.application name after X Y c.args.insertion.app c.args.insertion.registration c.args.insertion.odometer.0 c.args.insertion.time.0 (g.M.Medium.state c.args.unit.now) (g.M.Medium.state c.enter_by.new.unit) same c.enter_by.ensures.in_time in
+      let moved = subst (λ (s : State). IsInTime c.args.insertion.app c.args.insertion.time.0 s (g.C.Chip.state c.enter_by.new.card.chip.now)) was in_time in
       search (rules, moved);
   port = first_of (search rules, grind (arith, common_steps));
 }

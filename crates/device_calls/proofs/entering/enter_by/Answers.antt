@@ -12,14 +12,14 @@ pub look-requires-clause-fits : goal.look-requires-clause-fits
 look-requires-clause-fits g c = c.requires.card.keep.fits
 
 pub enter_as-requires-clause-card : goal.enter_as-requires-clause-card
-enter_as-requires-clause-card g c = insert_still c.args.app.now c.args.app.now c.in-Ok.ensures.reads.leaves refl c.requires.card
+enter_as-requires-clause-card g c = insert_still c.args.insertion.app c.args.insertion.app c.in-Ok.ensures.reads.leaves refl c.requires.card
 
 pub enter_as-requires-clause-works : goal.enter_as-requires-clause-works
 enter_as-requires-clause-works g c = (worked refl c.in-Ok.ensures.reads.cause).0
 
 pub returns-in-Ok-clause-enters : goal.returns-in-Ok-clause-enters
 returns-in-Ok-clause-enters g c =
-    enters_after c.args.app.now c.args.registration.now c.args.odometer.0 c.args.now.0 (g.M.Medium.state c.args.unit.now) (g.M.Medium.state c.enter_as.new.unit) (g.C.Medium.state c.args.card.now) (g.C.Medium.state c.look.new.port)
+    enters_after c.args.insertion.app c.args.insertion.registration c.args.insertion.odometer.0 c.args.insertion.time.0 (g.M.Medium.state c.args.unit.now) (g.M.Medium.state c.enter_as.new.unit) (g.C.Medium.state c.args.card.now) (g.C.Medium.state c.look.new.port)
     (g.C.Medium.state c.enter_as.new.card) c.enter_as.result c.in-Ok.ensures.reads c.enter_as.ensures.enters
 
 pub returns-in-Ok-clause-most : goal.returns-in-Ok-clause-most
@@ -30,8 +30,8 @@ returns-in-Err-clause-most g c = omega (arith, c.in-Err.ensures.reads.clock)
 
 pub returns-in-Err-clause-enters : goal.returns-in-Err-clause-enters
 returns-in-Err-clause-enters g c =
-    subst (λ (f : NotEntered). IsEntering c.args.app.now c.args.registration.now c.args.odometer.0 c.args.now.0 (g.M.Medium.state c.args.unit.now) (g.M.Medium.state c.args.unit.now) (g.C.Medium.state c.args.card.now) (g.C.Medium.state c.look.new.port) (Err f)) (sym c.refused_by.ensures)
-    (enters_refused c.args.app.now c.args.registration.now c.args.odometer.0 c.args.now.0 (g.M.Medium.state c.args.unit.now) (g.C.Medium.state c.args.card.now) (g.C.Medium.state c.look.new.port) c.in-Err.fault
+    subst (λ (f : NotEntered). IsEntering c.args.insertion.app c.args.insertion.registration c.args.insertion.odometer.0 c.args.insertion.time.0 (g.M.Medium.state c.args.unit.now) (g.M.Medium.state c.args.unit.now) (g.C.Medium.state c.args.card.now) (g.C.Medium.state c.look.new.port) (Err f)) (sym c.refused_by.ensures)
+    (enters_refused c.args.insertion.app c.args.insertion.registration c.args.insertion.odometer.0 c.args.insertion.time.0 (g.M.Medium.state c.args.unit.now) (g.C.Medium.state c.args.card.now) (g.C.Medium.state c.look.new.port) c.in-Err.fault
     c.in-Err.ensures.bad c.in-Err.ensures.in_time c.in-Err.ensures.reads)
 
 pub returns-in-Ok-clause-leaves : goal.returns-in-Ok-clause-leaves
@@ -41,7 +41,7 @@ pub returns-in-Err-clause-leaves : goal.returns-in-Err-clause-leaves
 returns-in-Err-clause-leaves g c = from_reads c.in-Err.ensures.reads.leaves
 
 pub returns-in-Ok-clause-in_time : goal.returns-in-Ok-clause-in_time
-returns-in-Ok-clause-in_time g c = in_time_after c.args.app.now c.args.registration.now c.args.odometer.0 c.args.now.0 (g.C.Medium.state c.args.card.now) (g.C.Medium.state c.look.new.port) (g.C.Medium.state c.enter_as.new.card) c.in-Ok.ensures.reads c.enter_as.ensures.in_time
+returns-in-Ok-clause-in_time g c = in_time_after c.args.insertion.app c.args.insertion.registration c.args.insertion.odometer.0 c.args.insertion.time.0 (g.C.Medium.state c.args.card.now) (g.C.Medium.state c.look.new.port) (g.C.Medium.state c.enter_as.new.card) c.in-Ok.ensures.reads c.enter_as.ensures.in_time
 
 pub returns-in-Err-clause-in_time : goal.returns-in-Err-clause-in_time
 returns-in-Err-clause-in_time g c = inl c.in-Err.ensures.reads.leaves

@@ -10,13 +10,13 @@ use Rattle.device_calls.proofs.entering.insert_by.Goals as goal
 
 pub returns-in-Ok-clause-inserted : goal.returns-in-Ok-clause-inserted
 returns-in-Ok-clause-inserted g c =
-    insert_done c.args.app.now c.args.registration.now c.args.odometer.0 c.args.now.0 c.args.owed.items c.args.look (g.C.Medium.state c.args.card.now) (g.C.Medium.state c.insert.new.port) _ (refl, refl)
+    insert_done c.args.insertion.app c.args.insertion.registration c.args.insertion.odometer.0 c.args.insertion.time.0 c.args.owed.items c.args.look (g.C.Medium.state c.args.card.now) (g.C.Medium.state c.insert.new.port) _ (refl, refl)
     c.in-Ok.ensures.accepted c.in-Ok.ensures.inserted c.in-Ok.ensures.replayed c.in-Ok.ensures.few c.in-Ok.ensures.session c.in-Ok.ensures.value c.in-Ok.ensures.moments (c.in-Ok.ensures.settled refl) c.in-Ok.ensures.cause
 
 pub returns-in-Err-clause-inserted : goal.returns-in-Err-clause-inserted
 returns-in-Err-clause-inserted g c =
-    subst (λ (f : NotEntered). IsInsertedWith c.args.app.now c.args.registration.now c.args.odometer.0 c.args.now.0 c.args.owed.items c.args.look (g.C.Medium.state c.args.card.now) (g.C.Medium.state c.insert.new.port) (Err f)) (sym c.refused_by.ensures)
-    (insert_refused c.args.app.now c.args.registration.now c.args.odometer.0 c.args.now.0 c.args.owed.items c.args.look (g.C.Medium.state c.args.card.now) (g.C.Medium.state c.insert.new.port) Inserted c.in-Err.fault
+    subst (λ (f : NotEntered). IsInsertedWith c.args.insertion.app c.args.insertion.registration c.args.insertion.odometer.0 c.args.insertion.time.0 c.args.owed.items c.args.look (g.C.Medium.state c.args.card.now) (g.C.Medium.state c.insert.new.port) (Err f)) (sym c.refused_by.ensures)
+    (insert_refused c.args.insertion.app c.args.insertion.registration c.args.insertion.odometer.0 c.args.insertion.time.0 c.args.owed.items c.args.look (g.C.Medium.state c.args.card.now) (g.C.Medium.state c.insert.new.port) Inserted c.in-Err.fault
     c.in-Err.ensures.bad c.in-Err.ensures.late c.in-Err.ensures.refused c.in-Err.ensures.refused_late c.in-Err.ensures.moments c.in-Err.ensures.cause)
 
 pub returns-in-Ok-clause-leaves : goal.returns-in-Ok-clause-leaves

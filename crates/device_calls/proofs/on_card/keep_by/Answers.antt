@@ -30,11 +30,11 @@ returns-clause-string g c = record {
 }
 
 pub returns-clause-rule : goal.returns-clause-rule
-returns-clause-rule g c = λ r s due b marks time slack covered from count all tells h none rule fresh ready.
+returns-clause-rule g c = λ r which s due b marks time slack covered from count all tells h none rule fresh ready.
     let hands = hands_for c.args.held.now c.args.kept.now.entry.minute in
     let are = hands-are c.args.session.now c.args.held.now c.args.kept.now.entry.minute c.requires.may.later in
-    kept-torn r c.args.which s due b marks time _ slack covered from count all hands c.args.kept.now.entry c.args.kept.now.odometer.0 are (g.met.M.Medium.coherent c.args.unit.now) tells (g.met.C.Medium.coherent c.args.card.now) h none rule fresh ready c.keep_with_hands.ensures.moments _
-    (λ well. ends-on_card r c.args.which s due b marks time _ slack covered from count all hands c.args.kept.now.entry c.args.kept.now.odometer.0 are (g.met.M.Medium.coherent c.args.unit.now) tells (g.met.C.Medium.coherent c.args.card.now) h none rule fresh ready c.keep_with_hands.ensures.moments
+    kept-torn r which s due b marks time _ slack covered from count all hands c.args.kept.now.entry c.args.kept.now.odometer.0 are (g.met.M.Medium.coherent c.args.unit.now) tells (g.met.C.Medium.coherent c.args.card.now) h none rule fresh ready c.keep_with_hands.ensures.moments _
+    (λ well. ends-on_card r which s due b marks time _ slack covered from count all hands c.args.kept.now.entry c.args.kept.now.odometer.0 are (g.met.M.Medium.coherent c.args.unit.now) tells (g.met.C.Medium.coherent c.args.card.now) h none rule fresh ready c.keep_with_hands.ensures.moments
     _ (g.met.C.Medium.coherent c.keep_with_hands.new.port) (worked well c.keep_with_hands.ensures.cause).0 (worked well c.keep_with_hands.ensures.cause).1 c.keep_with_hands.ensures.same.0 (ok_gives _ c.keep_with_hands.ensures.last well).0 (ok_gives _ c.keep_with_hands.ensures.kept well))
 
 pub returns-clause-leaves : goal.returns-clause-leaves

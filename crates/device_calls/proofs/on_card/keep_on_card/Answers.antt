@@ -67,16 +67,16 @@ returns-clause-card g c = record {
 }
 
 pub returns-clause-rule : goal.returns-clause-rule
-returns-clause-rule g c = λ r s due b marks time slack covered from count all tells h none rule fresh ready.
+returns-clause-rule g c = λ r which s due b marks time slack covered from count all tells h none rule fresh ready.
     let name = c.resume-port.result.chip.ghost_name in
     let after = c.keep_by.new.card.chip.ghost_name in
     let X = g.C.Chip.state c.resume-port.result.chip.now in
     let Y = g.C.Chip.state c.keep_by.new.card.chip.now in
     let was : g.C.Chip.state c.resume-port.result.chip.now ≡ g.C.Chip.state c.args.card.now = search rules in
-    let before = subst (λ (k : State). CardHolds r c.args.which b (In time c.args.session.now.minute) [] (c.args.kept.now.entry ∷ []) (g.M.Medium.state c.args.unit.now) k) (sym was) rule in
+    let before = subst (λ (k : State). CardHolds r which b (In time c.args.session.now.minute) [] (c.args.kept.now.entry ∷ []) (g.M.Medium.state c.args.unit.now) k) (sym was) rule in
     let able = subst (λ (k : State). IfSome k.image (CardMayTake c.args.session.now slack covered from count all (hands_for c.args.held.now c.args.kept.now.entry.minute) c.args.kept.now.entry)) (sym was) ready in
-    let on = port_on c.resume-port.result.application c.keep_by.new.card.application name after X Y r c.args.which b time c.args.kept.now.entry _ (g.M.Medium.state c.args.unit.now)
-    (c.keep_by.ensures.rule r s due b marks time slack covered from count all tells h none before fresh able) in
+    let on = port_on c.resume-port.result.application c.keep_by.new.card.application name after X Y r which b time c.args.kept.now.entry _ (g.M.Medium.state c.args.unit.now)
+    (c.keep_by.ensures.rule r which s due b marks time slack covered from count all tells h none before fresh able) in
     search (rules, on)
 
 pub keep_by-requires-clause-may : goal.keep_by-requires-clause-may

@@ -18,14 +18,14 @@ use Rattle.device_calls.proofs.on_unit.keep_on_unit.Goals as goal
 pub returns-in_err-owe_some-clause-cut : goal.returns-in_err-owe_some-clause-cut
 returns-in_err-owe_some-clause-cut g c = λ k y z i a e f n.
     let r = k.both in
-    let one = c.args.one in
-    let two = c.args.two in
+    let one = c.args.said.one.card in
+    let two = c.args.said.two.card in
     let U = g.M.Medium.state c.args.unit.now in
     let V = g.M.Medium.state c.owe_some.new.unit in
     let X = g.C.Chip.state c.args.first.now in
     let Z = g.D.Chip.state c.args.second.now in
-    let due_one = due_some one i k.due (opened r one).start y c.args.one_entry n.first n.late e n.first_present in
-    let alone_one = due_alone one i k.due c.args.one_entry n.first n.late e in
+    let due_one = due_some one i k.due (opened r one).start y c.args.said.one.entry n.first n.late e n.first_present in
+    let alone_one = due_alone one i k.due c.args.said.one.entry n.first n.late e in
     let two_rule = as_card r (other one) two k.book z [] [] U Z a.two a.other_rule in
     on_err c.from_residual.result
     (dark_before k one two i y z V X Z (holds-dark k.started k.due k.book k.marks V (c.in_err-owe_some.ensures.rules.holds (once_mended k.started) k.due k.book k.marks a.first_told a.holds))
@@ -36,55 +36,55 @@ returns-in_err-owe_some-clause-cut g c = λ k y z i a e f n.
 pub returns-in_err-owe_some-2-clause-cut : goal.returns-in_err-owe_some-2-clause-cut
 returns-in_err-owe_some-2-clause-cut g c = λ k y z i a e f n.
     let r = k.both in
-    let one = c.args.one in
-    let two = c.args.two in
+    let one = c.args.said.one.card in
+    let two = c.args.said.two.card in
     let U = g.M.Medium.state c.args.unit.now in
     let V = g.M.Medium.state c.owe_some.new.unit in
     let X = g.C.Chip.state c.args.first.now in
     let Z = g.D.Chip.state c.args.second.now in
-    let due_one = due_some one i k.due (opened r one).start y c.args.one_entry n.first n.late e n.first_present in
-    let alone_one = due_alone one i k.due c.args.one_entry n.first n.late e in
+    let due_one = due_some one i k.due (opened r one).start y c.args.said.one.entry n.first n.late e n.first_present in
+    let alone_one = due_alone one i k.due c.args.said.one.entry n.first n.late e in
     let two_rule = as_card r (other one) two k.book z [] [] U Z a.two a.other_rule in
     let mine_one = (c.in_ok-owe_some.ensures.rules.mine r (once_mended k.started) k.due k.book k.marks y a.named_first a.holds due_one a.one_rule).lit refl in
     let beside = as_card r two (other one) k.book z [] [] V Z (sym a.two) ((c.in_ok-owe_some.ensures.rules.others r (once_mended k.started) k.due k.book k.marks y z [] [] a.named_first a.holds alone_one a.one_rule two_rule).lit refl) in
     let holds = c.in_ok-owe_some.ensures.rules.holds (once_mended k.started) k.due k.book k.marks a.first_told a.holds in
-    let due_two = due_some two i k.due (opened r two).start z c.args.two_entry n.second n.late f n.second_present in
-    let alone_two = due_alone two i k.due c.args.two_entry n.second n.late f in
+    let due_two = due_some two i k.due (opened r two).start z c.args.said.two.entry n.second n.late f n.second_present in
+    let alone_two = due_alone two i k.due c.args.said.two.entry n.second n.late f in
     let back = ap other a.two ∙ other_twice one in
-    let one_beside = as_card r (other two) one k.book y (option_to_list c.args.one_entry) [] V X (sym back) mine_one in
+    let one_beside = as_card r (other two) one k.book y (option_to_list c.args.said.one.entry) [] V X (sym back) mine_one in
     let W = g.M.Medium.state c.owe_some-2.new.unit in
     on_err c.from_residual-in_err-owe_some-2.result
     (dark_before k one two i y z W X Z (holds-dark k.started k.due k.book k.marks W (c.in_err-owe_some-2.ensures.rules.holds (once_mended k.started) k.due k.book k.marks a.second_told holds))
-    (as_rests r one (other two) k.book y W X back (c.in_err-owe_some-2.ensures.rules.others r (once_mended k.started) k.due k.book k.marks z y (option_to_list c.args.one_entry) [] a.named_second holds alone_two beside one_beside).dark)
+    (as_rests r one (other two) k.book y W X back (c.in_err-owe_some-2.ensures.rules.others r (once_mended k.started) k.due k.book k.marks z y (option_to_list c.args.said.one.entry) [] a.named_second holds alone_two beside one_beside).dark)
     (c.in_err-owe_some-2.ensures.rules.mine r (once_mended k.started) k.due k.book k.marks z a.named_second holds due_two beside).dark)
 
 -- the minute could not be kept
 pub returns-clause-cut : goal.returns-clause-cut
 returns-clause-cut g c = λ k y z i a e f n.
     let r = k.both in
-    let one = c.args.one in
-    let two = c.args.two in
+    let one = c.args.said.one.card in
+    let two = c.args.said.two.card in
     let U = g.M.Medium.state c.args.unit.now in
     let V = g.M.Medium.state c.owe_some.new.unit in
     let X = g.C.Chip.state c.args.first.now in
     let Z = g.D.Chip.state c.args.second.now in
-    let due_one = due_some one i k.due (opened r one).start y c.args.one_entry n.first n.late e n.first_present in
-    let alone_one = due_alone one i k.due c.args.one_entry n.first n.late e in
+    let due_one = due_some one i k.due (opened r one).start y c.args.said.one.entry n.first n.late e n.first_present in
+    let alone_one = due_alone one i k.due c.args.said.one.entry n.first n.late e in
     let two_rule = as_card r (other one) two k.book z [] [] U Z a.two a.other_rule in
     let mine_one = (c.in_ok-owe_some.ensures.rules.mine r (once_mended k.started) k.due k.book k.marks y a.named_first a.holds due_one a.one_rule).lit refl in
     let beside = as_card r two (other one) k.book z [] [] V Z (sym a.two) ((c.in_ok-owe_some.ensures.rules.others r (once_mended k.started) k.due k.book k.marks y z [] [] a.named_first a.holds alone_one a.one_rule two_rule).lit refl) in
     let holds = c.in_ok-owe_some.ensures.rules.holds (once_mended k.started) k.due k.book k.marks a.first_told a.holds in
-    let due_two = due_some two i k.due (opened r two).start z c.args.two_entry n.second n.late f n.second_present in
-    let alone_two = due_alone two i k.due c.args.two_entry n.second n.late f in
+    let due_two = due_some two i k.due (opened r two).start z c.args.said.two.entry n.second n.late f n.second_present in
+    let alone_two = due_alone two i k.due c.args.said.two.entry n.second n.late f in
     let back = ap other a.two ∙ other_twice one in
-    let one_beside = as_card r (other two) one k.book y (option_to_list c.args.one_entry) [] V X (sym back) mine_one in
+    let one_beside = as_card r (other two) one k.book y (option_to_list c.args.said.one.entry) [] V X (sym back) mine_one in
     let W = g.M.Medium.state c.owe_some-2.new.unit in
     let N = g.M.Medium.state c.commit.new.unit in
     let holds_two = c.in_ok-owe_some-2.ensures.rules.holds (once_mended k.started) k.due k.book k.marks a.second_told holds in
     let mine_two = (c.in_ok-owe_some-2.ensures.rules.mine r (once_mended k.started) k.due k.book k.marks z a.named_second holds due_two beside).lit refl in
-    let one_put = as_card r one (other two) k.book y (option_to_list c.args.one_entry) [] W X back ((c.in_ok-owe_some-2.ensures.rules.others r (once_mended k.started) k.due k.book k.marks z y (option_to_list c.args.one_entry) [] a.named_second holds alone_two beside one_beside).lit refl) in
-    let first = c.commit.ensures.rules.first r one (once_mended k.started) k.due k.book k.marks i y n.same holds_two a.none n.late (subst (λ (m : List Entry). CardHolds r one k.book y m [] W X) (sym n.first) one_put) (fits_some one i (opened r one).start y c.args.one_entry n.first n.first_present) in
-    let second = c.commit.ensures.rules.second r two (once_mended k.started) k.due k.book k.marks i z n.same holds_two a.none n.late (subst (λ (m : List Entry). CardHolds r two k.book z m [] W Z) (sym n.second) mine_two) (fits_some two i (opened r two).start z c.args.two_entry n.second n.second_present) in
+    let one_put = as_card r one (other two) k.book y (option_to_list c.args.said.one.entry) [] W X back ((c.in_ok-owe_some-2.ensures.rules.others r (once_mended k.started) k.due k.book k.marks z y (option_to_list c.args.said.one.entry) [] a.named_second holds alone_two beside one_beside).lit refl) in
+    let first = c.commit.ensures.rules.first r one (once_mended k.started) k.due k.book k.marks i y n.same holds_two a.none n.late (subst (λ (m : List Entry). CardHolds r one k.book y m [] W X) (sym n.first) one_put) (fits_some one i (opened r one).start y c.args.said.one.entry n.first n.first_present) in
+    let second = c.commit.ensures.rules.second r two (once_mended k.started) k.due k.book k.marks i z n.same holds_two a.none n.late (subst (λ (m : List Entry). CardHolds r two k.book z m [] W Z) (sym n.second) mine_two) (fits_some two i (opened r two).start z c.args.said.two.entry n.second n.second_present) in
     let held = c.commit.ensures.rules.holds k.started k.due k.book k.marks i n.same holds_two a.none n.late in
     on_err_if c.commit.result (λ bad. dark_after k one two i y z N X Z held.dark first.dark second.dark)
 
@@ -92,29 +92,29 @@ returns-clause-cut g c = λ k y z i a e f n.
 pub returns-clause-kept : goal.returns-clause-kept
 returns-clause-kept g c = λ k y z i a e f n below.
     let r = k.both in
-    let one = c.args.one in
-    let two = c.args.two in
+    let one = c.args.said.one.card in
+    let two = c.args.said.two.card in
     let U = g.M.Medium.state c.args.unit.now in
     let V = g.M.Medium.state c.owe_some.new.unit in
     let X = g.C.Chip.state c.args.first.now in
     let Z = g.D.Chip.state c.args.second.now in
-    let due_one = due_some one i k.due (opened r one).start y c.args.one_entry n.first n.late e n.first_present in
-    let alone_one = due_alone one i k.due c.args.one_entry n.first n.late e in
+    let due_one = due_some one i k.due (opened r one).start y c.args.said.one.entry n.first n.late e n.first_present in
+    let alone_one = due_alone one i k.due c.args.said.one.entry n.first n.late e in
     let two_rule = as_card r (other one) two k.book z [] [] U Z a.two a.other_rule in
     let mine_one = (c.in_ok-owe_some.ensures.rules.mine r (once_mended k.started) k.due k.book k.marks y a.named_first a.holds due_one a.one_rule).lit refl in
     let beside = as_card r two (other one) k.book z [] [] V Z (sym a.two) ((c.in_ok-owe_some.ensures.rules.others r (once_mended k.started) k.due k.book k.marks y z [] [] a.named_first a.holds alone_one a.one_rule two_rule).lit refl) in
     let holds = c.in_ok-owe_some.ensures.rules.holds (once_mended k.started) k.due k.book k.marks a.first_told a.holds in
-    let due_two = due_some two i k.due (opened r two).start z c.args.two_entry n.second n.late f n.second_present in
-    let alone_two = due_alone two i k.due c.args.two_entry n.second n.late f in
+    let due_two = due_some two i k.due (opened r two).start z c.args.said.two.entry n.second n.late f n.second_present in
+    let alone_two = due_alone two i k.due c.args.said.two.entry n.second n.late f in
     let back = ap other a.two ∙ other_twice one in
-    let one_beside = as_card r (other two) one k.book y (option_to_list c.args.one_entry) [] V X (sym back) mine_one in
+    let one_beside = as_card r (other two) one k.book y (option_to_list c.args.said.one.entry) [] V X (sym back) mine_one in
     let W = g.M.Medium.state c.owe_some-2.new.unit in
     let N = g.M.Medium.state c.commit.new.unit in
     let holds_two = c.in_ok-owe_some-2.ensures.rules.holds (once_mended k.started) k.due k.book k.marks a.second_told holds in
     let mine_two = (c.in_ok-owe_some-2.ensures.rules.mine r (once_mended k.started) k.due k.book k.marks z a.named_second holds due_two beside).lit refl in
-    let one_put = as_card r one (other two) k.book y (option_to_list c.args.one_entry) [] W X back ((c.in_ok-owe_some-2.ensures.rules.others r (once_mended k.started) k.due k.book k.marks z y (option_to_list c.args.one_entry) [] a.named_second holds alone_two beside one_beside).lit refl) in
-    let first = c.commit.ensures.rules.first r one (once_mended k.started) k.due k.book k.marks i y n.same holds_two a.none n.late (subst (λ (m : List Entry). CardHolds r one k.book y m [] W X) (sym n.first) one_put) (fits_some one i (opened r one).start y c.args.one_entry n.first n.first_present) in
-    let second = c.commit.ensures.rules.second r two (once_mended k.started) k.due k.book k.marks i z n.same holds_two a.none n.late (subst (λ (m : List Entry). CardHolds r two k.book z m [] W Z) (sym n.second) mine_two) (fits_some two i (opened r two).start z c.args.two_entry n.second n.second_present) in
+    let one_put = as_card r one (other two) k.book y (option_to_list c.args.said.one.entry) [] W X back ((c.in_ok-owe_some-2.ensures.rules.others r (once_mended k.started) k.due k.book k.marks z y (option_to_list c.args.said.one.entry) [] a.named_second holds alone_two beside one_beside).lit refl) in
+    let first = c.commit.ensures.rules.first r one (once_mended k.started) k.due k.book k.marks i y n.same holds_two a.none n.late (subst (λ (m : List Entry). CardHolds r one k.book y m [] W X) (sym n.first) one_put) (fits_some one i (opened r one).start y c.args.said.one.entry n.first n.first_present) in
+    let second = c.commit.ensures.rules.second r two (once_mended k.started) k.due k.book k.marks i z n.same holds_two a.none n.late (subst (λ (m : List Entry). CardHolds r two k.book z m [] W Z) (sym n.second) mine_two) (fits_some two i (opened r two).start z c.args.said.two.entry n.second n.second_present) in
     let held = c.commit.ensures.rules.holds k.started k.due k.book k.marks i n.same holds_two a.none n.late in
     on_ok c.commit.result (λ well. record {
       holds = held.lit well below;
@@ -131,7 +131,7 @@ owe_some-requires-2-clause-ready g c = record {
 }
 
 pub owe_some-requires-2-clause-row : goal.owe_some-requires-2-clause-row
-owe_some-requires-2-clause-row g c = row_on c.args.two_entry c.requires.second_row (λ has. (has.0, c.in_ok-owe_some.ensures.stands.rows c.args.two_row (card_number_bytes c.args.two_number.now) has.1))
+owe_some-requires-2-clause-row g c = row_on c.args.said.two.entry c.requires.second_row (λ has. (has.0, c.in_ok-owe_some.ensures.stands.rows c.args.said.two.row (card_number_bytes c.args.said.two.number) has.1))
 
 pub commit-requires-clause-ready : goal.commit-requires-clause-ready
 commit-requires-clause-ready g c = record {

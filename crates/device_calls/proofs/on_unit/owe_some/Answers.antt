@@ -23,9 +23,9 @@ returns-in-None-clause-rules g c = record {
   holds = λ s due b marks whose h. h;
   mine =
       λ r s due b marks z named h says rule.
-      subst (λ (o : Option Entry). IsKeptUp r c.args.which b z (option_to_list o) [] false (g.M.Medium.state c.args.unit.now) (g.C.Chip.state c.args.mine.now)) (sym c.in-None.is)
-      (held_up r c.args.which b z [] [] (g.M.Medium.state c.args.unit.now) (g.C.Chip.state c.args.mine.now) rule);
-  others = λ r s due b marks y z m d named h says mine others. held_up r (other c.args.which) b z m d (g.M.Medium.state c.args.unit.now) (g.D.Chip.state c.args.others.now) others;
+      subst (λ (o : Option Entry). IsKeptUp r c.args.said.card b z (option_to_list o) [] false (g.M.Medium.state c.args.unit.now) (g.C.Chip.state c.args.mine.now)) (sym c.in-None.is)
+      (held_up r c.args.said.card b z [] [] (g.M.Medium.state c.args.unit.now) (g.C.Chip.state c.args.mine.now) rule);
+  others = λ r s due b marks y z m d named h says mine others. held_up r (other c.args.said.card) b z m d (g.M.Medium.state c.args.unit.now) (g.D.Chip.state c.args.others.now) others;
 }
 
 pub returns-in-None-clause-cause : goal.returns-in-None-clause-cause
@@ -39,8 +39,8 @@ returns-in-Some-clause-rules g c = record {
   holds = c.owe.ensures.rules.holds;
   mine =
       λ r s due b marks z named h says rule.
-      let here = subst (λ (o : Option Entry). IfSome o (λ e. (due ≤ e.minute) × (1440 ≤ e.minute) × IsPresent (opened r c.args.which).start z e.minute)) c.in-Some.is says in
-      subst (λ (o : Option Entry). IsKeptUp r c.args.which b z (option_to_list o) [] (is_err c.owe.result) (g.M.Medium.state c.owe.new.unit) (g.C.Chip.state c.args.mine.now)) (sym c.in-Some.is)
+      let here = subst (λ (o : Option Entry). IfSome o (λ e. (due ≤ e.minute) × (1440 ≤ e.minute) × IsPresent (opened r c.args.said.card).start z e.minute)) c.in-Some.is says in
+      subst (λ (o : Option Entry). IsKeptUp r c.args.said.card b z (option_to_list o) [] (is_err c.owe.result) (g.M.Medium.state c.owe.new.unit) (g.C.Chip.state c.args.mine.now)) (sym c.in-Some.is)
       (c.owe.ensures.rules.mine r s due b marks z named h here.0 here.1 here.2 rule);
   others =
       λ r s due b marks y z m d named h says mine others.
@@ -53,11 +53,11 @@ returns-in-Some-clause-cause g c = inl c.owe.ensures.goes.cause
 
 pub owe-requires-clause-low : goal.owe-requires-clause-low
 owe-requires-clause-low g c =
-    (subst (λ (o : Option Entry). IfSome o (λ e. (c.args.row < 8) × IfSome (g.M.Medium.state c.args.unit.now).image (IsRowAt c.args.row (card_number_bytes c.args.number.now)))) c.in-Some.is c.requires.row).0
+    (subst (λ (o : Option Entry). IfSome o (λ e. (c.args.said.row < 8) × IfSome (g.M.Medium.state c.args.unit.now).image (IsRowAt c.args.said.row (card_number_bytes c.args.said.number)))) c.in-Some.is c.requires.row).0
 
 pub owe-requires-clause-row : goal.owe-requires-clause-row
 owe-requires-clause-row g c =
-    (subst (λ (o : Option Entry). IfSome o (λ e. (c.args.row < 8) × IfSome (g.M.Medium.state c.args.unit.now).image (IsRowAt c.args.row (card_number_bytes c.args.number.now)))) c.in-Some.is c.requires.row).1
+    (subst (λ (o : Option Entry). IfSome o (λ e. (c.args.said.row < 8) × IfSome (g.M.Medium.state c.args.unit.now).image (IsRowAt c.args.said.row (card_number_bytes c.args.said.number)))) c.in-Some.is c.requires.row).1
 
 -- ---- three writes at most
 
