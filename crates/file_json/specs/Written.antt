@@ -1,9 +1,8 @@
 -- The names under which what a unit and its cards write is told.
-use Rattle.std.specs.Prelude.{◌≡◌, ℕ, ◌+◌, if◌then◌else◌, List, [], ◌∷◌, codes, bytes_eq}
+use Rattle.std.specs.Prelude.{◌≡◌, ℕ, ◌+◌, if◌then◌else◌, List, [], ◌∷◌, Option, Some, None, codes, bytes_eq}
 use Rattle.card_layout.specs.Fields.{place_in}
 use Rattle.json_fields.specs.declared.fields.Field.{Field}
 use Rattle.json_fields.specs.declared.fields.Form.{Form}
-use Rattle.json_fields.specs.declared.fields.Form.TheVariants.{Bytes}
 use Rattle.json_fields.specs.Names.{name_text}
 
 -- where the field of a name begins in a table
@@ -17,15 +16,15 @@ StandFrom k widths fields [] = Unit {0}
 StandFrom k widths fields (name ∷ names) = (place_named name fields ≡ place_in widths k)
     × StandFrom (k + 1) widths fields names
 
--- the form of the field of a name; that of bytes where there is none
-abbrev pub form_named : (name : List ℕ) → List Field → Form
-form_named name [] = Bytes
-form_named name (f ∷ fs) = if bytes_eq name (name_text f.name) then f.form else form_named name fs
+-- the form of the field of a name, where a field has it
+abbrev pub form_named : (name : List ℕ) → List Field → Option Form
+form_named name [] = None
+form_named name (f ∷ fs) = if bytes_eq name (name_text f.name) then Some f.form else form_named name fs
 
 -- the fields of these names have this form
 abbrev pub HaveForm : Form → List Field → (names : List (List ℕ)) → Type 0
 HaveForm form fields [] = Unit {0}
-HaveForm form fields (name ∷ names) = (form_named name fields ≡ form) × HaveForm form fields names
+HaveForm form fields (name ∷ names) = (form_named name fields ≡ Some form) × HaveForm form fields names
 
 -- the fields of an insertion behind its holder's names, up to the vehicle before
 abbrev pub insertion_names : List (List ℕ)

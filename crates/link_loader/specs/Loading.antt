@@ -1,7 +1,8 @@
 -- A download, frame after frame: where it stands, what a frame finishes, and when one is refused.
 use Rattle.std.specs.Prelude.{◌≡◌, ◌⊎◌, ℕ, ◌==◌, true, if◌then◌else◌, List, [], ◌++◌, length, drop, Option, Some, None}
-use Rattle.std.specs.Prelude.{option_map, is_some}
+use Rattle.std.specs.Prelude.{◌≤◌, ◌<◌, ◌↔◌, option_map, is_some, Result, IsErrOf}
 use Rattle.std.specs.Io.KnownBytes.{Keeps}
+use Rattle.tach_media.specs.Medium.{Rose}
 use Rattle.tach_media.specs.Streams.{AppendsFront}
 use Rattle.link_model.specs.declared.request.Request.{Request}
 use Rattle.message_model.specs.Messages.{Message, IsMessage, message_bytes}
@@ -140,3 +141,23 @@ IsNotPut request bytes fault old new = ⊥
 -- the counter that a joiner wants is the one that is wanted at the stage
 abbrev pub CounterIsWanted : Stage → Joined → Type 0
 CounterIsWanted stage joined = wanted joined ≡ counter_at stage
+
+-- ---- what a call that takes a frame says of its failures
+
+-- FAILURES OF THE SINK ARE COUNTED: no count falls, and where a message could not be written it rose
+pub record CountsFailures (result : Result (Unit {0}) LoadFault) (before after : ℕ) : Type 0 where
+  pub later : before ≤ after
+  pub cause : IsErrOf result faults.WriteFault → Rose before after
+
+-- MEMORY IS WANTED only where there is no room for the bytes with the piece; and no room is given up
+pub record WantsRoom (result : Result (Unit {0}) LoadFault) (old new : Load) (frame : List ℕ) : Type 0 where
+  pub room : old.room ≤ new.room
+  pub enough : IsErrOf result faults.Memory → old.room < length (with_piece old.loading.bytes frame)
+
+-- FRAMES ARE REFUSED EXACTLY where such a frame comes, but for want of memory at a piece
+pub record RefusesExactly (result : Result (Unit {0}) LoadFault) (now : Loading) (frame : List ℕ) : Type 0 where
+  pub negative : (service code : ℕ) → (IsErrOf result (faults.Negative service code))
+      ↔ ((kind_of now.stage frame ≡ Negative service code) × (passed_over now.end now.stage service code ≡ None))
+  pub broken : (wants counter : ℕ) → (IsErrOf result (faults.Broken wants counter))
+      ↔ (kind_of now.stage frame ≡ Broken wants counter)
+  pub unexpected : IsUnexpected now frame → (IsErrOf result faults.Unexpected) ⊎ (IsErrOf result faults.Memory)

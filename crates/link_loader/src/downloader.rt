@@ -1,4 +1,4 @@
-ghost use Rattle.std.specs.Prelude.{◌≡◌, ◌≤◌, ◌<◌, ◌+◌, ◌↔◌, ◌⊎◌, ℕ, List, length, Some, None, IfNone, IfOk, OnOk};
+ghost use Rattle.std.specs.Prelude.{◌≡◌, ◌≤◌, ◌<◌, ℕ, List, length, Some, None, IfNone, IfOk, OnOk};
 ghost use Rattle.std.specs.Prelude.{IfErr, OnErr, IsErrOf};
 ghost use Rattle.std.specs.Io.KnownBytes.{Appends};
 ghost use Rattle.tach_media.specs.Medium.{Rose};
@@ -8,7 +8,8 @@ ghost use Rattle.unit_messages.specs.Joining.{wanted, counter_in};
 ghost use Rattle.link_loader.specs.Stages.{sent_at, passed_over, behind_answer, counter_at, next_counter};
 ghost use Rattle.link_loader.specs.Coming.{kind_of, IsInOrder};
 ghost use Rattle.link_loader.specs.Loading.{begun, over, at_stage, after_message, continued, with_piece, Takes};
-ghost use Rattle.link_loader.specs.Loading.{IsAnswer, IsNotPut, IsRefused, IsUnexpected, left_by, LeavesSink};
+ghost use Rattle.link_loader.specs.Loading.{IsAnswer, IsNotPut, IsRefused, left_by, LeavesSink};
+ghost use Rattle.link_loader.specs.Loading.{CountsFailures, RefusesExactly, WantsRoom};
 
 use crate::fault::LoadFault;
 use crate::kind::{FULL, Kind, kind_of};
@@ -94,21 +95,11 @@ impl Downloader {
         ensures same { IsErrOf result LoadFault.Memory → self.new ≡ self.old }
         ensures sink { IfErr result (λ fault.
             LeavesSink self.old.loading frame.now fault (K.held sink.old) (K.held sink.new)) }
-        ensures later { K.faults sink.old ≤ K.faults sink.new }
-        ensures cause { IsErrOf result LoadFault.WriteFault → Rose (K.faults sink.old) (K.faults sink.new) }
-        ensures room { self.old.room ≤ self.new.room }
+        ensures faults { CountsFailures result (K.faults sink.old) (K.faults sink.new) }
         // Memory is wanted only where there is no room for the bytes with the piece.
-        ensures enough { IsErrOf result LoadFault.Memory
-            → self.old.room < length (with_piece self.old.loading.bytes frame.now) }
+        ensures memory { WantsRoom result self.old self.new frame.now }
         // Exactly where such a frame comes, but for want of memory at a piece.
-        ensures negative { (service code : ℕ) → (IsErrOf result (LoadFault.Negative service code))
-            ↔ ((kind_of self.old.loading.stage frame.now ≡ Kind.Negative service code)
-            × (passed_over self.old.loading.end self.old.loading.stage service code ≡ None)) }
-        ensures broken { (wanted counter : ℕ)
-            → (IsErrOf result (LoadFault.Broken wanted counter))
-            ↔ (kind_of self.old.loading.stage frame.now ≡ Kind.Broken wanted counter) }
-        ensures unexpected { IsUnexpected self.old.loading frame.now
-            → (IsErrOf result LoadFault.Unexpected) ⊎ (IsErrOf result LoadFault.Memory) }
+        ensures exactly { RefusesExactly result self.old.loading frame.now }
     {
         let kind = kind_of(self.stage, frame.bytes());
         self.take_kind(kind, frame, sink)
@@ -130,11 +121,8 @@ impl Downloader {
         ensures same { IsErrOf result LoadFault.Memory → self.new ≡ self.old }
         ensures sink { IfErr result (λ fault.
             LeavesSink self.old.loading frame.now fault (K.held sink.old) (K.held sink.new)) }
-        ensures later { K.faults sink.old ≤ K.faults sink.new }
-        ensures cause { IsErrOf result LoadFault.WriteFault → Rose (K.faults sink.old) (K.faults sink.new) }
-        ensures room { self.old.room ≤ self.new.room }
-        ensures enough { IsErrOf result LoadFault.Memory
-            → self.old.room < length (with_piece self.old.loading.bytes frame.now) }
+        ensures faults { CountsFailures result (K.faults sink.old) (K.faults sink.new) }
+        ensures memory { WantsRoom result self.old self.new frame.now }
     {
         match kind {
             Kind::Negative(service, code) => self.pass_over(service, code),
@@ -209,11 +197,8 @@ impl Downloader {
         ensures same { IsErrOf result LoadFault.Memory → self.new ≡ self.old }
         ensures sink { IfErr result (λ fault.
             LeavesSink self.old.loading frame.now fault (K.held sink.old) (K.held sink.new)) }
-        ensures later { K.faults sink.old ≤ K.faults sink.new }
-        ensures cause { IsErrOf result LoadFault.WriteFault → Rose (K.faults sink.old) (K.faults sink.new) }
-        ensures room { self.old.room ≤ self.new.room }
-        ensures enough { IsErrOf result LoadFault.Memory
-            → self.old.room < length (with_piece self.old.loading.bytes frame.now) }
+        ensures faults { CountsFailures result (K.faults sink.old) (K.faults sink.new) }
+        ensures memory { WantsRoom result self.old self.new frame.now }
     {
         match self.add_piece(request, frame) {
             Ok(_) => {

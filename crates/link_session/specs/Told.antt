@@ -1,7 +1,7 @@
 -- A session as its callers see it, and why it does not answer.
-use Rattle.std.specs.Prelude.{◌≡◌, ℕ, Bool, true, false, Result, Ok, Err, Option, None, IfSome, is_some, List}
+use Rattle.std.specs.Prelude.{◌≡◌, ◌||◌, ℕ, Bool, true, false, Result, Ok, Err, Option, Some, None, IfSome, IfErr, OnOk, is_some, List}
 use Rattle.link_model.specs.Answers.{LinkState}
-use Rattle.unit_model.specs.Decoding.{Decodes}
+use Rattle.unit_model.specs.Decoding.{Decodes, first_bad_place}
 use Rattle.unit_minutes.specs.declared.notes.Notes.{Notes}
 use Rattle.unit_minutes.specs.Reading.{AreRight}
 use Rattle.unit_messages.specs.declared.outline.Plan.{Plan}
@@ -43,3 +43,17 @@ abbrev pub has_failed : {T : Type 0} → Result T AnswerFault → Bool
 has_failed (Ok x) = false
 has_failed (Err Failed) = true
 has_failed (Err (BadUnit p)) = false
+
+-- WHAT A SESSION HAS FOUND behind an answer: the unit is judged where it was, or where the answer asks it; and what was
+-- found of it is so
+pub record HasFound {T : Type 0} (result : Result T AnswerFault) (asks : Bool) (old new : SessionView)
+    (image : Option (List ℕ)) : Type 0 where
+  pub judged : OnOk result (is_judged new ≡ (is_judged old || asks))
+  pub knows : OnOk result (IfSome image (Knows new))
+
+-- NO ANSWER comes only where the unit is asked; and a bad unit is bad at this place, and was not judged before
+pub record AnswersNot {T : Type 0} (result : Result T AnswerFault) (asks : Bool) (old : SessionView)
+    (image : Option (List ℕ)) : Type 0 where
+  pub silent : IfErr result (λ fault. asks ≡ true)
+  pub bad : IfErr result (λ fault. IfBadUnit fault (λ p. (is_judged old ≡ false)
+      × IfSome image (λ x. first_bad_place x ≡ Some p)))

@@ -1,5 +1,5 @@
 ghost use Rattle.unit_model.specs.declared.layout.TheConstants.{IMAGE_SIZE};
-ghost use Rattle.std.specs.Prelude.{◌≡◌, ℕ, ◌≤◌, true, false, ◌||◌, IfOk, OnOk, OnErr, IfErr, IfSome, Some, List};
+ghost use Rattle.std.specs.Prelude.{◌≡◌, ℕ, ◌≤◌, true, false, IfOk, OnOk, OnErr, IfErr, IfSome, Some, List};
 ghost use Rattle.std.specs.Prelude.{Option, is_some};
 ghost use Rattle.link_model.specs.declared.request.Request.{Request as Asked};
 ghost use Rattle.link_model.specs.Answers.{Idle, answered, sends_on};
@@ -11,6 +11,7 @@ ghost use Rattle.link_frames.specs.Asking.{asks_unit};
 ghost use Rattle.link_frames.specs.Steps.{state_of, begins, performed, asks};
 ghost use Rattle.link_frames.specs.Sending.{IsPart, reply_of};
 ghost use Rattle.link_session.specs.Told.{Knows, is_judged, fresh, IfBadUnit, has_failed};
+ghost use Rattle.link_session.specs.Told.{AnswersNot, HasFound};
 
 use crate::asking::{AnswerFault, Part, judge, part_of};
 use link_frames::{Frame, Reply, Seen, Standing, Step, begun, place_of, sent_on, step_of};
@@ -72,9 +73,8 @@ impl Session {
         // Over a unit that does not tell its image too: by the table over some messages.
         ensures possible { IfOk result (λ answer. (messages : Asked → Option (List ℕ)) ×
             (record { answer = answer; state = self.new.state } ≡ answered messages self.old.state (meant seen.now))) }
-        ensures judged { OnOk result (is_judged self.new
-            ≡ (is_judged self.old || asks_unit self.old.state (meant seen.now))) }
-        ensures knows { OnOk result (IfSome (M.state unit.old).image (Knows self.new)) }
+        ensures found { HasFound result (asks_unit self.old.state (meant seen.now)) self.old self.new
+            (M.state unit.old).image }
         ensures same { OnErr result (self.new ≡ self.old) }
         // Only a unit that was not judged yet is refused.
         ensures bad { IfErr result (λ fault. IfBadUnit fault (λ p. (is_judged self.old ≡ false) × IfSome
@@ -100,14 +100,11 @@ impl Session {
         ensures possible { IfOk result (λ reply. (messages : Asked → Option (List ℕ))
             × (reply_of reply ≡ performed messages step)) }
         ensures stays { OnOk result (self.new.state ≡ self.old.state) }
-        ensures judged { OnOk result (is_judged self.new ≡ (is_judged self.old || asks step)) }
-        ensures knows { OnOk result (IfSome (M.state unit.old).image (Knows self.new)) }
+        ensures found { HasFound result (asks step) self.old self.new (M.state unit.old).image }
         ensures same { OnErr result (self.new ≡ self.old) }
-        ensures bad { IfErr result (λ fault. IfBadUnit fault (λ p. (is_judged self.old ≡ false) × IfSome
-            (M.state unit.old).image (λ x. first_bad_place x ≡ Some p))) }
+        ensures not { AnswersNot result (asks step) self.old (M.state unit.old).image }
         ensures reads { ReadsIfAny (M.state unit.old) (M.state unit.new) (has_failed result) }
         ensures spared { asks step ≡ false → unit.new ≡ unit.old }
-        ensures silent { IfErr result (λ fault. asks step ≡ true) }
     {
         match step {
             Step::Answer(frame, standing) => Ok(Reply {

@@ -1,13 +1,15 @@
 -- How a download ends.
 use Rattle.std.specs.Prelude.{◌≡◌, ◌⊎◌, ℕ, ◌<◌, Bool, true, false, List, [], ◌∷◌, ◌++◌, length, Option, Some, None}
-use Rattle.std.specs.Prelude.{IfSome, Result, Ok, Err}
+use Rattle.std.specs.Prelude.{◌≤◌, ◌^◌, IfSome, Result, Ok, Err, IsErrOf, OnOk, IfErr}
 use Rattle.std.specs.Io.KnownBytes.{Appends, Keeps}
+use Rattle.tach_media.specs.Medium.{Rose}
 use Rattle.tach_media.specs.Streams.{AppendsFront}
 use Rattle.card_layout.specs.Fields.{IsBytes}
 use Rattle.link_model.specs.declared.request.Request.{Request}
 use Rattle.link_model.specs.Frames.{Right}
 use Rattle.link_model.specs.Answers.{LinkState}
 use Rattle.message_model.specs.Messages.{Message, message_bytes}
+use Rattle.unit_model.specs.Decoding.{Decodes, first_bad_place}
 use Rattle.unit_messages.specs.declared.joining.TheConstants.{LONGEST}
 use Rattle.link_frames.specs.Asking.{asks_unit}
 use Rattle.link_session.specs.declared.asking.AnswerFault.{AnswerFault}
@@ -111,3 +113,22 @@ pub record IsDownload {T : Type 0} (result : Result T DownloadFault) (image : Op
   pub mid : Option (List ℕ)
   pub put : Appends held mid talk.out
   pub ends : Ends result image talk behind mid sunk
+
+-- ---- what a call of a download says of its failures, and of the wire
+
+-- FAILURES OF THE SINK ARE COUNTED: no count falls, and where it could not be written it rose
+pub record CountsFailures (result : Result (Unit {0}) DownloadFault) (before after : ℕ) : Type 0 where
+  pub cause : IsErrOf result WriteFault → Rose before after
+  pub counts : before ≤ after
+
+-- MORE FRAMES are on the wire behind an answer; a number of 64 bits counts them
+pub record CountsFrames {A : Type 0} (result : Result A DownloadFault) (before after : ℕ) : Type 0 where
+  pub more : OnOk result (before < after)
+  pub few : OnOk result (before < 2 ^ 64)
+
+-- A UNIT IS JUDGED: one that was asked, and gives no answer, decodes; a bad one is bad at this place, and was not judged
+-- before
+pub record JudgesUnit {A : Type 0} (result : Result A DownloadFault) (asked judged : Bool) (image : Option (List ℕ)) : Type 0 where
+  pub found : IsErrOf result Changed → asked ≡ true → IfSome image Decodes
+  pub bad : IfErr result (λ fault. IfBad fault (λ p. (judged ≡ false)
+      × IfSome image (λ x. first_bad_place x ≡ Some p)))

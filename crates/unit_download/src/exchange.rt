@@ -1,11 +1,10 @@
 //! One exchange of a download: the loader's frame, and the unit's answer, which the loader takes.
 ghost use Rattle.unit_model.specs.declared.layout.TheConstants.{IMAGE_SIZE};
-ghost use Rattle.std.specs.Prelude.{◌≡◌, ◌≤◌, ◌<◌, ◌^◌, ◌||◌, true, false, [], ◌∷◌, ℕ, List, Some, IfOk, OnOk, IfErr};
+ghost use Rattle.std.specs.Prelude.{◌≡◌, ◌≤◌, ◌||◌, true, false, [], ◌∷◌, ℕ, List, Some, IfOk, OnOk, IfErr};
 ghost use Rattle.std.specs.Prelude.{IfSome, IsErrOf};
 ghost use Rattle.std.specs.Io.KnownBytes.{Appends};
 ghost use Rattle.tach_media.specs.Medium.{Rose};
 ghost use Rattle.link_model.specs.Frames.{Right};
-ghost use Rattle.unit_model.specs.Decoding.{Decodes, first_bad_place};
 ghost use Rattle.unit_minutes.specs.Reading.{ReadsIfAny};
 ghost use Rattle.unit_messages.specs.declared.joining.TheConstants.{LONGEST};
 ghost use Rattle.link_frames.specs.Asking.{asks_unit};
@@ -15,7 +14,7 @@ ghost use Rattle.unit_download.specs.declared.wire.Passed.{Passed};
 ghost use Rattle.unit_download.specs.declared.fault.DownloadFault.{DownloadFault};
 ghost use Rattle.unit_download.specs.Wires.{of_loader, of_unit, Replies};
 ghost use Rattle.unit_download.specs.Tapes.{HasMore};
-ghost use Rattle.unit_download.specs.Ending.{IfBad, has_failed, IsUnanswered, IsUntaken};
+ghost use Rattle.unit_download.specs.Ending.{CountsFrames, JudgesUnit, has_failed, IsUnanswered, IsUntaken};
 
 use crate::fault::DownloadFault;
 use crate::tape::Tape;
@@ -44,16 +43,13 @@ pub fn answer_to<U: Medium, T: Tape>(
     ensures knows { OnOk result (IfSome (U.state unit.old).image (Knows session.new)) }
     ensures judged { OnOk result (is_judged session.new
         ≡ (is_judged session.old || asks_unit session.old.state (Right sent))) }
-    ensures more { OnOk result (T.count wire.old < T.count wire.new) }
-    ensures few { OnOk result (T.count wire.old < 2 ^ 64) }
+    ensures frames { CountsFrames result (T.count wire.old) (T.count wire.new) }
     ensures stops { IfErr result (λ fault. (behind : List Passed)
         × HasMore (T.frames wire.old) (T.frames wire.new) behind
         × IsUnanswered (U.state unit.old).image fault session.old.state sent behind) }
-    // A unit that was asked, and gives no answer, decodes.
-    ensures found { IsErrOf result DownloadFault.Changed → asks_unit session.old.state (Right sent) ≡ true
-        → IfSome (U.state unit.old).image Decodes }
-    ensures bad { IfErr result (λ fault. IfBad fault (λ p. (is_judged session.old ≡ false) × IfSome
-        (U.state unit.old).image (λ x. first_bad_place x ≡ Some p))) }
+    // A unit that was asked, and gives no answer, decodes; and a bad one is bad at this place.
+    ensures unit_judged { JudgesUnit result (asks_unit session.old.state (Right sent)) (is_judged session.old)
+        (U.state unit.old).image }
     ensures unit { ReadsIfAny (U.state unit.old) (U.state unit.new) (has_failed result) }
 {
     let seen = Seen::Whole(copy_of(&sent));

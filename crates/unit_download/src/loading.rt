@@ -1,7 +1,6 @@
 ghost use Rattle.unit_model.specs.Image.{IsUnit};
 ghost use Rattle.std.specs.Prelude.{◌≡◌, ◌≤◌, [], List, OnOk, IfErr, OnErr, IfSome, IsErrOf, Some};
 ghost use Rattle.std.specs.Io.KnownBytes.{Appends, Keeps};
-ghost use Rattle.tach_media.specs.Medium.{Rose};
 ghost use Rattle.tach_media.specs.Streams.{AppendsFront};
 ghost use Rattle.message_model.specs.Sending.{unit_file};
 ghost use Rattle.unit_model.specs.Decoding.{Decodes, first_bad_place};
@@ -11,7 +10,7 @@ ghost use Rattle.unit_messages.specs.declared.joining.TheConstants.{LONGEST};
 ghost use Rattle.link_loader.specs.Loading.{begun};
 ghost use Rattle.unit_download.specs.declared.wire.Passed.{Passed};
 ghost use Rattle.unit_download.specs.Tapes.{HasFrames};
-ghost use Rattle.unit_download.specs.Ending.{IfBad, has_failed, IsDownload};
+ghost use Rattle.unit_download.specs.Ending.{CountsFailures, IfBad, has_failed, IsDownload};
 
 use crate::exchange::{answer_to, take};
 use crate::fault::DownloadFault;
@@ -55,8 +54,7 @@ pub fn download<K: Sink, U: Medium>(
     ensures bad { IfErr result (λ fault. IfBad fault (λ p. IfSome (U.state unit.old).image
         (λ x. first_bad_place x ≡ Some p))) }
     ensures nothing { IfErr result (λ fault. IfBad fault (λ p. Keeps (K.held sink.old) (K.held sink.new))) }
-    ensures cause { IsErrOf result DownloadFault.WriteFault → Rose (K.faults sink.old) (K.faults sink.new) }
-    ensures counts { K.faults sink.old ≤ K.faults sink.new }
+    ensures faults { CountsFailures result (K.faults sink.old) (K.faults sink.new) }
     // The unit is only read, if it is called at all.
     ensures unit { ReadsIfAny (U.state unit.old) (U.state unit.new) (has_failed result) }
 {
@@ -97,8 +95,7 @@ pub fn exchange_all<K: Sink, U: Medium, T: Tape>(
     ensures bad { IfErr result (λ fault. IfBad fault (λ p. IfSome (U.state unit.old).image
         (λ x. first_bad_place x ≡ Some p))) }
     ensures nothing { IfErr result (λ fault. IfBad fault (λ p. Keeps (K.held sink.old) (K.held sink.new))) }
-    ensures cause { IsErrOf result DownloadFault.WriteFault → Rose (K.faults sink.old) (K.faults sink.new) }
-    ensures counts { K.faults sink.old ≤ K.faults sink.new }
+    ensures faults { CountsFailures result (K.faults sink.old) (K.faults sink.new) }
     // The unit is only read, if it is called at all.
     ensures unit { ReadsIfAny (U.state unit.old) (U.state unit.new) (has_failed result) }
 {

@@ -1,9 +1,9 @@
 -- The images while a unit is made new.
-use Rattle.std.proofs.Common.{◌≡◌, inl, inr, ⊎_elim, ℕ, ◌+◌, ◌-◌, ◌<◌, ◌≤◌, true, false, List, [], ◌∷◌, ◌++◌, length, take, drop, refl, sym, ◌∙◌, ap, subst, arith, append_assoc, length-append, lit≤, Option, Some, None, option_map}
+use Rattle.std.proofs.Common.{◌≡◌, inl, inr, ⊎_elim, ℕ, ◌+◌, ◌-◌, ◌/◌, ◌<◌, ◌≤◌, min, true, false, List, [], ◌∷◌, ◌++◌, length, take, drop, refl, sym, ◌∙◌, ap, subst, arith, append_assoc, length-append, lit≤, Option, Some, None, option_map}
 use Rattle.std.specs.Int.{to_be_bytes, w32}
 use Rattle.card_layout.specs.Images.{big_number}
 use Rattle.std.proofs.lemmas.List.{append-nil, length-replicate, take-replicate, drop-replicate, drop_all}
-use Rattle.tach_media.specs.Medium.{State, put, SameOutside, IsPartlyWritten, HasCause}
+use Rattle.tach_media.specs.Medium.{State, put, SameOutside, IsPartlyWritten, HasCause, most_writes}
 use Rattle.tach_media.proofs.Images.{put_outside, part_before, part_put, outside_wider, outside_then}
 use Rattle.tach_media.proofs.Chunks.{put_behind, chunk_more, chunk_next}
 use Rattle.unit_model.specs.declared.layout.TheConstants.{IDENTIFICATION, IMAGE_SIZE}
@@ -21,7 +21,16 @@ idle s works = record {
   breaks = λ was failed. absurd (cc);
   unbroken = λ fine. refl;
   already = λ was. refl;
+  once = λ low. omega arith;
 }
+
+-- a chunk of zeros takes so many writes at most
+pub chunk_writes : (size : ℕ) → size ≤ 4096 → most_writes size ≤ 17
+chunk_writes size few = omega (arith, few)
+
+-- and behind it there is one less
+pub chunks_left : (to at size : ℕ) → at < to → size ≡ min 4096 (to - at) → (to - (at + size) + 4095) / 4096 + 1 ≤ (to - at + 4095) / 4096
+chunks_left to at size some is = omega (arith, some, is)
 
 pub zeros_length : (n : ℕ) → length (zeros n) ≡ n
 unfolding zeros

@@ -1,4 +1,5 @@
-ghost use Rattle.std.specs.Prelude.{◌≡◌, ◌≤◌, ◌<◌, ◌+◌, ◌-◌, length, IfOk, OnOk, IfSome, is_err, option_map, true};
+ghost use Rattle.std.specs.Prelude.{◌≡◌, ◌≤◌, ◌<◌, ◌+◌, ◌-◌, ◌*◌, ◌/◌, length, IfOk, OnOk, IfSome, is_err, true};
+ghost use Rattle.std.specs.Prelude.{option_map};
 ghost use Rattle.unit_model.specs.declared.layout.TheConstants.{IMAGE_SIZE};
 ghost use Rattle.tach_media.specs.Medium.{LeavesOnly, HasCause, IsSettled, IsPartlyWritten, SameOutside, last_count};
 ghost use Rattle.tach_media.specs.Medium.{put};
@@ -28,7 +29,8 @@ fn chunk() -> [u8; 4096]
 }
 
 /// Makes a new unit of this identity: zeros where nothing else is known (profile). The version is written last, and is
-/// 0 as long as this goes on: a stop leaves the old image, one whose version is 0, or the new one.
+/// 0 as long as this goes on: a stop leaves the old image, one whose version is 0, or the new one. Five of its writes
+/// are small ones, and each chunk of zeros takes 17 at most.
 pub fn format_unit<M: Medium>(unit: &mut M, identity: &Identity) -> Result<(), Failed>
     requires unit { IsUnit (M.state unit.old) }
     ensures formatted { OnOk result ((M.state unit.new).image ≡ option_map
@@ -37,6 +39,7 @@ pub fn format_unit<M: Medium>(unit: &mut M, identity: &Identity) -> Result<(), F
         (IsFormatting (new_image identity.now.vin identity.now.registration.0 identity.now.limit)) }
     ensures settled { OnOk result ((M.state unit.new).clock < last_count → IsSettled (M.state unit.new)) }
     ensures cause { HasCause (M.state unit.old) (M.state unit.new) (is_err result) }
+    ensures most { (M.state unit.new).clock ≤ (M.state unit.old).clock + 10324 }
 {
     unit.write_at(VERSION.place, &[0, 0, 0, 0])?;
     identify(unit, identity)?;
@@ -55,6 +58,7 @@ fn identify<M: Medium>(unit: &mut M, identity: &Identity) -> Result<(), Failed>
         (identified identity.now.vin identity.now.registration.0 identity.now.limit) (M.state unit.old).image) }
     ensures moments { LeavesOnly (M.state unit.old) (M.state unit.new) (SameOutside 4 33) }
     ensures cause { HasCause (M.state unit.old) (M.state unit.new) (is_err result) }
+    ensures most { (M.state unit.new).clock ≤ (M.state unit.old).clock + 3 }
 {
     unit.write_at(VIN.place, &identity.vin)?;
     unit.write_at(REGISTRATION.place, &identity.registration.0)?;
@@ -72,6 +76,7 @@ fn clear<M: Medium>(unit: &mut M, from: u32, to: u32) -> Result<(), Failed>
         ≡ option_map (put from (zeros (to - from))) (M.state unit.old).image) }
     ensures moments { LeavesOnly (M.state unit.old) (M.state unit.new) (IsPartlyWritten from (zeros (to - from))) }
     ensures cause { HasCause (M.state unit.old) (M.state unit.new) (is_err result) }
+    ensures most { (M.state unit.new).clock ≤ (M.state unit.old).clock + 17 * ((to - from + 4095) / 4096) }
 {
     let zeros = chunk();
     let mut at = from;

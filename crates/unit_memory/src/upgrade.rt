@@ -1,4 +1,5 @@
-ghost use Rattle.std.specs.Prelude.{◌≡◌, ◌<◌, Ok, IfOk, OnOk, IfSome, IfErr, Some, is_err, option_map, true, false};
+ghost use Rattle.std.specs.Prelude.{◌≡◌, ◌≤◌, ◌<◌, ◌+◌, Ok, IfOk, OnOk, IfSome, IfErr, Some, is_err, option_map, true};
+ghost use Rattle.std.specs.Prelude.{false};
 ghost use Rattle.tach_media.specs.Medium.{LeavesOnly, HasCause, IsSettled, last_count};
 ghost use Rattle.unit_model.specs.declared.layout.TheConstants.{PLAIN_VERSION};
 ghost use Rattle.unit_model.specs.Image.{IsUnit};
@@ -34,6 +35,7 @@ impl UnitMemory {
         ensures refused { IfErr result (λ fault. IfBadUnit fault
             (λ _. (M.state unit.new).clock ≡ (M.state unit.old).clock)) }
         ensures cause { HasCause (M.state unit.old) (M.state unit.new) (has_failed result) }
+        ensures most { (M.state unit.new).clock ≤ (M.state unit.old).clock + 2 }
     {
         let memory = UnitMemory::load(unit)?;
         if memory.version() != 1 {
@@ -54,6 +56,7 @@ fn write_amended<M: Medium>(unit: &mut M) -> Result<(), Failed>
     ensures moments { LeavesOnly (M.state unit.old) (M.state unit.new) IsUpgrading }
     ensures settled { OnOk result ((M.state unit.new).clock < last_count → IsSettled (M.state unit.new)) }
     ensures cause { HasCause (M.state unit.old) (M.state unit.new) (is_err result) }
+    ensures most { (M.state unit.new).clock ≤ (M.state unit.old).clock + 2 }
 {
     unit.write_at(RULE_BYTE.place, &[1])?;
     unit.write_at(VERSION.place, &[0, 0, 0, 2])?;

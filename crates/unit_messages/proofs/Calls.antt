@@ -1,5 +1,5 @@
 -- Calls that only read, one after the other, of which some may make none.
-use Rattle.std.proofs.Common.{◌≡◌, ℕ, ◌≤◌, false, true, refl, ◌∙◌, sym, subst, inl, inr, ⊎_elim, Bool}
+use Rattle.std.proofs.Common.{◌≡◌, ℕ, ◌≤◌, false, true, refl, ◌∙◌, sym, subst, inl, inr, ⊎_elim, Bool, arith}
 use Rattle.tach_media.specs.Medium.{State, Unchanged, Reads, Rose}
 use Rattle.tach_media.proofs.Runs.{starts, goes_same, reads_then}
 use Rattle.gated_ring.specs.Loading.{MadeNoCall}
@@ -32,6 +32,7 @@ none_reads {old} {mid} {new} {failed} a b = record {
     breaks = λ was f. subst (λ (n : ℕ). Rose n new.breakdowns) a.breakdowns (b.cause.breaks (a.works ∙ was) f);
     unbroken = λ f. b.cause.unbroken f ∙ a.breakdowns;
     already = λ was. b.cause.already (a.works ∙ was) ∙ a.breakdowns;
+    once = λ low. let few = b.cause.once low in let same = a.breakdowns in omega (arith, few, same);
   };
 }
 
@@ -49,6 +50,7 @@ reads_none {old} {mid} {new} a b = record {
     breaks = λ was f. subst (λ (n : ℕ). Rose old.breakdowns n) (sym b.breakdowns) (a.cause.breaks was f);
     unbroken = λ f. b.breakdowns ∙ a.cause.unbroken f;
     already = λ was. b.breakdowns ∙ a.cause.already was;
+    once = λ low. let before = a.cause.unbroken refl in let same = b.breakdowns in omega (arith, before, same);
   };
 }
 

@@ -1,4 +1,5 @@
-use Rattle.std.proofs.Common.{[], ◌∷◌, ◌∙◌, List, ℕ, Option, None, refl, sym, ap}
+use Rattle.std.proofs.lemmas.Grind.{common_steps}
+use Rattle.std.proofs.Common.{[], ◌∷◌, ◌∙◌, List, ℕ, Option, None, refl, sym, ap, rules, arith}
 use Rattle.link_model.specs.Frames.{Right}
 use Rattle.link_model.specs.Answers.{answered}
 use Rattle.message_model.specs.Sending.{content_sent}
@@ -36,3 +37,63 @@ returns-in_err-push-2-clause-stops g c =
     let has = g.T.Tape.frames c.push-2.new.self in
     memory_stops c.from_residual-in_err-push-2.result (g.U.Medium.state c.args.unit.now).image c.args.session.now.state c.args.sent had has c.from_residual-in_err-push-2.ensures.1
     (still-more had mid has (of_loader c.args.sent ∷ []) c.in_ok-push.ensures.ok c.in_err-push-2.ensures.err)
+
+pub returns-in_err-push-clause-frames : goal.returns-in_err-push-clause-frames
+returns-in_err-push-clause-frames g c = record {
+  more = first_of (search rules, grind (arith, common_steps));
+  few = first_of (search rules, grind (arith, common_steps));
+}
+
+pub returns-in_err-answer-clause-frames : goal.returns-in_err-answer-clause-frames
+returns-in_err-answer-clause-frames g c = record {
+  more = first_of (search rules, grind (arith, common_steps));
+  few = first_of (search rules, grind (arith, common_steps));
+}
+
+pub returns-in_default-clause-frames : goal.returns-in_default-clause-frames
+returns-in_default-clause-frames g c = record {
+  more = first_of (search rules, grind (arith, common_steps));
+  few = first_of (search rules, grind (arith, common_steps));
+}
+
+pub returns-in_err-push-2-clause-frames : goal.returns-in_err-push-2-clause-frames
+returns-in_err-push-2-clause-frames g c = record {
+  more = first_of (search rules, grind (arith, common_steps));
+  few = first_of (search rules, grind (arith, common_steps));
+}
+
+pub returns-clause-frames : goal.returns-clause-frames
+returns-clause-frames g c = record {
+  more = first_of (search rules, grind (arith, common_steps));
+  few = first_of (search rules, grind (arith, common_steps));
+}
+
+pub returns-in_err-push-clause-unit_judged : goal.returns-in_err-push-clause-unit_judged
+returns-in_err-push-clause-unit_judged g c = record {
+  found = first_of (search rules, grind (arith, common_steps));
+  bad = first_of (search rules, grind (arith, common_steps));
+}
+
+pub returns-in_err-answer-clause-unit_judged : goal.returns-in_err-answer-clause-unit_judged
+returns-in_err-answer-clause-unit_judged g c = record {
+  found = first_of (search rules, grind (arith, common_steps));
+  bad = first_of (search rules, grind (arith, common_steps));
+}
+
+pub returns-in_default-clause-unit_judged : goal.returns-in_default-clause-unit_judged
+returns-in_default-clause-unit_judged g c = record {
+  found = first_of (search rules, grind (arith, common_steps));
+  bad = first_of (search rules, grind (arith, common_steps));
+}
+
+pub returns-in_err-push-2-clause-unit_judged : goal.returns-in_err-push-2-clause-unit_judged
+returns-in_err-push-2-clause-unit_judged g c = record {
+  found = first_of (search rules, grind (arith, common_steps));
+  bad = first_of (search rules, grind (arith, common_steps));
+}
+
+pub returns-clause-unit_judged : goal.returns-clause-unit_judged
+returns-clause-unit_judged g c = record {
+  found = first_of (search rules, grind (arith, common_steps));
+  bad = first_of (search rules, grind (arith, common_steps));
+}

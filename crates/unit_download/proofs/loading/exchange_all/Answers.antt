@@ -1,4 +1,5 @@
-use Rattle.std.proofs.Common.{◌∙◌, ℕ, List, [], ◌∷◌, ◌++◌, refl, sym, ap, Err, arith}
+use Rattle.std.proofs.lemmas.Grind.{common_steps}
+use Rattle.std.proofs.Common.{◌∙◌, ℕ, List, [], ◌∷◌, ◌++◌, refl, sym, ap, Err, arith, rules}
 use Rattle.tach_media.proofs.Runs.{bytes_told}
 use Rattle.unit_messages.proofs.Calls.{any_then}
 use Rattle.unit_download.specs.declared.fault.DownloadFault.TheVariants.{Changed}
@@ -25,7 +26,7 @@ pub returns-in_err-frame-clause-changed : goal.returns-in_err-frame-clause-chang
 returns-in_err-frame-clause-changed g c = λ is.
     let e = c.in_err-frame.ensures in
     bytes_told (g.U.Medium.state c.args.unit.now) _ _ c.holds_bytes.ensures (λ x fit none. none fit)
-    (unanswered_untold c.loop-sent.invariant.0.talking c.in-Some.sent (sym c.next.ensures.sent ∙ c.in-Some.is) c.in_err-frame.field-0.0 e.stops.0 e.stops.2 (λ f. e.found (ap Err f))
+    (unanswered_untold c.loop-sent.invariant.0.talking c.in-Some.sent (sym c.next.ensures.sent ∙ c.in-Some.is) c.in_err-frame.field-0.0 e.stops.0 e.stops.2 (λ f. e.unit_judged.found (ap Err f))
     (fault_is c.from_residual.result c.in_err-frame.field-0.0 Changed c.from_residual.ensures.1 is))
 
 pub returns-in_err-frame-clause-unit : goal.returns-in_err-frame-clause-unit
@@ -98,3 +99,21 @@ loop-sent-init g c =
       },
       omega arith,
     )
+
+pub returns-in_err-frame-clause-faults : goal.returns-in_err-frame-clause-faults
+returns-in_err-frame-clause-faults g c = record {
+  cause = first_of (search rules, grind (arith, common_steps));
+  counts = first_of (search rules, grind (arith, common_steps));
+}
+
+pub returns-in_err-take-clause-faults : goal.returns-in_err-take-clause-faults
+returns-in_err-take-clause-faults g c = record {
+  cause = first_of (search rules, grind (arith, common_steps));
+  counts = first_of (search rules, grind (arith, common_steps));
+}
+
+pub returns-clause-faults : goal.returns-clause-faults
+returns-clause-faults g c = record {
+  cause = first_of (search rules, grind (arith, common_steps));
+  counts = first_of (search rules, grind (arith, common_steps));
+}

@@ -1,4 +1,4 @@
-use Rattle.std.proofs.Common.{◌≡◌, ℕ, ◌-◌, List, ◌∙◌, arith, Some}
+use Rattle.std.proofs.Common.{◌≡◌, ◌≤◌, ◌+◌, ℕ, ◌-◌, List, ◌∙◌, arith, Some}
 use Rattle.std.specs.Int.{to_be_bytes, w32}
 use Rattle.tach_media.specs.Medium.{put}
 use Rattle.tach_media.proofs.Ranges.{lies_part, lies_still}
@@ -89,3 +89,39 @@ returns-clause-moments g c =
     named c.clear.ensures.moments (λ x d is part. moment_3 v r l e.vin e.registration x (sized x is) d part))
     (image_then o _ _ (λ x. identified v r l (first x)) (put 37 (zeros (IMAGE_SIZE - IDENTIFICATION.place))) named c.in_ok-clear.ensures.cleared)
     c.write_at-2.ensures.moments (λ x d is part. moment_4 v r l e.vin e.registration x (sized x is) d part)
+
+-- ---- its writes: 607 chunks of zeros, and five small ones
+
+pub returns-in_err-write_at-clause-most : goal.returns-in_err-write_at-clause-most
+returns-in_err-write_at-clause-most g c =
+    let first : (g.M.Medium.state c.write_at.new.self).clock ≤ (g.M.Medium.state c.args.unit.now).clock + 1 = c.write_at.ensures.few in
+    omega (arith, first)
+
+pub returns-in_err-identify-clause-most : goal.returns-in_err-identify-clause-most
+returns-in_err-identify-clause-most g c =
+    let first : (g.M.Medium.state c.write_at.new.self).clock ≤ (g.M.Medium.state c.args.unit.now).clock + 1 = c.write_at.ensures.few in
+    let named = c.identify.ensures.most in
+    omega (arith, first, named)
+
+pub returns-in_err-clear-clause-most : goal.returns-in_err-clear-clause-most
+returns-in_err-clear-clause-most g c =
+    let first : (g.M.Medium.state c.write_at.new.self).clock ≤ (g.M.Medium.state c.args.unit.now).clock + 1 = c.write_at.ensures.few in
+    let named = c.identify.ensures.most in
+    let cleared : (g.M.Medium.state c.clear.new.unit).clock ≤ (g.M.Medium.state c.identify.new.unit).clock + 10319 = c.clear.ensures.most in
+    omega (arith, first, named, cleared)
+
+pub returns-in_err-write_at-2-clause-most : goal.returns-in_err-write_at-2-clause-most
+returns-in_err-write_at-2-clause-most g c =
+    let first : (g.M.Medium.state c.write_at.new.self).clock ≤ (g.M.Medium.state c.args.unit.now).clock + 1 = c.write_at.ensures.few in
+    let named = c.identify.ensures.most in
+    let cleared : (g.M.Medium.state c.clear.new.unit).clock ≤ (g.M.Medium.state c.identify.new.unit).clock + 10319 = c.clear.ensures.most in
+    let last : (g.M.Medium.state c.write_at-2.new.self).clock ≤ (g.M.Medium.state c.clear.new.unit).clock + 1 = c.write_at-2.ensures.few in
+    omega (arith, first, named, cleared, last)
+
+pub returns-clause-most : goal.returns-clause-most
+returns-clause-most g c =
+    let first : (g.M.Medium.state c.write_at.new.self).clock ≤ (g.M.Medium.state c.args.unit.now).clock + 1 = c.write_at.ensures.few in
+    let named = c.identify.ensures.most in
+    let cleared : (g.M.Medium.state c.clear.new.unit).clock ≤ (g.M.Medium.state c.identify.new.unit).clock + 10319 = c.clear.ensures.most in
+    let last : (g.M.Medium.state c.write_at-2.new.self).clock ≤ (g.M.Medium.state c.clear.new.unit).clock + 1 = c.write_at-2.ensures.few in
+    omega (arith, first, named, cleared, last)

@@ -1,5 +1,5 @@
-use Rattle.std.proofs.Common.{◌≡◌, ℕ, [], ◌∷◌, List, length, ◌∙◌, arith}
-use Rattle.tach_media.specs.Medium.{put}
+use Rattle.std.proofs.Common.{◌≡◌, ◌≤◌, ◌+◌, ℕ, [], ◌∷◌, List, length, ◌∙◌, subst, arith}
+use Rattle.tach_media.specs.Medium.{put, most_writes}
 use Rattle.tach_media.proofs.Ranges.{lies_part, lies_still}
 use Rattle.tach_media.proofs.Runs.{weaken, goes_by, image_then}
 use Rattle.unit_model.specs.declared.layout.TheConstants.{IMAGE_SIZE}
@@ -68,3 +68,37 @@ returns-clause-identified g c =
     let l = c.args.identity.now.limit in
     image_then (g.M.Medium.state c.args.unit.now).image _ _ (λ x. put 21 r (put 4 v x)) (put 36 (l ∷ []))
     (image_then (g.M.Medium.state c.args.unit.now).image _ _ (put 4 v) (put 21 r) c.in_ok-write_at.ensures.written c.in_ok-write_at-2.ensures.written) c.in_ok-write_at-3.ensures.written
+
+-- ---- its writes
+
+pub returns-in_err-write_at-clause-most : goal.returns-in_err-write_at-clause-most
+returns-in_err-write_at-clause-most g c =
+    let vin : length c.args.identity.now.vin ≡ 17 = omega arith in
+    let one : (g.M.Medium.state c.write_at.new.self).clock ≤ (g.M.Medium.state c.args.unit.now).clock + 1 = subst (λ (n : ℕ). (g.M.Medium.state c.write_at.new.self).clock ≤ (g.M.Medium.state c.args.unit.now).clock + most_writes n) vin c.write_at.ensures.few in
+    omega (arith, one)
+
+pub returns-in_err-write_at-2-clause-most : goal.returns-in_err-write_at-2-clause-most
+returns-in_err-write_at-2-clause-most g c =
+    let vin : length c.args.identity.now.vin ≡ 17 = omega arith in
+    let one : (g.M.Medium.state c.write_at.new.self).clock ≤ (g.M.Medium.state c.args.unit.now).clock + 1 = subst (λ (n : ℕ). (g.M.Medium.state c.write_at.new.self).clock ≤ (g.M.Medium.state c.args.unit.now).clock + most_writes n) vin c.write_at.ensures.few in
+    let registration : length c.args.identity.now.registration.0 ≡ 15 = omega arith in
+    let two : (g.M.Medium.state c.write_at-2.new.self).clock ≤ (g.M.Medium.state c.write_at.new.self).clock + 1 = subst (λ (n : ℕ). (g.M.Medium.state c.write_at-2.new.self).clock ≤ (g.M.Medium.state c.write_at.new.self).clock + most_writes n) registration c.write_at-2.ensures.few in
+    omega (arith, one, two)
+
+pub returns-in_err-write_at-3-clause-most : goal.returns-in_err-write_at-3-clause-most
+returns-in_err-write_at-3-clause-most g c =
+    let vin : length c.args.identity.now.vin ≡ 17 = omega arith in
+    let one : (g.M.Medium.state c.write_at.new.self).clock ≤ (g.M.Medium.state c.args.unit.now).clock + 1 = subst (λ (n : ℕ). (g.M.Medium.state c.write_at.new.self).clock ≤ (g.M.Medium.state c.args.unit.now).clock + most_writes n) vin c.write_at.ensures.few in
+    let registration : length c.args.identity.now.registration.0 ≡ 15 = omega arith in
+    let two : (g.M.Medium.state c.write_at-2.new.self).clock ≤ (g.M.Medium.state c.write_at.new.self).clock + 1 = subst (λ (n : ℕ). (g.M.Medium.state c.write_at-2.new.self).clock ≤ (g.M.Medium.state c.write_at.new.self).clock + most_writes n) registration c.write_at-2.ensures.few in
+    let three : (g.M.Medium.state c.write_at-3.new.self).clock ≤ (g.M.Medium.state c.write_at-2.new.self).clock + 1 = c.write_at-3.ensures.few in
+    omega (arith, one, two, three)
+
+pub returns-clause-most : goal.returns-clause-most
+returns-clause-most g c =
+    let vin : length c.args.identity.now.vin ≡ 17 = omega arith in
+    let one : (g.M.Medium.state c.write_at.new.self).clock ≤ (g.M.Medium.state c.args.unit.now).clock + 1 = subst (λ (n : ℕ). (g.M.Medium.state c.write_at.new.self).clock ≤ (g.M.Medium.state c.args.unit.now).clock + most_writes n) vin c.write_at.ensures.few in
+    let registration : length c.args.identity.now.registration.0 ≡ 15 = omega arith in
+    let two : (g.M.Medium.state c.write_at-2.new.self).clock ≤ (g.M.Medium.state c.write_at.new.self).clock + 1 = subst (λ (n : ℕ). (g.M.Medium.state c.write_at-2.new.self).clock ≤ (g.M.Medium.state c.write_at.new.self).clock + most_writes n) registration c.write_at-2.ensures.few in
+    let three : (g.M.Medium.state c.write_at-3.new.self).clock ≤ (g.M.Medium.state c.write_at-2.new.self).clock + 1 = c.write_at-3.ensures.few in
+    omega (arith, one, two, three)

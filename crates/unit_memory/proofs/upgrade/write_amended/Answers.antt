@@ -1,4 +1,4 @@
-use Rattle.std.proofs.Common.{◌≡◌, arith}
+use Rattle.std.proofs.Common.{◌≡◌, ◌≤◌, ◌+◌, arith}
 use Rattle.tach_media.proofs.Ranges.{lies_part, lies_still}
 use Rattle.tach_media.proofs.Runs.{weaken, goes_by, at_image}
 use Rattle.unit_model.specs.declared.layout.TheConstants.{IMAGE_SIZE}
@@ -34,3 +34,22 @@ returns-clause-moments g c =
     first_moment x (unit_sized (g.met.M.Medium.coherent c.args.unit.now) c.requires.unit x is) (at_image (λ y. version_of y ≡ 1) is c.requires.version) (at_image Decodes is c.requires.decodes) d part))
     c.in_ok-write_at.ensures.written c.write_at-2.ensures.moments (λ x d is part.
     next_moment x (unit_sized (g.met.M.Medium.coherent c.args.unit.now) c.requires.unit x is) (at_image (λ y. version_of y ≡ 1) is c.requires.version) (at_image Decodes is c.requires.decodes) d part)
+
+-- ---- its writes
+
+pub returns-in_err-write_at-clause-most : goal.returns-in_err-write_at-clause-most
+returns-in_err-write_at-clause-most g c =
+    let one : (g.M.Medium.state c.write_at.new.self).clock ≤ (g.M.Medium.state c.args.unit.now).clock + 1 = c.write_at.ensures.few in
+    omega (arith, one)
+
+pub returns-in_err-write_at-2-clause-most : goal.returns-in_err-write_at-2-clause-most
+returns-in_err-write_at-2-clause-most g c =
+    let one : (g.M.Medium.state c.write_at.new.self).clock ≤ (g.M.Medium.state c.args.unit.now).clock + 1 = c.write_at.ensures.few in
+    let two : (g.M.Medium.state c.write_at-2.new.self).clock ≤ (g.M.Medium.state c.write_at.new.self).clock + 1 = c.write_at-2.ensures.few in
+    omega (arith, one, two)
+
+pub returns-clause-most : goal.returns-clause-most
+returns-clause-most g c =
+    let one : (g.M.Medium.state c.write_at.new.self).clock ≤ (g.M.Medium.state c.args.unit.now).clock + 1 = c.write_at.ensures.few in
+    let two : (g.M.Medium.state c.write_at-2.new.self).clock ≤ (g.M.Medium.state c.write_at.new.self).clock + 1 = c.write_at-2.ensures.few in
+    omega (arith, one, two)

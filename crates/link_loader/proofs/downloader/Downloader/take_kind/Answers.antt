@@ -1,4 +1,5 @@
-use Rattle.std.proofs.Common.{◌≡◌, ◌∙◌, ℕ, List, [], Some, refl, ap, sym, subst, inl}
+use Rattle.std.proofs.lemmas.Grind.{common_steps}
+use Rattle.std.proofs.Common.{◌≡◌, ◌∙◌, ℕ, List, [], Some, refl, ap, sym, subst, inl, rules, arith}
 use Rattle.std.proofs.KnownBytes.{Appends-nil, Keeps-refl}
 use Rattle.std.proofs.lemmas.Result.{on_ok_weaker, IfErr-weaker}
 use Rattle.link_loader.specs.declared.fault.LoadFault.{LoadFault}
@@ -29,15 +30,21 @@ returns-in-Negative-clause-same g c =
     let known = IfErr-weaker c.pass_over.result _ (λ fault. fault ≡ faults.Negative c.in-Negative.service c.in-Negative.code) (λ fault p. p.0) c.pass_over.ensures.refused in
     λ is. negative_not c.pass_over.result c.in-Negative.service c.in-Negative.code faults.Memory known (λ e. absurd (cc)) is
 
-pub returns-in-Negative-clause-cause : goal.returns-in-Negative-clause-cause
-returns-in-Negative-clause-cause g c =
-    let known = IfErr-weaker c.pass_over.result _ (λ fault. fault ≡ faults.Negative c.in-Negative.service c.in-Negative.code) (λ fault p. p.0) c.pass_over.ensures.refused in
-    λ is. negative_not c.pass_over.result c.in-Negative.service c.in-Negative.code faults.WriteFault known (λ e. absurd (cc)) is
+pub returns-in-Negative-clause-faults : goal.returns-in-Negative-clause-faults
+returns-in-Negative-clause-faults g c = record {
+  later = first_of (search rules, grind (arith, common_steps));
+  cause =
+      let known = IfErr-weaker c.pass_over.result _ (λ fault. fault ≡ faults.Negative c.in-Negative.service c.in-Negative.code) (λ fault p. p.0) c.pass_over.ensures.refused in
+      λ is. negative_not c.pass_over.result c.in-Negative.service c.in-Negative.code faults.WriteFault known (λ e. absurd (cc)) is;
+}
 
-pub returns-in-Negative-clause-enough : goal.returns-in-Negative-clause-enough
-returns-in-Negative-clause-enough g c =
-    let known = IfErr-weaker c.pass_over.result _ (λ fault. fault ≡ faults.Negative c.in-Negative.service c.in-Negative.code) (λ fault p. p.0) c.pass_over.ensures.refused in
-    λ is. negative_not c.pass_over.result c.in-Negative.service c.in-Negative.code faults.Memory known (λ e. absurd (cc)) is
+pub returns-in-Negative-clause-memory : goal.returns-in-Negative-clause-memory
+returns-in-Negative-clause-memory g c = record {
+  room = first_of (search rules, grind (arith, common_steps));
+  enough =
+      let known = IfErr-weaker c.pass_over.result _ (λ fault. fault ≡ faults.Negative c.in-Negative.service c.in-Negative.code) (λ fault p. p.0) c.pass_over.ensures.refused in
+      λ is. negative_not c.pass_over.result c.in-Negative.service c.in-Negative.code faults.Memory known (λ e. absurd (cc)) is;
+}
 
 pub returns-in-Negative-clause-sink : goal.returns-in-Negative-clause-sink
 returns-in-Negative-clause-sink g c =
@@ -56,13 +63,17 @@ pub returns-in-Broken-clause-same : goal.returns-in-Broken-clause-same
 returns-in-Broken-clause-same g c =
     λ is. absurd (cc)
 
-pub returns-in-Broken-clause-cause : goal.returns-in-Broken-clause-cause
-returns-in-Broken-clause-cause g c =
-    λ is. absurd (cc)
+pub returns-in-Broken-clause-faults : goal.returns-in-Broken-clause-faults
+returns-in-Broken-clause-faults g c = record {
+  later = first_of (search rules, grind (arith, common_steps));
+  cause = λ is. absurd (cc);
+}
 
-pub returns-in-Broken-clause-enough : goal.returns-in-Broken-clause-enough
-returns-in-Broken-clause-enough g c =
-    λ is. absurd (cc)
+pub returns-in-Broken-clause-memory : goal.returns-in-Broken-clause-memory
+returns-in-Broken-clause-memory g c = record {
+  room = first_of (search rules, grind (arith, common_steps));
+  enough = λ is. absurd (cc);
+}
 
 pub returns-in-Other-clause-refused : goal.returns-in-Other-clause-refused
 returns-in-Other-clause-refused g c =
@@ -76,13 +87,17 @@ pub returns-in-Other-clause-same : goal.returns-in-Other-clause-same
 returns-in-Other-clause-same g c =
     λ is. absurd (cc)
 
-pub returns-in-Other-clause-cause : goal.returns-in-Other-clause-cause
-returns-in-Other-clause-cause g c =
-    λ is. absurd (cc)
+pub returns-in-Other-clause-faults : goal.returns-in-Other-clause-faults
+returns-in-Other-clause-faults g c = record {
+  later = first_of (search rules, grind (arith, common_steps));
+  cause = λ is. absurd (cc);
+}
 
-pub returns-in-Other-clause-enough : goal.returns-in-Other-clause-enough
-returns-in-Other-clause-enough g c =
-    λ is. absurd (cc)
+pub returns-in-Other-clause-memory : goal.returns-in-Other-clause-memory
+returns-in-Other-clause-memory g c = record {
+  room = first_of (search rules, grind (arith, common_steps));
+  enough = λ is. absurd (cc);
+}
 
 pub returns-in-Agreed-clause-taken : goal.returns-in-Agreed-clause-taken
 returns-in-Agreed-clause-taken g c =
@@ -93,13 +108,17 @@ pub returns-in-Agreed-clause-same : goal.returns-in-Agreed-clause-same
 returns-in-Agreed-clause-same g c =
     λ is. absurd (cc)
 
-pub returns-in-Agreed-clause-cause : goal.returns-in-Agreed-clause-cause
-returns-in-Agreed-clause-cause g c =
-    λ is. absurd (cc)
+pub returns-in-Agreed-clause-faults : goal.returns-in-Agreed-clause-faults
+returns-in-Agreed-clause-faults g c = record {
+  later = first_of (search rules, grind (arith, common_steps));
+  cause = λ is. absurd (cc);
+}
 
-pub returns-in-Agreed-clause-enough : goal.returns-in-Agreed-clause-enough
-returns-in-Agreed-clause-enough g c =
-    λ is. absurd (cc)
+pub returns-in-Agreed-clause-memory : goal.returns-in-Agreed-clause-memory
+returns-in-Agreed-clause-memory g c = record {
+  room = first_of (search rules, grind (arith, common_steps));
+  enough = λ is. absurd (cc);
+}
 
 pub returns-in-Single-clause-taken : goal.returns-in-Single-clause-taken
 returns-in-Single-clause-taken g c =
@@ -122,12 +141,26 @@ pub returns-in-Single-clause-same : goal.returns-in-Single-clause-same
 returns-in-Single-clause-same g c =
     λ is. not_put_not_memory c.finish.result c.in-Single.request c.bytes.result.now (g.K.Sink.held c.args.sink.now) (g.K.Sink.held c.finish.new.sink) c.finish.ensures.not is
 
-pub returns-in-Single-clause-enough : goal.returns-in-Single-clause-enough
-returns-in-Single-clause-enough g c =
-    λ is. not_put_not_memory c.finish.result c.in-Single.request c.bytes.result.now (g.K.Sink.held c.args.sink.now) (g.K.Sink.held c.finish.new.sink) c.finish.ensures.not is
+pub returns-in-Single-clause-memory : goal.returns-in-Single-clause-memory
+returns-in-Single-clause-memory g c = record {
+  room = first_of (search rules, grind (arith, common_steps));
+  enough = λ is. not_put_not_memory c.finish.result c.in-Single.request c.bytes.result.now (g.K.Sink.held c.args.sink.now) (g.K.Sink.held c.finish.new.sink) c.finish.ensures.not is;
+}
 
 pub returns-in-Single-clause-sink : goal.returns-in-Single-clause-sink
 returns-in-Single-clause-sink g c =
     let now = c.args.self.now.loading in
     let closes : closed now c.args.frame.now ≡ Some (c.in-Single.request, c.bytes.result.now) = single_closes now c.args.frame.now c.in-Single.request (sym c.requires.kind ∙ c.in-Single.is) ∙ ap (λ (b : List ℕ). Some (c.in-Single.request, b)) (sym c.bytes.ensures.value) in
     put_sink now c.finish.new.self.loading c.args.frame.now c.in-Single.request c.bytes.result.now closes (g.K.Sink.held c.args.sink.now) (g.K.Sink.held c.finish.new.sink) c.finish.result c.finish.ensures.not
+
+pub returns-in-Single-clause-faults : goal.returns-in-Single-clause-faults
+returns-in-Single-clause-faults g c = record {
+  later = first_of (search rules, grind (arith, common_steps));
+  cause = first_of (search rules, grind (arith, common_steps));
+}
+
+pub returns-in-Piece-clause-faults : goal.returns-in-Piece-clause-faults
+returns-in-Piece-clause-faults g c = c.join.ensures.faults
+
+pub returns-in-Piece-clause-memory : goal.returns-in-Piece-clause-memory
+returns-in-Piece-clause-memory g c = c.join.ensures.memory

@@ -29,10 +29,10 @@ returns-in-Err-clause-enough g c =
     let it = is_brought c.self.inside.number c.self.inside.loader c.args.packet.now c.in-Some.frame c.next.result c.is_none.result low c.if-packet-self.false c.is_none.ensures c.if-is_none.false c.next.ensures.sent c.in-Some.is in
     λ is.
     subst (λ (e : LoaderEnd Load). (x : List ℕ) × (brought asked e c.args.packet.now ≡ Some x) × (e.side.room < length (with_piece e.side.loading.bytes x))) c.self.view_is
-    (c.in-Some.frame, it, c.in-Err.ensures.enough (ap Err (err_fault c.in-Err.fault Memory is)))
+    (c.in-Some.frame, it, c.in-Err.ensures.memory.enough (ap Err (err_fault c.in-Err.fault Memory is)))
 
 pub returns-in-Err-clause-cause : goal.returns-in-Err-clause-cause
-returns-in-Err-clause-cause g c = λ is. c.in-Err.ensures.cause (ap Err (err_fault c.in-Err.fault WriteFault is))
+returns-in-Err-clause-cause g c = λ is. c.in-Err.ensures.faults.cause (ap Err (err_fault c.in-Err.fault WriteFault is))
 
 pub returns-in-Err-clause-same : goal.returns-in-Err-clause-same
 returns-in-Err-clause-same g c = λ is.

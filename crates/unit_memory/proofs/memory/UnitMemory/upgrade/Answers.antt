@@ -16,3 +16,17 @@ returns-then-version-ne1-clause-version g c =
 
 pub returns-clause-moments : goal.returns-clause-moments
 returns-clause-moments g c = after_reads c.in_ok-memory.ensures.reads.leaves (c.in_ok-memory.ensures.reads.same refl) c.write_amended.ensures.moments
+
+-- ---- its writes
+
+pub returns-in_err-memory-clause-most : goal.returns-in_err-memory-clause-most
+returns-in_err-memory-clause-most g c = let read = c.in_err-memory.ensures.reads.clock in omega (arith, read)
+
+pub returns-then-version-ne1-clause-most : goal.returns-then-version-ne1-clause-most
+returns-then-version-ne1-clause-most g c = let read = c.in_ok-memory.ensures.reads.clock in omega (arith, read)
+
+pub returns-in_err-write_amended-clause-most : goal.returns-in_err-write_amended-clause-most
+returns-in_err-write_amended-clause-most g c = let read = c.in_ok-memory.ensures.reads.clock in let few = c.write_amended.ensures.most in omega (arith, read, few)
+
+pub returns-clause-most : goal.returns-clause-most
+returns-clause-most g c = let read = c.in_ok-memory.ensures.reads.clock in let few = c.write_amended.ensures.most in omega (arith, read, few)
