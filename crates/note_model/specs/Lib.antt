@@ -4,4 +4,5 @@ pub mod Noted
 pub mod Rings
 pub mod Events
 pub mod Tables
+pub mod Unsure
 pub use Rattle.message_model.specs.Records

@@ -1,4 +1,4 @@
--- What a note with cards shows more, what a moment of it leaves, and which bytes tell of no event.
+-- What a note with cards shows more, what a moment of it has left, and which bytes tell of no event.
 use Rattle.std.proofs.Common.{◌≡◌, ◌≢◌, inl, inr, ℕ, ◌+◌, ◌^◌, ◌<◌, ◌≤◌, min, Bool, true, false, cond, List, [], ◌∷◌, length, Contains, refl, ap, sym, subst, ◌∙◌, arith, nat_eq}
 use Rattle.std.specs.Prelude.{◌==◌}
 use Rattle.std.proofs.lemmas.Bool.{eqb-true, eqb-false, ne_eqb, eq-eqb}
@@ -8,11 +8,11 @@ use Rattle.trace_model.specs.declared.Card.{Card}
 use Rattle.tacho_types.specs.declared.card_number.FullCardNumber.{FullCardNumber}
 use Rattle.unit_model.specs.declared.layout.TheConstants.{FIRST_OVER, OVER_COUNT}
 use Rattle.unit_model.specs.Image.{number_of}
-use Rattle.log_model.specs.Log.{RunLog}
 use Rattle.event_model.specs.declared.kinds.TheConstants.{OVER_SPEEDING}
 use Rattle.event_model.specs.declared.entries.Over.{Over}
 use Rattle.event_model.specs.Events.{Event}
-use Rattle.note_model.specs.Tables.{table_of, table_in, IsNoted, AreNoted}
+use Rattle.note_model.specs.Tables.{table_of, table_in, IsNoted}
+use Rattle.note_model.specs.Unsure.{IsNotedSo, AreNotedBut, IsFirstSo, IsFirstBut, IsCountedBut}
 use Rattle.unit_notes.specs.declared.unit_event.UnitEvent.{UnitEvent}
 use Rattle.unit_notes.specs.Entries.{fault_bytes, over_bytes}
 use Rattle.unit_notes.specs.Fields.{IsEventOf, IsOverOf}
@@ -20,11 +20,12 @@ use Rattle.unit_notes.specs.Noting.{IsEventNoted, IsNotingEvent, IsNotingOver, I
 use Rattle.unit_notes.proofs.EntryFields.{event_front_of, over_front_of}
 use Rattle.unit_notes.proofs.Placing.{is_noted}
 use Rattle.unit_events.specs.Shown.{all_kinds, KeepsEvents}
-use Rattle.unit_events.specs.Shown as bare
-use Rattle.unit_events.proofs.Shows.{each-kind, first-none, count-none}
+use Rattle.unit_events.proofs.Shows.{each-kind}
 use Rattle.unit_events.proofs.EventFrames.{table-apart, table-high, table-behind, part_of}
 use Rattle.unit_events.proofs.NoteFrames.{IsApart, AreApart, bares-apart, overs-apart, gaps-apart, others-same, numbers-same, tables-first, tables-both, enough, first-outside, more-outside, first-value, more-value}
-use Rattle.run_events.specs.Shown.{by_kind, ShowsMore, AreNumbers, SaysNothing, SaysNothingBut}
+use Rattle.run_events.specs.Shown.{by_kind, none_sure, all_sure, ShowsEvents, AreNumbers, SaysNothing}
+use Rattle.run_events.proofs.Unsure.{event-moment, count-all, count-nothing}
+use Rattle.run_events.proofs.Shows.{shown-sure}
 
 -- each type's places lie apart from those of the others
 invalids-apart : AreApart 0x01
@@ -92,92 +93,131 @@ same-kind e = ap (λ (b : Bool). cond b (e ∷ []) []) (eq-eqb e.kind e.kind ref
 other-kind : (e : Event) (kind : ℕ) → kind ≢ e.kind → by_kind (e ∷ []) kind ≡ []
 other-kind e kind ne = ap (λ (b : Bool). cond b (e ∷ []) []) (ne_eqb e.kind kind (λ is. ne (sym is)))
 
--- what is noted in the places of one type shows its event more, and no other
-module _ (number : Card → List ℕ) (e : Event) (there : Contains all_kinds e.kind) (x c : List ℕ) (others : (kind : ℕ) → Contains all_kinds kind → kind ≢ e.kind → table_in kind c ≡ table_in kind x)
-    (noted : IsNoted number (table_in e.kind x) e (table_in e.kind c)) where
-  one-table : (kind : ℕ) → Contains all_kinds kind → AreNoted number (table_in kind x) (by_kind (e ∷ []) kind) (table_in kind c)
+module _ (number : Card → List ℕ) (sure : Event → Bool) (e : Event) (x c : List ℕ) (others : (kind : ℕ) → Contains all_kinds kind → kind ≢ e.kind → table_in kind c ≡ table_in kind x)
+    (noted : IsNotedSo number (sure e) (table_in e.kind x) e (table_in e.kind c)) where
+  -- what comes of it in the places of its type, and of no other
+  one-table : (kind : ℕ) → Contains all_kinds kind → AreNotedBut number sure (table_in kind x) (by_kind (e ∷ []) kind) (table_in kind c)
   one-table kind at = by (nat_eq kind e.kind) refl
     where
-      by : (b : Bool) → nat_eq kind e.kind ≡ b → AreNoted number (table_in kind x) (by_kind (e ∷ []) kind) (table_in kind c)
+      by : (b : Bool) → nat_eq kind e.kind ≡ b → AreNotedBut number sure (table_in kind x) (by_kind (e ∷ []) kind) (table_in kind c)
       by true is =
-          let here : AreNoted number (table_in e.kind x) (by_kind (e ∷ []) e.kind) (table_in e.kind c) =
-          subst (λ (es : List Event). AreNoted number (table_in e.kind x) es (table_in e.kind c)) (sym (same-kind e)) (table_in e.kind c, noted, refl) in
-          subst (λ (k : ℕ). AreNoted number (table_in k x) (by_kind (e ∷ []) k) (table_in k c)) (sym (eqb-true kind e.kind is)) here
+          let here : AreNotedBut number sure (table_in e.kind x) (by_kind (e ∷ []) e.kind) (table_in e.kind c) =
+          subst (λ (es : List Event). AreNotedBut number sure (table_in e.kind x) es (table_in e.kind c)) (sym (same-kind e)) (table_in e.kind c, noted, refl) in
+          subst (λ (k : ℕ). AreNotedBut number sure (table_in k x) (by_kind (e ∷ []) k) (table_in k c)) (sym (eqb-true kind e.kind is)) here
       by false is =
           let ne = eqb-false kind e.kind is in
-          subst (λ (es : List Event). AreNoted number (table_in kind x) es (table_in kind c)) (sym (other-kind e kind ne)) (others kind at ne)
+          subst (λ (es : List Event). AreNotedBut number sure (table_in kind x) es (table_in kind c)) (sym (other-kind e kind ne)) (others kind at ne)
 
-module _ (number : Card → List ℕ) (long : AreNumbers number) (log : RunLog) (now : ℕ → List Event) (e : Event) (there : Contains all_kinds e.kind) (x c : List ℕ) (sized : length x ≡ 2485808) where
+  -- it is no over speeding
+  one-event : e.kind ≢ OVER_SPEEDING → number_of c FIRST_OVER ≡ number_of x FIRST_OVER → number_of c OVER_COUNT ≡ number_of x OVER_COUNT → ShowsEvents number sure x (by_kind (e ∷ [])) c
+  one-event other held many =
+      let empty : by_kind (e ∷ []) OVER_SPEEDING ≡ [] = other-kind e OVER_SPEEDING (λ is. other (sym is)) in
+      record {
+        tables = one-table;
+        first = subst (λ (es : List Event). IsFirstBut sure (number_of x FIRST_OVER) es (number_of c FIRST_OVER)) (sym empty) held;
+        count = λ few. subst (λ (es : List Event). IsCountedBut sure (number_of x OVER_COUNT) es (number_of c OVER_COUNT)) (sym empty) (count-nothing sure [] (number_of x OVER_COUNT) (number_of c OVER_COUNT) tt few many);
+      }
+
+  -- or it is one
+  one-over : e.kind ≡ OVER_SPEEDING → IsFirstSo (sure e) (number_of x FIRST_OVER) e (number_of c FIRST_OVER) → (number_of x OVER_COUNT ≤ 255 → IsCountedBut sure (number_of x OVER_COUNT) (e ∷ []) (number_of c OVER_COUNT)) → ShowsEvents number sure x (by_kind (e ∷ [])) c
+  one-over is first count =
+      let one : by_kind (e ∷ []) OVER_SPEEDING ≡ e ∷ [] = ap (λ (b : Bool). cond b (e ∷ []) []) (eq-eqb e.kind OVER_SPEEDING is) in
+      record {
+        tables = one-table;
+        first = subst (λ (es : List Event). IsFirstBut sure (number_of x FIRST_OVER) es (number_of c FIRST_OVER)) (sym one) (number_of c FIRST_OVER, first, refl);
+        count = λ few. subst (λ (es : List Event). IsCountedBut sure (number_of x OVER_COUNT) es (number_of c OVER_COUNT)) (sym one) (count few);
+      }
+
+module _ (number : Card → List ℕ) (long : AreNumbers number) (e : Event) (there : Contains all_kinds e.kind) (x c : List ℕ) (sized : length x ≡ 2485808) where
   -- AN EVENT was noted
-  pub event-more : (v : UnitEvent) → e.kind ≢ OVER_SPEEDING → e.begin < 2 ^ 32 → e.end < 2 ^ 32 → IsEventOf number e v → IsEventNoted e.kind (fault_bytes v) x c → ShowsMore number log now (by_kind (e ∷ [])) x c
+  pub event-more : (v : UnitEvent) → e.kind ≢ OVER_SPEEDING → e.begin < 2 ^ 32 → e.end < 2 ^ 32 → IsEventOf number e v → IsEventNoted e.kind (fault_bytes v) x c → ShowsEvents number all_sure x (by_kind (e ∷ [])) c
   event-more v other begin end is done =
       let apart : AreApart e.kind = all-apart e.kind there in
-      let empty : by_kind (e ∷ []) OVER_SPEEDING ≡ [] = other-kind e OVER_SPEEDING (λ is. other (sym is)) in
       let numbers = numbers-same e.kind apart x c done.outside in
-      record {
-        tables = λ kind at sure. one-table number e there x c (others-same e.kind apart x c done.outside) (is_noted number e (fault_bytes v) x c sized (event_front_of number e v long other begin end is) done) kind at;
-        first_over = λ sure. numbers.0 ∙ sym (first-none (number_of x FIRST_OVER)) ∙ ap (bare.first_on (number_of x FIRST_OVER)) (sym empty);
-        over_count = λ sure few. numbers.1 ∙ count-none (number_of x OVER_COUNT) few ∙ ap (bare.count_on (number_of x OVER_COUNT)) (sym empty);
-        begins = subst bare.HaveBegins (sym empty) tt;
-      }
+      one-event number all_sure e x c (others-same e.kind apart x c done.outside) (is_noted number e (fault_bytes v) x c sized (event_front_of number e v long other begin end is) done) other numbers.0 numbers.1
 
-  -- AN OVER SPEEDING was noted
-  pub over-more : (over : Over) (card : FullCardNumber) → 0 < e.begin → e.begin < 2 ^ 32 → e.end < 2 ^ 32 → IsOverOf number e over card → IsOverNoted over.begin (over_bytes over card) x c → ShowsMore number log now (by_kind (e ∷ [])) x c
-  over-more over card some begin end is (y, done, last) =
-      let front : List ℕ = over_bytes over card in
-      let at : Over → ℕ = λ o. o.begin in
-      let begin_is : over.begin ≡ e.begin = is.begin in
-      let small : over.begin < 2 ^ 32 = subst (λ (n : ℕ). n < 2 ^ 32) (sym begin_is) begin in
-      let room : 580 ≤ length y = enough over.begin front x sized y done in
-      let first = first-outside over.begin y room in
-      let wide : 580 ≤ length (with_first over.begin y) = omega (arith, room, first.same_length) in
-      let more = more-outside (with_first over.begin y) wide in
-      let numbers = numbers-same 0x07 overs-apart x y done.outside in
-      let both : (kind : ℕ) → table_in kind c ≡ table_in kind y = λ kind. tables-both over.begin front x sized y c room last kind in
-      let one : by_kind (e ∷ []) OVER_SPEEDING ≡ e ∷ [] = ap (λ (b : Bool). cond b (e ∷ []) []) (eq-eqb e.kind OVER_SPEEDING is.kind) in
-      let others : (kind : ℕ) → Contains all_kinds kind → kind ≢ e.kind → table_in kind c ≡ table_in kind x =
-      λ kind at_ ne. both kind ∙ others-same 0x07 overs-apart x y done.outside kind at_ (λ k. ne (k ∙ sym is.kind)) in
-      let noted : IsNoted number (table_in e.kind x) e (table_in e.kind c) =
-      subst (λ (rows : List (List ℕ)). IsNoted number (table_in e.kind x) e rows) (sym (both e.kind))
-      (is_noted number e front x y sized (over_front_of number e over card long begin end is) (subst (λ (k : ℕ). IsEventNoted k front x y) (sym is.kind) done)) in
-      record {
-        tables = λ kind at_ sure. one-table number e there x c others noted kind at_;
-        first_over = λ sure.
-            ap (λ (l : List ℕ). number_at l 572 4) last
-            ∙ number_before 576 4 572 4 (with_first over.begin y) (with_one_more (with_first over.begin y)) more (omega arith)
-            ∙ first-value over.begin y room small
-            ∙ ap (λ (n : ℕ). cond (n == 0) over.begin n) numbers.0
-            ∙ ap (λ (b : ℕ). cond (number_at x 572 4 == 0) b (number_at x 572 4)) begin_is
-            ∙ ap (bare.first_on (number_of x FIRST_OVER)) (sym one);
-        over_count = λ sure few.
-            let held : number_at (with_first over.begin y) 576 4 ≡ number_at x 576 4 = number_after 572 4 576 4 y (with_first over.begin y) first (omega arith) ∙ numbers.1 in
-            ap (λ (l : List ℕ). number_at l 576 4) last
-            ∙ more-value (with_first over.begin y) wide (omega (arith, held, few))
-            ∙ ap (λ (n : ℕ). min 255 (n + 1)) held
-            ∙ ap (bare.count_on (number_of x OVER_COUNT)) (sym one);
-        begins = subst bare.HaveBegins (sym one) (some, tt);
-      }
+  -- A MOMENT OF IT: it was noted, or nothing has come of it, or its place is empty
+  pub event-coming : (v : UnitEvent) → e.kind ≢ OVER_SPEEDING → e.begin < 2 ^ 32 → e.end < 2 ^ 32 → IsEventOf number e v → IsNotingEvent e.kind (fault_bytes v) x c → ShowsEvents number none_sure x (by_kind (e ∷ [])) c
+  event-coming v other begin end is moment =
+      let apart : AreApart e.kind = all-apart e.kind there in
+      let numbers = numbers-same e.kind apart x c moment.outside in
+      one-event number none_sure e x c (others-same e.kind apart x c moment.outside) (event-moment number e (fault_bytes v) x c sized (event_front_of number e v long other begin end is) moment) other numbers.0 numbers.1
 
--- A MOMENT of a note leaves the other types alone
-pub event-but : (kind : ℕ) → Contains all_kinds kind → (front x c : List ℕ) → IsNotingEvent kind front x c → SaysNothingBut kind x c
-event-but kind there front x c moment =
-    let apart : AreApart kind = all-apart kind there in
-    let numbers = numbers-same kind apart x c moment.outside in
-    record { tables = λ other at ne. others-same kind apart x c moment.outside other at ne; first_over = λ ne. numbers.0; over_count = λ ne. numbers.1 }
+  module _ (over : Over) (card : FullCardNumber) (begin : e.begin < 2 ^ 32) (end : e.end < 2 ^ 32) (is : IsOverOf number e over card) where
+    abbrev front : List ℕ
+    front = over_bytes over card
 
-pub over-but : (begin : ℕ) (front x c : List ℕ) → length x ≡ 2485808 → IsNotingOver begin front x c → SaysNothingBut OVER_SPEEDING x c
-over-but begin front x c sized (inl entry) =
-    record { tables = λ other at ne. others-same 0x07 overs-apart x c entry.outside other at ne; first_over = λ ne. absurd (ne refl); over_count = λ ne. absurd (ne refl) }
-over-but begin front x c sized (inr (y, done, inl is)) = record {
-  tables = λ other at ne. tables-first begin front x sized y c (enough begin front x sized y done) is other ∙ others-same 0x07 overs-apart x y done.outside other at ne;
-  first_over = λ ne. absurd (ne refl);
-  over_count = λ ne. absurd (ne refl);
-}
-over-but begin front x c sized (inr (y, done, inr is)) = record {
-  tables = λ other at ne. tables-both begin front x sized y c (enough begin front x sized y done) is other ∙ others-same 0x07 overs-apart x y done.outside other at ne;
-  first_over = λ ne. absurd (ne refl);
-  over_count = λ ne. absurd (ne refl);
-}
+    small : over.begin < 2 ^ 32
+    small = subst (λ (n : ℕ). n < 2 ^ 32) (sym is.begin) begin
+
+    -- its entry was noted
+    module _ (y : List ℕ) (done : IsEventNoted 0x07 front x y) where
+      room : 580 ≤ length y
+      room = enough over.begin front x sized y done
+
+      over-noted : IsNoted number (table_in e.kind x) e (table_in e.kind y)
+      over-noted = is_noted number e front x y sized (over_front_of number e over card long begin end is) (subst (λ (k : ℕ). IsEventNoted k front x y) (sym is.kind) done)
+
+      held-first : number_of (with_first over.begin y) FIRST_OVER ≡ cond (nat_eq (number_of x FIRST_OVER) 0) e.begin (number_of x FIRST_OVER)
+      held-first =
+          let begin_is : over.begin ≡ e.begin = is.begin in
+          let numbers = numbers-same 0x07 overs-apart x y done.outside in
+          first-value over.begin y room small
+          ∙ ap (λ (n : ℕ). cond (n == 0) over.begin n) numbers.0
+          ∙ ap (λ (b : ℕ). cond (number_at x 572 4 == 0) b (number_at x 572 4)) begin_is
+
+      held-count : number_of (with_first over.begin y) OVER_COUNT ≡ number_of x OVER_COUNT
+      held-count =
+          let numbers = numbers-same 0x07 overs-apart x y done.outside in
+          number_after 572 4 576 4 y (with_first over.begin y) (first-outside over.begin y room) (omega arith) ∙ numbers.1
+
+      -- the other types are as they were, where those of this image are
+      aside : ((kind : ℕ) → table_in kind c ≡ table_in kind y) → (kind : ℕ) → Contains all_kinds kind → kind ≢ e.kind → table_in kind c ≡ table_in kind x
+      aside same kind at ne = same kind ∙ others-same 0x07 overs-apart x y done.outside kind at (λ k. ne (k ∙ sym is.kind))
+
+      -- AN OVER SPEEDING was noted, with both numbers
+      both-noted : c ≡ with_one_more (with_first over.begin y) → ShowsEvents number all_sure x (by_kind (e ∷ [])) c
+      both-noted last =
+          let first = first-outside over.begin y room in
+          let wide : 580 ≤ length (with_first over.begin y) = omega (arith, room, first.same_length) in
+          let same : (kind : ℕ) → table_in kind c ≡ table_in kind y = λ kind. tables-both over.begin front x sized y c room last kind in
+          let first_now : number_of c FIRST_OVER ≡ cond (nat_eq (number_of x FIRST_OVER) 0) e.begin (number_of x FIRST_OVER) =
+          ap (λ (l : List ℕ). number_at l 572 4) last
+          ∙ number_before 576 4 572 4 (with_first over.begin y) (with_one_more (with_first over.begin y)) (more-outside (with_first over.begin y) wide) (omega arith)
+          ∙ held-first in
+          let held : number_at (with_first over.begin y) 576 4 ≡ number_at x 576 4 = held-count in
+          one-over number all_sure e x c (aside same) (subst (λ (rows : List (List ℕ)). IsNoted number (table_in e.kind x) e rows) (sym (same e.kind)) over-noted) is.kind first_now
+          (λ few. count-all all_sure (number_of x OVER_COUNT) (e ∷ []) (number_of c OVER_COUNT)
+          (ap (λ (l : List ℕ). number_at l 576 4) last
+          ∙ more-value (with_first over.begin y) wide (omega (arith, held, few))
+          ∙ ap (λ (n : ℕ). min 255 (n + 1)) held))
+
+      -- or with the begin of the first one alone
+      begin-noted : c ≡ with_first over.begin y → ShowsEvents number none_sure x (by_kind (e ∷ [])) c
+      begin-noted last =
+          let same : (kind : ℕ) → table_in kind c ≡ table_in kind y = λ kind. tables-first over.begin front x sized y c room last kind in
+          let held : number_of c OVER_COUNT ≡ number_of x OVER_COUNT = ap (λ (l : List ℕ). number_at l 576 4) last ∙ held-count in
+          one-over number none_sure e x c (aside same) (inl (subst (λ (rows : List (List ℕ)). IsNoted number (table_in e.kind x) e rows) (sym (same e.kind)) over-noted)) is.kind
+          (inr (ap (λ (l : List ℕ). number_at l 572 4) last ∙ held-first))
+          (λ few. count-nothing none_sure (e ∷ []) (number_of x OVER_COUNT) (number_of c OVER_COUNT) (refl, tt) few held)
+
+    pub over-more : IsOverNoted over.begin (over_bytes over card) x c → ShowsEvents number all_sure x (by_kind (e ∷ [])) c
+    over-more (y, done, last) = both-noted y done last
+
+    -- a moment of its entry
+    entry-coming : IsNotingEvent OVER_SPEEDING front x c → ShowsEvents number none_sure x (by_kind (e ∷ [])) c
+    entry-coming moment =
+        let numbers = numbers-same 0x07 overs-apart x c moment.outside in
+        let held = numbers.1 in
+        one-over number none_sure e x c (λ kind at ne. others-same 0x07 overs-apart x c moment.outside kind at (λ k. ne (k ∙ sym is.kind)))
+        (event-moment number e front x c sized (over_front_of number e over card long begin end is) (subst (λ (k : ℕ). IsNotingEvent k front x c) (sym is.kind) moment)) is.kind (inl numbers.0)
+        (λ few. count-nothing none_sure (e ∷ []) (number_of x OVER_COUNT) (number_of c OVER_COUNT) (refl, tt) few held)
+
+    -- A MOMENT OF IT: of its entry; or that was noted, and the begin of the first one; or their number too
+    pub over-coming : IsNotingOver over.begin (over_bytes over card) x c → ShowsEvents number none_sure x (by_kind (e ∷ [])) c
+    over-coming (inl entry) = entry-coming entry
+    over-coming (inr (y, done, inl last)) = begin-noted y done last
+    over-coming (inr (y, done, inr last)) = shown-sure number none_sure (by_kind (e ∷ [])) x c (both-noted y done last)
 
 -- BYTES THAT TELL OF NO EVENT: between the two numbers of over speedings and the places of events
 pub between-nothing : (base size : ℕ) (x c : List ℕ) → SameOutside base size x c → 580 ≤ base → base + size ≤ 2386384 → SaysNothing x c

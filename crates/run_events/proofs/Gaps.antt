@@ -1,7 +1,7 @@
 -- Interruptions of power, as the log tells more, and what is known of the cuts between spans.
-use Rattle.std.proofs.Common.{◌≡◌, inl, inr, ℕ, ◌+◌, ◌*◌, Bool, true, false, cond, not, ◌&&◌, ◌||◌, Option, Some, None, List, [], ◌∷◌, ◌++◌, All, length, take, refl, ap, sym, subst, ◌∙◌, append-nil}
+use Rattle.std.proofs.Common.{◌≡◌, inl, inr, ℕ, ◌+◌, ◌*◌, Bool, true, false, cond, ◌||◌, Option, Some, None, List, [], ◌∷◌, ◌++◌, All, length, take, refl, ap, sym, subst, ◌∙◌}
 use Rattle.std.specs.Prelude.{◌==◌, option_map, option_to_list}
-use Rattle.std.proofs.lemmas.List.Folds.{list_all-append}
+use Rattle.std.specs.List.{AllByRecursion}
 use Rattle.activity_codec.specs.declared.values.Slot.TheVariants.{Driver, CoDriver}
 use Rattle.trace_model.specs.Trace.{TraceSecond}
 use Rattle.log_model.specs.declared.lines.Break.{Break}
@@ -18,10 +18,12 @@ use Rattle.run_unit_course.specs.Lines.{log_of, tells_cut, found_from}
 use Rattle.run_unit_course.specs.Turn.{begins_with}
 use Rattle.run_unit_course.specs.Followed.{UnitPower, Lit, Due, Lost, IsDark}
 use Rattle.run_unit_course.proofs.Lines.{kept-known, tells-append, tells-front, tells-found}
-use Rattle.unit_events.specs.Noted.{are_sure, Leads, StayFailed}
-use Rattle.unit_events.proofs.Failing.{sure-before, sure-parts, failed-append, and-both}
+use Rattle.unit_events.specs.Noted.{StayFailed}
+use Rattle.unit_events.proofs.Failing.{failed-append}
+use Rattle.run_events.specs.Shown.{is_sure_by, HasUnsureMore}
 use Rattle.run_events.specs.Gaps.{first_number, CutIsTold, IsUntold, IsKnownGap, AreKnownGaps, OfLast, IsKnownLast, HasGaps, TellsMore}
 use Rattle.run_events.specs.Seconds.{seen_next}
+use Rattle.run_events.proofs.Unsure.{unsure-all, unsure-behind, unsure-first}
 use Rattle.run_events.proofs.Growing.{AreSome, some-spans, seen-more, spans-more}
 use Rattle.run_events.proofs.Later.{seen-same}
 use Rattle.run_events.proofs.Sure.{last-push}
@@ -39,42 +41,35 @@ gap-nothing t log span (x ∷ next) is =
     ap (λ (k : ℕ). option_to_list (option_map {T = Span} {U = Event} (λ gap. noted_with POWER_INTERRUPTION gap.begin gap.end (record { driver = standing t x Driver; codriver = standing t x CoDriver })) (gap_of k (number_of x)))) is
 
 -- where the power-on failed it is not sure
-gap-unsure : (t : Tearing) (log : RunLog) (span next : List Seen) → has_failed_in log (first_number next) ≡ true → are_sure log (gap_event t log span next) ≡ true → gap_event t log span next ≡ []
-gap-unsure t log span [] failed sure = refl
-gap-unsure t log span (x ∷ next) failed sure = by (kept_after log (last_number span) == 0) sure
+gap-unsure : (t : Tearing) (log : RunLog) (span next : List Seen) → has_failed_in log (first_number next) ≡ true → AllByRecursion (λ (e : Event). is_sure_by log e ≡ false) (gap_event t log span next)
+gap-unsure t log span [] failed = tt
+gap-unsure t log span (x ∷ next) failed = unsure-all log (number_of x) (gap_event t log span (x ∷ next)) failed (by (kept_after log (last_number span) == 0))
   where
-    by : (b : Bool) → are_sure log (option_to_list (option_map {T = Span} {U = Event} (λ gap. noted_with POWER_INTERRUPTION gap.begin gap.end (record { driver = standing t x Driver; codriver = standing t x CoDriver })) (cond {A = Option Span} b None (Some (record { begin = 60 * (kept_after log (last_number span) + 1); end = number_of x }))))) ≡ true
-        → option_to_list (option_map {T = Span} {U = Event} (λ gap. noted_with POWER_INTERRUPTION gap.begin gap.end (record { driver = standing t x Driver; codriver = standing t x CoDriver })) (cond {A = Option Span} b None (Some (record { begin = 60 * (kept_after log (last_number span) + 1); end = number_of x })))) ≡ []
-    by true is = refl
-    by false is = absurd (let wrong : (not (has_failed_in log (number_of x)) && true) ≡ false = ap (λ (b : Bool). not b && true) failed in let clash : true ≡ false = sym is ∙ wrong in cc)
+    by : (b : Bool) → AllByRecursion (λ (e : Event). noting_second e ≡ number_of x)
+        (option_to_list (option_map {T = Span} {U = Event} (λ gap. noted_with POWER_INTERRUPTION gap.begin gap.end (record { driver = standing t x Driver; codriver = standing t x CoDriver }))
+        (cond {A = Option Span} b None (Some (record { begin = 60 * (kept_after log (last_number span) + 1); end = number_of x })))))
+    by true = tt
+    by false = (refl, tt)
 
 -- THE INTERRUPTIONS between known gaps, by a log that tells more
 module _ (t : Tearing) (log later : RunLog) (found : List Break) (stay : StayFailed log later) (known : (u : ℕ) → tells_cut u found ≡ true → kept_after later u ≡ kept_after log u) where
-  one-leads : (span next : List Seen) → IsKnownGap log found span next → Leads log (gap_event t log span next) [] later (gap_event t later span next)
-  one-leads span next (inl told) sure =
-      let same : gap_event t later span next ≡ gap_event t log span next = gap-kept t log later span next (known (last_number span) told) in
-      (sure-before log later stay (gap_event t log span next) (ap (are_sure later) (sym same) ∙ sure), same ∙ sym (append-nil (gap_event t log span next)))
-  one-leads span next (inr failed) sure =
-      let none : gap_event t log span next ≡ [] = gap-nothing t log span next failed.kept in
-      (ap (are_sure log) none, gap-unsure t later span next (stay (first_number next) failed.failed) sure ∙ ap (λ (es : List Event). es ++ []) (sym none))
+  one-leads : (span next : List Seen) (l now : List Event) → IsKnownGap log found span next → HasUnsureMore (is_sure_by later) l now → HasUnsureMore (is_sure_by later) (gap_event t log span next ++ l) (gap_event t later span next ++ now)
+  one-leads span next l now (inl told) has =
+      subst (λ (es : List Event). HasUnsureMore (is_sure_by later) (gap_event t log span next ++ l) (es ++ now)) (sym (gap-kept t log later span next (known (last_number span) told)))
+      (unsure-behind (is_sure_by later) (gap_event t log span next) l now has)
+  one-leads span next l now (inr failed) has =
+      subst (λ (es : List Event). HasUnsureMore (is_sure_by later) (es ++ l) (gap_event t later span next ++ now)) (sym (gap-nothing t log span next failed.kept))
+      (unsure-first (is_sure_by later) (gap_event t later span next) l now (gap-unsure t later span next (stay (first_number next) failed.failed)) has)
 
-  pub gaps-lead : (spans : List (List Seen)) → AreKnownGaps log found spans → Leads log (gaps_between t log spans) [] later (gaps_between t later spans)
-  gaps-lead [] all sure = (refl, refl)
-  gaps-lead (span ∷ []) all sure = (refl, refl)
-  gaps-lead (span ∷ next ∷ spans) all sure =
-      let parts = sure-parts later (gap_event t later span next) (gaps_between t later (next ∷ spans)) sure in
-      let one = one-leads span next all.0 parts.0 in
-      let rest = gaps-lead (next ∷ spans) all.1 parts.1 in (
-        list_all-append (λ (e : Event). not (has_failed_in log (noting_second e))) (gap_event t log span next) (gaps_between t log (next ∷ spans))
-            ∙ and-both (are_sure log (gap_event t log span next)) (are_sure log (gaps_between t log (next ∷ spans))) one.0 rest.0,
-        (λ i. (one.1 ∙ append-nil (gap_event t log span next)) i ++ (rest.1 ∙ append-nil (gaps_between t log (next ∷ spans))) i)
-            ∙ sym (append-nil (gap_event t log span next ++ gaps_between t log (next ∷ spans))),
-      )
+  pub gaps-lead : (spans : List (List Seen)) → AreKnownGaps log found spans → HasUnsureMore (is_sure_by later) (gaps_between t log spans) (gaps_between t later spans)
+  gaps-lead [] all = refl
+  gaps-lead (span ∷ []) all = refl
+  gaps-lead (span ∷ next ∷ spans) all = one-leads span next (gaps_between t log (next ∷ spans)) (gaps_between t later (next ∷ spans)) all.0 (gaps-lead (next ∷ spans) all.1)
 
 pub events-lead : (t : Tearing) (log later : RunLog) (unfound : ℕ) (supply : UnitPower) (done : List TraceSecond) → HasGaps log unfound supply done → TellsMore log (take unfound log.breaks) later done →
-    Leads log (gap_events t log done) [] later (gap_events t later done)
+    HasUnsureMore (is_sure_by later) (gap_events t log done) (gap_events t later done)
 events-lead t log later unfound supply done g m =
-    subst (λ (xs : List Seen). Leads log (gap_events t log done) [] later (gaps_between t later (seen_spans xs))) (sym (seen-same log later done m.same))
+    subst (λ (xs : List Seen). HasUnsureMore (is_sure_by later) (gap_events t log done) (gaps_between t later (seen_spans xs))) (sym (seen-same log later done m.same))
     (gaps-lead t log later (take unfound log.breaks) m.stay m.known (seen_spans (seen_of log done)) g.known)
 
 -- WHAT IS KNOWN of the gaps, as lines come

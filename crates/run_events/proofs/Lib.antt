@@ -1,5 +1,6 @@
 pub mod Shows
 pub mod Frames
+pub mod Unsure
 pub mod Growing
 pub mod Later
 pub mod Sure

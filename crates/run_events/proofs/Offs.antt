@@ -1,5 +1,5 @@
 -- The last second turns out to be a cut's, behind all of its actions: its events are the same.
-use Rattle.std.proofs.Common.{◌≡◌, inl, inr, ℕ, zero, suc, ◌+◌, ◌<◌, ◌≤◌, Bool, true, false, cond, not, ◌&&◌, Option, Some, None, List, [], ◌∷◌, ◌++◌, All, length, map, take, refl, ap, sym, subst, ◌∙◌, arith, nat_lt, is_some}
+use Rattle.std.proofs.Common.{◌≡◌, inl, inr, ℕ, zero, suc, ◌+◌, ◌<◌, ◌≤◌, Bool, true, false, cond, not, ◌&&◌, Option, Some, None, List, [], ◌∷◌, ◌++◌, All, length, map, take, refl, ap, sym, subst, ◌∙◌, arith, append-nil, nat_lt, is_some}
 use Rattle.std.specs.Prelude.{◌==◌, flat_map, slice_get}
 use Rattle.std.specs.List.{AllByRecursion}
 use Rattle.std.proofs.lemmas.Bool.{lt-ltb, eqb-true}
@@ -22,9 +22,9 @@ use Rattle.run_unit_course.specs.Followed.{UnitPower, Lost}
 use Rattle.event_model.specs.declared.kinds.TheConstants.{CARD_NOT_VALID, TIME_OVERLAP, DRIVING_WITHOUT_CARD, INSERTION_WHILE_DRIVING, SESSION_NOT_CLOSED, OVER_SPEEDING, POWER_INTERRUPTION, CARD_FAULT}
 use Rattle.event_model.specs.Events.{Event, Crew, Seen, Tearing, AreTorn, noted_with, with_card, beside_judged, crew_judged, found_events, beside_torn, fault_of, is_codriver_first, torn_in_turn, number_of, course_by, moved_by_action, within_by, seen_by, seen_of, seen_on, seen_with, seen_spans, gaps_between, gap_events, events_of}
 use Rattle.note_model.specs.Done.{has_failed_in}
-use Rattle.unit_events.specs.Noted.{Leads, StayFailed}
-use Rattle.unit_events.proofs.Failing.{leads-stay}
-use Rattle.run_events.specs.Shown.{none}
+use Rattle.unit_events.specs.Noted.{StayFailed}
+use Rattle.run_events.specs.Shown.{none, is_sure_by, HasUnsureMore}
+use Rattle.run_events.proofs.Unsure.{unsure-same}
 use Rattle.run_events.specs.Seconds.{span_before, bares_by, overs_by, gap_before, gap_by, faults_by, found_by, second_events, seen_next}
 use Rattle.run_events.specs.Gaps.{first_number, IsUntold, IsKnownGap, AreKnownGaps, OfLast, HasGaps}
 use Rattle.run_events.specs.Choice.{IsTornIn}
@@ -36,7 +36,7 @@ use Rattle.run_events.proofs.Gaps.{gaps-lead, gaps-later, ends-untold, last-on, 
 use Rattle.run_events.proofs.Choosing.{to-each, of-each}
 
 -- a second with power that a cut ends
-abbrev cut_seen : Seen → Seen
+abbrev pub cut_seen : Seen → Seen
 cut_seen x = record x { told = record x.told { cut = true; course = cut_told true x.told.course } }
 
 take-short : {X : Type 0} (n : ℕ) (xs : List X) → length (take n xs) ≤ length xs
@@ -154,7 +154,7 @@ module _ (log later : RunLog) (t : Tearing) (spans : List (List Seen)) (x : Seen
       ap (λ (c : Crew). cond ((kind == INSERTION_WHILE_DRIVING) && nat_lt 0 x.told.second.speed) (noted_with kind (number_of x) (number_of x) c ∷ [])
       (cond ((kind == SESSION_NOT_CLOSED) && nat_lt 0 session) (noted_with kind session (number_of x) c ∷ []) [])) (crew-off v (Some v.card))
 
-  flat-off : (kind : ℕ) (sessions : ℕ → Visit → ℕ) (fs : List (Visit × Verdict)) →
+  pub flat-off : (kind : ℕ) (sessions : ℕ → Visit → ℕ) (fs : List (Visit × Verdict)) →
       flat_map (λ (f : Visit × Verdict). found_events kind (sessions (number_of x) f.0) t (cut_seen x) f.0 f.1) fs ≡ flat_map (λ (f : Visit × Verdict). found_events kind (sessions (number_of x) f.0) t x f.0 f.1) fs
   flat-off kind sessions [] = refl
   flat-off kind sessions (f ∷ fs) = λ i. found-off kind (sessions (number_of x) f.0) f.0 f.1 i ++ flat-off kind sessions fs i
@@ -184,7 +184,7 @@ module _ (log later : RunLog) (t : Tearing) (spans : List (List Seen)) (x : Seen
   map-off [] = refl
   map-off (v ∷ vs) = λ i. fault-off v i ∷ map-off vs i
 
-  faults-off : faults_by t later (cut_seen x) ≡ faults_by t log x
+  pub faults-off : faults_by t later (cut_seen x) ≡ faults_by t log x
   faults-off = map-off (torn_in_turn t (cut_seen x) x.told.course.torn) ∙ ap (map (fault_of t later x)) (turn-off x.told.course.torn) ∙ second-faults log later t x tear
 
   before-off : (sp : List (List Seen)) → gap_before t later sp (cut_seen x) ≡ gap_before t later sp x
@@ -280,24 +280,22 @@ module _ (log later : RunLog) (front : List TraceSecond) (s : TraceSecond) (same
       ∙ ap (λ (es : List Event). gaps_between t later old ++ es) (gap-off log later t old x tear-off) ∙ sym (gaps-with t later old x (some-spans (seen_of log front))) ∙ sym (ap (gaps_between t later) spans-were)
 
   module _ (unfound : ℕ) (supply : UnitPower) (g : HasGaps log unfound supply (front ++ s ∷ [])) (stay : StayFailed log later) (known : (u : ℕ) → tells_cut u (take unfound log.breaks) ≡ true → kept_after later u ≡ kept_after log u) where
-    pub off-leads : (kind limit : ℕ) (sessions : ℕ → Visit → ℕ) (t : Tearing) → Leads log (events_of kind limit sessions t log (front ++ s ∷ [])) [] later (events_of kind limit sessions t later (front ++ s ∷ []))
+    pub off-leads : (kind limit : ℕ) (sessions : ℕ → Visit → ℕ) (t : Tearing) → HasUnsureMore (is_sure_by later) (events_of kind limit sessions t log (front ++ s ∷ [])) (events_of kind limit sessions t later (front ++ s ∷ []))
     off-leads kind limit sessions t = by (kind == POWER_INTERRUPTION) refl
       where
-        by : (b : Bool) → (kind == POWER_INTERRUPTION) ≡ b → Leads log (events_of kind limit sessions t log (front ++ s ∷ [])) [] later (events_of kind limit sessions t later (front ++ s ∷ []))
+        by : (b : Bool) → (kind == POWER_INTERRUPTION) ≡ b → HasUnsureMore (is_sure_by later) (events_of kind limit sessions t log (front ++ s ∷ [])) (events_of kind limit sessions t later (front ++ s ∷ []))
         by true is =
-            subst (λ (n : ℕ). Leads log (events_of n limit sessions t log (front ++ s ∷ [])) [] later (events_of n limit sessions t later (front ++ s ∷ []))) (sym (eqb-true kind POWER_INTERRUPTION is))
-            (subst (λ (es : List Event). Leads log (gap_events t log (front ++ s ∷ [])) [] later es) (sym (gaps-off t))
+            subst (λ (n : ℕ). HasUnsureMore (is_sure_by later) (events_of n limit sessions t log (front ++ s ∷ [])) (events_of n limit sessions t later (front ++ s ∷ []))) (sym (eqb-true kind POWER_INTERRUPTION is))
+            (subst (λ (es : List Event). HasUnsureMore (is_sure_by later) (gap_events t log (front ++ s ∷ [])) es) (sym (gaps-off t))
             (gaps-lead t log later (take unfound log.breaks) stay known (seen_spans (seen_of log (front ++ s ∷ []))) g.known))
-        by false is =
-            subst (λ (es : List Event). Leads log (events_of kind limit sessions t log (front ++ s ∷ [])) [] later es) (sym (events-off kind limit sessions t is))
-            (leads-stay log later (events_of kind limit sessions t log (front ++ s ∷ [])) stay)
+        by false is = unsure-same (is_sure_by later) (events_of kind limit sessions t log (front ++ s ∷ [])) (events_of kind limit sessions t later (front ++ s ∷ [])) (events-off kind limit sessions t is)
 
     pub off-shown : (number : Card → List ℕ) (start : List ℕ) (limit : ℕ) (t : Tearing) (sessions : ℕ → Visit → ℕ) {U : State} → HasEvents number start limit log (front ++ s ∷ []) U t sessions → HasEvents number start limit later (front ++ s ∷ []) U t sessions
     off-shown number start limit t sessions {U} h = record {
       torn = torn-off t h.torn;
-      noted = noted-then number start log later (λ kind. events_of kind limit sessions t log (front ++ s ∷ [])) none (λ kind. events_of kind limit sessions t later (front ++ s ∷ [])) {U = U} {V = U} h.noted
-          (λ kind. off-leads kind limit sessions t)
-          (λ c left. (c, left, nothing-more number later (λ kind. events_of kind limit sessions t later (front ++ s ∷ [])) c c (record { tables = λ kind there. refl; first_over = refl; over_count = refl })));
+      noted = noted-then number start log later (λ kind. events_of kind limit sessions t log (front ++ s ∷ [])) none (λ kind. events_of kind limit sessions t later (front ++ s ∷ [])) {U = U} {V = U} h.noted stay
+          (λ kind there. subst (λ (es : List Event). HasUnsureMore (is_sure_by later) es (events_of kind limit sessions t later (front ++ s ∷ []))) (sym (append-nil (events_of kind limit sessions t log (front ++ s ∷ [])))) (off-leads kind limit sessions t))
+          (λ c left. (c, left, nothing-more number (is_sure_by later) c c (record { tables = λ kind there. refl; first_over = refl; over_count = refl })));
     }
 
   -- and what is known of the cuts, which this one is among

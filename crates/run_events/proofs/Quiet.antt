@@ -18,9 +18,8 @@ use Rattle.event_model.specs.declared.kinds.TheConstants.{DRIVING_WITHOUT_CARD, 
 use Rattle.event_model.specs.Runs.{run_with, last_run, ended_by, runs_behind, ended_runs}
 use Rattle.event_model.proofs.RunLemmas.{last_run-append}
 use Rattle.event_model.specs.Events.{Event, Seen, Tearing, AreTorn, number_of, torn_at, entered_at, seen_of, seen_on, seen_with, seen_spans, is_bare, bare_event, over_event, bare_events, over_events, gaps_between, gap_events, fault_events, judged_events, found_events, fault_of, torn_in_turn, events_of}
-use Rattle.unit_events.specs.Noted.{Leads}
-use Rattle.unit_events.proofs.Failing.{leads-stay}
-use Rattle.run_events.specs.Shown.{none, SaysNothing}
+use Rattle.run_events.specs.Shown.{none, is_sure_by, SaysNothing}
+use Rattle.run_events.proofs.Unsure.{unsure-same}
 use Rattle.run_events.specs.Seconds.{last_of, bares_by, is_fast, overs_by, faults_by, found_by, IsIdle, IsQuiet, IsDarkSeen, quiet_events}
 use Rattle.run_events.specs.Choice.{chosen, IsTornIn, IsPlainFrom}
 use Rattle.run_events.specs.Running.{HasEvents}
@@ -178,9 +177,9 @@ module _ (number : Card → List ℕ) (start : List ℕ) (limit : ℕ) (log : Ru
       ((c : List ℕ) → V.may_leave c → (x : List ℕ) × U.may_leave x × SaysNothing x c) → HasEvents number start limit log (done ++ more) V t sessions
   as-before {V} idle same each = record {
     torn = subst (AreTorn t) (sym are) (torn-idle t n (seen_of log done) xs plain h.torn from idle);
-    noted = noted-then number start log log (λ kind. events_of kind limit sessions t log done) none (λ kind. events_of kind limit sessions t log (done ++ more)) {U = U} {V = V} h.noted
-        (λ kind. subst (λ (es : List Event). Leads log (events_of kind limit sessions t log done) [] log es) (sym (same kind)) (leads-stay log log (events_of kind limit sessions t log done) (λ u k. k)))
-        (λ c left. let at = each c left in (at.0, at.1, nothing-more number log (λ kind. events_of kind limit sessions t log (done ++ more)) at.0 c at.2));
+    noted = noted-then number start log log (λ kind. events_of kind limit sessions t log done) none (λ kind. events_of kind limit sessions t log (done ++ more)) {U = U} {V = V} h.noted (λ u k. k)
+        (λ kind there. unsure-same (is_sure_by log) (events_of kind limit sessions t log done ++ []) (events_of kind limit sessions t log (done ++ more)) (same kind ∙ sym (append-nil (events_of kind limit sessions t log done))))
+        (λ c left. let at = each c left in (at.0, at.1, nothing-more number (is_sure_by log) at.0 c at.2));
   }
 
   -- quiet seconds that end nothing

@@ -1,5 +1,5 @@
 -- What every image shows of the events of a run with cards, from second to second.
-use Rattle.std.proofs.Common.{◌≡◌, ◌⊎◌, ⊎_elim, ℕ, Bool, true, cond, List, [], ◌∷◌, ◌++◌, take, Contains, refl, ap, sym, subst, ◌∙◌, arith}
+use Rattle.std.proofs.Common.{◌≡◌, ℕ, Bool, true, cond, List, [], ◌∷◌, ◌++◌, take, Contains, refl, ap, sym, subst, ◌∙◌, append-nil}
 use Rattle.std.specs.Prelude.{◌==◌}
 use Rattle.trace_model.specs.declared.Card.{Card}
 use Rattle.trace_model.specs.Trace.{TraceSecond}
@@ -7,48 +7,23 @@ use Rattle.tach_media.specs.Medium.{State}
 use Rattle.log_model.specs.Log.{RunLog}
 use Rattle.log_model.specs.Course.{Visit, went}
 use Rattle.run_unit_course.specs.Followed.{UnitPower}
-use Rattle.unit_model.specs.declared.layout.TheConstants.{FIRST_OVER, OVER_COUNT}
-use Rattle.unit_model.specs.Image as image
 use Rattle.note_model.specs.Done.{has_failed_in}
 use Rattle.event_model.specs.declared.kinds.TheConstants.{DRIVING_WITHOUT_CARD, OVER_SPEEDING, POWER_INTERRUPTION, CARD_FAULT}
 use Rattle.event_model.specs.Events.{Event, Seen, Tearing, AreTorn, number_of, seen_of, seen_spans, events_of}
-use Rattle.note_model.specs.Tables.{table_in, AreNoted}
-use Rattle.unit_events.specs.Noted.{are_sure, Leads}
-use Rattle.unit_events.specs.Shown.{all_kinds, HaveBegins, first_on, count_on}
-use Rattle.unit_events.proofs.Failing.{sure-parts}
-use Rattle.run_events.specs.Shown.{by_kind, none, ShowsMore, SaysNothing}
+use Rattle.unit_events.specs.Shown.{all_kinds}
+use Rattle.run_events.specs.Shown.{by_kind, none, is_sure_by, none_sure, all_sure, ShowsEvents, AreTheFirst, HasUnsureMore, SaysNothing}
 use Rattle.run_events.specs.Seconds.{span_before, bares_by, overs_by, gap_before, gap_by, faults_by, found_by, second_events, IsBehind, seen_next}
 use Rattle.run_events.specs.Gaps.{HasGaps, TellsMore}
 use Rattle.run_events.specs.Choice.{chosen, told_at, AgreeIn, AreEarlier, IsTornIn}
 use Rattle.run_events.specs.Running.{HasEvents}
-use Rattle.run_events.proofs.Shows.{nothing-more, noted-then}
-use Rattle.run_events.proofs.Growing.{seen-more, second-brings}
+use Rattle.run_events.proofs.Unsure.{unsure-all}
+use Rattle.run_events.proofs.Shows.{shown-as, shown-sure, shown-left, nothing-more, noted-then}
+use Rattle.run_events.proofs.Growing.{seen-more}
 use Rattle.run_events.proofs.Later.{told-number, seen-same}
-use Rattle.run_events.proofs.Sure.{second-in, none-sure}
-use Rattle.run_events.proofs.Leading.{lines-lead, second-leads, failed-leads}
+use Rattle.run_events.proofs.Sure.{second-in}
+use Rattle.run_events.proofs.Leading.{lines-lead, second-leads}
 use Rattle.run_events.proofs.Gaps.{events-lead}
 use Rattle.run_events.proofs.Choosing.{flat-same, faults-same, gap-same, choices-same, all-agree, here-agree, torn-more}
-
-over-there : Contains all_kinds OVER_SPEEDING
-over-there = (5, omega arith, refl)
-
--- WHAT WAS NOTED, where it is what the second brings; and where it is not sure
-module _ (number : Card → List ℕ) (log : RunLog) (now : ℕ → List Event) (more : List Event) (x c : List ℕ) (shown : ShowsMore number log now (by_kind more) x c) where
-  pub shown-as : (brought : ℕ → List Event) → ((kind : ℕ) → Contains all_kinds kind → by_kind more kind ≡ brought kind) → ShowsMore number log now brought x c
-  shown-as brought are = record {
-    tables = λ kind there sure. subst (λ (es : List Event). AreNoted number (table_in kind x) es (table_in kind c)) (are kind there) (shown.tables kind there sure);
-    first_over = λ sure. shown.first_over sure ∙ ap (first_on (image.number_of x FIRST_OVER)) (are OVER_SPEEDING over-there);
-    over_count = λ sure few. shown.over_count sure few ∙ ap (count_on (image.number_of x OVER_COUNT)) (are OVER_SPEEDING over-there);
-    begins = subst HaveBegins (are OVER_SPEEDING over-there) shown.begins;
-  }
-
-  pub shown-unsure : ((kind : ℕ) → Contains all_kinds kind → (by_kind more kind ≡ []) ⊎ (are_sure log (now kind) ≡ true → ⊥)) → ShowsMore number log now none x c
-  shown-unsure unsure = record {
-    tables = λ kind there sure. ⊎_elim (λ empty. subst (λ (es : List Event). AreNoted number (table_in kind x) es (table_in kind c)) empty (shown.tables kind there sure)) (λ never. absurd (never sure)) (unsure kind there);
-    first_over = λ sure. ⊎_elim (λ empty. shown.first_over sure ∙ ap (first_on (image.number_of x FIRST_OVER)) empty) (λ never. absurd (never sure)) (unsure OVER_SPEEDING over-there);
-    over_count = λ sure few. ⊎_elim (λ empty. shown.over_count sure few ∙ ap (count_on (image.number_of x OVER_COUNT)) empty) (λ never. absurd (never sure)) (unsure OVER_SPEEDING over-there);
-    begins = tt;
-  }
 
 -- WHAT A SECOND BRINGS, by a choice that is the same there
 second-choice : (t u : Tearing) (sessions others : ℕ → Visit → ℕ) (x : Seen) → AgreeIn t u sessions others (number_of x) → (kind limit : ℕ) (log : RunLog) (spans : List (List Seen)) →
@@ -73,9 +48,10 @@ module _ (number : Card → List ℕ) (start : List ℕ) (limit : ℕ) where
       HasGaps log unfound supply done → TellsMore log (take unfound log.breaks) later done → ((c : List ℕ) → V.may_leave c → (x : List ℕ) × U.may_leave x × SaysNothing x c) → HasEvents number start limit later done V t sessions
   lines-shown log later unfound supply done t sessions {U} {V} h g m each = record {
     torn = subst (AreTorn t) (sym (seen-same log later done m.same)) h.torn;
-    noted = noted-then number start log later (λ kind. events_of kind limit sessions t log done) none (λ kind. events_of kind limit sessions t later done) {U = U} {V = V} h.noted
-        (λ kind. lines-lead log later done m.same m.stay t (events-lead t log later unfound supply done g m) kind limit sessions)
-        (λ c left. let at = each c left in (at.0, at.1, nothing-more number later (λ kind. events_of kind limit sessions t later done) at.0 c at.2));
+    noted = noted-then number start log later (λ kind. events_of kind limit sessions t log done) none (λ kind. events_of kind limit sessions t later done) {U = U} {V = V} h.noted m.stay
+        (λ kind there. subst (λ (es : List Event). HasUnsureMore (is_sure_by later) es (events_of kind limit sessions t later done)) (sym (append-nil (events_of kind limit sessions t log done)))
+        (lines-lead log later done m.same t (events-lead t log later unfound supply done g m) kind limit sessions))
+        (λ c left. let at = each c left in (at.0, at.1, nothing-more number (is_sure_by later) at.0 c at.2));
   }
 
   -- ONE SECOND MORE
@@ -110,38 +86,33 @@ module _ (number : Card → List ℕ) (start : List ℕ) (limit : ℕ) where
         subst (AreTorn t') (sym (seen-more later done s ∙ ap (λ (xs : List Seen). xs ++ x ∷ []) (seen-same log later done m.same)))
         (torn-more s.number here t (seen_of log done) x h.torn early number-is fits)
 
-    leads : (kind : ℕ) → Leads log (events_of kind limit sessions t log done) (brought kind) later (now kind)
-    leads kind =
-        subst (λ (es : List Event). Leads log es (brought kind) later (now kind)) (old-same kind)
-        (subst (λ (es : List Event). Leads log (events_of kind limit sessions' t' log done) es later (now kind)) (new-same kind)
-        (second-leads log later done m.same m.stay t' (events-lead t' log later unfound supply done g m) s kind limit sessions'))
+    leads : (kind : ℕ) → Contains all_kinds kind → HasUnsureMore (is_sure_by later) (events_of kind limit sessions t log done ++ brought kind) (now kind)
+    leads kind there =
+        subst (λ (es : List Event). HasUnsureMore (is_sure_by later) (es ++ brought kind) (now kind)) (old-same kind)
+        (subst (λ (es : List Event). HasUnsureMore (is_sure_by later) (events_of kind limit sessions' t' log done ++ es) (now kind)) (new-same kind)
+        (second-leads log later done m.same t' (events-lead t' log later unfound supply done g m) s kind limit sessions'))
+
+    -- what it brings is shown
+    brought-shown : {V : State} → ((c : List ℕ) → V.may_leave c → (y : List ℕ) × U.may_leave y × ShowsEvents number (is_sure_by later) y brought c) → HasEvents number start limit later (done ++ s ∷ []) V t' sessions'
+    brought-shown {V} each = record {
+      torn = torn-now;
+      noted = noted-then number start log later (λ kind. events_of kind limit sessions t log done) brought now {U = U} {V = V} h.noted m.stay leads each;
+    }
 
     -- all that it brings was noted
     pub second-shown : {V : State} (more : List Event) → ((kind : ℕ) → Contains all_kinds kind → by_kind more kind ≡ brought kind) →
-        ((c : List ℕ) → V.may_leave c → (y : List ℕ) × U.may_leave y × ShowsMore number later now (by_kind more) y c) → HasEvents number start limit later (done ++ s ∷ []) V t' sessions'
-    second-shown {V} more are each = record {
-      torn = torn-now;
-      noted = noted-then number start log later (λ kind. events_of kind limit sessions t log done) brought now {U = U} {V = V} h.noted leads
-          (λ c left. let at = each c left in (at.0, at.1, shown-as number later now more at.0 c at.2 brought are));
-    }
+        ((c : List ℕ) → V.may_leave c → (y : List ℕ) × U.may_leave y × ShowsEvents number all_sure y (by_kind more) c) → HasEvents number start limit later (done ++ s ∷ []) V t' sessions'
+    second-shown {V} more are each = brought-shown {V = V} (λ c left.
+        let at = each c left in
+        (at.0, at.1, shown-as number (is_sure_by later) (by_kind more) brought at.0 c are (shown-sure number (is_sure_by later) (by_kind more) at.0 c at.2)))
 
-    -- OR A CALL FAILED in it
-    module _ (failed : has_failed_in later s.number ≡ true) (behind : IsBehind (seen_spans (seen_of later done)) x) where
-      failed-at : has_failed_in later (number_of x) ≡ true
-      failed-at = ap (has_failed_in later) number-is ∙ failed
-
-      -- a type of which it brings an event is not sure then
-      pub unsure-now : (kind : ℕ) → (brought kind ≡ [] → ⊥) → are_sure later (now kind) ≡ true → ⊥
-      unsure-now kind some sure =
-          let made : now kind ≡ events_of kind limit sessions' t' later done ++ second_events kind limit sessions' t' later (seen_spans (seen_of later done)) x = second-brings kind limit sessions' t' later done s in
-          let parts = sure-parts later (events_of kind limit sessions' t' later done) (second_events kind limit sessions' t' later (seen_spans (seen_of later done)) x) (ap (are_sure later) (sym made) ∙ sure) in
-          some (sym (new-same kind)
-          ∙ none-sure later (number_of x) (second_events kind limit sessions' t' later (seen_spans (seen_of later done)) x) failed-at (second-in kind limit sessions' t' later (seen_spans (seen_of later done)) x behind) parts.1)
-
-      pub failed-shown : {V : State} → ((c : List ℕ) → V.may_leave c → (y : List ℕ) × U.may_leave y × ShowsMore number later now none y c) → HasEvents number start limit later (done ++ s ∷ []) V t' sessions'
-      failed-shown {V} each = record {
-        torn = torn-now;
-        noted = noted-then number start log later (λ kind. events_of kind limit sessions t log done) none now {U = U} {V = V} h.noted
-            (λ kind. subst (λ (es : List Event). Leads log es [] later (now kind)) (old-same kind)
-            (failed-leads log later done m.same m.stay t' (events-lead t' log later unfound supply done g m) s kind limit sessions' failed-at behind)) each;
-      }
+    -- OR A CALL FAILED in it, and has left the first of what it brings
+    pub failed-shown : has_failed_in later s.number ≡ true → IsBehind (seen_spans (seen_of later done)) x → {V : State} (some : ℕ → List Event) → AreTheFirst some brought →
+        ((c : List ℕ) → V.may_leave c → (y : List ℕ) × U.may_leave y × ShowsEvents number none_sure y some c) → HasEvents number start limit later (done ++ s ∷ []) V t' sessions'
+    failed-shown failed behind {V} some are each = brought-shown {V = V} (λ c left.
+        let at = each c left in (
+          at.0,
+          at.1,
+          shown-left number (is_sure_by later) some brought at.0 c are
+              (λ kind there. unsure-all later (number_of x) (brought kind) (ap (has_failed_in later) number-is ∙ failed) (second-in kind limit own here later (seen_spans (seen_of later done)) x behind)) at.2,
+        ))

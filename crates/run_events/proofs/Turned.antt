@@ -1,12 +1,11 @@
 -- What a turn of seconds ends is what it brings, and what is noted of it is shown.
-use Rattle.std.proofs.Common.{◌≡◌, ◌⊎◌, inl, inr, ℕ, ◌+◌, Bool, true, false, cond, Option, Some, None, List, [], ◌∷◌, ◌++◌, length, map, fold, Contains, refl, ap, sym, subst, ◌∙◌, arith}
+use Rattle.std.proofs.Common.{◌≡◌, inl, inr, ℕ, ◌+◌, Bool, true, false, cond, Option, Some, None, List, [], ◌∷◌, ◌++◌, length, map, fold, Contains, refl, ap, sym, subst, ◌∙◌, arith}
 use Rattle.std.specs.Prelude.{option_map, option_to_list}
 use Rattle.std.specs.List.{AllByRecursion, filter_map, cons_option}
 use Rattle.std.proofs.lemmas.List.{map-append}
 use Rattle.std.proofs.lemmas.List.Elements.{filter_map-append}
 use Rattle.trace_model.specs.declared.Card.{Card}
 use Rattle.tacho_types.specs.declared.card_number.FullCardNumber.{FullCardNumber}
-use Rattle.log_model.specs.Log.{RunLog}
 use Rattle.event_model.specs.declared.kinds.TheConstants.{DRIVING_WITHOUT_CARD, OVER_SPEEDING}
 use Rattle.event_model.specs.declared.entries.Over.{Over}
 use Rattle.event_model.specs.Runs.{run_with, last_run, runs_behind, ended_runs}
@@ -14,18 +13,16 @@ use Rattle.event_model.specs.Spans.{over_of}
 use Rattle.event_model.proofs.RunLemmas.{ended_runs-append}
 use Rattle.event_model.specs.Events.{Event, Seen, number_of, last_seen, is_bare, bare_event, speed_second, over_event, run_event}
 use Rattle.unit_notes.specs.declared.unit_event.UnitEvent.{UnitEvent}
-use Rattle.unit_notes.specs.Entries.{fault_bytes, over_bytes}
+use Rattle.unit_notes.specs.Entries.{fault_bytes}
 use Rattle.unit_model.specs.declared.layout.TheConstants.{FIRST_OVER, OVER_COUNT}
 use Rattle.unit_model.specs.Image as image
 use Rattle.note_model.specs.Tables.{table_in}
-use Rattle.unit_events.proofs.NoteFrames.{others-same, numbers-same}
-use Rattle.unit_notes.specs.Noting.{IsEventNoted}
-use Rattle.unit_events.specs.Noted.{are_sure}
+use Rattle.unit_notes.specs.Noting.{IsEventNoted, IsNotingEvent}
 use Rattle.unit_events.specs.Shown.{all_kinds}
-use Rattle.run_events.specs.Shown.{by_kind, none, ShowsMore, AreNumbers, SaysNothingBut}
+use Rattle.run_events.specs.Shown.{by_kind, none_sure, all_sure, ShowsEvents, AreNumbers, SaysNothing}
 use Rattle.run_events.specs.Seconds.{bares_by, is_fast, overs_by}
-use Rattle.run_events.proofs.Shows.{more-then, nothing-more, nothing-but}
-use Rattle.run_events.proofs.Frames.{all-apart, event-more, over-more, event-but, over-but}
+use Rattle.run_events.proofs.Shows.{over-there, more-then, nothing-more, moment-first, moment-then}
+use Rattle.run_events.proofs.Frames.{event-more, event-coming, over-more, over-coming}
 use Rattle.run_crew.specs.declared.cards.Crew.{Crew}
 use Rattle.run_events.specs.declared.watch.Ended.{Ended}
 use Rattle.run_events.specs.declared.watch.Watch.{Watch}
@@ -132,49 +129,62 @@ low-bares span new all are = low-runs is_bare bare_event low-bare (last_run is_b
 low-overs : (limit : ℕ) (span new : List Seen) → AreLow span → AreLow new → AreLowEvents (overs_by limit span new)
 low-overs limit span new all are = low-runs (is_fast limit) over_event low-over (last_run (is_fast limit) span) new (low-run (is_fast limit) [] span tt all) are
 
--- what was noted leaves the other types alone
-noted-but : (kind : ℕ) → Contains all_kinds kind → (front x y : List ℕ) → IsEventNoted kind front x y → SaysNothingBut kind x y
-noted-but kind there front x y noted =
-    let numbers = numbers-same kind (all-apart kind there) x y noted.outside in
-    record { tables = λ other at ne. others-same kind (all-apart kind there) x y noted.outside other at ne; first_over = λ ne. numbers.0; over_count = λ ne. numbers.1 }
-
 -- WHAT IS NOTED is shown
 bare-there : Contains all_kinds DRIVING_WITHOUT_CARD
 bare-there = (2, omega arith, refl)
 
-over-there : Contains all_kinds OVER_SPEEDING
-over-there = (5, omega arith, refl)
-
 four-not-seven : (k : ℕ) → DRIVING_WITHOUT_CARD ≡ k → k ≡ OVER_SPEEDING → ⊥
 four-not-seven k is other = let wrong : 4 ≡ 7 = is ∙ other in omega (arith, wrong)
 
-module _ (number : Card → FullCardNumber) (long : AreNumbers (number_bytes number)) (log : RunLog) (now : ℕ → List Event) where
-  same-shown : (x y : List ℕ) → y ≡ x → ShowsMore (number_bytes number) log now none x y
-  same-shown x y is = nothing-more (number_bytes number) log now x y (record {
-    tables = λ kind there. ap (table_in kind) is;
-    first_over = ap (λ (l : List ℕ). image.number_of l FIRST_OVER) is;
-    over_count = ap (λ (l : List ℕ). image.number_of l OVER_COUNT) is;
-  })
+-- the same image
+pub says-same : (x y : List ℕ) → y ≡ x → SaysNothing x y
+says-same x y is = record {
+  tables = λ kind there. ap (table_in kind) is;
+  first_over = ap (λ (l : List ℕ). image.number_of l FIRST_OVER) is;
+  over_count = ap (λ (l : List ℕ). image.number_of l OVER_COUNT) is;
+}
 
-  bare-shown : (bares : List Event) (o : Option BareWith) (x y : List ℕ) → length x ≡ 2485808 → AreLowEvents bares → ArePairs (IsBareOf number) bares (option_to_list o) → IsBareNoted o x y → ShowsMore (number_bytes number) log now (by_kind bares) x y
-  bare-shown [] None x y sized low pairs noted = same-shown x y noted
+module _ (number : Card → FullCardNumber) (long : AreNumbers (number_bytes number)) where
+  bare-shown : (bares : List Event) (o : Option BareWith) (x y : List ℕ) → length x ≡ 2485808 → AreLowEvents bares → ArePairs (IsBareOf number) bares (option_to_list o) → IsBareNoted o x y → ShowsEvents (number_bytes number) all_sure x (by_kind bares) y
+  bare-shown [] None x y sized low pairs noted = nothing-more (number_bytes number) all_sure x y (says-same x y noted)
   bare-shown (e ∷ bares) None x y sized low pairs noted = absurd pairs
   bare-shown [] (Some b) x y sized low pairs noted = absurd pairs
   bare-shown (e ∷ f ∷ bares) (Some b) x y sized low pairs noted = absurd pairs.1
   bare-shown (e ∷ []) (Some b) x y sized low pairs noted =
       let is = pairs.0 in
       let v : UnitEvent = entry_of DRIVING_WITHOUT_CARD b.span.begin b.span.end b.begin b.end in
-      event-more (number_bytes number) long log now e (subst (Contains all_kinds) is.kind bare-there) x y sized v (four-not-seven e.kind is.kind) low.0.begin.1 low.0.end.1 is
+      event-more (number_bytes number) long e (subst (Contains all_kinds) is.kind bare-there) x y sized v (four-not-seven e.kind is.kind) low.0.begin.1 low.0.end.1 is
       (subst (λ (k : ℕ). IsEventNoted k (fault_bytes v) x y) is.kind noted)
 
-  fast-shown : (overs : List Event) (o : Option OverWith) (x y : List ℕ) → length x ≡ 2485808 → AreLowEvents overs → ArePairs (IsFastOf number) overs (option_to_list o) → IsFastNoted o x y → ShowsMore (number_bytes number) log now (by_kind overs) x y
-  fast-shown [] None x y sized low pairs noted = same-shown x y noted
+  fast-shown : (overs : List Event) (o : Option OverWith) (x y : List ℕ) → length x ≡ 2485808 → AreLowEvents overs → ArePairs (IsFastOf number) overs (option_to_list o) → IsFastNoted o x y → ShowsEvents (number_bytes number) all_sure x (by_kind overs) y
+  fast-shown [] None x y sized low pairs noted = nothing-more (number_bytes number) all_sure x y (says-same x y noted)
   fast-shown (e ∷ overs) None x y sized low pairs noted = absurd pairs
   fast-shown [] (Some b) x y sized low pairs noted = absurd pairs
   fast-shown (e ∷ f ∷ overs) (Some o) x y sized low pairs noted = absurd pairs.1
   fast-shown (e ∷ []) (Some o) x y sized low pairs noted =
       let is = pairs.0 in
-      over-more (number_bytes number) long log now e (subst (Contains all_kinds) (sym is.kind) over-there) x y sized o.over (number_or_no_card o.begin.driver) low.0.begin.0 low.0.begin.1 low.0.end.1 is noted
+      over-more (number_bytes number) long e (subst (Contains all_kinds) (sym is.kind) over-there) x y sized o.over (number_or_no_card o.begin.driver) low.0.begin.1 low.0.end.1 is noted
+
+  -- at a moment of it
+  bare-coming : (bares : List Event) (o : Option BareWith) (x y : List ℕ) → length x ≡ 2485808 → AreLowEvents bares → ArePairs (IsBareOf number) bares (option_to_list o) → IsNotingBare o x y → ShowsEvents (number_bytes number) none_sure x (by_kind bares) y
+  bare-coming [] None x y sized low pairs moment = nothing-more (number_bytes number) none_sure x y (says-same x y moment)
+  bare-coming (e ∷ bares) None x y sized low pairs moment = absurd pairs
+  bare-coming [] (Some b) x y sized low pairs moment = absurd pairs
+  bare-coming (e ∷ f ∷ bares) (Some b) x y sized low pairs moment = absurd pairs.1
+  bare-coming (e ∷ []) (Some b) x y sized low pairs moment =
+      let is = pairs.0 in
+      let v : UnitEvent = entry_of DRIVING_WITHOUT_CARD b.span.begin b.span.end b.begin b.end in
+      event-coming (number_bytes number) long e (subst (Contains all_kinds) is.kind bare-there) x y sized v (four-not-seven e.kind is.kind) low.0.begin.1 low.0.end.1 is
+      (subst (λ (k : ℕ). IsNotingEvent k (fault_bytes v) x y) is.kind moment)
+
+  fast-coming : (overs : List Event) (o : Option OverWith) (x y : List ℕ) → length x ≡ 2485808 → AreLowEvents overs → ArePairs (IsFastOf number) overs (option_to_list o) → IsNotingFast o x y → ShowsEvents (number_bytes number) none_sure x (by_kind overs) y
+  fast-coming [] None x y sized low pairs moment = nothing-more (number_bytes number) none_sure x y (says-same x y moment)
+  fast-coming (e ∷ overs) None x y sized low pairs moment = absurd pairs
+  fast-coming [] (Some o) x y sized low pairs moment = absurd pairs
+  fast-coming (e ∷ f ∷ overs) (Some o) x y sized low pairs moment = absurd pairs.1
+  fast-coming (e ∷ []) (Some o) x y sized low pairs moment =
+      let is = pairs.0 in
+      over-coming (number_bytes number) long e (subst (Contains all_kinds) (sym is.kind) over-there) x y sized o.over (number_or_no_card o.begin.driver) low.0.begin.1 low.0.end.1 is moment
 
   between-sized : (o : Option BareWith) (x y : List ℕ) → length x ≡ 2485808 → IsBareNoted o x y → length y ≡ 2485808
   between-sized None x y sized noted = ap (λ (l : List ℕ). length l) noted ∙ sized
@@ -182,43 +192,18 @@ module _ (number : Card → FullCardNumber) (long : AreNumbers (number_bytes num
 
   module _ (limit : ℕ) (span new : List Seen) (ended : Ended) (are : AreEnded number limit span new ended) (low : AreLow span) (lows : AreLow new) (x c : List ℕ) (sized : length x ≡ 2485808) where
     -- both were noted
-    pub turn-shown : AreNoted ended x c → ShowsMore (number_bytes number) log now (by_kind (bares_by span new ++ overs_by limit span new)) x c
+    pub turn-shown : AreNoted ended x c → ShowsEvents (number_bytes number) all_sure x (by_kind (bares_by span new ++ overs_by limit span new)) c
     turn-shown noted =
-        more-then (number_bytes number) log now (bares_by span new) (overs_by limit span new) x noted.between c
+        more-then (number_bytes number) all_sure (bares_by span new) (overs_by limit span new) x noted.between c
         (bare-shown (bares_by span new) (bare_ended ended) x noted.between sized (low-bares span new low lows) are.bares noted.bare)
         (fast-shown (overs_by limit span new) (over_ended ended) noted.between c (between-sized (bare_ended ended) x noted.between sized noted.bare) (low-overs limit span new low lows) are.overs noted.over)
 
-    -- or a stop came at a moment of that, and what it noted is not sure
-    module _ (unsure : ((bares_by span new ≡ []) ⊎ (are_sure log (now DRIVING_WITHOUT_CARD) ≡ true → ⊥)) × ((overs_by limit span new ≡ []) ⊎ (are_sure log (now OVER_SPEEDING) ≡ true → ⊥))) where
-      bare-moment : (bares : List Event) (o : Option BareWith) → ArePairs (IsBareOf number) bares (option_to_list o) → (bares ≡ []) ⊎ (are_sure log (now DRIVING_WITHOUT_CARD) ≡ true → ⊥) → (y : List ℕ) → IsNotingBare o x y → ShowsMore (number_bytes number) log now none x y
-      bare-moment bares None pairs never y moment = same-shown x y moment
-      bare-moment [] (Some b) pairs never y moment = absurd pairs
-      bare-moment (e ∷ bares) (Some b) pairs (inl gone) y moment = absurd (cc)
-      bare-moment (e ∷ bares) (Some b) pairs (inr never) y moment =
-          nothing-but (number_bytes number) log now DRIVING_WITHOUT_CARD x y
-          (event-but DRIVING_WITHOUT_CARD bare-there (fault_bytes (entry_of DRIVING_WITHOUT_CARD b.span.begin b.span.end b.begin b.end)) x y moment) never
-
-      fast-moment : (overs : List Event) (o : Option OverWith) → ArePairs (IsFastOf number) overs (option_to_list o) → (overs ≡ []) ⊎ (are_sure log (now OVER_SPEEDING) ≡ true → ⊥) → (y z : List ℕ) → length y ≡ 2485808 → IsNotingFast o y z →
-          ShowsMore (number_bytes number) log now none y z
-      fast-moment overs None pairs never y z large moment = same-shown y z moment
-      fast-moment [] (Some o) pairs never y z large moment = absurd pairs
-      fast-moment (e ∷ overs) (Some o) pairs (inl gone) y z large moment = absurd (cc)
-      fast-moment (e ∷ overs) (Some o) pairs (inr never) y z large moment =
-          nothing-but (number_bytes number) log now OVER_SPEEDING y z (over-but o.over.begin (over_bytes o.over (number_or_no_card o.begin.driver)) y z large moment) never
-
-      -- what was noted of driving without a card is not sure
-      first-unsure : (bares : List Event) (o : Option BareWith) → ArePairs (IsBareOf number) bares (option_to_list o) → (bares ≡ []) ⊎ (are_sure log (now DRIVING_WITHOUT_CARD) ≡ true → ⊥) → AreLowEvents bares → (y : List ℕ) → IsBareNoted o x y →
-          ShowsMore (number_bytes number) log now none x y
-      first-unsure bares None pairs never small y noted = same-shown x y noted
-      first-unsure [] (Some b) pairs never small y noted = absurd pairs
-      first-unsure (e ∷ bares) (Some b) pairs (inl gone) small y noted = absurd (cc)
-      first-unsure (e ∷ bares) (Some b) pairs (inr never) small y noted =
-          nothing-but (number_bytes number) log now DRIVING_WITHOUT_CARD x y
-          (noted-but DRIVING_WITHOUT_CARD bare-there (fault_bytes (entry_of DRIVING_WITHOUT_CARD b.span.begin b.span.end b.begin b.end)) x y noted) never
-
-      pub turn-moment : AreBeingNoted ended x c → ShowsMore (number_bytes number) log now none x c
-      turn-moment (inl moment) = bare-moment (bares_by span new) (bare_ended ended) are.bares unsure.0 c moment
-      turn-moment (inr after) =
-          more-then (number_bytes number) log now [] [] x after.between c
-          (first-unsure (bares_by span new) (bare_ended ended) are.bares unsure.0 (low-bares span new low lows) after.between after.bare)
-          (fast-moment (overs_by limit span new) (over_ended ended) are.overs unsure.1 after.between c (between-sized (bare_ended ended) x after.between sized after.bare) after.over)
+    -- OR A STOP CAME at a moment of that
+    pub turn-coming : AreBeingNoted ended x c → ShowsEvents (number_bytes number) none_sure x (by_kind (bares_by span new ++ overs_by limit span new)) c
+    turn-coming (inl moment) =
+        moment-first (number_bytes number) (bares_by span new) (overs_by limit span new) x c
+        (bare-coming (bares_by span new) (bare_ended ended) x c sized (low-bares span new low lows) are.bares moment)
+    turn-coming (inr after) =
+        moment-then (number_bytes number) (bares_by span new) (overs_by limit span new) x after.between c
+        (bare-shown (bares_by span new) (bare_ended ended) x after.between sized (low-bares span new low lows) are.bares after.bare)
+        (fast-coming (overs_by limit span new) (over_ended ended) after.between c (between-sized (bare_ended ended) x after.between sized after.bare) (low-overs limit span new low lows) are.overs after.over)

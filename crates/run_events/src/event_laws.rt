@@ -1,4 +1,4 @@
-ghost use Rattle.std.specs.Prelude.{◌≡◌, ◌≢◌, ℕ, suc, ◌+◌, ◌^◌, ◌<◌, ◌≤◌, true, false, List, [], ◌∷◌, ◌++◌, All};
+ghost use Rattle.std.specs.Prelude.{◌≡◌, ◌≢◌, ℕ, suc, ◌+◌, ◌^◌, ◌<◌, ◌≤◌, Bool, true, false, List, [], ◌∷◌, ◌++◌, All};
 ghost use Rattle.std.specs.Prelude.{length, take, Contains};
 ghost use Rattle.std.specs.List.{AllByRecursion};
 ghost use Rattle.card_layout.specs.Images.{SameOutside};
@@ -23,58 +23,86 @@ ghost use Rattle.unit_notes.specs.declared.unit_event.UnitEvent.{UnitEvent};
 ghost use Rattle.unit_notes.specs.Entries.{fault_bytes, over_bytes};
 ghost use Rattle.unit_notes.specs.Fields.{IsEventOf, IsOverOf};
 ghost use Rattle.unit_notes.specs.Noting.{IsEventNoted, IsNotingEvent, IsNotingOver, IsOverNoted};
-ghost use Rattle.unit_events.specs.Noted.{are_sure, Leads, StayFailed};
-ghost use Rattle.unit_events.specs.Shown.{all_kinds, KeepsEvents};
-ghost use Rattle.run_events.specs.Shown.{by_kind, none, ShowsEvents, ShowsMore, AllLead, AreNumbers, SaysNothing};
-ghost use Rattle.run_events.specs.Shown.{SaysNothingBut};
+ghost use Rattle.note_model.specs.Tables.{AreNoted};
+ghost use Rattle.note_model.specs.Unsure.{AreNotedBut, IsFirstBut, IsCountedBut};
+ghost use Rattle.unit_events.specs.Noted.{are_sure, StayFailed};
+ghost use Rattle.unit_events.specs.Shown.{all_kinds, first_on, count_on, HaveBegins, KeepsEvents};
+ghost use Rattle.run_events.specs.Shown.{by_kind, none, is_sure_by, none_sure, all_sure, ShowsEvents, HasUnsureMore};
+ghost use Rattle.run_events.specs.Shown.{AllLead, AreTheFirst, AreNumbers, SaysNothing};
 ghost use Rattle.run_events.specs.Seconds.{last_of, bares_by, overs_by, second_events, quiet_events, IsBehind, IsIdle};
 ghost use Rattle.run_events.specs.Seconds.{IsQuiet, IsDarkSeen, seen_next};
 ghost use Rattle.run_events.specs.Gaps.{IsUntold, HasGaps, TellsMore};
 ghost use Rattle.run_events.specs.Choice.{chosen, told_at, AreEarlier, IsTornIn, IsPlainFrom};
 ghost use Rattle.run_events.specs.Running.{second_notes, IsCutOff};
 
-/// What an image shows of the events goes on by a step: where the step leads to more events, and the image shows these
-/// more than one before it, it shows all.
+/// What an image shows of the events goes on by a step: where the step leads to more events by bringing some, and the
+/// image shows these more than one before it, it shows all.
 pub fn a_step_is_shown()
     ensures { (number : Card → List ℕ) (start x c : List ℕ) (log later : RunLog) (l more now : ℕ → List Event)
-        → ShowsEvents number start log l x → AllLead log l more later now →
-        ShowsMore number later now more x c → ShowsEvents number start later now c }
+        → ShowsEvents number (is_sure_by log) start l x → StayFailed log later
+        → AllLead (is_sure_by later) l more now → ShowsEvents number (is_sure_by later) x more c
+        → ShowsEvents number (is_sure_by later) start now c }
 {}
 
-/// Some events more, and then some more, are all of them more.
+/// Some events more, and then some more, are all of them more; so it is where a stop came at a moment of the first, or
+/// of the others behind those.
 pub fn more_is_shown_after_more()
-    ensures { (number : Card → List ℕ) (log : RunLog) (now : ℕ → List Event) (more rest : List Event) (x y c : List ℕ)
-        → ShowsMore number log now (by_kind more) x y → ShowsMore number log now (by_kind rest) y c →
-        ShowsMore number log now (by_kind (more ++ rest)) x c }
+    ensures more { (number : Card → List ℕ) (sure : Event → Bool) (more rest : List Event) (x y c : List ℕ)
+        → ShowsEvents number sure x (by_kind more) y → ShowsEvents number sure y (by_kind rest) c →
+        ShowsEvents number sure x (by_kind (more ++ rest)) c }
+    ensures first { (number : Card → List ℕ) (more rest : List Event) (x c : List ℕ)
+        → ShowsEvents number none_sure x (by_kind more) c
+        → ShowsEvents number none_sure x (by_kind (more ++ rest)) c }
+    ensures behind { (number : Card → List ℕ) (more rest : List Event) (x y c : List ℕ)
+        → ShowsEvents number all_sure x (by_kind more) y → ShowsEvents number none_sure y (by_kind rest) c →
+        ShowsEvents number none_sure x (by_kind (more ++ rest)) c }
 {}
 
-/// An event or fault that was noted on the unit, with the numbers of its cards, is shown more.
+/// An event or fault that was noted on the unit, with the numbers of its cards, is shown more; and where a stop came at
+/// a moment of its note it was, or nothing has come of it, or its place is empty.
 pub fn an_event_is_shown()
-    ensures { (number : Card → List ℕ) → AreNumbers number → (log : RunLog) (now : ℕ → List Event) (e : Event)
-        → Contains all_kinds e.kind → (x c : List ℕ) → length x ≡ IMAGE_SIZE → (v : UnitEvent) → e.kind ≢ OVER_SPEEDING
-        →
+    ensures noted { (number : Card → List ℕ) → AreNumbers number → (e : Event) → Contains all_kinds e.kind
+        → (x c : List ℕ) → length x ≡ IMAGE_SIZE → (v : UnitEvent) → e.kind ≢ OVER_SPEEDING →
         e.begin < 2 ^ 32 → e.end < 2 ^ 32 → IsEventOf number e v → IsEventNoted e.kind (fault_bytes v) x c
-        → ShowsMore number log now (by_kind (e ∷ [])) x c }
+        → ShowsEvents number all_sure x (by_kind (e ∷ [])) c }
+    ensures moment { (number : Card → List ℕ) → AreNumbers number → (e : Event) → Contains all_kinds e.kind
+        → (x c : List ℕ) → length x ≡ IMAGE_SIZE → (v : UnitEvent) → e.kind ≢ OVER_SPEEDING →
+        e.begin < 2 ^ 32 → e.end < 2 ^ 32 → IsEventOf number e v → IsNotingEvent e.kind (fault_bytes v) x c
+        → ShowsEvents number none_sure x (by_kind (e ∷ [])) c }
 {}
 
 /// So is an over speeding, with the first one and their number.
 pub fn an_over_speeding_is_shown()
-    ensures { (number : Card → List ℕ) → AreNumbers number → (log : RunLog) (now : ℕ → List Event) (e : Event)
-        → Contains all_kinds e.kind → (x c : List ℕ) → length x ≡ IMAGE_SIZE → (over : Over) (card : FullCardNumber)
-        → 0 < e.begin →
+    ensures noted { (number : Card → List ℕ) → AreNumbers number → (e : Event) → Contains all_kinds e.kind
+        → (x c : List ℕ) → length x ≡ IMAGE_SIZE → (over : Over) (card : FullCardNumber) →
         e.begin < 2 ^ 32 → e.end < 2 ^ 32 → IsOverOf number e over card
-        → IsOverNoted over.begin (over_bytes over card) x c → ShowsMore number log now (by_kind (e ∷ [])) x c }
+        → IsOverNoted over.begin (over_bytes over card) x c → ShowsEvents number all_sure x (by_kind (e ∷ [])) c }
+    ensures moment { (number : Card → List ℕ) → AreNumbers number → (e : Event) → Contains all_kinds e.kind
+        → (x c : List ℕ) → length x ≡ IMAGE_SIZE → (over : Over) (card : FullCardNumber) →
+        e.begin < 2 ^ 32 → e.end < 2 ^ 32 → IsOverOf number e over card
+        → IsNotingOver over.begin (over_bytes over card) x c → ShowsEvents number none_sure x (by_kind (e ∷ [])) c }
 {}
 
-/// A stop at a moment of a note leaves the events of all other types as they were, and so nothing is shown more where
-/// those of its own are not sure.
-pub fn a_moment_shows_the_other_types()
-    ensures event { (kind : ℕ) → Contains all_kinds kind → (front x c : List ℕ) → IsNotingEvent kind front x c
-        → SaysNothingBut kind x c }
-    ensures over { (begin : ℕ) (front x c : List ℕ) → length x ≡ IMAGE_SIZE → IsNotingOver begin front x c
-        → SaysNothingBut OVER_SPEEDING x c }
-    ensures unsure { (number : Card → List ℕ) (log : RunLog) (now : ℕ → List Event) (kind : ℕ) (x c : List ℕ)
-        → SaysNothingBut kind x c → (are_sure log (now kind) ≡ true → ⊥) → ShowsMore number log now none x c }
+/// Of what a failed call has left of the first events of a second nothing is sure: so it has left that of all of them.
+pub fn what_a_failed_call_leaves_is_shown()
+    ensures { (number : Card → List ℕ) (sure : Event → Bool) (some all : ℕ → List Event) (x c : List ℕ)
+        → AreTheFirst some all
+        → ((kind : ℕ) → Contains all_kinds kind → AllByRecursion (λ (e : Event). sure e ≡ false) (all kind))
+        → ShowsEvents number none_sure x some c → ShowsEvents number sure x all c }
+{}
+
+/// Where each event of a type is sure, each was noted, one after another; and so were the first over speeding and their
+/// number.
+pub fn what_is_sure_was_noted()
+    ensures tables { (number : Card → List ℕ) (sure : Event → Bool) (events : List Event) (old new : List (List ℕ))
+        → AllByRecursion (λ (e : Event). sure e ≡ true) events → AreNotedBut number sure old events new
+        → AreNoted number old events new }
+    ensures first { (sure : Event → Bool) (held : ℕ) (overs : List Event) (now : ℕ) → HaveBegins overs
+        → AllByRecursion (λ (e : Event). sure e ≡ true) overs → IsFirstBut sure held overs now
+        → now ≡ first_on held overs }
+    ensures count { (sure : Event → Bool) (held : ℕ) (overs : List Event) (now : ℕ)
+        → AllByRecursion (λ (e : Event). sure e ≡ true) overs → IsCountedBut sure held overs now
+        → now ≡ count_on held overs }
 {}
 
 /// Bytes between the numbers of over speedings and the places of events tell of no event: the owed rows and the days,
@@ -87,8 +115,8 @@ pub fn other_bytes_tell_of_no_event()
 
 /// Where nothing has changed that tells of events, what is shown stays.
 pub fn what_is_shown_stays()
-    ensures { (number : Card → List ℕ) (log : RunLog) (now : ℕ → List Event) (x c : List ℕ) → SaysNothing x c
-        → ShowsMore number log now none x c }
+    ensures { (number : Card → List ℕ) (sure : Event → Bool) (x c : List ℕ) → SaysNothing x c
+        → ShowsEvents number sure x none c }
 {}
 
 /// One second more of a run brings these events of each type, and no others.
@@ -118,15 +146,16 @@ pub fn each_event_is_noted_in_its_second()
         → s.number ≡ from + length done → IsBehind (seen_spans (seen_of log done)) (seen_next log done s) }
 {}
 
-/// Lines of the log that come later lead to no other event of the seconds before: an interruption of which it was not
-/// known what was kept was noted in a second in which a call failed.
+/// Lines of the log that come later tell of no other event of the seconds before that is sure: an interruption of which
+/// it was not known what was kept was to be noted in a second in which a call failed.
 pub fn later_lines_change_no_event()
     ensures seen { (log later : RunLog) (done : List TraceSecond) → All (λ s. SameAt log later s.number) done
         → seen_of later done ≡ seen_of log done }
     ensures events { (log later : RunLog) (unfound : ℕ) (supply : UnitPower) (done : List TraceSecond)
         → HasGaps log unfound supply done → TellsMore log (take unfound log.breaks) later done →
         (kind limit : ℕ) (sessions : ℕ → Visit → ℕ) (t : Tearing)
-        → Leads log (events_of kind limit sessions t log done) [] later (events_of kind limit sessions t later done) }
+        → HasUnsureMore (is_sure_by later) (events_of kind limit sessions t log done)
+        (events_of kind limit sessions t later done) }
 {}
 
 /// What is chosen of one second changes no event of the others, and fits the run where it fits that second.
@@ -195,7 +224,8 @@ pub fn quiet_seconds_bring_what_they_end()
     ensures plain { (n : ℕ) (here t : Tearing) → IsPlainFrom n t → IsPlainFrom (suc n) (chosen n here t) }
 {}
 
-/// Where the last second with power turns out to be a cut's, behind all of its actions, its events are the same.
+/// Where the last second with power turns out to be a cut's, behind all of its actions, its events are the same, but
+/// interruptions that are not sure.
 pub fn a_cut_behind_a_second_leaves_its_events()
     ensures events { (log later : RunLog) (front : List TraceSecond) (s : TraceSecond)
         → All (λ s. SameAt log later s.number) front → IsCutOff log later s → has_power (went log front).before s ≡ true
@@ -203,7 +233,7 @@ pub fn a_cut_behind_a_second_leaves_its_events()
         HasGaps log unfound supply (front ++ s ∷ []) → StayFailed log later
         → ((u : ℕ) → tells_cut u (take unfound log.breaks) ≡ true → kept_after later u ≡ kept_after log u) →
         (kind limit : ℕ) (sessions : ℕ → Visit → ℕ) (t : Tearing)
-        → Leads log (events_of kind limit sessions t log (front ++ s ∷ [])) [] later
+        → HasUnsureMore (is_sure_by later) (events_of kind limit sessions t log (front ++ s ∷ []))
         (events_of kind limit sessions t later (front ++ s ∷ [])) }
     ensures fits { (log later : RunLog) (front : List TraceSecond) (s : TraceSecond)
         → All (λ s. SameAt log later s.number) front → IsCutOff log later s → has_power (went log front).before s ≡ true

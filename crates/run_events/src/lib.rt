@@ -26,12 +26,13 @@ pub use entries::{
 pub use entry_laws::an_entry_tells_its_event;
 pub use event_laws::{
     a_choice_of_one_second_changes_no_other, a_cut_behind_a_second_leaves_its_events,
-    a_moment_shows_the_other_types, a_second_brings_its_events, a_step_is_shown, an_event_is_shown,
-    an_over_speeding_is_shown, each_event_is_noted_in_its_second, it_is_known_what_was_kept,
-    later_lines_change_no_event, more_is_shown_after_more, other_bytes_tell_of_no_event,
-    quiet_seconds_bring_what_they_end, what_a_second_notes_is_what_it_brings, what_is_shown_stays,
+    a_second_brings_its_events, a_step_is_shown, an_event_is_shown, an_over_speeding_is_shown,
+    each_event_is_noted_in_its_second, it_is_known_what_was_kept, later_lines_change_no_event,
+    more_is_shown_after_more, other_bytes_tell_of_no_event, quiet_seconds_bring_what_they_end,
+    what_a_failed_call_leaves_is_shown, what_a_second_notes_is_what_it_brings, what_is_shown_stays,
+    what_is_sure_was_noted,
 };
-pub use watch::Watch;
+pub use watch::{Seconds, Watch};
 pub use watch_laws::{
     seconds_are_fed_with_their_cards, what_a_turn_ends_is_what_it_brings,
     what_a_turn_notes_is_shown, what_is_watched_are_the_bare_events,

@@ -55,6 +55,14 @@ pub struct Ended {
     pub end: Crew,
 }
 
+/// So many seconds of one minute, from a first one on, at one speed in km/h.
+#[derive(Clone, Copy)]
+pub struct Seconds {
+    pub first: u32,
+    pub n: u32,
+    pub speed: u8,
+}
+
 impl Watch {
     /// A span with no second yet, of a vehicle with this limit in km/h.
     pub fn new(limit: u8) -> Watch
@@ -85,33 +93,32 @@ impl Watch {
     pub fn turn<M: Medium>(
         &mut self,
         memory: &UnitMemory,
-        first: u32,
-        n: u32,
-        speed: u8,
+        seconds: Seconds,
         crew: Crew,
         unit: &mut M,
     ) -> Result<(), Failed>
-        requires some { 0 < n }
-        requires low { 60 ≤ first }
-        requires minute { first % 60 + n ≤ 60 }
-        requires fits { first + n ≤ 2 ^ 32 }
+        requires some { 0 < seconds.n }
+        requires low { 60 ≤ seconds.first }
+        requires minute { seconds.first % 60 + seconds.n ≤ 60 }
+        requires fits { seconds.first + seconds.n ≤ 2 ^ 32 }
         requires limit { self.old.limit ≡ self.old.over.limit }
-        requires watches { Watches self.old first }
+        requires watches { Watches self.old seconds.first }
         requires unit { IsUnit (M.state unit.old) }
         requires works { (M.state unit.old).works ≡ true }
         requires newest { KnowsNewest self.old.newest (M.state unit.old) }
         ensures newest { OnOk result (KnowsNewest self.new.newest (M.state unit.new)) }
-        ensures watches { Watches self.new (first + n) }
+        ensures watches { Watches self.new (seconds.first + seconds.n) }
         ensures limit { self.new.limit ≡ self.new.over.limit }
-        ensures watched { IsWatchedOn (is_err result) self.old self.new first n speed crew (M.state unit.old)
+        ensures watched { IsWatchedOn (is_err result) self.old self.new seconds.first seconds.n seconds.speed crew
+            (M.state unit.old)
             (M.state unit.new) }
         ensures journal { LeavesOnly (M.state unit.old) (M.state unit.new) LeavesJournal }
         ensures unit { IsUnit (M.state unit.new) }
         ensures cause { HasCause (M.state unit.old) (M.state unit.new) (is_err result) }
         ensures most { (M.state unit.new).clock ≤ (M.state unit.old).clock + 15 }
     {
-        let block = self.speeds.feed(first, n, speed);
-        let ended = self.feed(first, n, speed, crew);
+        let block = self.speeds.feed(seconds.first, seconds.n, seconds.speed);
+        let ended = self.feed(seconds.first, seconds.n, seconds.speed, crew);
         let newest = put_block(&block, self.newest, unit)?;
         self.newest = newest;
         note_ended(memory, &ended, unit)

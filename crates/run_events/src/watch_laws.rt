@@ -1,4 +1,4 @@
-ghost use Rattle.std.specs.Prelude.{◌≡◌, ◌⊎◌, ℕ, true, List, [], ◌∷◌, ◌++◌, length, map, flat_map};
+ghost use Rattle.std.specs.Prelude.{◌≡◌, ℕ, List, [], ◌∷◌, ◌++◌, length, map, flat_map};
 ghost use Rattle.std.specs.List.{AllByRecursion, filter_map};
 ghost use Rattle.trace_model.specs.declared.Card.{Card};
 ghost use Rattle.tacho_types.specs.declared.card_number.FullCardNumber.{FullCardNumber};
@@ -10,10 +10,8 @@ ghost use Rattle.log_model.specs.Slots.{Slots};
 ghost use Rattle.log_model.specs.Course.{went};
 ghost use Rattle.event_model.specs.Events.{Event, Seen, crew_of, seen_of, seen_spans, is_bare, bare_event, bare_events};
 ghost use Rattle.event_model.specs.Events.{speed_second, over_event, over_events};
-ghost use Rattle.event_model.specs.declared.kinds.TheConstants.{DRIVING_WITHOUT_CARD, OVER_SPEEDING};
 ghost use Rattle.unit_model.specs.declared.layout.TheConstants.{IMAGE_SIZE};
-ghost use Rattle.unit_events.specs.Noted.{are_sure};
-ghost use Rattle.run_events.specs.Shown.{by_kind, none, ShowsMore, AreNumbers};
+ghost use Rattle.run_events.specs.Shown.{by_kind, none_sure, all_sure, ShowsEvents, AreNumbers};
 ghost use Rattle.run_events.specs.Seconds.{bares_by, overs_by, IsQuiet, seen_next};
 ghost use Rattle.run_crew.specs.declared.cards.Crew.{Crew};
 ghost use Rattle.run_events.specs.declared.watch.Ended.{Ended};
@@ -61,21 +59,17 @@ pub fn what_a_turn_ends_is_what_it_brings()
         → WatchesSpan v (map (watched number) (span ++ new)) }
 {}
 
-/// Once that was noted, it is shown more: driving without a card and then the over speeding. Where the noting was cut
-/// short, nothing is, of the types of which none is sure.
+/// Once that was noted, it is shown more: driving without a card and then the over speeding. Where a stop came at a
+/// moment of that, nothing has come of one of them, or it was noted, or its place is empty.
 pub fn what_a_turn_notes_is_shown()
     ensures noted { (number : Card → FullCardNumber) → AreNumbers (number_bytes number)
-        → (log : RunLog) (now : ℕ → List Event) (limit : ℕ) (span new : List Seen) (ended : Ended)
-        → AreEnded number limit span new ended →
+        → (limit : ℕ) (span new : List Seen) (ended : Ended) → AreEnded number limit span new ended →
         AreLow span → AreLow new → (x c : List ℕ) → length x ≡ IMAGE_SIZE → AreNoted ended x c
-        → ShowsMore (number_bytes number) log now (by_kind (bares_by span new ++ overs_by limit span new)) x c }
+        → ShowsEvents (number_bytes number) all_sure x (by_kind (bares_by span new ++ overs_by limit span new)) c }
     ensures moment { (number : Card → FullCardNumber) → AreNumbers (number_bytes number)
-        → (log : RunLog) (now : ℕ → List Event) (limit : ℕ) (span new : List Seen) (ended : Ended)
-        → AreEnded number limit span new ended →
-        AreLow span → AreLow new → (x c : List ℕ) → length x ≡ IMAGE_SIZE →
-        ((bares_by span new ≡ []) ⊎ (are_sure log (now DRIVING_WITHOUT_CARD) ≡ true → ⊥))
-        × ((overs_by limit span new ≡ []) ⊎ (are_sure log (now OVER_SPEEDING) ≡ true → ⊥)) →
-        AreBeingNoted ended x c → ShowsMore (number_bytes number) log now none x c }
+        → (limit : ℕ) (span new : List Seen) (ended : Ended) → AreEnded number limit span new ended →
+        AreLow span → AreLow new → (x c : List ℕ) → length x ≡ IMAGE_SIZE → AreBeingNoted ended x c
+        → ShowsEvents (number_bytes number) none_sure x (by_kind (bares_by span new ++ overs_by limit span new)) c }
 {}
 
 /// A second is fed with the cards that are accepted in it behind its actions; and seconds in which nothing happens,

@@ -24,7 +24,7 @@ use Rattle.run_course.proofs.Steps.{with-supply, went-same_}
 use Rattle.run_course.proofs.Told.{lit-power, lit-starts, lit-told}
 use Rattle.run_course.specs.Moment.{goes_on}
 use Rattle.run_course.proofs.Reached.{second-reached}
-use Rattle.run_events.specs.Shown.{by_kind, ShowsEvents}
+use Rattle.run_events.specs.Shown.{by_kind, all_sure, ShowsSince}
 use Rattle.run_events.specs.Seconds.{second_events, seen_next}
 use Rattle.run_events.specs.Choice.{IsTornIn}
 use Rattle.run_events.proofs.Later.{told-number}
@@ -99,7 +99,7 @@ call-notes d e o done s p stage next log later es v adds says left = record {
   open_before = all-left o (went p.log done).told done d e v.sessions left v.open_before;
   exact_before = v.exact_before;
   more = v.more ++ es;
-  noted = noted-more o v.more es d e (ShowsEvents (number_in o) o.recording.unit p.log (λ kind. events_of kind (limit_in o) v.sessions v.tearing p.log done)) v.noted says;
+  noted = noted-more o v.more es d e (ShowsSince (number_in o) p.log o.recording.unit (λ kind. events_of kind (limit_in o) v.sessions v.tearing p.log done)) v.noted says;
   so_far = adds.on v.more (later-images o done s stage log v.more d e left v.so_far);
 }
 
@@ -241,7 +241,7 @@ second-begins_now d o done p span s b v =
       open_before = v.found_open;
       exact_before = v.exact;
       more = [];
-      noted = λ c left. (c, v.events.noted.shows c left, λ log now. nothing-more (number_in o) log now c c (record { tables = λ kind there. refl; first_over = refl; over_count = refl }));
+      noted = λ c left. (c, v.events.noted.shows c left, nothing-more (number_in o) all_sure c c (record { tables = λ kind there. refl; first_over = refl; over_count = refl }));
       so_far = record {
         here = planned s;
         own = λ u x. 0;

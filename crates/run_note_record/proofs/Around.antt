@@ -1,12 +1,12 @@
 -- A call that writes a ring, and other bytes before and behind that.
-use Rattle.std.proofs.Common.{◌≡◌, ℕ, Option, Some, None, IfSome, List, [], ◌∷◌, ◌++◌, refl}
+use Rattle.std.proofs.Common.{◌≡◌, inl, ℕ, Option, Some, None, IfSome, List, [], ◌∷◌, ◌++◌, refl}
 use Rattle.trace_model.specs.declared.Card.{Card}
 use Rattle.trace_model.specs.declared.Card.TheVariants.{A, B}
 use Rattle.gated_ring.specs.Change.{IsAdded}
 use Rattle.message_model.specs.Records.{insertion_ring, unit_place_ring}
 use Rattle.log_model.specs.Log.{RunLog}
 use Rattle.note_model.specs.Odometer.{SpanFrom, odometer_at}
-use Rattle.note_model.specs.Noted.{InsertionNote, PlaceNote, Note, Accepts, Withdraws, Enters}
+use Rattle.note_model.specs.Noted.{Withdrawal, InsertionNote, PlaceNote, Note, Accepts, Withdraws, Enters}
 use Rattle.safety_model.specs.Recording.{card_image}
 use Rattle.safety_model.specs.Safe.{Devices, card_of}
 use Rattle.run_promise.specs.Found.{found_of}
@@ -14,7 +14,9 @@ use Rattle.run_note_record.specs.Beside.{HaveLeftMore}
 use Rattle.run_note_record.specs.Ringed.{holder_in, TellsIn, IsInsertionIn, Seating, Ringed, HasSameRings, WritesRing, IsAddedAt, MayBeAdded, IsWithdrawnAt, MayBeWithdrawn, AnInsertionIsNoted, APlaceIsNoted, AWithdrawalIsNoted, AWithdrawalIsBroken, AnInsertionIsBroken, APlaceIsBroken, Since}
 use Rattle.card_image.specs.Own.{own_sizes}
 use Rattle.run_devices.proofs.Measured.{goes-itself}
-use Rattle.run_note_record.specs.OnCards.{PlacesStay, IsReading, VehiclesGo, CardsStay, PlaceIsTaken}
+use Rattle.run_note_record.specs.OnCards.{PlacesStay, IsReading, VehiclesGo, SessionsGo, NoOtherComes, CardsGo, CardsStay, PlaceIsTaken}
+use Rattle.run_note_record.specs.Sessions.{IsBrokenSince, OpensSince, Shuts}
+use Rattle.run_note_record.proofs.Sessions.{stay-may}
 use Rattle.run_note_record.proofs.Stands.{insertion-as}
 use Rattle.run_note_record.proofs.Rings.{rings-stay, go-on, tells-more, insertion-noted, insertion-broken, place-noted, place-broken}
 use Rattle.run_note_record.proofs.Withdrawn.{withdrawal-noted, withdrawal-broken}
@@ -62,7 +64,7 @@ module _ (R : List ℕ → List ℕ → Type 0) (d e : Devices) where
 
     -- the cards
     pub stay-before : (spans : List SpanFrom) → CardsStay o.origin spans d before-it
-    stay-before spans = record { places = places; vehicles = vehicles }
+    stay-before spans = record { places = places; vehicles = vehicles; sessions = sessions }
       where
         places : PlacesStay o.origin d before-it
         places A valid y left = (y, left, refl)
@@ -72,8 +74,12 @@ module _ (R : List ℕ → List ℕ → Type 0) (d e : Devices) where
         vehicles A valid y left = (y, left, goes-itself (own_sizes (card_image o.origin.recording A)) (IsReading spans) y)
         vehicles B valid y left = (y, left, goes-itself (own_sizes (card_image o.origin.recording B)) (IsReading spans) y)
 
+        sessions : SessionsGo o.origin NoOtherComes d before-it
+        sessions A valid y left = (y, left, inl refl)
+        sessions B valid y left = (y, left, inl refl)
+
     pub stay-from : (spans : List SpanFrom) → CardsStay o.origin spans behind-it e
-    stay-from spans = record { places = places; vehicles = vehicles }
+    stay-from spans = record { places = places; vehicles = vehicles; sessions = sessions }
       where
         places : PlacesStay o.origin behind-it e
         places A valid y left = (y, left, refl)
@@ -83,16 +89,28 @@ module _ (R : List ℕ → List ℕ → Type 0) (d e : Devices) where
         vehicles A valid y left = (y, left, goes-itself (own_sizes (card_image o.origin.recording A)) (IsReading spans) y)
         vehicles B valid y left = (y, left, goes-itself (own_sizes (card_image o.origin.recording B)) (IsReading spans) y)
 
+        sessions : SessionsGo o.origin NoOtherComes behind-it e
+        sessions A valid y left = (y, left, inl refl)
+        sessions B valid y left = (y, left, inl refl)
+
     pub go-between : (spans : List SpanFrom) → VehiclesGo o.origin spans d e → VehiclesGo o.origin spans before-it behind-it
     go-between spans goes A = goes A
     go-between spans goes B = goes B
 
-    pub stay-between : (spans : List SpanFrom) → CardsStay o.origin spans d e → CardsStay o.origin spans before-it behind-it
-    stay-between spans stays = record { places = places; vehicles = go-between spans stays.vehicles }
+    pub sessions-between : (May : Card → ℕ → Type 0) → SessionsGo o.origin May d e → SessionsGo o.origin May before-it behind-it
+    sessions-between May goes A = goes A
+    sessions-between May goes B = goes B
+
+    pub cards-between : (spans : List SpanFrom) (May : Card → ℕ → Type 0) → CardsGo o.origin spans May d e → CardsGo o.origin spans May before-it behind-it
+    cards-between spans May cards = record { places = places; vehicles = go-between spans cards.vehicles; sessions = sessions-between May cards.sessions }
       where
         places : PlacesStay o.origin before-it behind-it
-        places A = stays.places A
-        places B = stays.places B
+        places A = cards.places A
+        places B = cards.places B
+
+    pub shuts-between : (log : RunLog) (w : Withdrawal) → Shuts o.origin log w e → Shuts o.origin log w behind-it
+    shuts-between log w shuts A = shuts A
+    shuts-between log w shuts B = shuts B
 
     pub taken-between : (log : RunLog) (p : PlaceNote) (own : List ℕ) → PlaceIsTaken o.origin log p own d e → PlaceIsTaken o.origin log p own before-it behind-it
     taken-between log p own is A = is A
@@ -101,11 +119,11 @@ module _ (R : List ℕ → List ℕ → Type 0) (d e : Devices) where
     -- what is carried before it, and so behind all
     module _ (log : RunLog) (spans : List SpanFrom) (notes : List Note) (seats : Card → Option Seating) where
       pub ringed-before : Ringed o log spans notes seats d → Ringed o log spans notes seats before-it
-      ringed-before v = rings-stay d before-it o log log spans spans notes seats v (λ p left. left) to-before (stay-before spans) (go-on log spans notes)
+      ringed-before v = rings-stay d before-it o log log spans spans notes seats v (λ p left. left) to-before (stay-may o.origin spans (λ c t. IsBrokenSince log c notes t) d before-it (stay-before spans)) (go-on log spans notes)
 
       pub ringed-behind : WritesRing R d e → Ringed o log spans notes seats behind-it → Ringed o log spans notes seats e
       ringed-behind writes v = rings-stay behind-it e o log log spans spans notes seats v
-          (λ y left. let w = writes y left in (w.2.1, (w.2.0, (w.0, w.1, w.2.2), w.2.3), w.2.4)) from-behind (stay-from spans) (go-on log spans notes)
+          (λ y left. let w = writes y left in (w.2.1, (w.2.0, (w.0, w.1, w.2.2), w.2.3), w.2.4)) from-behind (stay-may o.origin spans (λ c t. IsBrokenSince log c notes t) behind-it e (stay-from spans)) (go-on log spans notes)
 
       -- an entry tells of a card what its images do
       pub insertion-behind : (n : InsertionNote) (head : List ℕ) → IsInsertionIn o log spans e n head → IsInsertionIn o log spans behind-it n head
@@ -116,33 +134,33 @@ module _ (R : List ℕ → List ℕ → Type 0) (d e : Devices) where
           by (Some u) = refl
 
 pub insertion-around : (d e : Devices) → AnInsertionIsNoted d e
-insertion-around d e o log spans notes seats now v more cards a head index writes full is each =
+insertion-around d e o log spans notes seats now v more a cards head index writes full is each =
     ringed-behind (IsAddedAt index head) d e o log spans (notes ++ Accepts a ∷ []) now writes
-    (insertion-noted (before-it (IsAddedAt index head) d e) (behind-it (IsAddedAt index head) d e) o log spans notes seats now (ringed-before (IsAddedAt index head) d e o log spans notes seats v) (to-behind (IsAddedAt index head) d e o more) (stay-between (IsAddedAt index head) d e o spans cards) a head index (λ q left. left) full
+    (insertion-noted (before-it (IsAddedAt index head) d e) (behind-it (IsAddedAt index head) d e) o log spans notes seats now (ringed-before (IsAddedAt index head) d e o log spans notes seats v) (to-behind (IsAddedAt index head) d e o more) a (cards-between (IsAddedAt index head) d e o spans (OpensSince log a notes) cards) head index (λ q left. left) full
     (insertion-behind (IsAddedAt index head) d e o log spans notes seats (record { accepted = a; withdrawn = None }) head is) each)
 
 pub place-around : (d e : Devices) → APlaceIsNoted d e
-place-around d e o log spans notes seats v more p head writes full is own long on taken_ goes =
+place-around d e o log spans notes seats v more p head writes full is own long on taken_ goes sessions_ =
     ringed-behind (IsAdded unit_place_ring head) d e o log spans (notes ++ Enters p ∷ []) seats writes
-    (place-noted (before-it (IsAdded unit_place_ring head) d e) (behind-it (IsAdded unit_place_ring head) d e) o log spans notes seats (ringed-before (IsAdded unit_place_ring head) d e o log spans notes seats v) (to-behind (IsAdded unit_place_ring head) d e o more) p head (λ q left. left) full is own long on (taken-between (IsAdded unit_place_ring head) d e o log p own taken_) (go-between (IsAdded unit_place_ring head) d e o spans goes))
+    (place-noted (before-it (IsAdded unit_place_ring head) d e) (behind-it (IsAdded unit_place_ring head) d e) o log spans notes seats (ringed-before (IsAdded unit_place_ring head) d e o log spans notes seats v) (to-behind (IsAdded unit_place_ring head) d e o more) p head (λ q left. left) full is own long on (taken-between (IsAdded unit_place_ring head) d e o log p own taken_) (go-between (IsAdded unit_place_ring head) d e o spans goes) (sessions-between (IsAdded unit_place_ring head) d e o NoOtherComes sessions_))
 
 pub withdrawal-around : (d e : Devices) → AWithdrawalIsNoted d e
-withdrawal-around d e o log spans notes seats now v more cards w s at below time odometer second stood time_fits odometer_fits writes each =
+withdrawal-around d e o log spans notes seats now v more cards w s at below time odometer second stood time_fits odometer_fits writes each shuts =
     ringed-behind (IsWithdrawnAt s time odometer) d e o log spans (notes ++ Withdraws w ∷ []) now writes
-    (withdrawal-noted (before-it (IsWithdrawnAt s time odometer) d e) (behind-it (IsWithdrawnAt s time odometer) d e) o log spans notes seats now (ringed-before (IsWithdrawnAt s time odometer) d e o log spans notes seats v) (to-behind (IsWithdrawnAt s time odometer) d e o more) (stay-between (IsWithdrawnAt s time odometer) d e o spans cards) w s at below time odometer second stood time_fits odometer_fits (λ q left. left) each)
+    (withdrawal-noted (before-it (IsWithdrawnAt s time odometer) d e) (behind-it (IsWithdrawnAt s time odometer) d e) o log spans notes seats now (ringed-before (IsWithdrawnAt s time odometer) d e o log spans notes seats v) (to-behind (IsWithdrawnAt s time odometer) d e o more) (cards-between (IsWithdrawnAt s time odometer) d e o spans NoOtherComes cards) w s at below time odometer second stood time_fits odometer_fits (λ q left. left) each (shuts-between (IsWithdrawnAt s time odometer) d e o log w shuts))
 
 pub insertion-cut : (d e : Devices) → AnInsertionIsBroken d e
-insertion-cut d e o log spans notes seats v more cards a head writes full is has =
+insertion-cut d e o log spans notes seats v more a cards head writes full is has =
     ringed-behind (MayBeAdded insertion_ring head) d e o log spans (notes ++ Accepts a ∷ []) (λ c. None) writes
-    (insertion-broken (before-it (MayBeAdded insertion_ring head) d e) (behind-it (MayBeAdded insertion_ring head) d e) o log spans notes seats (ringed-before (MayBeAdded insertion_ring head) d e o log spans notes seats v) (to-behind (MayBeAdded insertion_ring head) d e o more) (stay-between (MayBeAdded insertion_ring head) d e o spans cards) a head (λ q left. left) full
+    (insertion-broken (before-it (MayBeAdded insertion_ring head) d e) (behind-it (MayBeAdded insertion_ring head) d e) o log spans notes seats (ringed-before (MayBeAdded insertion_ring head) d e o log spans notes seats v) (to-behind (MayBeAdded insertion_ring head) d e o more) a (cards-between (MayBeAdded insertion_ring head) d e o spans (OpensSince log a notes) cards) head (λ q left. left) full
     (insertion-behind (MayBeAdded insertion_ring head) d e o log spans notes seats (record { accepted = a; withdrawn = None }) head is) has)
 
 pub place-cut : (d e : Devices) → APlaceIsBroken d e
-place-cut d e o log spans notes seats v more p head writes full is has own long on taken_ goes =
+place-cut d e o log spans notes seats v more p head writes full is has own long on taken_ goes sessions_ =
     ringed-behind (MayBeAdded unit_place_ring head) d e o log spans (notes ++ Enters p ∷ []) (λ c. None) writes
-    (place-broken (before-it (MayBeAdded unit_place_ring head) d e) (behind-it (MayBeAdded unit_place_ring head) d e) o log spans notes seats (ringed-before (MayBeAdded unit_place_ring head) d e o log spans notes seats v) (to-behind (MayBeAdded unit_place_ring head) d e o more) p head (λ q left. left) full is has own long on (taken-between (MayBeAdded unit_place_ring head) d e o log p own taken_) (go-between (MayBeAdded unit_place_ring head) d e o spans goes))
+    (place-broken (before-it (MayBeAdded unit_place_ring head) d e) (behind-it (MayBeAdded unit_place_ring head) d e) o log spans notes seats (ringed-before (MayBeAdded unit_place_ring head) d e o log spans notes seats v) (to-behind (MayBeAdded unit_place_ring head) d e o more) p head (λ q left. left) full is has own long on (taken-between (MayBeAdded unit_place_ring head) d e o log p own taken_) (go-between (MayBeAdded unit_place_ring head) d e o spans goes) (sessions-between (MayBeAdded unit_place_ring head) d e o NoOtherComes sessions_))
 
 pub withdrawal-cut : (d e : Devices) → AWithdrawalIsBroken d e
 withdrawal-cut d e o log spans notes seats v more cards w s at below time odometer second stood time_fits odometer_fits writes has =
     ringed-behind (MayBeWithdrawn s time odometer) d e o log spans (notes ++ Withdraws w ∷ []) (λ c. None) writes
-    (withdrawal-broken (before-it (MayBeWithdrawn s time odometer) d e) (behind-it (MayBeWithdrawn s time odometer) d e) o log spans notes seats (ringed-before (MayBeWithdrawn s time odometer) d e o log spans notes seats v) (to-behind (MayBeWithdrawn s time odometer) d e o more) (stay-between (MayBeWithdrawn s time odometer) d e o spans cards) w s at below time odometer second stood time_fits odometer_fits (λ q left. left) has)
+    (withdrawal-broken (before-it (MayBeWithdrawn s time odometer) d e) (behind-it (MayBeWithdrawn s time odometer) d e) o log spans notes seats (ringed-before (MayBeWithdrawn s time odometer) d e o log spans notes seats v) (to-behind (MayBeWithdrawn s time odometer) d e o more) (cards-between (MayBeWithdrawn s time odometer) d e o spans NoOtherComes cards) w s at below time odometer second stood time_fits odometer_fits (λ q left. left) has)

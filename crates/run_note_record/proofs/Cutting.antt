@@ -1,8 +1,9 @@
 -- The unit fails in a call, and the cut that is told ends the second: its line takes nothing back.
-use Rattle.std.proofs.Common.{◌≡◌, ◌⊎◌, inr, ⊎_elim, ℕ, ◌+◌, Bool, true, false, cond, not, ◌&&◌, ◌||◌, Option, Some, None, List, [], ◌∷◌, ◌++◌, Contains, map, filter, length, take, nat_eq, nat_lt, is_some, refl, ap, sym, subst, ◌∙◌, arith, append_assoc}
-use Rattle.std.specs.Prelude.{◌==◌, flat_map, option_map, option_to_list}
+use Rattle.std.proofs.Common.{◌≡◌, inr, ℕ, zero, suc, ◌+◌, ◌<◌, ◌≤◌, Bool, true, false, cond, not, ◌&&◌, ◌||◌, Option, Some, None, List, [], ◌∷◌, ◌++◌, Contains, map, filter, take, nat_eq, nat_lt, is_some, refl, ap, sym, subst, ◌∙◌, arith, append-nil}
+use Rattle.std.specs.Prelude.{◌==◌, flat_map, option_map, option_to_list, slice_get}
 use Rattle.std.specs.List.{AllByRecursion, list_any, filter_map}
 use Rattle.std.proofs.lemmas.Bool.Decides.{nat_tests}
+use Rattle.activity_codec.specs.declared.values.Slot.{Slot}
 use Rattle.activity_codec.specs.declared.values.Slot.TheVariants.{Driver, CoDriver}
 use Rattle.activity_codec.specs.Activity.{same_slot}
 use Rattle.trace_model.specs.declared.Action.{Action}
@@ -11,125 +12,75 @@ use Rattle.run_model.specs.declared.Device.{Device}
 use Rattle.run_model.specs.declared.Device.TheVariants.{Unit as Recorder}
 use Rattle.log_model.specs.declared.lines.Break.{Break}
 use Rattle.log_model.specs.declared.lines.Verdict.{Verdict}
-use Rattle.log_model.specs.declared.lines.Verdict.TheVariants.{Accepted, NotValid, TimeOverlap}
 use Rattle.log_model.specs.Log.{RunLog, Phase, In, Keeping, same_phase, cut_in, kept_after, is_torn_in, is_accepting}
-use Rattle.log_model.specs.Slots.{is_accepted}
+use Rattle.log_model.specs.Slots.{is_accepted, refusal}
 use Rattle.log_model.specs.Causes.{RoseBy}
-use Rattle.log_model.specs.Course.{ToldSecond, Visit, Course, Before, has_power, second_told, went, Went}
-use Rattle.event_model.specs.declared.kinds.TheConstants.{CARD_NOT_VALID, TIME_OVERLAP, DRIVING_WITHOUT_CARD, INSERTION_WHILE_DRIVING, SESSION_NOT_CLOSED, OVER_SPEEDING, POWER_INTERRUPTION, CARD_FAULT}
+use Rattle.log_model.specs.Course.{ToldSecond, Visit, Course, Before, has_power, second_told, answered, went, Went}
+use Rattle.event_model.specs.declared.kinds.TheConstants.{DRIVING_WITHOUT_CARD, OVER_SPEEDING, POWER_INTERRUPTION, CARD_FAULT}
 use Rattle.event_model.specs.declared.entries.Span.{Span}
 use Rattle.event_model.specs.Spans.{gap_of}
 use Rattle.event_model.specs.Runs.{last_run}
-use Rattle.event_model.specs.Events.{Event, Seen, Tearing, number_of, last_number, noted_with, seen_by, seen_of, seen_spans, is_bare, bare_event, over_event, first_card, standing, crew_judged, found_events, fault_of, torn_in_turn, is_codriver_first}
+use Rattle.event_model.specs.Events.{Event, Seen, Tearing, number_of, last_number, noted_with, course_by, moved_by_action, within_by, seen_by, seen_of, seen_spans, is_bare, bare_event, over_event, first_card, standing, found_events, fault_of, torn_in_turn}
 use Rattle.run_unit_course.specs.Lines.{cut_at, tells_cut}
 use Rattle.run_unit_course.specs.Followed.{UnitPower, Lit}
 use Rattle.run_unit_course.specs.Turn.{begins_with}
 use Rattle.safety_model.specs.Safe.{Devices}
-use Rattle.unit_events.specs.Noted.{are_sure}
 use Rattle.unit_events.specs.Shown.{all_kinds}
 use Rattle.run_course.specs.Moments.{and_break}
 use Rattle.run_course.specs.Followed.{Progress}
 use Rattle.run_course.specs.Seconds.{GoesOnBy}
+use Rattle.run_course.specs.Reached.{IsMoment, course_at}
 use Rattle.run_course.proofs.Lookups.{break-more}
 use Rattle.run_course.proofs.Moments.{later-lines}
+use Rattle.run_course.proofs.Reached.{at-by}
 use Rattle.run_course.proofs.Steps.{went-same_}
 use Rattle.run_course.specs.Moment.{Moment, goes_on}
 use Rattle.run_course.specs.Telling.{IsMore, begun_by, IsLeft}
 use Rattle.run_course.proofs.Telling.{cut-ends_told}
-use Rattle.run_events.specs.Shown.{by_kind, none}
+use Rattle.run_events.specs.Shown.{by_kind, AreTheFirst}
 use Rattle.run_events.specs.Seconds.{last_of, span_before, bares_by, overs_by, is_fast, gap_before, gap_by, faults_by, found_by, second_events}
 use Rattle.run_events.specs.Gaps.{CutIsTold, OfLast, IsKnownLast, HasGaps}
 use Rattle.run_events.specs.Choice.{IsTornIn}
+use Rattle.run_events.specs.Running.{IsCutOff}
 use Rattle.run_events.proofs.Later.{told-number}
+use Rattle.run_events.proofs.Offs.{cut_seen, seen-off, faults-off, flat-off}
 use Rattle.run_promise.specs.Origin.{Origin, rule_of, start_at, first_of}
-use Rattle.run_note_record.specs.Evented.{limit_in, brought_now, events_now}
+use Rattle.run_note_record.specs.Evented.{limit_in, brought_now}
 use Rattle.run_note_record.specs.Noting.{Stage, Waking, Acting, Ended, is_told}
 use Rattle.run_note_record.specs.EventsSoFar.{FitsSoFar, SoFar, BeginsNow, AFailureCuts}
 use Rattle.run_note_record.proofs.Lines.{tells-so}
 use Rattle.run_note_record.proofs.Seconds.{cut-goes}
 use Rattle.run_note_record.proofs.Whole.{whole-told}
+use Rattle.run_note_record.proofs.Parts.{by-until, formers, found-formers}
+use Rattle.run_note_record.proofs.Fronts.{IsFormer, DifferAt, old-faults, old-found}
 use Rattle.run_note_record.proofs.Brought.{lit-course, told-speed}
 use Rattle.run_note_record.proofs.Bringing.{brought-as}
 use Rattle.run_note_record.proofs.Choices.{fits-in}
-use Rattle.run_note_record.proofs.Noting.{by-more, bool-or, cut-by}
+use Rattle.run_note_record.proofs.Noting.{cut-by}
 use Rattle.run_note_record.proofs.Adding.{power-now, starts-now, next-as, open-by, open-of, later-images, evented-in}
 use Rattle.run_course.proofs.Told.{lit-told}
 
--- ---- what is empty stays so, by another look
-no-left : (xs ys : List Event) → xs ++ ys ≡ [] → xs ≡ []
-no-left [] ys gone = refl
-no-left (x ∷ xs) ys gone = absurd (cc)
-
-no-right : (xs ys : List Event) → xs ++ ys ≡ [] → ys ≡ []
-no-right [] ys gone = gone
-no-right (x ∷ xs) ys gone = absurd (cc)
-
-turn-none : (t : Tearing) (x : Seen) (vs : List Visit) → torn_in_turn t x vs ≡ [] → vs ≡ []
-turn-none t x [] gone = refl
-turn-none t x (v ∷ []) gone = absurd (cc)
-turn-none t x (v ∷ w ∷ vs) gone = absurd (by (same_phase v.phase w.phase && is_codriver_first t x v.phase) (torn_in_turn t x vs) (torn_in_turn t x (w ∷ vs)) gone)
-  where
-    by : (b : Bool) (p q : List Visit) → cond b (w ∷ v ∷ p) (v ∷ q) ≡ [] → ⊥
-    by true p q gone = absurd (cc)
-    by false p q gone = absurd (cc)
-
-map-none : (f : Visit → Event) (vs : List Visit) → map f vs ≡ [] → vs ≡ []
-map-none f [] gone = refl
-map-none f (v ∷ vs) gone = absurd (cc)
-
-faults-none : (t : Tearing) (log later : RunLog) (x z : Seen) → z.told.course.torn ≡ x.told.course.torn → faults_by t later z ≡ [] → faults_by t log x ≡ []
-faults-none t log later x z same gone =
-    let none_torn : z.told.course.torn ≡ [] = turn-none t z z.told.course.torn (map-none (fault_of t later z) (torn_in_turn t z z.told.course.torn) gone) in
-    ap (λ (vs : List Visit). map (fault_of t log x) (torn_in_turn t x vs)) (sym same ∙ none_torn)
-
-one-none : (b : Bool) (e g : Event) (es fs : List Event) → (es ≡ [] → fs ≡ []) → cond b (e ∷ []) es ≡ [] → cond b (g ∷ []) fs ≡ []
-one-none true e g es fs rest gone = absurd (cc)
-one-none false e g es fs rest gone = rest gone
-
-find-none : (kind session : ℕ) (t : Tearing) (x z : Seen) (v : Visit) (verdict : Verdict) → z.told.second.speed ≡ x.told.second.speed → found_events kind session t z v verdict ≡ [] → found_events kind session t x v verdict ≡ []
-find-none kind session t x z v (NotValid fid place) speed gone = one-none (kind == CARD_NOT_VALID) (noted_with kind (number_of z) (number_of z) (crew_judged t z v None)) (noted_with kind (number_of x) (number_of x) (crew_judged t x v None)) [] [] (λ h. refl) gone
-find-none kind session t x z v (TimeOverlap stored now) speed gone = one-none (kind == TIME_OVERLAP) (noted_with kind (number_of z) stored (crew_judged t z v None)) (noted_with kind (number_of x) stored (crew_judged t x v None)) [] [] (λ h. refl) gone
-find-none kind session t x z v (Accepted replayed) speed gone =
-    ap (λ (k : ℕ). cond (kind == INSERTION_WHILE_DRIVING && nat_lt 0 k) (noted_with kind (number_of x) (number_of x) (crew_judged t x v (Some v.card)) ∷ [])
-    (cond (kind == SESSION_NOT_CLOSED && nat_lt 0 session) (noted_with kind session (number_of x) (crew_judged t x v (Some v.card)) ∷ []) [])) (sym speed)
-    ∙ one-none (kind == INSERTION_WHILE_DRIVING && nat_lt 0 z.told.second.speed) (noted_with kind (number_of z) (number_of z) (crew_judged t z v (Some v.card))) (noted_with kind (number_of x) (number_of x) (crew_judged t x v (Some v.card)))
-    (cond (kind == SESSION_NOT_CLOSED && nat_lt 0 session) (noted_with kind session (number_of z) (crew_judged t z v (Some v.card)) ∷ []) [])
-    (cond (kind == SESSION_NOT_CLOSED && nat_lt 0 session) (noted_with kind session (number_of x) (crew_judged t x v (Some v.card)) ∷ []) [])
-    (one-none (kind == SESSION_NOT_CLOSED && nat_lt 0 session) (noted_with kind session (number_of z) (crew_judged t z v (Some v.card))) (noted_with kind session (number_of x) (crew_judged t x v (Some v.card))) [] [] (λ h. refl)) gone
-
-flat-none : (f g : Visit × Verdict → List Event) → ((e : Visit × Verdict) → f e ≡ [] → g e ≡ []) → (es : List (Visit × Verdict)) → flat_map f es ≡ [] → flat_map g es ≡ []
-flat-none f g each [] gone = refl
-flat-none f g each (e ∷ es) gone = λ i. each e (no-left (f e) (flat_map f es) gone) i ++ flat-none f g each es (no-right (f e) (flat_map f es) gone) i
-
-found-none : (kind : ℕ) (own : ℕ → Visit → ℕ) (t : Tearing) (x z : Seen) → number_of z ≡ number_of x → z.told.second.speed ≡ x.told.second.speed → z.told.course.found ≡ x.told.course.found → found_by kind own t z ≡ [] → found_by kind own t x ≡ []
-found-none kind own t x z number speed same gone =
-    flat-none (λ (f : Visit × Verdict). found_events kind (own (number_of z) f.0) t z f.0 f.1) (λ (f : Visit × Verdict). found_events kind (own (number_of x) f.0) t x f.0 f.1)
-    (λ f none_of. find-none kind (own (number_of x) f.0) t x z f.0 f.1 speed (ap (λ (u : ℕ). found_events kind (own u f.0) t z f.0 f.1) (sym number) ∙ none_of)) x.told.course.found
-    (sym (ap (flat_map (λ (f : Visit × Verdict). found_events kind (own (number_of z) f.0) t z f.0 f.1)) same) ∙ gone)
-
-option-none : (f g : Span → Event) (a b : Option Span) → a ≡ b → option_to_list (option_map {T = Span} {U = Event} f a) ≡ [] → option_to_list (option_map {T = Span} {U = Event} g b) ≡ []
-option-none f g a b same gone = ap (λ (o : Option Span). option_to_list (option_map {T = Span} {U = Event} g o)) (sym same) ∙ by a gone
-  where
-    by : (o : Option Span) → option_to_list (option_map {T = Span} {U = Event} f o) ≡ [] → option_to_list (option_map {T = Span} {U = Event} g o) ≡ []
-    by None gone = refl
-    by (Some gap) gone = absurd (cc)
-
-gap-none : (t : Tearing) (log later : RunLog) (x z : Seen) (found : List Break) → number_of z ≡ number_of x → ((u : ℕ) → tells_cut u found ≡ true → kept_after later u ≡ kept_after log u) → (spans : List (List Seen)) → OfLast (CutIsTold found) spans →
-    gap_before t later spans z ≡ [] → gap_before t log spans x ≡ []
-gap-none t log later x z found number kept [] known gone = refl
-gap-none t log later x z found number kept (span ∷ []) known gone =
-    option-none (λ gap. noted_with POWER_INTERRUPTION gap.begin gap.end (record { driver = standing t z Driver; codriver = standing t z CoDriver })) (λ gap. noted_with POWER_INTERRUPTION gap.begin gap.end (record { driver = standing t x Driver; codriver = standing t x CoDriver }))
-    (gap_of (kept_after later (last_number span)) (number_of z)) (gap_of (kept_after log (last_number span)) (number_of x)) (λ i. gap_of (kept (last_number span) known i) (number i)) gone
-gap-none t log later x z found number kept (span ∷ next ∷ spans) known gone = gap-none t log later x z found number kept (next ∷ spans) known gone
-
 -- ---- by type
-kinds-none : (a b c d : Bool) (p q r v w p' q' r' v' w' : List Event) → (a ≡ true → p' ≡ [] → p ≡ []) → (a ≡ false → b ≡ true → q' ≡ [] → q ≡ []) → (a ≡ false → b ≡ false → c ≡ true → r' ≡ [] → r ≡ []) → (v' ≡ [] → v ≡ []) → (w' ≡ [] → w ≡ []) →
-    cond a p' (cond b q' (cond c r' (cond d v' w'))) ≡ [] → cond a p (cond b q (cond c r (cond d v w))) ≡ []
-kinds-none true b c d p q r v w p' q' r' v' w' hp hq hr hv hw gone = hp refl gone
-kinds-none false true c d p q r v w p' q' r' v' w' hp hq hr hv hw gone = hq refl refl gone
-kinds-none false false true d p q r v w p' q' r' v' w' hp hq hr hv hw gone = hr refl refl refl gone
-kinds-none false false false true p q r v w p' q' r' v' w' hp hq hr hv hw gone = hv gone
-kinds-none false false false false p q r v w p' q' r' v' w' hp hq hr hv hw gone = hw gone
+kinds-as : (a b c d : Bool) (p q r v w p' q' r' v' w' : List Event) → (a ≡ true → p' ≡ p) → q' ≡ q → r' ≡ r → v' ≡ v → w' ≡ w → cond a p' (cond b q' (cond c r' (cond d v' w'))) ≡ cond a p (cond b q (cond c r (cond d v w)))
+kinds-as true b c d p q r v w p' q' r' v' w' hp hq hr hv hw = hp refl
+kinds-as false b c d p q r v w p' q' r' v' w' hp hq hr hv hw = λ i. cond b (hq i) (cond c (hr i) (cond d (hv i) (hw i)))
+
+-- an interruption, by a look at its second that differs in nothing that it tells
+gap-same : (t : Tearing) (log later : RunLog) (x z : Seen) (found : List Break) → number_of z ≡ number_of x → ((slot : Slot) → standing t z slot ≡ standing t x slot) → ((u : ℕ) → tells_cut u found ≡ true → kept_after later u ≡ kept_after log u) → (spans : List (List Seen)) → OfLast (CutIsTold found) spans →
+    gap_before t later spans z ≡ gap_before t log spans x
+gap-same t log later x z found number stands kept [] known = refl
+gap-same t log later x z found number stands kept (span ∷ []) known = λ i.
+    option_to_list (option_map {T = Span} {U = Event} (λ gap. noted_with POWER_INTERRUPTION gap.begin gap.end (record { driver = stands Driver i; codriver = stands CoDriver i })) (gap_of (kept (last_number span) known i) (number i)))
+gap-same t log later x z found number stands kept (span ∷ next ∷ spans) known = gap-same t log later x z found number stands kept (next ∷ spans) known
+
+no-gap : (lit starts : Bool) (gap : List Event) → starts ≡ false → cond lit (cond starts gap []) [] ≡ []
+no-gap true starts gap is = ap (λ (b : Bool). cond b gap []) is
+no-gap false starts gap is = refl
+
+-- what was noted, of a type of which all or nothing was, is the first of all
+first-by : (some all : List Event) (b : Bool) → (b ≡ true → some ≡ all) → (b ≡ false → some ≡ []) → (rest : List Event) × (all ≡ some ++ rest)
+first-by some all true same none = ([], sym (same refl) ∙ sym (append-nil some))
+first-by some all false same none = (all, ap (λ (es : List Event). es ++ all) (sym (none refl)))
 
 -- ---- a cut's line tells nothing else
 module _ (o : Origin) (done : List TraceSecond) (p : Progress) (span : List ToldSecond) (s : TraceSecond) (b : BeginsNow o done p span s) (at : Phase) (log : RunLog) (waits : List Visit) (mid now after : Device → ℕ) (m : Moment p (went p.log done).before s at log waits mid now)
@@ -195,31 +146,111 @@ module _ (o : Origin) (done : List TraceSecond) (p : Progress) (span : List Told
     waking = was.waking;
   })
 
-  -- behind all actions the slots are as they were
-  itself-z : at ≡ Keeping → z.itself ≡ x.itself
-  itself-z is_at = ap (λ (c : Course). c.slots) (later-lines log cut before s (length s.actions) (record {
-    none = m.up_to.uncut;
-    behind = inr (length s.actions, cut-here, omega arith);
-    torn = λ n sl le. (break-more log line s.number).torn (In n) sl ∙ or-none (is_torn_in log s.number (In n) sl);
-    found = λ n sl le. (break-more log line s.number).found (In n) sl;
-  }))
-    where
-      or-none : (c : Bool) → (c || false) ≡ c
-      or-none true = refl
-      or-none false = refl
+  or-none : (c : Bool) → (c || false) ≡ c
+  or-none true = refl
+  or-none false = refl
 
+  -- the cut's line tells how many actions had begun, and no tear or find
+  cut-here : cut_in cut s.number ≡ Some k
+  cut-here =
+      (break-more log line s.number).cut
+      ∙ ap (λ (c : Bool). cond (is_some (cut_in log s.number)) (cut_in log s.number) (cond c (Some k) None)) (same-self s.number)
+      ∙ first (cut_in log s.number) k m.up_to.uncut
+    where
       same-self : (n : ℕ) → nat_eq n n ≡ true
       same-self n = grind (arith, nat_tests)
 
       first : (o : Option ℕ) (n : ℕ) → o ≡ None → cond (is_some o) o (Some n) ≡ Some n
       first o n is = ap (λ (q : Option ℕ). cond (is_some q) q (Some n)) is
 
-      cut-here : cut_in cut s.number ≡ Some (length s.actions)
-      cut-here =
-          (break-more log line s.number).cut
-          ∙ ap (λ (c : Bool). cond (is_some (cut_in log s.number)) (cut_in log s.number) (cond c (Some k) None)) (same-self s.number)
-          ∙ first (cut_in log s.number) k m.up_to.uncut
-          ∙ ap (λ (ph : Phase). Some (begun_by s ph)) is_at
+  tears-cut : (u : ℕ) (q : Phase) (slot : Slot) → is_torn_in cut u q slot ≡ is_torn_in log u q slot
+  tears-cut u q slot = (break-more log line u).torn q slot ∙ or-none (is_torn_in log u q slot)
+
+  -- behind all actions it is a cut as an `off` line tells it
+  off-cut : at ≡ Keeping → IsCutOff log cut s
+  off-cut is = record {
+    uncut = m.up_to.uncut;
+    cut = cut-here ∙ ap (λ (q : Phase). Some (begun_by s q)) is;
+    torn = tears-cut s.number;
+    found = λ q slot. (break-more log line s.number).found q slot;
+  }
+
+  seen-cut : at ≡ Keeping → z ≡ cut_seen x
+  seen-cut is = seen-off log cut s (off-cut is) before has
+
+  itself-z : at ≡ Keeping → z.itself ≡ x.itself
+  itself-z is = ap (λ (y : Seen). y.itself) (seen-cut is)
+
+  -- or at its power-on or an action, and nothing was told of the moments behind that
+  module _ (n : ℕ) (is : at ≡ In n) where
+    course-at : (j : ℕ) → j ≤ n → course_by cut before s j ≡ course_by log before s j
+    course-at j le = later-lines log cut before s j (record {
+      none = m.up_to.uncut;
+      behind = inr (k, cut-here, (let same : k ≡ n = ap (begun_by s) is in omega (arith, same, le)));
+      torn = λ i slot low. tears-cut s.number (In i) slot;
+      found = λ i slot low. (break-more log line s.number).found (In i) slot;
+    })
+
+    action-at : (j : ℕ) (o : Option Action) → course_by cut before s j ≡ course_by log before s j → moved_by_action cut before s j o ≡ moved_by_action log before s j o
+    action-at j None same = ap (λ (c : Course). c.slots) same
+    action-at j (Some a) same = ap (λ (c : Course). (answered j (refusal c.slots s.speed a) a c).slots) same
+
+    within-at : (j : ℕ) → j < suc n → within_by cut before s j ≡ within_by log before s j
+    within-at zero lt = refl
+    within-at (suc j) lt = action-at j (slice_get s.actions j) (course-at j (omega (arith, lt)))
+
+    here-by : course_by log before s n ≡ course_at log before s at
+    here-by = at-by log before s m.up_to.uncut n (subst (IsMoment s) is m.is) ∙ ap (course_at log before s) (sym is)
+
+    torn-by : x.told.course.torn ≡ (course_by log before s n).torn
+    torn-by = ap (λ (c : Course). c.torn) (lit-course log before s has) ∙ (whole-told log before s at m.up_to m.is).torn ∙ ap (λ (c : Course). c.torn) (sym here-by)
+
+    found-by_log : x.told.course.found ≡ (course_by log before s n).found
+    found-by_log = ap (λ (c : Course). c.found) (lit-course log before s has) ∙ (whole-told log before s at m.up_to m.is).found ∙ ap (λ (c : Course). c.found) (sym here-by)
+
+    abbrev torn_now : List Visit
+    torn_now = x.told.course.torn
+
+    abbrev found_now : List (Visit × Verdict)
+    found_now = x.told.course.found
+
+    torn-former : AllByRecursion (IsFormer (In (suc n))) torn_now
+    torn-former = subst (AllByRecursion (IsFormer (In (suc n)))) (sym torn-by)
+        (formers n (In (suc n)) (λ j le. omega (arith, le)) (course_by log before s n).torn (by-until log s m.up_to.uncut before n).torn)
+
+    found-former : AllByRecursion (λ (f : Visit × Verdict). IsFormer (In (suc n)) f.0) found_now
+    found-former = subst (AllByRecursion (λ (f : Visit × Verdict). IsFormer (In (suc n)) f.0)) (sym found-by_log)
+        (found-formers n (In (suc n)) (λ j le. omega (arith, le)) (course_by log before s n).found (by-until log s m.up_to.uncut before n).found)
+
+    differ : (t : Tearing) → DifferAt (In (suc n)) torn_now found_now [] [] [] [] t t x z
+    differ t = record {
+      number = number-z;
+      speed = speed-z;
+      torn_x = sym (append-nil torn_now);
+      torn_y = torn-z ∙ sym (append-nil torn_now);
+      found_x = sym (append-nil found_now);
+      found_y = found-z ∙ sym (append-nil found_now);
+      xs_here = tt;
+      ys_here = tt;
+      fs_here = tt;
+      gs_here = tt;
+      torn_before = torn-former;
+      found_before = found-former;
+      after = λ j lt. ap (λ (c : Course). c.slots) (course-at j (omega (arith, lt)));
+      within = λ j lt. within-at j lt;
+      by_gap = λ other slot. ap (λ (u : ℕ). t.by_gap u slot) number-z;
+      driver_first = λ j other. ap (λ (u : ℕ). t.driver_first u (suc j)) number-z;
+    }
+
+    faults-in : (t : Tearing) → faults_by t cut z ≡ faults_by t log x
+    faults-in t =
+        ap (λ (vs : List Visit). map (fault_of t cut z) (torn_in_turn t z vs)) torn-z
+        ∙ old-faults (In (suc n)) torn_now found_now [] [] [] [] t t x z (differ t) log cut
+
+    found-in : (t : Tearing) (kind : ℕ) (own : ℕ → Visit → ℕ) → found_by kind own t z ≡ found_by kind own t x
+    found-in t kind own =
+        ap (flat_map (λ (f : Visit × Verdict). found_events kind (own (number_of z) f.0) t z f.0 f.1)) found-z
+        ∙ old-found (In (suc n)) torn_now found_now [] [] [] [] t t x z (differ t) kind own own (λ v former. ap (λ (u : ℕ). own u v) number-z) found_now found-former
 
   bare-z : at ≡ Keeping → is_bare z ≡ is_bare x
   bare-z is_at = λ i. nat_lt 0 (speed-z i) && not (is_accepted (itself-z is_at i).driver)
@@ -227,8 +258,32 @@ module _ (o : Origin) (done : List TraceSecond) (p : Progress) (span : List Told
   fast-z : (limit : ℕ) → is_fast limit z ≡ is_fast limit x
   fast-z limit = λ i. is_fast limit (record x { told = record x.told { second = record x.told.second { number = number-z i; speed = speed-z i } } })
 
-  -- so nothing is brought where the cut brings nothing
-  module _ (gaps : HasGaps p.log p.unfound p.supply done) (kind : ℕ) (t : Tearing) (own : ℕ → Visit → ℕ) (late : is_told Acting kind ≡ false → at ≡ Keeping) where
+  -- and it brings the same over speedings
+  pub overs-cut : (limit : ℕ) → let spans : List (List Seen) = seen_spans (seen_of p.log done) in
+      cond x.told.lit (overs_by limit (span_before spans x) (x ∷ [])) [] ≡ cond z.told.lit (overs_by limit (span_before spans z) (z ∷ [])) []
+  overs-cut limit = λ i. cond (sym lit-z i) (filter_map over_event (cond (sym (fast-z limit) i) [] (last_run (is_fast limit) (cond (sym starts-z i) [] (last_of (seen_spans (seen_of p.log done)))) ∷ []) ++ [])) []
+
+  -- and behind all actions the same driving without a card
+  pub bares-cut : at ≡ Keeping → let spans : List (List Seen) = seen_spans (seen_of p.log done) in
+      cond x.told.lit (bares_by (span_before spans x) (x ∷ [])) [] ≡ cond z.told.lit (bares_by (span_before spans z) (z ∷ [])) []
+  bares-cut is_at = λ i. cond (sym lit-z i) (filter_map bare_event (cond (sym (bare-z is_at) i) [] (last_run is_bare (cond (sym starts-z i) [] (last_of (seen_spans (seen_of p.log done)))) ∷ []) ++ [])) []
+
+  -- IT BRINGS THE SAME: faults, what its judged cards bring,
+  faults-cut : (t : Tearing) (spans : List (List Seen)) (q : Phase) → at ≡ q → faults_by t cut z ≡ faults_by t log x
+  faults-cut t spans (In n) is = faults-in n is t
+  faults-cut t spans Keeping is = ap (faults_by t cut) (seen-cut is) ∙ faults-off log cut t spans x (tears-cut (number_of x) Keeping Driver)
+
+  found-cut : (t : Tearing) (spans : List (List Seen)) (kind : ℕ) (own : ℕ → Visit → ℕ) (q : Phase) → at ≡ q → found_by kind own t z ≡ found_by kind own t x
+  found-cut t spans kind own (In n) is = found-in n is t kind own
+  found-cut t spans kind own Keeping is = ap (found_by kind own t) (seen-cut is) ∙ flat-off log cut t spans x (tears-cut (number_of x) Keeping Driver) kind own x.told.course.found
+
+  -- the interruption before it,
+  stands-cut : (t : Tearing) (slot : Slot) → standing t z slot ≡ standing t x slot
+  stands-cut t slot = λ i.
+      cond (list_any (λ (v : Visit). same_phase v.phase (In 0) && same_slot v.slot slot) (torn-z i) && not (t.by_gap (number-z i) slot)) None
+      (first_card (filter (λ (f : Visit × Verdict). same_phase f.0.phase (In 0) && (same_slot f.0.slot slot && is_accepting f.1)) (found-z i)))
+
+  module _ (gaps : HasGaps p.log p.unfound p.supply done) (t : Tearing) where
     abbrev spans : List (List Seen)
     spans = seen_spans (seen_of p.log done)
 
@@ -238,59 +293,30 @@ module _ (o : Origin) (done : List TraceSecond) (p : Progress) (span : List Told
     starts-x : x.told.starts ≡ begins_with span
     starts-x = (lit-told log before s has).starts ∙ starts-now o done p span s b
 
-    gaps-by : (span : List ToldSecond) → p.supply ≡ Lit span → x.told.starts ≡ begins_with span → gap_by t cut spans z ≡ [] → gap_by t log spans x ≡ []
-    gaps-by [] is starts gone =
-        ap (λ (c : Bool). cond c (cond x.told.starts (gap_before t log spans x) []) []) (lit-told log before s has).lit
-        ∙ ap (λ (c : Bool). cond c (gap_before t log spans x) []) starts
-        ∙ gap-none t log cut x z (take p.unfound p.log.breaks) number-z known-cut spans (subst (λ (u : UnitPower). IsKnownLast u p.log (take p.unfound p.log.breaks) spans) is gaps.last)
-        (sym (ap (λ (c : Bool). cond c (cond z.told.starts (gap_before t cut spans z) []) []) (lit-z ∙ (lit-told log before s has).lit)
-        ∙ ap (λ (c : Bool). cond c (gap_before t cut spans z) []) (starts-z ∙ starts)) ∙ gone)
-    gaps-by (u ∷ more) is starts gone = ap (λ (c : Bool). cond x.told.lit (cond c (gap_before t log spans x) []) []) starts ∙ same-if x.told.lit
-      where
-        same-if : (c : Bool) → cond {A = List Event} c [] [] ≡ []
-        same-if true = refl
-        same-if false = refl
-
-    bares-by : at ≡ Keeping → cond z.told.lit (bares_by (span_before spans z) (z ∷ [])) [] ≡ [] → cond x.told.lit (bares_by (span_before spans x) (x ∷ [])) [] ≡ []
-    bares-by is_at gone =
-        (λ i. cond (sym lit-z i) (filter_map bare_event (cond (sym (bare-z is_at) i) [] (last_run is_bare (cond (sym starts-z i) [] (last_of spans)) ∷ []) ++ [])) []) ∙ gone
-
-    overs-by : (limit : ℕ) → cond z.told.lit (overs_by limit (span_before spans z) (z ∷ [])) [] ≡ [] → cond x.told.lit (overs_by limit (span_before spans x) (x ∷ [])) [] ≡ []
-    overs-by limit gone =
-        (λ i. cond (sym lit-z i) (filter_map over_event (cond (sym (fast-z limit) i) [] (last_run (is_fast limit) (cond (sym starts-z i) [] (last_of spans)) ∷ []) ++ [])) []) ∙ gone
+    gaps-by : (lit_span : List ToldSecond) → p.supply ≡ Lit lit_span → x.told.starts ≡ begins_with lit_span → gap_by t cut spans z ≡ gap_by t log spans x
+    gaps-by [] is starts =
+        let before_it : gap_before t cut spans z ≡ gap_before t log spans x =
+        gap-same t log cut x z (take p.unfound p.log.breaks) number-z (stands-cut t) known-cut spans (subst (λ (u : UnitPower). IsKnownLast u p.log (take p.unfound p.log.breaks) spans) is gaps.last) in
+        λ i. cond (lit-z i) (cond (starts-z i) (before_it i) []) []
+    gaps-by (u ∷ more) is starts =
+        no-gap z.told.lit z.told.starts (gap_before t cut spans z) (starts-z ∙ starts) ∙ sym (no-gap x.told.lit x.told.starts (gap_before t log spans x) starts)
 
     not-acting : (a b : Bool) → a ≡ true → (not a && not b) ≡ false
     not-acting true b is = refl
     not-acting false b is = absurd (let wrong : false ≡ true = is in cc)
 
-    pub quiet-by : (limit : ℕ) → second_events kind limit own t cut spans z ≡ [] → second_events kind limit own t log spans x ≡ []
-    quiet-by limit = kinds-none (kind == DRIVING_WITHOUT_CARD) (kind == OVER_SPEEDING) (kind == POWER_INTERRUPTION) (kind == CARD_FAULT)
+    -- and, of the types that were noted by then, all
+    pub same-brought : (kind limit : ℕ) (own : ℕ → Visit → ℕ) → (is_told Acting kind ≡ false → at ≡ Keeping) → second_events kind limit own t cut spans z ≡ second_events kind limit own t log spans x
+    same-brought kind limit own late = kinds-as (kind == DRIVING_WITHOUT_CARD) (kind == OVER_SPEEDING) (kind == POWER_INTERRUPTION) (kind == CARD_FAULT)
         (cond x.told.lit (bares_by (span_before spans x) (x ∷ [])) []) (cond x.told.lit (overs_by limit (span_before spans x) (x ∷ [])) []) (gap_by t log spans x) (faults_by t log x) (found_by kind own t x)
         (cond z.told.lit (bares_by (span_before spans z) (z ∷ [])) []) (cond z.told.lit (overs_by limit (span_before spans z) (z ∷ [])) []) (gap_by t cut spans z) (faults_by t cut z) (found_by kind own t z)
-        (λ is. bares-by (late (not-acting (kind == DRIVING_WITHOUT_CARD) (kind == OVER_SPEEDING) is)))
-        (λ no_bare is. overs-by limit)
-        (λ no_bare no_over is. gaps-by span b.lit starts-x)
-        (faults-none t log cut x z torn-z)
-        (found-none kind own t x z number-z speed-z found-z)
+        (λ is. sym (bares-cut (late (not-acting (kind == DRIVING_WITHOUT_CARD) (kind == OVER_SPEEDING) is))))
+        (sym (overs-cut limit))
+        (gaps-by span b.lit starts-x)
+        (faults-cut t spans at refl)
+        (found-cut t spans kind own at refl)
 
 -- ---- THE LAW
-cond-first : (kind : ℕ) (front rest : List Event) (e : Event) → nat_eq e.kind kind ≡ true → by_kind (front ++ e ∷ rest) kind ≡ [] → ⊥
-cond-first kind front rest e is gone =
-    let here : by_kind (e ∷ rest) kind ≡ [] = no-right (by_kind front kind) (by_kind (e ∷ rest) kind) (sym (by-more front (e ∷ rest) kind) ∙ gone) in
-    absurd (let wrong : e ∷ by_kind rest kind ≡ [] = sym (ap (λ (c : Bool). cond c (e ∷ by_kind rest kind) (by_kind rest kind)) is) ∙ here in cc)
-
-self-kind : (n : ℕ) → nat_eq n n ≡ true
-self-kind n = grind (arith, nat_tests)
-
--- each of these is of a type of which something is brought
-all-unsure : (Unsure : ℕ → Type 0) (all : List Event) → ((kind : ℕ) → Contains all_kinds kind → (by_kind all kind ≡ [] → ⊥) → Unsure kind) → (front rest : List Event) → all ≡ front ++ rest → AllByRecursion (λ (e : Event). Contains all_kinds e.kind) rest →
-    AllByRecursion (λ (e : Event). Unsure e.kind) rest
-all-unsure Unsure all each front [] are kinds = tt
-all-unsure Unsure all each front (e ∷ rest) are kinds = (
-  each e.kind kinds.0 (λ gone. cond-first e.kind front rest e (self-kind e.kind) (sym (ap (λ (l : List Event). by_kind l e.kind) are) ∙ gone)),
-  all-unsure Unsure all each (front ++ e ∷ []) rest (are ∙ sym (append_assoc front (e ∷ []) rest)) kinds.1,
-)
-
 pub failure-cuts : (d e : Devices) → AFailureCuts d e
 failure-cuts d e o done p span s b stage next log later es v adds says left at waits mid now after m rose broke rest is_left late =
     let before : Before = (went p.log done).before in
@@ -300,24 +326,18 @@ failure-cuts d e o done p span s b stage next log later es v adds says left at w
     let so : SoFar o done s next later (v.more ++ es) e = adds.on v.more (later-images o done s stage log v.more d e left v.so_far) in
     let fits : FitsSoFar next s so.here (seen_by later before s) = subst (FitsSoFar next s so.here) (next-as o done p span s b later goes_later) so.fits in
     let cut_as = next-as o done p span s b cut goes in
-    let empty : (kind : ℕ) → Contains all_kinds kind → brought_now o cut done s so.here so.own kind ≡ [] → by_kind (v.more ++ es) kind ≡ [] = λ kind there gone.
-    ⊎_elim
-    (λ (told : is_told next kind ≡ true).
+    let same : (kind : ℕ) → Contains all_kinds kind → is_told next kind ≡ true → by_kind (v.more ++ es) kind ≡ brought_now o cut done s so.here so.own kind = λ kind there told.
     so.told kind there told ∙ brought-as o done p b.followed s later goes_later so.here so.own kind
-    ∙ quiet-by o done p span s b at later waits mid now after m rose broke rest is_left v.gaps kind so.here so.own (λ off. late (only-ended next kind told off)) (limit_in o)
-    (sym (brought-as o done p b.followed s cut goes so.here so.own kind) ∙ gone))
-    (λ (off : is_told next kind ≡ false). so.untold kind there off)
-    (bool-or (is_told next kind)) in
+    ∙ sym (same-brought o done p span s b at later waits mid now after m rose broke rest is_left v.gaps so.here kind (limit_in o) so.own (λ off. late (only-ended next kind told off)))
+    ∙ sym (brought-as o done p b.followed s cut goes so.here so.own kind) in
+    let firsts : AreTheFirst (by_kind (v.more ++ es)) (brought_now o cut done s so.here so.own) = λ kind there.
+    first-by (by_kind (v.more ++ es) kind) (brought_now o cut done s so.here so.own kind) (is_told next kind) (same kind there) (so.untold kind there) in
     cut-by d e o done p b.followed span b.lit s at later waits mid now after m rose broke rest is_left stage log (evented-in o done s p stage log d v) so.here so.own
     (subst (IsTornIn so.here) (sym cut_as) (fits-cut o done p span s b at later waits mid now after m rose broke rest is_left next so.here fits))
     (open-of o done p span s b cut goes so.own e
     (λ f among accepts. open-by o done p span s b later goes_later so.own e so.open_now f
     (subst (λ (l : List (Visit × Verdict)). Contains l f) (found-z o done p span s b at later waits mid now after m rose broke rest is_left) among) accepts))
-    left
-    (λ kind there gone. no-left (by_kind v.more kind) (by_kind es kind) (sym (by-more v.more es kind) ∙ empty kind there gone))
-    (λ not_sure. says cut (events_now o cut done s so.here so.own v.tearing v.sessions)
-    (all-unsure (λ kind. are_sure cut (events_now o cut done s so.here so.own v.tearing v.sessions kind) ≡ true → ⊥) (v.more ++ es)
-    (λ kind there some. not_sure kind (λ gone. some (empty kind there gone))) v.more es refl adds.kinds))
+    left es firsts says
   where
     only-ended : (next : Stage) (kind : ℕ) → is_told next kind ≡ true → is_told Acting kind ≡ false → next ≡ Ended
     only-ended Ended kind told off = refl

@@ -28,7 +28,7 @@ use Rattle.run_course.proofs.Logs.{all-before, refused-at, went-refused}
 use Rattle.run_course.proofs.Told.{told-lit}
 use Rattle.log_model.proofs.Growth.{went-more}
 use Rattle.run_course.proofs.Failing.{power-on_cut}
-use Rattle.run_events.specs.Shown.{SaysNothing}
+use Rattle.run_events.specs.Shown.{none, none_sure, SaysNothing}
 use Rattle.run_events.specs.Seconds.{seen_next}
 use Rattle.run_events.specs.Gaps.{TellsMore}
 use Rattle.run_events.specs.Choice.{IsTornIn, plain}
@@ -43,7 +43,7 @@ use Rattle.run_promise.specs.Origin.{rule_of, start_at, first_of}
 use Rattle.safety_model.specs.Recording.{card_image}
 use Rattle.run_note_record.proofs.Opened.{first-more}
 use Rattle.run_note_record.specs.Opened.{IsFirst}
-use Rattle.run_note_record.specs.Evented.{number_in, limit_in, events_now, IsChosen, APowerOnIsBroken, ADarkSecondBringsNothing}
+use Rattle.run_note_record.specs.Evented.{number_in, limit_in, brought_now, IsChosen, APowerOnIsBroken, ADarkSecondBringsNothing}
 use Rattle.run_note_record.proofs.Lines.{untold-now, same-before, front-same, number-next, low-cuts}
 use Rattle.run_note_record.proofs.Exact.{no-cut, exact-dark}
 use Rattle.run_note_record.proofs.Seconds.{broken-on}
@@ -152,4 +152,5 @@ power-on_broken d e o done p f v may s number given mid later more broke says le
     (fails p.log cut p.unfound done s (same-before o done p f s cut g) g.breaks.0 g.breaks.1 (front-same o done p f s cut g) p.supply (dark-by p.supply p.next may) v.gaps (ap (λ (t : ToldSecond). t.lit) told) (ap (λ (t : ToldSecond). t.starts) told)
     (ap (has_failed_in cut) (number-next o done p f s cut g) ∙ failed)
     (untold-now p.log (cuts_from p.supply p.next) p.next p.unfound f.lines [] tt s.number (low-cuts o done p f s cut g) true 0 cut x refl (number-next o done p f s cut g)))
-    (λ c there. let at = says c there in (at.0, at.1, nothing-more (number_in o) cut (events_now o cut done s plain own v.tearing v.sessions) at.0 c at.2))
+    none (λ kind there. (brought_now o cut done s plain own kind, refl))
+    (λ c there. let at = says c there in (at.0, at.1, nothing-more (number_in o) none_sure at.0 c at.2))

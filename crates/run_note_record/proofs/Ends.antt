@@ -33,7 +33,8 @@ use Rattle.run_course.specs.Seconds.{next_told}
 use Rattle.run_course.proofs.Lookups.{cut-by, cut-first, cut-nothing, break-more}
 use Rattle.run_course.proofs.Logs.{other-number, all-before, same-at, kept-later, front-later, went-later}
 use Rattle.run_course.proofs.Told.{told-lit}
-use Rattle.run_events.specs.Shown.{none}
+use Rattle.run_events.specs.Shown.{none, is_sure_by}
+use Rattle.run_events.proofs.Unsure.{unsure-same}
 use Rattle.run_events.specs.Seconds.{seen_next}
 use Rattle.run_events.specs.Running.{HasEvents, IsCutOff}
 use Rattle.run_events.specs.Choice.{plain}
@@ -259,9 +260,9 @@ nothing-noted d o only few =
       events = record {
         torn = torn-none log;
         noted = noted-then (number_in o) o.recording.unit log log none none (λ kind. events_of kind (limit_in o) own plain log []) {U = d.unit} {V = d.unit}
-            (noted-begins (number_in o) o.recording.unit log {U = d.unit} only few)
-            (λ kind sure. (refl, events-none (limit_in o) own plain log kind))
-            (λ c left. (c, left, nothing-more (number_in o) log (λ kind. events_of kind (limit_in o) own plain log []) c c (says-same c)));
+            (noted-begins (number_in o) o.recording.unit log {U = d.unit} only few) (λ u is. is)
+            (λ kind there. unsure-same (is_sure_by log) [] (events_of kind (limit_in o) own plain log []) (events-none (limit_in o) own plain log kind))
+            (λ c left. (c, left, nothing-more (number_in o) (is_sure_by log) c c (says-same c)));
       };
       gaps = gaps-begin;
       found_open = λ t f among there accepts. nothing-in t (subst (λ (ts : List ToldSecond). Contains ts t) (told-none log) among);
@@ -300,7 +301,5 @@ events-shown began now o done log unfound next supply v r unit cards trace log_i
           ∙ sym (λ i. times_of (uses_from (vehicle_of (unit i)) (use_in (cards e i)) (insertions_on e (notes_of (log_is i) (done_of (log_is i) (trace i))))));
       tearing = v.tearing;
       are_torn = c.torn;
-      events = λ kind among sure. shows.tables kind among sure;
-      first_over = shows.first_over;
-      over_count = shows.over_count;
+      events = shows;
     }

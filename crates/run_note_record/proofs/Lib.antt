@@ -29,6 +29,7 @@ pub mod Kept
 pub mod OpenedRows
 pub mod Stands
 pub mod OnCards
+pub mod Sessions
 pub mod Rings
 pub mod Withdrawn
 pub mod Shown

@@ -14,7 +14,6 @@ use Rattle.run_unit_course.specs.Followed.{Lit, Lost}
 use Rattle.run_unit_course.specs.Turn.{begins_with}
 use Rattle.safety_model.specs.Safe.{Devices}
 use Rattle.unit_events.specs.Shown.{all_kinds}
-use Rattle.unit_events.specs.Noted.{are_sure}
 use Rattle.run_course.specs.Moments.{and_break}
 use Rattle.run_course.specs.Followed.{Progress, BookFollowsRun}
 use Rattle.run_course.specs.Seconds.{GoesOnBy, next_told}
@@ -24,18 +23,18 @@ use Rattle.run_course.specs.Moment.{goes_on, Moment}
 use Rattle.run_course.specs.Telling.{begun_by, IsMore, IsLeft}
 use Rattle.run_course.proofs.Reached.{second-reached}
 use Rattle.run_course.proofs.Telling.{second-ends_told, cut-ends_told}
-use Rattle.run_events.specs.Shown.{by_kind, none, ShowsEvents}
+use Rattle.run_events.specs.Shown.{by_kind, none_sure, all_sure, ShowsSince, AreTheFirst}
 use Rattle.run_events.specs.Seconds.{span_before, bares_by, overs_by, gap_before, gap_by, faults_by, found_by, second_events, seen_next}
 use Rattle.run_events.specs.Choice.{IsPlainFrom, plain, IsTornIn}
 use Rattle.run_events.specs.Running.{HasEvents}
 use Rattle.run_events.proofs.Gaps.{goes-on, breaks-off}
-use Rattle.run_events.proofs.Shows.{more-then, nothing-more}
-use Rattle.run_events.proofs.Running.{shown-unsure, second-shown, unsure-now, failed-shown}
+use Rattle.run_events.proofs.Shows.{more-then, nothing-more, moment-then}
+use Rattle.run_events.proofs.Running.{second-shown, failed-shown}
 use Rattle.run_events.proofs.Ordered.{behind}
 use Rattle.run_events.proofs.Quiet.{plain-behind}
 use Rattle.run_promise.specs.Origin.{Origin, rule_of, start_at, first_of}
 use Rattle.run_promise.specs.Beside.{HaveLeftMore}
-use Rattle.run_note_record.specs.Evented.{number_in, limit_in, events_now, brought_now, tearing_now, sessions_now, NotesMore, Evented}
+use Rattle.run_note_record.specs.Evented.{number_in, limit_in, brought_now, tearing_now, sessions_now, NotesMore, Evented}
 use Rattle.run_note_record.specs.Noting.{Stage, Ended, is_told, ShowsThese, EventedIn, NotesThese, AStepIsNoted, AStageIsDone, stage_of, TheSecondBegins, TheSecondIsNoted, TheSecondIsCut, AreOpen}
 use Rattle.run_note_record.proofs.Opened.{open-left, all-left}
 use Rattle.run_note_record.proofs.Exact.{no-cut, exact-on, exact-begins}
@@ -59,7 +58,7 @@ pub noted-more : (o : Origin) (more es : List Event) (d e : Devices) (P : List �
 noted-more o more es d e P noted says c left =
     let at = says c left in
     let was = noted at.0 at.1 in
-    (was.0, was.1, λ log now. more-then (number_in o) log now more es was.0 at.0 c (was.2 log now) (at.2 log now))
+    (was.0, was.1, more-then (number_in o) all_sure more es was.0 at.0 c was.2 at.2)
 
 pub step-noted : (d e : Devices) → AStepIsNoted d e
 step-noted d e o done s p stage log later v here own es brings aside says left open_now exact_now = record {
@@ -73,7 +72,7 @@ step-noted d e o done s p stage log later v here own es brings aside says left o
   here = here;
   own = own;
   more = v.more ++ es;
-  noted = noted-more o v.more es d e (ShowsEvents (number_in o) o.recording.unit p.log (λ kind. events_of kind (limit_in o) v.sessions v.tearing p.log done)) v.noted says;
+  noted = noted-more o v.more es d e (ShowsSince (number_in o) p.log o.recording.unit (λ kind. events_of kind (limit_in o) v.sessions v.tearing p.log done)) v.noted says;
   told = λ kind there is. by-more v.more es kind ∙ ap (λ (xs : List Event). xs ++ by_kind es kind) (v.told kind there is) ∙ sym (brings kind there is);
   untold = λ kind there not_yet. none-more v.more es kind (aside kind there not_yet) (v.untold kind there not_yet);
   open_now = open_now;
@@ -96,7 +95,7 @@ stage-done d e o done s p stage next log v es goes same brings aside says left =
   here = v.here;
   own = v.own;
   more = v.more ++ es;
-  noted = noted-more o v.more es d e (ShowsEvents (number_in o) o.recording.unit p.log (λ kind. events_of kind (limit_in o) v.sessions v.tearing p.log done)) v.noted says;
+  noted = noted-more o v.more es d e (ShowsSince (number_in o) p.log o.recording.unit (λ kind. events_of kind (limit_in o) v.sessions v.tearing p.log done)) v.noted says;
   told = λ kind there is. ⊎_elim
       (λ was. by-more v.more es kind ∙ ap (λ (xs : List Event). by_kind v.more kind ++ xs) (same kind there was) ∙ append-none (by_kind v.more kind) ∙ v.told kind there was)
       (λ was. by-more v.more es kind ∙ ap (λ (xs : List Event). xs ++ by_kind es kind) (v.untold kind there was) ∙ brings kind there was is)
@@ -171,7 +170,7 @@ second-begins d o done p f v span is s number power =
       here = plain;
       own = λ u x. 0;
       more = [];
-      noted = λ c left. (c, v.events.noted.shows c left, λ log now. nothing-more (number_in o) log now c c (record { tables = λ kind there. refl; first_over = refl; over_count = refl }));
+      noted = λ c left. (c, v.events.noted.shows c left, nothing-more (number_in o) all_sure c c (record { tables = λ kind there. refl; first_over = refl; over_count = refl }));
       told = λ kind there told. nothing-brought kind (limit_in o) (λ u x. 0) plain p.log (seen_spans (seen_of p.log done)) (seen_next p.log done s) (begins_with span) starts torn found told;
       untold = λ kind there untold. refl;
       open_now = λ x there accepts. absurd (none-there x (subst (λ (fs : List (Visit × Verdict)). Contains fs x) found there));
@@ -195,7 +194,7 @@ pub second-is_noted : (d : Devices) → TheSecondIsNoted d
 second-is_noted d o done p f span is s log mid now m v fits =
     let g : GoesOnBy p log s = goes_on m in
     let told = (second-ends_told (rule_of o) (start_at o) o.from (first_of o) done p f span is s log mid now m).0 in
-    let P : List ℕ → Type 0 = ShowsEvents (number_in o) o.recording.unit p.log (λ kind. events_of kind (limit_in o) v.sessions v.tearing p.log done) in
+    let P : List ℕ → Type 0 = ShowsSince (number_in o) p.log o.recording.unit (λ kind. events_of kind (limit_in o) v.sessions v.tearing p.log done) in
     let has : HasEvents (number_in o) o.recording.unit (limit_in o) p.log done (behind-all d.unit P) v.tearing v.sessions = record { torn = v.torn; noted = record { shows = λ x h. h } } in
     record {
       tearing = tearing_now s v.here v.tearing;
@@ -203,48 +202,37 @@ second-is_noted d o done p f span is s log mid now m v fits =
       plain = subst (λ (n : ℕ). IsPlainFrom (suc n) (tearing_now s v.here v.tearing)) g.number (plain-behind s.number v.here v.tearing (subst (λ (n : ℕ). IsPlainFrom n v.tearing) (sym g.number) v.plain));
       events = second-shown (number_in o) o.recording.unit (limit_in o) p.log log p.unfound p.supply done s v.tearing v.here v.sessions v.own {U = behind-all d.unit P} has v.gaps (tells-so o done p f s log g) (early-before o done p f s log g) fits {V = d.unit} v.more
           (all-told o done s p log d v)
-          (λ c left. let at = v.noted c left in (at.0, at.1, at.2 log (events_now o log done s v.here v.own v.tearing v.sessions)));
+          v.noted;
       gaps = goes-on p.log log p.unfound done s (same-before o done p f s log g) g.breaks.0 g.breaks.1 (front-same o done p f s log g) p.supply (Lit (span ++ next_told log done s ∷ [])) span span (next_told log done s) is refl v.gaps
           (ap (λ (t : ToldSecond). t.lit) told) (ap (λ (t : ToldSecond). t.starts) told);
       found_open = sessions-on o done p f s log g d d v.sessions v.own v.open_before (same-left o d) v.open_now;
       exact = exact-on o done p f s log g v.sessions v.own v.exact_before v.exact_now;
     }
 
-pub empty-or : (es : List Event) → (es ≡ []) ⊎ (es ≡ [] → ⊥)
-empty-or [] = inl refl
-empty-or (e ∷ es) = inr (λ is. absurd (cc))
-
--- OR THE UNIT FAILS: of what was noted before, by any log of it, nothing is sure
+-- OR THE UNIT FAILS: behind what was noted before, by any log of it, a failed call has left the first of what it was to note
 pub cut-by : (d e : Devices) (o : Origin) (done : List TraceSecond) (p : Progress) (f : BookFollowsRun (rule_of o) (start_at o) o.from (first_of o) done p) (span : List ToldSecond) → p.supply ≡ Lit span → (s : TraceSecond) (at : Phase) (log : RunLog) (waits : List Visit) (mid now later : Device → ℕ) →
     Moment p (went p.log done).before s at log waits mid now → IsMore now later → RoseBy 1 (mid Recorder) (later Recorder) → (rest : List Action) → IsLeft s at rest → let cut : RunLog = and_break log (cut_at s.number true (begun_by s at)) in
     (stage : Stage) (old : RunLog) (v : EventedIn o done s p stage old d) (here : Tearing) (own : ℕ → Visit → ℕ) → IsTornIn here (seen_next cut done s) → AreOpen o cut done s own e → HaveLeftMore o d e →
-    ((kind : ℕ) → Contains all_kinds kind → (brought_now o cut done s here own kind ≡ []) → by_kind v.more kind ≡ []) →
-    (((kind : ℕ) → (brought_now o cut done s here own kind ≡ [] → ⊥) → are_sure cut (events_now o cut done s here own v.tearing v.sessions kind) ≡ true → ⊥) → NotesMore o cut (events_now o cut done s here own v.tearing v.sessions) none d e) →
+    (es : List Event) → AreTheFirst (by_kind (v.more ++ es)) (brought_now o cut done s here own) → NotesMore o none_sure (by_kind es) d e →
     Evented o (done ++ s ∷ []) cut p.unfound (suc p.next) Lost e
-cut-by d e o done p f span is s at log waits mid now later m more broke rest is_left stage old v here own fits open_now left same each_then =
+cut-by d e o done p f span is s at log waits mid now later m more broke rest is_left stage old v here own fits open_now left es are each =
     let k : ℕ = begun_by s at in
     let cut : RunLog = and_break log (cut_at s.number true k) in
     let g : GoesOnBy p cut s = cut-goes o done p f s at log waits mid now m k in
     let told = (cut-ends_told (rule_of o) (start_at o) o.from (first_of o) done p f span is s at log waits mid now later m more broke rest is_left).0 in
     let failed = cut-failed o done p f s at log waits mid now m k in
-    let P : List ℕ → Type 0 = ShowsEvents (number_in o) o.recording.unit p.log (λ kind. events_of kind (limit_in o) v.sessions v.tearing p.log done) in
+    let P : List ℕ → Type 0 = ShowsSince (number_in o) p.log o.recording.unit (λ kind. events_of kind (limit_in o) v.sessions v.tearing p.log done) in
     let has : HasEvents (number_in o) o.recording.unit (limit_in o) p.log done (behind-all d.unit P) v.tearing v.sessions = record { torn = v.torn; noted = record { shows = λ x h. h } } in
-    let now_events : ℕ → List Event = events_now o cut done s here own v.tearing v.sessions in
     let behind_so = behind cut o.from done s f.order (g.number ∙ f.next) in
-    let not_sure : (kind : ℕ) → (brought_now o cut done s here own kind ≡ [] → ⊥) → are_sure cut (now_events kind) ≡ true → ⊥ =
-    unsure-now (number_in o) o.recording.unit (limit_in o) p.log cut p.unfound p.supply done s v.tearing here v.sessions own {U = behind-all d.unit P} has v.gaps (tells-so o done p f s cut g) (early-before o done p f s cut g) fits failed behind_so in
-    let each = each_then not_sure in
-    let unsure : (kind : ℕ) → Contains all_kinds kind → (by_kind v.more kind ≡ []) ⊎ (are_sure cut (now_events kind) ≡ true → ⊥) = λ kind there.
-    ⊎_elim (λ none. inl (same kind there none)) (λ some. inr (not_sure kind some)) (empty-or (brought_now o cut done s here own kind)) in
     record {
       tearing = tearing_now s here v.tearing;
       sessions = sessions_now s own v.sessions;
       plain = subst (λ (n : ℕ). IsPlainFrom (suc n) (tearing_now s here v.tearing)) g.number (plain-behind s.number here v.tearing (subst (λ (n : ℕ). IsPlainFrom n v.tearing) (sym g.number) v.plain));
-      events = failed-shown (number_in o) o.recording.unit (limit_in o) p.log cut p.unfound p.supply done s v.tearing here v.sessions own {U = behind-all d.unit P} has v.gaps (tells-so o done p f s cut g) (early-before o done p f s cut g) fits failed behind_so {V = e.unit}
+      events = failed-shown (number_in o) o.recording.unit (limit_in o) p.log cut p.unfound p.supply done s v.tearing here v.sessions own {U = behind-all d.unit P} has v.gaps (tells-so o done p f s cut g) (early-before o done p f s cut g) fits failed behind_so {V = e.unit} (by_kind (v.more ++ es)) are
           (λ c may.
           let x = each c may in
           let y = v.noted x.0 x.1 in
-          (y.0, y.1, more-then (number_in o) cut now_events [] [] y.0 x.0 c (shown-unsure (number_in o) cut now_events v.more y.0 x.0 (y.2 cut now_events) unsure) x.2));
+          (y.0, y.1, moment-then (number_in o) v.more es y.0 x.0 c y.2 x.2));
       gaps = breaks-off p.log cut p.unfound done s (same-before o done p f s cut g) g.breaks.0 g.breaks.1 (front-same o done p f s cut g) p.supply span is v.gaps (ap (λ (t : ToldSecond). t.lit) told) (ap (λ (t : ToldSecond). t.starts) told)
           (cut-untold o done p f s at log waits mid now m k);
       found_open = sessions-on o done p f s cut g d e v.sessions own v.open_before left open_now;
@@ -252,6 +240,5 @@ cut-by d e o done p f span is s at log waits mid now later m more broke rest is_
     }
 
 pub second-is_cut : (d e : Devices) → TheSecondIsCut d e
-second-is_cut d e o done p f span is s at log waits mid now later m more broke rest is_left stage v here own fits open_now left same each =
-    cut-by d e o done p f span is s at log waits mid now later m more broke rest is_left stage log v here own fits open_now left
-    (λ kind there none. ⊎_elim (λ was. v.told kind there was ∙ same kind there was none) (λ was. v.untold kind there was) (bool-or (is_told stage kind))) (λ not_sure. each)
+second-is_cut d e o done p f span is s at log waits mid now later m more broke rest is_left stage v here own fits open_now left es are each =
+    cut-by d e o done p f span is s at log waits mid now later m more broke rest is_left stage log v here own fits open_now left es are each

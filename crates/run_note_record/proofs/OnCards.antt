@@ -24,8 +24,9 @@ use Rattle.run_note_record.specs.Origin.{Origin}
 use Rattle.card_layout.specs.declared.files.Application.{Application}
 use Rattle.card_image.specs.Own.{own_sizes}
 use Rattle.run_devices.proofs.Measured.{goes-itself, goes-then, goes-more}
-use Rattle.run_note_record.specs.OnCards.{ShowsNotes, has_call_failed_in, places_in, place_width, places_on, IsPlaceOn, is_sure_on, HasPlaces, PlacesOnCards, LeavesPlaces, PlacesStay, IsReading, GoesByReadings, VehiclesOnCards, VehiclesGo, CardsStay, TakesPlace, PlaceIsTaken}
+use Rattle.run_note_record.specs.OnCards.{ShowsNotes, has_call_failed_in, places_in, place_width, places_on, IsPlaceOn, is_sure_on, HasPlaces, PlacesOnCards, LeavesPlaces, PlacesStay, IsReading, GoesByReadings, VehiclesOnCards, VehiclesGo, NoOtherComes, CardsStay, TakesPlace, PlaceIsTaken}
 use Rattle.run_note_record.specs.RingsSoFar.{HasMoreBreaks}
+use Rattle.run_note_record.proofs.Sessions.{sessions-itself}
 use Rattle.run_note_record.proofs.Stands.{Weaker, stand-as, unsure-as, all-of, with-whole, places-more}
 
 entry-fits : (r : Shape) (x : List ℕ) (i : ℕ) → length (entry_at r x i) ≤ r.width
@@ -141,7 +142,7 @@ pub vehicles-itself : (o : Origin) (spans : List SpanFrom) (d : Devices) → Veh
 vehicles-itself o spans d c valid y left = (y, left, goes-itself (own_sizes (card_image o.recording c)) (IsReading spans) y)
 
 pub stay-itself : (o : Origin) (spans : List SpanFrom) (d : Devices) → CardsStay o spans d d
-stay-itself o spans d = record { places = places-itself o d; vehicles = vehicles-itself o spans d }
+stay-itself o spans d = record { places = places-itself o d; vehicles = vehicles-itself o spans d; sessions = sessions-itself o NoOtherComes d }
 
 -- as the spans go on, and calls measure them
 pub vehicles-go : (o : Origin) (spans now : List SpanFrom) (d e : Devices) → ((n : ℕ) → IsReading spans n → IsReading now n) → VehiclesGo o now d e → VehiclesOnCards o spans d → VehiclesOnCards o now e

@@ -219,11 +219,11 @@ module _ (log : RunLog) (s : TraceSecond) (uncut : cut_in log s.number ≡ None)
       (both-until log s.number 0 0 (unmoved (not before.running)) first (omega arith) (record { torn = tt; found = tt }) (λ slot. tt))
 
 -- AS A MOMENT BEGINS, all tears and finds came before it
-formers : (n : ℕ) (at : Phase) → ((m : ℕ) → m ≤ n → IsBehind (In m) at) → (vs : List Visit) → AllByRecursion (IsUntil n) vs → AllByRecursion (IsFormer at) vs
+pub formers : (n : ℕ) (at : Phase) → ((m : ℕ) → m ≤ n → IsBehind (In m) at) → (vs : List Visit) → AllByRecursion (IsUntil n) vs → AllByRecursion (IsFormer at) vs
 formers n at low [] all = tt
 formers n at low (v ∷ vs) all = (record { m = all.0.m; phase = all.0.phase; before = low all.0.m all.0.low }, formers n at low vs all.1)
 
-found-formers : (n : ℕ) (at : Phase) → ((m : ℕ) → m ≤ n → IsBehind (In m) at) → (fs : List (Visit × Verdict)) → AllByRecursion (λ (f : Visit × Verdict). IsUntil n f.0) fs → AllByRecursion (λ (f : Visit × Verdict). IsFormer at f.0) fs
+pub found-formers : (n : ℕ) (at : Phase) → ((m : ℕ) → m ≤ n → IsBehind (In m) at) → (fs : List (Visit × Verdict)) → AllByRecursion (λ (f : Visit × Verdict). IsUntil n f.0) fs → AllByRecursion (λ (f : Visit × Verdict). IsFormer at f.0) fs
 found-formers n at low [] all = tt
 found-formers n at low (f ∷ fs) all = (record { m = all.0.m; phase = all.0.phase; before = low all.0.m all.0.low }, found-formers n at low fs all.1)
 

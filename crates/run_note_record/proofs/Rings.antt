@@ -28,7 +28,9 @@ use Rattle.run_rings.proofs.Few.{as-many, added-long, few-start, few-go, few-as,
 use Rattle.run_note_record.specs.Origin.{Origin}
 use Rattle.run_note_record.specs.Beside.{HaveLeftMore}
 use Rattle.run_note_record.specs.Ringed.{holder_in, TellsIn, IsInsertionIn, IsPlaceIn, sure_insertion, sure_place, ShowsNotes, Seating, one_behind, LiesBehind, StandsAt, IsSeated, ShowsInsertions, Ringed, GoOn, NoRingIsWritten, RingsStay, FewerSit, IsAddedAt, MayBeAdded, Since}
-use Rattle.run_note_record.specs.OnCards.{place_width, IsPlaceOn, VehiclesGo, CardsStay, PlaceIsTaken}
+use Rattle.run_note_record.specs.OnCards.{place_width, IsPlaceOn, VehiclesGo, SessionsGo, NoOtherComes, CardsGo, PlaceIsTaken}
+use Rattle.run_note_record.specs.Sessions.{OpensSince}
+use Rattle.run_note_record.proofs.Sessions.{sessions-none, sessions-go, sessions-accepted, sessions-entered}
 use Rattle.run_note_record.proofs.OnCards.{whole-head, maybe, places-none, places-go, places-beside, places-taken, vehicles-none, vehicles-go}
 use Rattle.run_note_record.proofs.Stands.{Weaker, stand-as, unsure-as, each-as, each-append, all-parts, all-of, all-each, insertions-more, places-more, insertion-as, place-as}
 
@@ -56,6 +58,7 @@ none-noted d o log spans start cards = record {
   places = λ ring x left. record { more = []; carries = subst (λ (y : List ℕ). RingKeeps unit_place_ring o.origin.recording.unit y []) (sym (start x left)) (carries-none unit_place_ring o.origin.recording.unit ring); stand = refl; few = few-start unit_place_ring (sure_place o.origin log spans) o.origin.recording.unit x (start x left) };
   on_cards = places-none o.origin log spans d cards;
   vehicles = vehicles-none o.origin spans d cards;
+  sessions = sessions-none o.origin log d cards;
 }
 
 -- FEWER CARDS
@@ -65,6 +68,7 @@ fewer-sit d o log spans notes seats fewer v each = record {
   places = v.places;
   on_cards = v.on_cards;
   vehicles = v.vehicles;
+  sessions = v.sessions;
 }
   where
     by : (c : Card) {x : List ℕ} (was : ShowsInsertions o log spans notes seats d x) (q p : Option Seating) → (q ≡ p) ⊎ (q ≡ None) → IfSome p (λ s. IsSeated (sure_insertion o.origin log spans) (IsInsertionIn o log spans d) c s (insertions_of notes) was.shows.more x) →
@@ -174,6 +178,7 @@ come-before d o told later trace now come log spans notes seats v = record {
   places = v.places;
   on_cards = v.on_cards;
   vehicles = v.vehicles;
+  sessions = v.sessions;
 }
 
 -- CALLS THAT WRITE NO RING
@@ -205,6 +210,7 @@ rings-stay d e o log later spans now notes seats v stays more cards on = record 
       };
   on_cards = places-go o.origin log later spans now notes d e on.fell on.places cards.places v.on_cards;
   vehicles = vehicles-go o.origin spans now d e on.reads cards.vehicles v.vehicles;
+  sessions = sessions-go o.origin log later notes d e on.failed on.fell cards.sessions v.sessions;
 }
 
 -- ---- lists
@@ -226,9 +232,9 @@ none-behind c (k ∷ newer) n none other =
 
 -- ---- A PLACE
 
-pub place-noted : (d e : Devices) (o : Since) (log : RunLog) (spans : List SpanFrom) (notes : List Note) (seats : Card → Option Seating) → Ringed o log spans notes seats d → HaveLeftMore o.origin d e → (p : PlaceNote) (head : List ℕ) → Writes (IsAdded unit_place_ring head) d e → length head ≡ unit_place_ring.width → IsPlaceIn o.origin log spans p head → (own : List ℕ) → length own ≡ place_width → IsPlaceOn spans p own → PlaceIsTaken o.origin log p own d e → VehiclesGo o.origin spans d e →
+pub place-noted : (d e : Devices) (o : Since) (log : RunLog) (spans : List SpanFrom) (notes : List Note) (seats : Card → Option Seating) → Ringed o log spans notes seats d → HaveLeftMore o.origin d e → (p : PlaceNote) (head : List ℕ) → Writes (IsAdded unit_place_ring head) d e → length head ≡ unit_place_ring.width → IsPlaceIn o.origin log spans p head → (own : List ℕ) → length own ≡ place_width → IsPlaceOn spans p own → PlaceIsTaken o.origin log p own d e → VehiclesGo o.origin spans d e → SessionsGo o.origin NoOtherComes d e →
     Ringed o log spans (notes ++ Enters p ∷ []) seats e
-place-noted d e o log spans notes seats v more p head added full is own long on taken_ goes = record {
+place-noted d e o log spans notes seats v more p head added full is own long on taken_ goes sessions_ = record {
   insertions = λ ring y left.
       let w = added y left in
       let was = v.insertions ring w.0 w.1 in
@@ -258,12 +264,13 @@ place-noted d e o log spans notes seats v more p head added full is own long on 
       };
   on_cards = places-taken o.origin log spans notes p own d e long on taken_ v.on_cards;
   vehicles = vehicles-go o.origin spans spans d e (λ k is. is) goes v.vehicles;
+  sessions = sessions-entered o.origin log notes p d e sessions_ v.sessions;
 }
 
 -- or the unit failed in it
-pub place-broken : (d e : Devices) (o : Since) (log : RunLog) (spans : List SpanFrom) (notes : List Note) (seats : Card → Option Seating) → Ringed o log spans notes seats d → HaveLeftMore o.origin d e → (p : PlaceNote) (head : List ℕ) → Writes (MayBeAdded unit_place_ring head) d e → length head ≡ unit_place_ring.width → IsPlaceIn o.origin log spans p head → has_failed_in log p.second ≡ true → (own : List ℕ) → length own ≡ place_width → IsPlaceOn spans p own → PlaceIsTaken o.origin log p own d e → VehiclesGo o.origin spans d e →
+pub place-broken : (d e : Devices) (o : Since) (log : RunLog) (spans : List SpanFrom) (notes : List Note) (seats : Card → Option Seating) → Ringed o log spans notes seats d → HaveLeftMore o.origin d e → (p : PlaceNote) (head : List ℕ) → Writes (MayBeAdded unit_place_ring head) d e → length head ≡ unit_place_ring.width → IsPlaceIn o.origin log spans p head → has_failed_in log p.second ≡ true → (own : List ℕ) → length own ≡ place_width → IsPlaceOn spans p own → PlaceIsTaken o.origin log p own d e → VehiclesGo o.origin spans d e → SessionsGo o.origin NoOtherComes d e →
     Ringed o log spans (notes ++ Enters p ∷ []) (λ c. None) e
-place-broken d e o log spans notes seats v more p head adding full is has own long on taken_ goes = record {
+place-broken d e o log spans notes seats v more p head adding full is has own long on taken_ goes sessions_ = record {
   insertions = λ ring y left.
       let w = adding y left in
       let was = v.insertions ring w.0 w.1 in
@@ -286,6 +293,7 @@ place-broken d e o log spans notes seats v more p head adding full is has own lo
       (maybe unit_place_ring o.origin.recording.unit w.0 y head (sure_place o.origin log spans) (IsPlaceIn o.origin log spans) (places_of notes) p was full is (ap not has) w.2);
   on_cards = places-taken o.origin log spans notes p own d e long on taken_ v.on_cards;
   vehicles = vehicles-go o.origin spans spans d e (λ k is. is) goes v.vehicles;
+  sessions = sessions-entered o.origin log notes p d e sessions_ v.sessions;
 }
 
 -- ---- AN INSERTION
@@ -336,10 +344,10 @@ seated-more sure Is c (Some s) ns ms x y a head points added other is sits = rec
       sits.there;
 }
 
-pub insertion-noted : (d e : Devices) (o : Since) (log : RunLog) (spans : List SpanFrom) (notes : List Note) (seats now : Card → Option Seating) → Ringed o log spans notes seats d → HaveLeftMore o.origin d e → CardsStay o.origin spans d e → (a : Acceptance) (head : List ℕ) (index : ℕ) → Writes (IsAddedAt index head) d e → length head ≡ insertion_ring.width →
+pub insertion-noted : (d e : Devices) (o : Since) (log : RunLog) (spans : List SpanFrom) (notes : List Note) (seats now : Card → Option Seating) → Ringed o log spans notes seats d → HaveLeftMore o.origin d e → (a : Acceptance) → CardsGo o.origin spans (OpensSince log a notes) d e → (head : List ℕ) (index : ℕ) → Writes (IsAddedAt index head) d e → length head ≡ insertion_ring.width →
     IsInsertionIn o log spans e (record { accepted = a; withdrawn = None }) head → ((c : Card) → ((same_card a.card c ≡ false) × (now c ≡ option_map one_behind (seats c))) ⊎ ((same_card a.card c ≡ true) × (now c ≡ Some (record { index = index; behind = 0 })))) →
     Ringed o log spans (notes ++ Accepts a ∷ []) now e
-insertion-noted d e o log spans notes seats now v more cards a head index added full is each = record {
+insertion-noted d e o log spans notes seats now v more a cards head index added full is each = record {
   insertions = λ ring y left.
       let w = added y left in
       let was = v.insertions ring w.0 w.1 in
@@ -398,12 +406,13 @@ insertion-noted d e o log spans notes seats now v more cards a head index added 
       });
   on_cards = places-beside o.origin log spans notes (Accepts a) d e refl cards.places v.on_cards;
   vehicles = vehicles-go o.origin spans spans d e (λ k is. is) cards.vehicles v.vehicles;
+  sessions = sessions-accepted o.origin log notes a d e cards.sessions v.sessions;
 }
 
 -- or the unit failed in it
-pub insertion-broken : (d e : Devices) (o : Since) (log : RunLog) (spans : List SpanFrom) (notes : List Note) (seats : Card → Option Seating) → Ringed o log spans notes seats d → HaveLeftMore o.origin d e → CardsStay o.origin spans d e → (a : Acceptance) (head : List ℕ) → Writes (MayBeAdded insertion_ring head) d e → length head ≡ insertion_ring.width →
+pub insertion-broken : (d e : Devices) (o : Since) (log : RunLog) (spans : List SpanFrom) (notes : List Note) (seats : Card → Option Seating) → Ringed o log spans notes seats d → HaveLeftMore o.origin d e → (a : Acceptance) → CardsGo o.origin spans (OpensSince log a notes) d e → (head : List ℕ) → Writes (MayBeAdded insertion_ring head) d e → length head ≡ insertion_ring.width →
     IsInsertionIn o log spans e (record { accepted = a; withdrawn = None }) head → has_failed_in log a.second ≡ true → Ringed o log spans (notes ++ Accepts a ∷ []) (λ c. None) e
-insertion-broken d e o log spans notes seats v more cards a head adding full is has = record {
+insertion-broken d e o log spans notes seats v more a cards head adding full is has = record {
   insertions = λ ring y left.
       let w = adding y left in
       let was = v.insertions ring w.0 w.1 in
@@ -425,4 +434,5 @@ insertion-broken d e o log spans notes seats v more cards a head adding full is 
       });
   on_cards = places-beside o.origin log spans notes (Accepts a) d e refl cards.places v.on_cards;
   vehicles = vehicles-go o.origin spans spans d e (λ k is. is) cards.vehicles v.vehicles;
+  sessions = sessions-accepted o.origin log notes a d e cards.sessions v.sessions;
 }

@@ -24,7 +24,7 @@ use Rattle.run_course.specs.Moment.{Moment, goes_on}
 use Rattle.run_course.specs.Telling.{begun_by}
 use Rattle.run_course.proofs.Reached.{push-each}
 use Rattle.run_course.proofs.Telling.{second-ends_told, cut-ends_told}
-use Rattle.run_events.specs.Shown.{by_kind, none}
+use Rattle.run_events.specs.Shown.{by_kind, none_sure, all_sure, AreTheFirst}
 use Rattle.run_events.specs.Seconds.{IsBehind, seen_next}
 use Rattle.run_events.specs.Gaps.{IsUntold, HasGaps, TellsMore}
 use Rattle.run_events.specs.Choice.{IsPlainFrom}
@@ -37,7 +37,7 @@ use Rattle.run_promise.specs.Beside.{HaveLeftMore}
 use Rattle.run_promise.specs.Seconds.{found_again}
 use Rattle.run_note_record.specs.Opened.{AreOpenSo}
 use Rattle.run_note_record.specs.Uses.{times_of, opened_on, uses_in}
-use Rattle.run_note_record.specs.Evented.{number_in, limit_in, Evented, EventedBy, NotesMore, EventsStay, EventsAreFound, tearing_now, sessions_now, events_now, brought_now, IsChosen, ASecondIsNoted, ASecondIsBroken}
+use Rattle.run_note_record.specs.Evented.{number_in, limit_in, Evented, EventedBy, NotesMore, EventsStay, EventsAreFound, tearing_now, sessions_now, brought_now, IsChosen, ASecondIsNoted, ASecondIsBroken}
 use Rattle.run_note_record.proofs.Opened.{all-left}
 use Rattle.run_note_record.proofs.Noted.{notes-alike}
 use Rattle.run_note_record.proofs.Exact.{found-none, exact-on}
@@ -104,7 +104,7 @@ module _ (o : Origin) (done : List TraceSecond) (p : Progress) (f : BookFollowsR
 
   -- all that it brings was noted
   pub noted-on : (supply : UnitPower) → HasGaps log p.unfound supply (done ++ s ∷ []) → (more : List Event) → ((kind : ℕ) → Contains all_kinds kind → by_kind more kind ≡ brought_now o log done s here own kind) →
-      NotesMore o log (events_now o log done s here own v.tearing v.sessions) (by_kind more) d e → Evented o (done ++ s ∷ []) log p.unfound (suc p.next) supply e
+      NotesMore o all_sure (by_kind more) d e → Evented o (done ++ s ∷ []) log p.unfound (suc p.next) supply e
   noted-on supply gaps more are each = record {
     tearing = tearing_now s here v.tearing;
     sessions = sessions_now s own v.sessions;
@@ -119,12 +119,13 @@ module _ (o : Origin) (done : List TraceSecond) (p : Progress) (f : BookFollowsR
   behind-so : IsBehind (seen_spans (seen_of log done)) x
   behind-so = behind log o.from done s f.order (g.number ∙ f.next)
 
-  pub broken-on : has_failed_in log s.number ≡ true → HasGaps log p.unfound Lost (done ++ s ∷ []) → NotesMore o log (events_now o log done s here own v.tearing v.sessions) none d e → Evented o (done ++ s ∷ []) log p.unfound (suc p.next) Lost e
-  broken-on failed gaps each = record {
+  pub broken-on : has_failed_in log s.number ≡ true → HasGaps log p.unfound Lost (done ++ s ∷ []) → (some : ℕ → List Event) → AreTheFirst some (brought_now o log done s here own) → NotesMore o none_sure some d e →
+      Evented o (done ++ s ∷ []) log p.unfound (suc p.next) Lost e
+  broken-on failed gaps some are each = record {
     tearing = tearing_now s here v.tearing;
     sessions = sessions_now s own v.sessions;
     plain = plain-now;
-    events = failed-shown (number_in o) o.recording.unit (limit_in o) p.log log p.unfound p.supply done s v.tearing here v.sessions own {U = d.unit} v.events v.gaps (tells-so o done p f s log g) (early-before o done p f s log g) choice.fits failed behind-so {V = e.unit} each;
+    events = failed-shown (number_in o) o.recording.unit (limit_in o) p.log log p.unfound p.supply done s v.tearing here v.sessions own {U = d.unit} v.events v.gaps (tells-so o done p f s log g) (early-before o done p f s log g) choice.fits failed behind-so {V = e.unit} some are each;
     gaps = gaps;
     found_open = open-now;
     exact = exact-on o done p f s log g v.sessions own v.exact choice.exact;
@@ -163,7 +164,7 @@ module _ (o : Origin) (done : List TraceSecond) (p : Progress) (f : BookFollowsR
   cut-untold = untold-now p.log (cuts_from p.supply p.next) p.next p.unfound f.lines m.breaks m.uncut s.number (low-cuts o done p f s cut cut-goes) true k cut (seen_next cut done s) breaks-are (number-next o done p f s cut cut-goes)
 
 pub second-broken : (d e : Devices) → ASecondIsBroken d e
-second-broken d e o done p f v span is s at log waits mid now later m more broke rest is_left here own choice left each =
+second-broken d e o done p f v span is s at log waits mid now later m more broke rest is_left here own choice left some are each =
     let k : ℕ = begun_by s at in
     let cut : RunLog = and_break log (cut_at s.number true k) in
     let g : GoesOnBy p cut s = cut-goes o done p f s at log waits mid now m k in
@@ -171,4 +172,4 @@ second-broken d e o done p f v span is s at log waits mid now later m more broke
     broken-on o done p f d e v s cut g here own choice left (cut-failed o done p f s at log waits mid now m k)
     (breaks-off p.log cut p.unfound done s (same-before o done p f s cut g) g.breaks.0 g.breaks.1 (front-same o done p f s cut g) p.supply span is v.gaps (ap (λ (t : ToldSecond). t.lit) told) (ap (λ (t : ToldSecond). t.starts) told)
     (cut-untold o done p f s at log waits mid now m k))
-    each
+    some are each

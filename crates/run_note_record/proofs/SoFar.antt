@@ -31,10 +31,12 @@ use Rattle.run_note_record.specs.Origin.{Origin}
 use Rattle.run_note_record.specs.Beside.{HaveLeftMore}
 use Rattle.run_note_record.specs.Ringed.{Seating, Ringed, GoOn, notes_in, Since, since_behind, since_in}
 use Rattle.run_note_record.specs.RingsSoFar.{noted_at, AreEarlier, RingedBehind, IsSecond, notes_so_far, RingedIn, AreFewer, HasMoreBreaks, ASecondBeginsInRings, RingsGoOn, AnActionNotesNothing, AnActionIsNoted, GoesBehind, TheSecondEndsInRings, ACutEndsInRings, DarkSecondsNoteNothing}
-use Rattle.run_note_record.proofs.Stands.{all-of, all-each}
+use Rattle.run_note_record.proofs.Stands.{all-of, all-push, all-each}
 use Rattle.run_note_record.proofs.Noted.{second-notes}
 use Rattle.run_note_record.specs.OnCards.{has_call_failed_in, IsReading}
 use Rattle.run_note_record.proofs.OnCards.{any-front, call-failed-more, stay-itself}
+use Rattle.run_note_record.specs.Sessions.{IsBrokenSince, FailsIn}
+use Rattle.run_note_record.proofs.Sessions.{go-more, stay-may, fails-since}
 use Rattle.run_note_record.proofs.Readings.{reads-with, reads-alike}
 use Rattle.run_note_record.proofs.Rings.{fewer-sit, rings-stay, come-before}
 
@@ -67,10 +69,6 @@ goes-alike log later spans now notes failed fell same reads = record {
 -- insertions and places of earlier notes are earlier
 abbrev IsEarly : ℕ → InsertionNote → Type 0
 IsEarly u i = (i.accepted.second < u) × IfSome i.withdrawn (λ w. w < u)
-
-all-push : {X : Type 0} (P : X → Type 0) (xs : List X) (x : X) → AllByRecursion P xs → P x → AllByRecursion P (xs ++ x ∷ [])
-all-push P [] x all here = (here, tt)
-all-push P (y ∷ xs) x all here = (all.0, all-push P xs x all.1 here)
 
 early-withdrawal : (u : ℕ) (w : Withdrawal) (is : List InsertionNote) → w.second < u → AllByRecursion (IsEarly u) is → AllByRecursion (IsEarly u) (with_withdrawal w is)
 early-withdrawal u w [] lt all = tt
@@ -113,12 +111,78 @@ pub left-itself : (o : Origin) (d : Devices) → HaveLeftMore o d d
 left-itself o d = record { unit = λ x left. left; card = λ c x left. left }
 
 along : (o : Since) (d : Devices) (log later : RunLog) (spans now : List SpanFrom) (notes : List Note) (seats : Card → Option Seating) → Ringed o log spans notes seats d → GoOn log later spans now notes → Ringed o later now notes seats d
-along o d log later spans now notes seats v on = rings-stay d d o log later spans now notes seats v (rings-left d.unit) (left-itself o.origin d) (stay-itself o.origin now d) on
+along o d log later spans now notes seats v on = rings-stay d d o log later spans now notes seats v (rings-left d.unit) (left-itself o.origin d) (stay-may o.origin now (λ c t. IsBrokenSince later c notes t) d d (stay-itself o.origin now d)) on
 
 -- a second more of the trace, and of what is told
 pub come-in : (d : Devices) (o : Origin) (log : RunLog) (done : List TraceSecond) (s : TraceSecond) (spans : List SpanFrom) (notes : List Note) (seats : Card → Option Seating) →
     Ringed (since_behind o log done) log spans notes seats d → Ringed (since_in o log done s) log spans notes seats d
 come-in d o log done s spans notes seats v = come-before d o (went log done).told (went log done).told done (done ++ s ∷ []) (λ c u h. come-trace (went log done).told done (s ∷ []) c u h) log spans notes seats v
+
+-- ---- the notes of a second are of that second
+
+abbrev AreOf : ℕ → List Note → Type 0
+AreOf u notes = AllByRecursion (λ (n : Note). noted_at n ≡ u) notes
+
+of-append : (u : ℕ) (xs ys : List Note) → AreOf u xs → AreOf u ys → AreOf u (xs ++ ys)
+of-append u [] ys one two = two
+of-append u (x ∷ xs) ys one two = (one.0, of-append u xs ys one.1 two)
+
+of-accepted : (u : ℕ) (p : Phase) (found : List Finding) → AreOf u (accepted_in u p found)
+of-accepted u p [] = tt
+of-accepted u p (f ∷ found) = by (is_at p f) (of-accepted u p found)
+  where
+    by : (b : Bool) → AreOf u (accepted_in u p found) → AreOf u (map (λ (g : Finding). Accepts (record { second = u; slot = g.0.slot; card = g.0.card })) (cond b (f ∷ filter (is_at p) found) (filter (is_at p) found)))
+    by true rest = (refl, rest)
+    by false rest = rest
+
+of-withdrawn : (u : ℕ) (cards : List Card) → AreOf u (map (λ (card : Card). Withdraws (record { second = u; card = card })) cards)
+of-withdrawn u [] = tt
+of-withdrawn u (c ∷ cards) = (refl, of-withdrawn u cards)
+
+of-places : (u : ℕ) (ending : Bool) (country region : ℕ) (cards : List Card) → AreOf u (map (λ (card : Card). Enters (record { second = u; card = card; ending = ending; country = country; region = region })) cards)
+of-places u ending country region [] = tt
+of-places u ending country region (c ∷ cards) = (refl, of-places u ending country region cards)
+
+of-by : (log : RunLog) (u : ℕ) (a : CarriedOut) (act : Action) → AreOf u (noted_by log u a act)
+of-by log u a (Select slot pick) = tt
+of-by log u a (Insert slot card) = tt
+of-by log u a (Withdraw slot) = by (is_torn_in log u (In (a.before + 1)) slot)
+  where
+    by : (b : Bool) → AreOf u (cond b [] (map (λ (card : Card). Withdraws (record { second = u; card = card })) (accepted_card (in_slot a.slots slot))))
+    by true = tt
+    by false = of-withdrawn u (accepted_card (in_slot a.slots slot))
+of-by log u a (Tear slot) = tt
+of-by log u a (Place slot ending country region) = of-places u ending country region (accepted_card (in_slot a.slots slot))
+of-by log u a (Manual slot pick minute) = tt
+
+of-if : (r : Option SlotFault) (log : RunLog) (u : ℕ) (a : CarriedOut) (found : List Finding) → AreOf u (noted_if r log u a found)
+of-if (Some fault) log u a found = tt
+of-if None log u a found = of-append u (noted_by log u a a.action) (accepted_in u (In (a.before + 1)) found) (of-by log u a a.action) (of-accepted u (In (a.before + 1)) found)
+
+of-from : (log : RunLog) (s : TraceSecond) (n : ℕ) (as_ : List Action) (c : Course) → AreOf s.number (notes_from log s n as_ c)
+of-from log s n [] c = tt
+of-from log s n (a ∷ as_) c = of-append s.number (cond (begins (cut_in log s.number) n) (action_notes log s n a c) []) (notes_from log s (n + 1) as_ (acted log s n a c)) (by (begins (cut_in log s.number) n)) (of-from log s (n + 1) as_ (acted log s n a c))
+  where
+    by : (b : Bool) → AreOf s.number (cond b (action_notes log s n a c) [])
+    by true = of-if (refusal c.slots s.speed a) log s.number (record { before = n; action = a; slots = c.slots; after = (acted log s n a c).slots }) (acted log s n a c).found
+    by false = tt
+
+of-second : (log : RunLog) (before : Before) (s : TraceSecond) (front : List Action) → AreOf s.number (notes_to log before s front)
+of-second log before s front =
+    of-append s.number (accepted_in s.number (In 0) (course_powered log before s).found) (notes_from log s 0 front (course_powered log before s)) (of-accepted s.number (In 0) (course_powered log before s).found) (of-from log s 0 front (course_powered log before s))
+
+earlier-then : (u : ℕ) (xs ys : List Note) → AreEarlier u xs → AreOf u ys → AreEarlier (suc u) (xs ++ ys)
+earlier-then u [] [] early are = tt
+earlier-then u [] (y ∷ ys) early are = ((let is = are.0 in omega (arith, is)), earlier-then u [] ys tt are.1)
+earlier-then u (x ∷ xs) ys early are = ((let lt = early.0 in omega (arith, lt)), earlier-then u xs ys early.1 are)
+
+earlier-later : (u : ℕ) (xs : List Note) → AreEarlier u xs → AreEarlier (suc u) xs
+earlier-later u [] early = tt
+earlier-later u (x ∷ xs) early = ((let lt = early.0 in omega (arith, lt)), earlier-later u xs early.1)
+
+-- those so far are not later than it
+pub early-so-far : (done : List TraceSecond) (s : TraceSecond) (began log : RunLog) (front : List Action) → AreEarlier s.number (notes_in began done) → AreEarlier (suc s.number) (notes_so_far began done log s front)
+early-so-far done s began log front early = earlier-then s.number (notes_in began done) (notes_to log (went began done).before s front) early (of-second log (went began done).before s front)
 
 -- ---- the steps
 
@@ -140,7 +204,7 @@ go-on-in d e o done s began front log later spans base t seats fewer v more same
     let now : List SpanFrom = with_second spans base t in
     let notes : List Note = notes_so_far began done log s front in
     let on : GoOn log later now now notes = goes-alike log later now now notes (failed-more log later more) (call-failed-more log later more) (λ u. refl) (λ n is. is) in
-    let ringed : Ringed (since_in o began done s) later now notes seats e = rings-stay d e (since_in o began done s) log later now now notes seats v.ringed stays left cards on in
+    let ringed : Ringed (since_in o began done s) later now notes seats e = rings-stay d e (since_in o began done s) log later now now notes seats v.ringed stays left (go-more o now (FailsIn later s.number) (λ c t. IsBrokenSince later c notes t) d e (fails-since later s.number notes (early-so-far done s began log front v.early)) cards) on in
     let as_ : notes ≡ notes_so_far began done later s front = ap (λ (l : List Note). notes_in began done ++ l) (sym (later-lines log later (went began done).before s front same)) in
     record {
       spans_are = v.spans_are;
@@ -242,68 +306,6 @@ before-with v spans base t all lt = by t.lit t.starts
     by false starts = all
     by true true = all-push (λ (x : SpanFrom). AreBefore v (seconds_in x.span)) spans (record { base = base; span = t ∷ [] }) all (lt, tt)
     by true false = before-go_on v spans base t all lt
-
--- ---- the notes of a second are of that second
-
-abbrev AreOf : ℕ → List Note → Type 0
-AreOf u notes = AllByRecursion (λ (n : Note). noted_at n ≡ u) notes
-
-of-append : (u : ℕ) (xs ys : List Note) → AreOf u xs → AreOf u ys → AreOf u (xs ++ ys)
-of-append u [] ys one two = two
-of-append u (x ∷ xs) ys one two = (one.0, of-append u xs ys one.1 two)
-
-of-accepted : (u : ℕ) (p : Phase) (found : List Finding) → AreOf u (accepted_in u p found)
-of-accepted u p [] = tt
-of-accepted u p (f ∷ found) = by (is_at p f) (of-accepted u p found)
-  where
-    by : (b : Bool) → AreOf u (accepted_in u p found) → AreOf u (map (λ (g : Finding). Accepts (record { second = u; slot = g.0.slot; card = g.0.card })) (cond b (f ∷ filter (is_at p) found) (filter (is_at p) found)))
-    by true rest = (refl, rest)
-    by false rest = rest
-
-of-withdrawn : (u : ℕ) (cards : List Card) → AreOf u (map (λ (card : Card). Withdraws (record { second = u; card = card })) cards)
-of-withdrawn u [] = tt
-of-withdrawn u (c ∷ cards) = (refl, of-withdrawn u cards)
-
-of-places : (u : ℕ) (ending : Bool) (country region : ℕ) (cards : List Card) → AreOf u (map (λ (card : Card). Enters (record { second = u; card = card; ending = ending; country = country; region = region })) cards)
-of-places u ending country region [] = tt
-of-places u ending country region (c ∷ cards) = (refl, of-places u ending country region cards)
-
-of-by : (log : RunLog) (u : ℕ) (a : CarriedOut) (act : Action) → AreOf u (noted_by log u a act)
-of-by log u a (Select slot pick) = tt
-of-by log u a (Insert slot card) = tt
-of-by log u a (Withdraw slot) = by (is_torn_in log u (In (a.before + 1)) slot)
-  where
-    by : (b : Bool) → AreOf u (cond b [] (map (λ (card : Card). Withdraws (record { second = u; card = card })) (accepted_card (in_slot a.slots slot))))
-    by true = tt
-    by false = of-withdrawn u (accepted_card (in_slot a.slots slot))
-of-by log u a (Tear slot) = tt
-of-by log u a (Place slot ending country region) = of-places u ending country region (accepted_card (in_slot a.slots slot))
-of-by log u a (Manual slot pick minute) = tt
-
-of-if : (r : Option SlotFault) (log : RunLog) (u : ℕ) (a : CarriedOut) (found : List Finding) → AreOf u (noted_if r log u a found)
-of-if (Some fault) log u a found = tt
-of-if None log u a found = of-append u (noted_by log u a a.action) (accepted_in u (In (a.before + 1)) found) (of-by log u a a.action) (of-accepted u (In (a.before + 1)) found)
-
-of-from : (log : RunLog) (s : TraceSecond) (n : ℕ) (as_ : List Action) (c : Course) → AreOf s.number (notes_from log s n as_ c)
-of-from log s n [] c = tt
-of-from log s n (a ∷ as_) c = of-append s.number (cond (begins (cut_in log s.number) n) (action_notes log s n a c) []) (notes_from log s (n + 1) as_ (acted log s n a c)) (by (begins (cut_in log s.number) n)) (of-from log s (n + 1) as_ (acted log s n a c))
-  where
-    by : (b : Bool) → AreOf s.number (cond b (action_notes log s n a c) [])
-    by true = of-if (refusal c.slots s.speed a) log s.number (record { before = n; action = a; slots = c.slots; after = (acted log s n a c).slots }) (acted log s n a c).found
-    by false = tt
-
-of-second : (log : RunLog) (before : Before) (s : TraceSecond) (front : List Action) → AreOf s.number (notes_to log before s front)
-of-second log before s front =
-    of-append s.number (accepted_in s.number (In 0) (course_powered log before s).found) (notes_from log s 0 front (course_powered log before s)) (of-accepted s.number (In 0) (course_powered log before s).found) (of-from log s 0 front (course_powered log before s))
-
-earlier-then : (u : ℕ) (xs ys : List Note) → AreEarlier u xs → AreOf u ys → AreEarlier (suc u) (xs ++ ys)
-earlier-then u [] [] early are = tt
-earlier-then u [] (y ∷ ys) early are = ((let is = are.0 in omega (arith, is)), earlier-then u [] ys tt are.1)
-earlier-then u (x ∷ xs) ys early are = ((let lt = early.0 in omega (arith, lt)), earlier-then u xs ys early.1 are)
-
-earlier-later : (u : ℕ) (xs : List Note) → AreEarlier u xs → AreEarlier (suc u) xs
-earlier-later u [] early = tt
-earlier-later u (x ∷ xs) early = ((let lt = early.0 in omega (arith, lt)), earlier-later u xs early.1)
 
 -- ---- THE SECOND ENDS
 

@@ -86,6 +86,10 @@ all-parts P l older own newer are all =
     let back = all-back P older (own ∷ newer) whole in
     (all-front P older (own ∷ newer) whole, back.0, back.1)
 
+pub all-push : {X : Type 0} (P : X → Type 0) (xs : List X) (x : X) → AllByRecursion P xs → P x → AllByRecursion P (xs ++ x ∷ [])
+all-push P [] x all here = (here, tt)
+all-push P (y ∷ xs) x all here = (all.0, all-push P xs x all.1 here)
+
 pub all-of : {X : Type 0} (P Q : X → Type 0) → ((x : X) → P x → Q x) → (xs : List X) → AllByRecursion P xs → AllByRecursion Q xs
 all-of P Q turn [] all = tt
 all-of P Q turn (x ∷ xs) all = (turn x all.0, all-of P Q turn xs all.1)

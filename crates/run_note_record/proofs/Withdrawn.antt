@@ -34,6 +34,8 @@ use Rattle.run_rings.proofs.Few.{as-many, as-many-at, few-as, few-changed}
 use Rattle.run_note_record.specs.Beside.{HaveLeftMore}
 use Rattle.run_note_record.specs.Ringed.{holder_in, TellsIn, Each, HasSameRings, IsInsertionIn, IsPlaceIn, sure_insertion, sure_place, ShowsNotes, Seating, LiesBehind, StandsAt, IsSeated, Ringed, IsWithdrawnAt, MayBeWithdrawn, Since}
 use Rattle.run_note_record.specs.OnCards.{CardsStay}
+use Rattle.run_note_record.specs.Sessions.{Shuts}
+use Rattle.run_note_record.proofs.Sessions.{sessions-withdrawn, shuts-none}
 use Rattle.run_note_record.proofs.OnCards.{places-beside, vehicles-go}
 use Rattle.run_note_record.proofs.Stands.{each-stand, each-long, each-append, each-split, insertions-more, places-more}
 use Rattle.run_note_record.proofs.Rings.{HasSameTurn, insertion_shape, place_shape, Writes, seated-as, go-on}
@@ -282,8 +284,8 @@ carried start x y ms h s olders entry newers are behind there time odometer (inr
 
 pub withdrawal-noted : (d e : Devices) (o : Since) (log : RunLog) (spans : List SpanFrom) (notes : List Note) (seats now : Card → Option Seating) → Ringed o log spans notes seats d → HaveLeftMore o.origin d e → CardsStay o.origin spans d e → (w : Withdrawal) (s : Seating) → seats w.card ≡ Some s → s.index < insertion_ring.count →
     (time : TimeReal) (odometer : Odometer) → time.0 ≡ w.second → odometer.0 ≡ odometer_at w.second spans → time.0 < 256 ^ 4 → odometer.0 < 256 ^ 3 → Writes (IsWithdrawnAt s time odometer) d e →
-    ((c : Card) → ((same_card w.card c ≡ false) × (now c ≡ seats c)) ⊎ ((same_card w.card c ≡ true) × (now c ≡ None))) → Ringed o log spans (notes ++ Withdraws w ∷ []) now e
-withdrawal-noted d e o log spans notes seats now v more cards w s at below time odometer second stood time_fits odometer_fits images each = record {
+    ((c : Card) → ((same_card w.card c ≡ false) × (now c ≡ seats c)) ⊎ ((same_card w.card c ≡ true) × (now c ≡ None))) → Shuts o.origin log w e → Ringed o log spans (notes ++ Withdraws w ∷ []) now e
+withdrawal-noted d e o log spans notes seats now v more cards w s at below time odometer second stood time_fits odometer_fits images each shuts = record {
   insertions = λ ring y left.
       let i = images y left in
       let was = v.insertions ring i.0 i.1 in
@@ -321,6 +323,7 @@ withdrawal-noted d e o log spans notes seats now v more cards w s at below time 
       });
   on_cards = places-beside o.origin log spans notes (Withdraws w) d e refl cards.places v.on_cards;
   vehicles = vehicles-go o.origin spans spans d e (λ k is. is) cards.vehicles v.vehicles;
+  sessions = sessions-withdrawn o.origin log notes w d e cards.sessions shuts v.sessions;
 }
   where
     places-same : (x y : List ℕ) (s : Seating) → s.index < insertion_ring.count → (time : TimeReal) (odometer : Odometer) → (IsWithdrawn s.index time odometer x y × (s.behind < insertion_ring.count)) ⊎ (HasSameRings x y × (insertion_ring.count ≤ s.behind)) →
@@ -370,6 +373,7 @@ withdrawal-broken d e o log spans notes seats v more cards w s at below time odo
       });
   on_cards = places-beside o.origin log spans notes (Withdraws w) d e refl cards.places v.on_cards;
   vehicles = vehicles-go o.origin spans spans d e (λ k is. is) cards.vehicles v.vehicles;
+  sessions = sessions-withdrawn o.origin log notes w d e cards.sessions (shuts-none o.origin log w e has) v.sessions;
 }
   where
     places-same : (x y : List ℕ) → MayBeWithdrawn s time odometer x y → bytes_at y unit_place_ring.base (size_of unit_place_ring) ≡ bytes_at x unit_place_ring.base (size_of unit_place_ring)

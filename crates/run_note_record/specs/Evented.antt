@@ -1,7 +1,6 @@
 -- The events and faults that a run with cards has noted on its unit by now (Annex IB, section III.12; the moments:
 -- profile): what is carried of them BETWEEN TWO SECONDS, and over each kind of second.
-use Rattle.std.specs.Prelude.{◌≡◌, ℕ, suc, ◌+◌, ◌-◌, ◌≤◌, min, true, false, List, [], ◌∷◌, ◌++◌, length, Contains}
-use Rattle.std.specs.Prelude.{nat_eq, if◌then◌else◌}
+use Rattle.std.specs.Prelude.{◌≡◌, ℕ, suc, ◌+◌, ◌-◌, ◌≤◌, Bool, true, false, List, [], ◌∷◌, ◌++◌, length, Contains}
 use Rattle.trace_model.specs.declared.Card.{Card}
 use Rattle.trace_model.specs.declared.Action.{Action}
 use Rattle.trace_model.specs.Trace.{TraceSecond}
@@ -13,17 +12,15 @@ use Rattle.log_model.specs.Log.{RunLog, Phase, Keeping, is_accepting}
 use Rattle.log_model.specs.Causes.{RoseBy}
 use Rattle.log_model.specs.Course.{ToldSecond, Visit, went}
 use Rattle.log_model.specs.Spans.{AreInOrder}
-use Rattle.event_model.specs.declared.kinds.TheConstants.{OVER_SPEEDING}
 use Rattle.event_model.specs.Events.{Event, Tearing, AreTorn, seen_of, seen_spans, events_of}
 use Rattle.note_model.specs.Events.{AreSessions}
-use Rattle.note_model.specs.Tables.{table_in, AreNoted}
-use Rattle.unit_model.specs.declared.layout.TheConstants.{SPEED_LIMIT, FIRST_OVER, OVER_COUNT}
+use Rattle.unit_model.specs.declared.layout.TheConstants.{SPEED_LIMIT, OVER_COUNT}
 use Rattle.unit_model.specs.Image.{number_of}
 use Rattle.run_unit_course.specs.Lines.{cut_at}
 use Rattle.run_unit_course.specs.Followed.{UnitPower, Lit, Lost, MayPower, IsDark}
 use Rattle.safety_model.specs.Recording.{Recording, card_image, told_of}
 use Rattle.safety_model.specs.Safe.{Devices, card_of}
-use Rattle.safety_model.specs.Side.{told_kinds, events_in, are_sure, first_begin}
+use Rattle.safety_model.specs.Side.{events_in}
 use Rattle.unit_events.specs.Shown.{all_kinds}
 use Rattle.run_promise.specs.Found.{found_of}
 use Rattle.run_course.specs.Moments.{and_break}
@@ -31,7 +28,7 @@ use Rattle.run_course.specs.Followed.{Progress, BookFollowsRun}
 use Rattle.run_course.specs.Seconds.{next_told}
 use Rattle.run_course.specs.Moment.{Moment}
 use Rattle.run_course.specs.Telling.{IsMore, begun_by, IsLeft}
-use Rattle.run_events.specs.Shown.{by_kind, none, ShowsMore, SaysNothing}
+use Rattle.run_events.specs.Shown.{by_kind, none_sure, all_sure, ShowsEvents, ShowsSince, AreTheFirst, SaysNothing}
 use Rattle.run_events.specs.Seconds.{second_events, seen_next}
 use Rattle.run_events.specs.Gaps.{HasGaps}
 use Rattle.run_events.specs.Choice.{chosen, told_at, IsTornIn, IsPlainFrom}
@@ -74,10 +71,10 @@ EventedBy o done p d = Evented o done p.log p.unfound p.next p.supply d
 abbrev pub NotesNothing : (d e : Devices) → Type 0
 NotesNothing d e = (c : List ℕ) → e.unit.may_leave c → (x : List ℕ) × d.unit.may_leave x × SaysNothing x c
 
--- these events more are shown, of each type whose events are sure by a log
-abbrev pub NotesMore : Origin → RunLog → (now more : ℕ → List Event) → (d e : Devices) → Type 0
-NotesMore o log now more d e = (c : List ℕ) → e.unit.may_leave c
-    → (x : List ℕ) × d.unit.may_leave x × ShowsMore (number_in o) log now more x c
+-- these events more are shown, of which each that is sure was noted
+abbrev pub NotesMore : Origin → (sure : Event → Bool) → (more : ℕ → List Event) → (d e : Devices) → Type 0
+NotesMore o sure more d e = (c : List ℕ) → e.unit.may_leave c
+    → (x : List ℕ) × d.unit.may_leave x × ShowsEvents (number_in o) sure x more c
 
 -- ---- at the start, and as the unit is read
 
@@ -108,12 +105,6 @@ tearing_now s here t = chosen s.number here t
 abbrev pub sessions_now : TraceSecond → (own sessions : ℕ → Visit → ℕ) → ℕ → Visit → ℕ
 sessions_now s own sessions = told_at s.number own sessions
 
--- all events of a run by its log behind a second, by that choice
-abbrev pub events_now : Origin → RunLog → List TraceSecond → TraceSecond → (here : Tearing) → (own : ℕ → Visit → ℕ)
-    → Tearing → (ℕ → Visit → ℕ) → (kind : ℕ) → List Event
-events_now o log done s here own t sessions kind = events_of kind (limit_in o) (sessions_now s own sessions)
-    (tearing_now s here t) log (done ++ s ∷ [])
-
 -- what the second brings of each type
 abbrev pub brought_now : Origin → RunLog → List TraceSecond → TraceSecond → (here : Tearing) → (own : ℕ → Visit → ℕ)
     → (kind : ℕ) → List Event
@@ -134,26 +125,28 @@ pub record IsChosen (o : Origin) (log : RunLog) (done : List TraceSecond) (s : T
 -- A SECOND WITH POWER, to its end: all that it brings was noted.
 abbrev pub ASecondIsNoted : (d e : Devices) → Type 0
 ASecondIsNoted d e = (o : Origin) (done : List TraceSecond) (p : Progress)
-    → BookFollowsRun (rule_of o) (start_at o) o.from (first_of o) done p → (v : EventedBy o done p d)
+    → BookFollowsRun (rule_of o) (start_at o) o.from (first_of o) done p → EventedBy o done p d
     → (span : List ToldSecond) → p.supply ≡ Lit span →
     (s : TraceSecond) (log : RunLog) (mid now : Device → ℕ) → Moment p (went p.log done).before s Keeping log [] mid now
     → (here : Tearing) (own : ℕ → Visit → ℕ) → IsChosen o log done s here own e → HaveLeftMore o d e →
     (more : List Event) → ((kind : ℕ) → Contains all_kinds kind
     → by_kind more kind ≡ brought_now o log done s here own kind)
-    → NotesMore o log (events_now o log done s here own v.tearing v.sessions) (by_kind more) d e →
+    → NotesMore o all_sure (by_kind more) d e →
     Evented o (done ++ s ∷ []) log p.unfound (suc p.next) (Lit (span ++ next_told log done s ∷ [])) e
 
--- OR THE UNIT FAILED IN IT, and power is cut: of a type of which it brings events none are sure.
+-- OR THE UNIT FAILED IN IT, and power is cut: none of the events that it brings is sure, and of the first of them a
+-- failed call has left what it has.
 abbrev pub ASecondIsBroken : (d e : Devices) → Type 0
 ASecondIsBroken d e = (o : Origin) (done : List TraceSecond) (p : Progress)
-    → BookFollowsRun (rule_of o) (start_at o) o.from (first_of o) done p → (v : EventedBy o done p d)
+    → BookFollowsRun (rule_of o) (start_at o) o.from (first_of o) done p → EventedBy o done p d
     → (span : List ToldSecond) → p.supply ≡ Lit span →
     (s : TraceSecond) (at : Phase) (log : RunLog) (waits : List Visit) (mid now later : Device → ℕ)
     → Moment p (went p.log done).before s at log waits mid now → IsMore now later
     → RoseBy 1 (mid Recorder) (later Recorder) →
     (rest : List Action) → IsLeft s at rest → let cut : RunLog = and_break log (cut_at s.number true (begun_by s at)) in
     (here : Tearing) (own : ℕ → Visit → ℕ) → IsChosen o cut done s here own e → HaveLeftMore o d e
-    → NotesMore o cut (events_now o cut done s here own v.tearing v.sessions) none d e →
+    → (some : ℕ → List Event) → AreTheFirst some (brought_now o cut done s here own)
+    → NotesMore o none_sure some d e →
     Evented o (done ++ s ∷ []) cut p.unfound (suc p.next) Lost e
 
 -- A POWER-ON FAILED at once.
@@ -194,15 +187,8 @@ pub record ShowsEventsOf (r : Recording) (began now : Devices) (x : List ℕ) : 
   pub exact : TellExactly r sessions
   pub tearing : Tearing
   pub are_torn : AreTorn tearing (seen_of r.log r.trace)
-  pub events : (kind : ℕ) → Contains told_kinds kind → are_sure r sessions tearing kind ≡ true
-      → AreNoted (λ c. own_number (card_image r c)) (table_in kind r.unit) (events_in r sessions tearing kind)
-      (table_in kind x)
-  pub first_over : are_sure r sessions tearing OVER_SPEEDING ≡ true → number_of x FIRST_OVER
-      ≡ (if nat_eq (number_of r.unit FIRST_OVER) 0 then first_begin (events_in r sessions tearing OVER_SPEEDING)
-      else number_of r.unit FIRST_OVER)
-  pub over_count : are_sure r sessions tearing OVER_SPEEDING ≡ true
-      → number_of x OVER_COUNT ≡ min 255 (number_of r.unit OVER_COUNT + length
-      (events_in r sessions tearing OVER_SPEEDING))
+  -- one that is not sure frees the one place that it takes, and no other
+  pub events : ShowsSince (λ c. own_number (card_image r c)) r.log r.unit (events_in r sessions tearing) x
 
 -- AT THE END of a run every image of the unit shows them, where a recording has its images at the start, its trace and
 -- its log.

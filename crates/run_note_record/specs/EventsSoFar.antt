@@ -31,7 +31,6 @@ use Rattle.run_unit_course.specs.Lines.{cut_at}
 use Rattle.run_unit_course.specs.Followed.{Lit, Lost}
 use Rattle.run_unit_course.specs.Turn.{begins_with}
 use Rattle.safety_model.specs.Safe.{Devices}
-use Rattle.unit_events.specs.Noted.{are_sure}
 use Rattle.unit_events.specs.Shown.{all_kinds}
 use Rattle.run_course.specs.Moments.{and_break, and_find, and_refused}
 use Rattle.run_course.specs.Followed.{Progress, BookFollowsRun}
@@ -39,7 +38,7 @@ use Rattle.run_course.specs.Seconds.{next_told}
 use Rattle.run_course.specs.Reached.{course_at, moved_at, Reaches, IsTearAt, IsFindAt}
 use Rattle.run_course.specs.Moment.{Moment}
 use Rattle.run_course.specs.Telling.{IsMore, IsOneOut, begun_by, IsLeft}
-use Rattle.run_events.specs.Shown.{by_kind, none, ShowsEvents}
+use Rattle.run_events.specs.Shown.{by_kind, none_sure, ShowsSince}
 use Rattle.run_events.specs.Seconds.{last_of, span_before, bares_by, overs_by, seen_next}
 use Rattle.run_events.specs.Gaps.{HasGaps}
 use Rattle.run_events.specs.Choice.{IsPlainFrom}
@@ -120,7 +119,7 @@ pub record EventedNow (o : Origin) (done : List TraceSecond) (s : TraceSecond) (
   pub exact_before : AreExact o p.log done sessions
   pub more : List Event
   pub noted : (c : List ℕ) → d.unit.may_leave c
-      → (x : List ℕ) × ShowsEvents (number_in o) o.recording.unit p.log
+      → (x : List ℕ) × ShowsSince (number_in o) p.log o.recording.unit
       (λ kind. events_of kind (limit_in o) sessions tearing p.log done) x × ShowsThese o more x c
   pub so_far : SoFar o done s stage log more d
 
@@ -152,10 +151,9 @@ ASecondEnds d = (o : Origin) (done : List TraceSecond) (p : Progress) (span : Li
     EventedNow o done s p Ended log d
     → Evented o (done ++ s ∷ []) log p.unfound (suc p.next) (Lit (span ++ next_told log done s ∷ [])) d
 
--- where of no one of these types any event is sure nothing more is shown
+-- of none of these events it is sure that it was noted: what a failed call has left of them
 abbrev pub NotesUnsure : Origin → List Event → (d e : Devices) → Type 0
-NotesUnsure o es d e = (log : RunLog) (now : ℕ → List Event)
-    → AllByRecursion (λ e. are_sure log (now e.kind) ≡ true → ⊥) es → NotesMore o log now none d e
+NotesUnsure o es d e = NotesMore o none_sure (by_kind es) d e
 
 -- OR THE UNIT FAILS in a call, behind lines that add these events: the cut that is told ends the second.
 abbrev pub AFailureCuts : (d e : Devices) → Type 0

@@ -21,7 +21,7 @@ use Rattle.run_course.specs.Followed.{Progress, BookFollowsRun}
 use Rattle.run_course.specs.Seconds.{next_told}
 use Rattle.run_course.specs.Moment.{Moment}
 use Rattle.run_course.specs.Telling.{IsMore, begun_by, IsLeft}
-use Rattle.run_events.specs.Shown.{by_kind, none, ShowsEvents, ShowsMore}
+use Rattle.run_events.specs.Shown.{by_kind, none_sure, all_sure, ShowsEvents, ShowsSince, AreTheFirst}
 use Rattle.run_events.specs.Seconds.{seen_next}
 use Rattle.run_events.specs.Gaps.{HasGaps}
 use Rattle.run_events.specs.Choice.{IsTornIn, IsPlainFrom}
@@ -29,7 +29,8 @@ use Rattle.run_promise.specs.Origin.{Origin, rule_of, start_at, first_of}
 use Rattle.run_promise.specs.Beside.{HaveLeftMore}
 use Rattle.run_note_record.specs.Opened.{IsOpenSo, AreOpenSo}
 use Rattle.run_note_record.specs.Uses.{AreExact, AreExactIn}
-use Rattle.run_note_record.specs.Evented.{number_in, limit_in, events_now, brought_now, NotesMore, Evented, EventedBy}
+use Rattle.run_note_record.specs.Evented.{number_in, limit_in, brought_now, NotesMore}
+use Rattle.run_note_record.specs.Evented.{Evented, EventedBy}
 
 -- how far a second has come with its notes: at its power-on, before the interruption is noted; as its cards are judged
 -- and torn out; and once what has ended with the second before is noted
@@ -52,9 +53,9 @@ AreOpen o log done s own d = (f : Visit × Verdict) → Contains (seen_next log 
     → is_accepting f.1 ≡ true →
     IsOpenSo o (went log done).told (done ++ s ∷ []) d f.0.card s.number (own s.number f.0)
 
--- an image shows these events more than one before it, whatever is sure
+-- an image shows these events more than one before it, each of which was noted
 abbrev pub ShowsThese : Origin → List Event → (x c : List ℕ) → Type 0
-ShowsThese o es x c = (log : RunLog) (now : ℕ → List Event) → ShowsMore (number_in o) log now (by_kind es) x c
+ShowsThese o es x c = ShowsEvents (number_in o) all_sure x (by_kind es) c
 
 -- WITHIN A SECOND that began so, by its log so far: these events more were noted in it, which every image of the unit
 -- shows behind those of the seconds before.
@@ -73,7 +74,7 @@ pub record EventedIn (o : Origin) (done : List TraceSecond) (s : TraceSecond) (p
   pub own : ℕ → Visit → ℕ
   pub more : List Event
   pub noted : (c : List ℕ) → d.unit.may_leave c
-      → (x : List ℕ) × ShowsEvents (number_in o) o.recording.unit p.log
+      → (x : List ℕ) × ShowsSince (number_in o) p.log o.recording.unit
       (λ kind. events_of kind (limit_in o) sessions tearing p.log done) x × ShowsThese o more x c
   pub told : (kind : ℕ) → Contains all_kinds kind → is_told stage kind ≡ true
       → by_kind more kind ≡ brought_now o log done s here own kind
@@ -83,7 +84,7 @@ pub record EventedIn (o : Origin) (done : List TraceSecond) (s : TraceSecond) (p
 
 -- calls note these events
 abbrev pub NotesThese : Origin → List Event → (d e : Devices) → Type 0
-NotesThese o es d e = (c : List ℕ) → e.unit.may_leave c → (x : List ℕ) × d.unit.may_leave x × ShowsThese o es x c
+NotesThese o es d e = NotesMore o all_sure (by_kind es) d e
 
 -- A STEP IS NOTED: a line is told, or none, and what no log tells is chosen further; it brings these events of the
 -- types that are noted as they come, and they are noted.
@@ -129,8 +130,8 @@ TheSecondIsNoted d = (o : Origin) (done : List TraceSecond) (p : Progress)
     → IsTornIn v.here (seen_next log done s) →
     Evented o (done ++ s ∷ []) log p.unfound (suc p.next) (Lit (span ++ next_told log done s ∷ [])) d
 
--- OR THE UNIT FAILS IN IT, at any stage: of a type of which the second brings events none are sure then. The cut's line
--- brings no other events of the types that were noted as they came.
+-- OR THE UNIT FAILS IN IT, at any stage: none of the events that it brings is sure then, and what was noted, and a
+-- failed call has left, are the first of them.
 abbrev pub TheSecondIsCut : (d e : Devices) → Type 0
 TheSecondIsCut d e = (o : Origin) (done : List TraceSecond) (p : Progress)
     → BookFollowsRun (rule_of o) (start_at o) o.from (first_of o) done p → (span : List ToldSecond)
@@ -141,7 +142,6 @@ TheSecondIsCut d e = (o : Origin) (done : List TraceSecond) (p : Progress)
     → let cut : RunLog = and_break log (cut_at s.number true (begun_by s at)) in
     (stage : Stage) → (v : EventedIn o done s p stage log d) → (here : Tearing) (own : ℕ → Visit → ℕ)
     → IsTornIn here (seen_next cut done s) → AreOpen o cut done s own e → HaveLeftMore o d e →
-    ((kind : ℕ) → Contains all_kinds kind → is_told stage kind ≡ true → brought_now o cut done s here own kind ≡ []
-    → brought_now o log done s v.here v.own kind ≡ []) →
-    NotesMore o cut (events_now o cut done s here own v.tearing v.sessions) none d e →
+    (es : List Event) → AreTheFirst (by_kind (v.more ++ es)) (brought_now o cut done s here own)
+    → NotesMore o none_sure (by_kind es) d e →
     Evented o (done ++ s ∷ []) cut p.unfound (suc p.next) Lost e

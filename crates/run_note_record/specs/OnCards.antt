@@ -1,5 +1,5 @@
 -- THE PLACES OF A RUN ON ITS CARDS (profile): what the ring of places of a card shows of them, and calls that leave it.
--- And of which odometer values its vehicle entries tell, and calls that measure them.
+-- Of which odometer values its vehicle entries tell, and calls that measure them. And calls that let its session go on.
 use Rattle.std.specs.Prelude.{◌≡◌, ◌⊎◌, ℕ, Bool, true, false, not, List, ◌∷◌, ◌++◌, filter, nat_eq, sum_by}
 use Rattle.std.specs.List.{list_any}
 use Rattle.trace_model.specs.declared.Card.{Card}
@@ -25,6 +25,7 @@ use Rattle.safety_model.specs.Recording.{card_image}
 use Rattle.safety_model.specs.Safe.{Devices, card_of}
 use Rattle.run_rings.specs.Carried.{RingKeeps}
 use Rattle.run_devices.specs.Measured.{GoesMeasured}
+use Rattle.run_devices.specs.Sessions.{SessionGoes}
 use Rattle.run_note_record.specs.Origin.{Origin}
 
 -- ---- rings
@@ -131,10 +132,28 @@ abbrev pub VehiclesGo : Origin → List SpanFrom → (d e : Devices) → Type 0
 VehiclesGo o spans d e = (c : Card) → IsOwnValid (card_image o.recording c) → (y : List ℕ) → (card_of e c).may_leave y
     → (x : List ℕ) × (card_of d c).may_leave x × GoesByReadings spans (card_image o.recording c) x y
 
--- CALLS leave the places of the cards, and measure their vehicle entries so
-pub record CardsStay (o : Origin) (spans : List SpanFrom) (d e : Devices) : Type 0 where
+-- ---- the session of a card
+
+-- CALLS LET THE SESSIONS GO ON, with these that may come: behind them each image tells of that of one before, or of
+-- none, or of one of these
+abbrev pub SessionsGo : Origin → (May : Card → ℕ → Type 0) → (d e : Devices) → Type 0
+SessionsGo o May d e = (c : Card) → IsOwnValid (card_image o.recording c) → (y : List ℕ) → (card_of e c).may_leave y
+    → (x : List ℕ) × (card_of d c).may_leave x × SessionGoes (own_sizes (card_image o.recording c)) (May c) x y
+
+-- no other comes
+abbrev pub NoOtherComes : Card → ℕ → Type 0
+NoOtherComes c t = ⊥
+
+-- CALLS leave the places of the cards, measure their vehicle entries so, and let their sessions go on, with these that
+-- may come
+pub record CardsGo (o : Origin) (spans : List SpanFrom) (May : Card → ℕ → Type 0) (d e : Devices) : Type 0 where
   pub places : PlacesStay o d e
   pub vehicles : VehiclesGo o spans d e
+  pub sessions : SessionsGo o May d e
+
+-- and no session comes
+abbrev pub CardsStay : Origin → List SpanFrom → (d e : Devices) → Type 0
+CardsStay o spans d e = CardsGo o spans NoOtherComes d e
 
 -- ---- a place is noted
 

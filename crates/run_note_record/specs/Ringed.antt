@@ -30,8 +30,9 @@ use Rattle.run_promise.specs.Found.{found_of}
 pub use Rattle.run_rings.specs.Same.{HasSameRings, LeavesRings}
 pub use Rattle.run_note_record.specs.OnCards.{HasRing, ShowsNotes}
 use Rattle.run_note_record.specs.OnCards.{has_call_failed_in, place_width, IsPlaceOn, PlacesOnCards, IsReading}
-use Rattle.run_note_record.specs.OnCards.{VehiclesOnCards, VehiclesGo, CardsStay}
+use Rattle.run_note_record.specs.OnCards.{VehiclesOnCards, VehiclesGo, SessionsGo, NoOtherComes, CardsGo, CardsStay}
 use Rattle.run_note_record.specs.OnCards.{PlaceIsTaken, HasPlaces, places_in, places_on, is_sure_on}
+use Rattle.run_note_record.specs.Sessions.{IsBrokenSince, SessionsOnCards, OpensSince, Shuts}
 use Rattle.run_note_record.specs.Origin.{Origin}
 use Rattle.run_note_record.specs.Beside.{HaveLeftMore}
 
@@ -136,7 +137,7 @@ pub record ShowsInsertions (o : Since) (log : RunLog) (spans : List SpanFrom) (n
       shows.more x)
 
 -- WHAT IS CARRIED OF THE RINGS, of these notes: each image that a stop may leave of the unit shows them, and each of a
--- card its places
+-- card its places, readings of the odometer alone, and a session that may be open
 pub record Ringed (o : Since) (log : RunLog) (spans : List SpanFrom) (notes : List Note) (seats : Card → Option Seating)
     (d : Devices) : Type 0 where
   pub insertions : HasRing insertion_ring o.origin.recording.unit → (x : List ℕ) → d.unit.may_leave x
@@ -146,6 +147,7 @@ pub record Ringed (o : Since) (log : RunLog) (spans : List SpanFrom) (notes : Li
       o.origin.recording.unit x
   pub on_cards : PlacesOnCards o.origin log spans notes d
   pub vehicles : VehiclesOnCards o.origin spans d
+  pub sessions : SessionsOnCards o.origin log notes d
 
 -- ---- steps
 
@@ -204,7 +206,7 @@ NoRingIsWritten d = (o : Since) (log : RunLog) (spans : List SpanFrom)
 abbrev pub RingsStay : (d e : Devices) → Type 0
 RingsStay d e = (o : Since) (log later : RunLog) (spans now : List SpanFrom) (notes : List Note)
     (seats : Card → Option Seating) → Ringed o log spans notes seats d → StaysInRings d e → HaveLeftMore o.origin d e
-    → CardsStay o.origin now d e → GoOn log later spans now notes →
+    → CardsGo o.origin now (λ c t. IsBrokenSince later c notes t) d e → GoOn log later spans now notes →
     Ringed o later now notes seats e
 
 -- CARDS leave their slots, or power is lost: fewer are accepted.
@@ -217,7 +219,7 @@ FewerSit d = (o : Since) (log : RunLog) (spans : List SpanFrom) (notes : List No
 abbrev pub AnInsertionIsNoted : (d e : Devices) → Type 0
 AnInsertionIsNoted d e = (o : Since) (log : RunLog) (spans : List SpanFrom) (notes : List Note)
     (seats now : Card → Option Seating) → Ringed o log spans notes seats d → HaveLeftMore o.origin d e
-    → CardsStay o.origin spans d e → (a : Acceptance) (head : List ℕ) (index : ℕ) →
+    → (a : Acceptance) → CardsGo o.origin spans (OpensSince log a notes) d e → (head : List ℕ) (index : ℕ) →
     WritesRing (IsAddedAt index head) d e →
     length head ≡ insertion_ring.width → IsInsertionIn o log spans e (record { accepted = a; withdrawn = None }) head →
     ((c : Card) → ((same_card a.card c ≡ false) × (now c ≡ option_map one_behind (seats c)))
@@ -231,7 +233,7 @@ APlaceIsNoted d e = (o : Since) (log : RunLog) (spans : List SpanFrom) (notes : 
     → (p : PlaceNote) (head : List ℕ) →
     WritesRing (IsAdded unit_place_ring head) d e → length head ≡ unit_place_ring.width
     → IsPlaceIn o.origin log spans p head → (own : List ℕ) → length own ≡ place_width → IsPlaceOn spans p own
-    → PlaceIsTaken o.origin log p own d e → VehiclesGo o.origin spans d e →
+    → PlaceIsTaken o.origin log p own d e → VehiclesGo o.origin spans d e → SessionsGo o.origin NoOtherComes d e →
     Ringed o log spans (notes ++ Enters p ∷ []) seats e
 
 -- A WITHDRAWAL IS NOTED, in the entry of the card's last insertion; or as many were added since as the ring has places,
@@ -245,13 +247,13 @@ AWithdrawalIsNoted d e = (o : Since) (log : RunLog) (spans : List SpanFrom) (not
     → time.0 < 256 ^ 4 → odometer.0 < 256 ^ 3 →
     WritesRing (IsWithdrawnAt s time odometer) d e →
     ((c : Card) → ((same_card w.card c ≡ false) × (now c ≡ seats c)) ⊎ ((same_card w.card c ≡ true) × (now c ≡ None)))
-    → Ringed o log spans (notes ++ Withdraws w ∷ []) now e
+    → Shuts o.origin log w e → Ringed o log spans (notes ++ Withdraws w ∷ []) now e
 
 -- OR THE UNIT FAILED IN IT: it stands, or does not
 abbrev pub AnInsertionIsBroken : (d e : Devices) → Type 0
 AnInsertionIsBroken d e = (o : Since) (log : RunLog) (spans : List SpanFrom) (notes : List Note)
     (seats : Card → Option Seating) → Ringed o log spans notes seats d → HaveLeftMore o.origin d e
-    → CardsStay o.origin spans d e → (a : Acceptance) (head : List ℕ) →
+    → (a : Acceptance) → CardsGo o.origin spans (OpensSince log a notes) d e → (head : List ℕ) →
     WritesRing (MayBeAdded insertion_ring head) d e → length head ≡ insertion_ring.width →
     IsInsertionIn o log spans e (record { accepted = a; withdrawn = None }) head → has_failed_in log a.second ≡ true
     → Ringed o log spans (notes ++ Accepts a ∷ []) (λ c. None) e
@@ -273,7 +275,7 @@ APlaceIsBroken d e = (o : Since) (log : RunLog) (spans : List SpanFrom) (notes :
     WritesRing (MayBeAdded unit_place_ring head) d e → length head ≡ unit_place_ring.width
     → IsPlaceIn o.origin log spans p head → has_failed_in log p.second ≡ true → (own : List ℕ)
     → length own ≡ place_width → IsPlaceOn spans p own → PlaceIsTaken o.origin log p own d e
-    → VehiclesGo o.origin spans d e →
+    → VehiclesGo o.origin spans d e → SessionsGo o.origin NoOtherComes d e →
     Ringed o log spans (notes ++ Enters p ∷ []) (λ c. None) e
 
 -- ---- at the end

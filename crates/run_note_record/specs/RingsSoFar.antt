@@ -18,8 +18,9 @@ use Rattle.run_rings.specs.Notes.{notes_to, TellSameTo, NotesMore}
 use Rattle.run_rings.specs.Spans.{with_second, AreAllBefore}
 use Rattle.run_note_record.specs.Origin.{Origin}
 use Rattle.run_note_record.specs.Beside.{HaveLeftMore}
-use Rattle.run_note_record.specs.OnCards.{CardsStay}
+use Rattle.run_note_record.specs.OnCards.{CardsGo}
 use Rattle.run_note_record.specs.Ringed.{Seating, Ringed, StaysInRings, notes_in, since_behind, since_in}
+use Rattle.run_note_record.specs.Sessions.{FailsIn}
 
 -- when a note was made
 abbrev pub noted_at : Note → ℕ
@@ -85,7 +86,7 @@ RingsGoOn d e = (o : Origin) (done : List TraceSecond) (s : TraceSecond) (began 
     (log later : RunLog) (spans : List SpanFrom) (base : ℕ) (t : ToldSecond) (seats fewer : Card → Option Seating) →
     RingedIn o done s began front log spans base t seats d → HasMoreBreaks log later
     → TellSameTo log later s.number (length front) → StaysInRings d e → HaveLeftMore o d e
-    → CardsStay o (with_second spans base t) d e → AreFewer seats fewer →
+    → CardsGo o (with_second spans base t) (FailsIn later s.number) d e → AreFewer seats fewer →
     RingedIn o done s began front later spans base t fewer e
 
 abbrev pub AnActionNotesNothing : Devices → Type 0

@@ -22,7 +22,9 @@ use Rattle.run_rings.specs.Notes.{TellSameTo, NotesMore, course_behind}
 use Rattle.run_rings.specs.Spans.{with_second}
 use Rattle.run_note_record.specs.Origin.{Origin}
 use Rattle.run_note_record.specs.Beside.{HaveLeftMore}
-use Rattle.run_note_record.specs.OnCards.{place_width, IsPlaceOn, CardsStay, VehiclesGo, PlaceIsTaken}
+use Rattle.run_note_record.specs.OnCards.{place_width, IsPlaceOn, CardsGo, CardsStay, VehiclesGo, SessionsGo}
+use Rattle.run_note_record.specs.OnCards.{NoOtherComes, PlaceIsTaken}
+use Rattle.run_note_record.specs.Sessions.{FailsIn, OpensIn, Shuts}
 use Rattle.run_note_record.specs.Ringed.{Seating, one_behind, StaysInRings, WritesRing, IsInsertionIn, IsPlaceIn}
 use Rattle.run_note_record.specs.Ringed.{IsAddedAt, MayBeAdded, IsWithdrawnAt, MayBeWithdrawn, since_in}
 use Rattle.run_note_record.specs.RingsSoFar.{RingedBehind, RingedIn, AreFewer, HasMoreBreaks, GoesBehind}
@@ -58,7 +60,7 @@ AnActionPasses d e = (o : Origin) (done : List TraceSecond) (s : TraceSecond) (b
     (seats fewer : Card → Option Seating) →
     RingedIn o done s began front log spans base t seats d → GoesOnTo log later s front
     → NotesMore later (went began done).before s front a [] → StaysInRings d e → HaveLeftMore o d e
-    → CardsStay o (with_second spans base t) d e → AreFewer seats fewer →
+    → CardsGo o (with_second spans base t) (FailsIn later s.number) d e → AreFewer seats fewer →
     RingedIn o done s began (front ++ a ∷ []) later spans base t fewer e
 
 abbrev pub AnActionIsCut : (d e : Devices) → Type 0
@@ -67,7 +69,7 @@ AnActionIsCut d e = (o : Origin) (done : List TraceSecond) (s : TraceSecond) (be
     (seats : Card → Option Seating) →
     RingedIn o done s began front log spans base t seats d → IsCutIn began log cut done s front a rest
     → NotesMore cut (went began done).before s front a [] → StaysInRings d e → HaveLeftMore o d e
-    → CardsStay o (with_second spans base t) d e →
+    → CardsGo o (with_second spans base t) (FailsIn cut s.number) d e →
     RingedBehind o (done ++ s ∷ []) cut (suc s.number) (spans_cut spans base cut done s) nobody e
 
 -- A PLACE IS ENTERED of the accepted card of a slot;
@@ -90,7 +92,7 @@ APlaceIsEntered d e = (o : Origin) (done : List TraceSecond) (s : TraceSecond) (
       ending = ending;
       country = country;
       region = region;
-    }) own d e → VehiclesGo o (with_second spans base t) d e → AreFewer seats fewer →
+    }) own d e → VehiclesGo o (with_second spans base t) d e → SessionsGo o NoOtherComes d e → AreFewer seats fewer →
     RingedIn o done s began (front ++ Place slot ending country region ∷ []) later spans base t fewer e
 
 abbrev pub APlaceIsCut : (d e : Devices) → Type 0
@@ -112,7 +114,7 @@ APlaceIsCut d e = (o : Origin) (done : List TraceSecond) (s : TraceSecond) (bega
       ending = ending;
       country = country;
       region = region;
-    }) own d e → VehiclesGo o (with_second spans base t) d e →
+    }) own d e → VehiclesGo o (with_second spans base t) d e → SessionsGo o NoOtherComes d e →
     RingedBehind o (done ++ s ∷ []) cut (suc s.number) (spans_cut spans base cut done s) nobody e
 
 -- A CARD IS WITHDRAWN that was accepted, and is not torn out in that;
@@ -129,7 +131,8 @@ ACardIsWithdrawn d e = (o : Origin) (done : List TraceSecond) (s : TraceSecond) 
     → odometer.0 ≡ odometer_at s.number (with_second spans base t) → time.0 < 256 ^ 4 → odometer.0 < 256 ^ 3
     → WritesRing (IsWithdrawnAt q time odometer) d e →
     ((c : Card) → ((same_card x.card c ≡ false) × (now c ≡ seats c)) ⊎ ((same_card x.card c ≡ true) × (now c ≡ None)))
-    → HaveLeftMore o d e → CardsStay o (with_second spans base t) d e → AreFewer now fewer →
+    → HaveLeftMore o d e → CardsStay o (with_second spans base t) d e
+    → Shuts o later (record { second = s.number; card = x.card }) e → AreFewer now fewer →
     RingedIn o done s began (front ++ Withdraw slot ∷ []) later spans base t fewer e
 
 abbrev pub AWithdrawalIsCut : (d e : Devices) → Type 0
@@ -159,7 +162,8 @@ ACardIsAccepted d e = (o : Origin) (done : List TraceSecond) (s : TraceSecond) (
     (record { accepted = record { second = s.number; slot = slot; card = card }; withdrawn = None }) head →
     ((c : Card) → ((same_card card c ≡ false) × (now c ≡ option_map one_behind (seats c)))
     ⊎ ((same_card card c ≡ true) × (now c ≡ Some (record { index = index; behind = 0 })))) → HaveLeftMore o d e
-    → CardsStay o (with_second spans base t) d e → AreFewer now fewer →
+    → CardsGo o (with_second spans base t) (OpensIn later (record { second = s.number; slot = slot; card = card })) d e
+    → AreFewer now fewer →
     RingedIn o done s began (front ++ Insert slot card ∷ []) later spans base t fewer e
 
 abbrev pub AnAcceptanceIsCut : (d e : Devices) → Type 0
@@ -172,5 +176,6 @@ AnAcceptanceIsCut d e = (o : Origin) (done : List TraceSecond) (s : TraceSecond)
     (head : List ℕ) → WritesRing (MayBeAdded insertion_ring head) d e → length head ≡ insertion_ring.width →
     IsInsertionIn (since_in o began done s) cut (with_second spans base t) e
     (record { accepted = record { second = s.number; slot = slot; card = card }; withdrawn = None }) head
-    → HaveLeftMore o d e → CardsStay o (with_second spans base t) d e →
+    → HaveLeftMore o d e
+    → CardsGo o (with_second spans base t) (OpensIn cut (record { second = s.number; slot = slot; card = card })) d e →
     RingedBehind o (done ++ s ∷ []) cut (suc s.number) (spans_cut spans base cut done s) nobody e

@@ -16,7 +16,8 @@ use Rattle.safety_model.specs.Safe.{Devices}
 use Rattle.run_rings.specs.Spans.{with_second}
 use Rattle.run_note_record.specs.Origin.{Origin}
 use Rattle.run_note_record.specs.Beside.{HaveLeftMore}
-use Rattle.run_note_record.specs.OnCards.{CardsStay}
+use Rattle.run_note_record.specs.OnCards.{CardsGo}
+use Rattle.run_note_record.specs.Sessions.{FailsIn, OpensIn}
 use Rattle.run_note_record.specs.Ringed.{Seating, one_behind, StaysInRings, WritesRing, IsInsertionIn, IsAddedAt}
 use Rattle.run_note_record.specs.Ringed.{MayBeAdded, since_in}
 use Rattle.run_note_record.specs.RingsSoFar.{RingedBehind, IsSecond, RingedIn, AreFewer, HasMoreBreaks, GoesBehind}
@@ -48,7 +49,7 @@ ASlotIsPassedAnew d e = (o : Origin) (done : List TraceSecond) (s : TraceSecond)
     RingedIn o done s began [] log spans base t seats d → (went began done).before.running ≡ false
     → HasMoreBreaks log later → (slot : Slot) (found : List Verdict) → IsFoundAnew log later s.number slot found →
     (in_slot (went began done).before.slots slot ≡ None) ⊎ (filter is_accepting found ≡ []) → StaysInRings d e
-    → HaveLeftMore o d e → CardsStay o (with_second spans base t) d e → AreFewer seats fewer →
+    → HaveLeftMore o d e → CardsGo o (with_second spans base t) (FailsIn later s.number) d e → AreFewer seats fewer →
     RingedIn o done s began [] later spans base t fewer e
 
 -- or its card is accepted anew,
@@ -63,7 +64,9 @@ ACardIsAcceptedAnew d e = (o : Origin) (done : List TraceSecond) (s : TraceSecon
     (record { accepted = record { second = s.number; slot = slot; card = x.card }; withdrawn = None }) head →
     ((c : Card) → ((same_card x.card c ≡ false) × (now c ≡ option_map one_behind (seats c)))
     ⊎ ((same_card x.card c ≡ true) × (now c ≡ Some (record { index = index; behind = 0 })))) → HaveLeftMore o d e
-    → CardsStay o (with_second spans base t) d e → AreFewer now fewer →
+    → CardsGo o (with_second spans base t)
+    (OpensIn later (record { second = s.number; slot = slot; card = x.card })) d e
+    → AreFewer now fewer →
     RingedIn o done s began [] later spans base t fewer e
 
 -- or the unit failed in that, and power is cut before any action.
@@ -78,5 +81,7 @@ AnAcceptanceIsCutAnew d e = (o : Origin) (done : List TraceSecond) (s : TraceSec
     (head : List ℕ) → WritesRing (MayBeAdded insertion_ring head) d e → length head ≡ insertion_ring.width →
     IsInsertionIn (since_in o began done s) cut (with_second spans base t) e
     (record { accepted = record { second = s.number; slot = slot; card = x.card }; withdrawn = None }) head
-    → HaveLeftMore o d e → CardsStay o (with_second spans base t) d e →
+    → HaveLeftMore o d e
+    → CardsGo o (with_second spans base t)
+    (OpensIn cut (record { second = s.number; slot = slot; card = x.card })) d e →
     RingedBehind o (done ++ s ∷ []) cut (suc s.number) (spans_cut spans base cut done s) nobody e

@@ -6,5 +6,5 @@ use Rattle.run_events.proofs.event_laws.later_lines_change_no_event.Goals as goa
 pub returns : goal.returns
 returns c = record {
   seen = λ log later done same. seen-same log later done same;
-  events = λ log later unfound supply done g m kind limit sessions t. lines-lead log later done m.same m.stay t (events-lead t log later unfound supply done g m) kind limit sessions;
+  events = λ log later unfound supply done g m kind limit sessions t. lines-lead log later done m.same t (events-lead t log later unfound supply done g m) kind limit sessions;
 }
