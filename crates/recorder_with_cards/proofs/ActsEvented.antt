@@ -19,6 +19,7 @@ use Rattle.run_unit_course.specs.Followed.{Lost as IsLost}
 use Rattle.safety_model.specs.Safe.{Devices, breakdowns_of}
 use Rattle.unit_memory.specs.declared.memory.UnitFacts.{UnitFacts}
 use Rattle.run_events.specs.declared.watch.Watch.{Watch}
+use Rattle.run_events.specs.Shown.{all_sure}
 use Rattle.run_events.proofs.Shows.{nothing-more}
 use Rattle.run_course.specs.Reached.{course_at, moved_at, Reaches, IsTearAt}
 use Rattle.run_course.proofs.Reached.{action-reached}
@@ -92,7 +93,7 @@ still-images : (o : Origin) (d : Devices) → HaveLeftMore o d d
 still-images o d = record { unit = λ x h. h; card = λ c x h. h }
 
 notes-none : (o : Origin) (d : Devices) → NotesThese o [] d d
-notes-none o d = λ c there. (c, there, λ log now. nothing-more (number_in o) log now c c (same-says c))
+notes-none o d = λ c there. (c, there, nothing-more (number_in o) all_sure c c (same-says c))
 
 -- it is refused
 pub refused-now : (o : Origin) (done : List TraceSecond) (s : TraceSecond) (speed : ℕ) (run : Run) (before : Outcome) (d : Devices) → IsNow s speed run → (front : List Action) (a : Action) (rest : List Action) → s.actions ≡ front ++ a ∷ rest →

@@ -42,7 +42,7 @@ use Rattle.run_course.specs.Moments.{and_refused}
 use Rattle.run_acts.specs.Closings.{notes_within}
 use Rattle.run_acts.specs.Truths.{truths_within, marked}
 use Rattle.run_acts.specs.Stays.{AllStay}
-use Rattle.run_acts.proofs.AllStay.{all-noted, log-self, no-cut}
+use Rattle.run_acts.proofs.AllStay.{all-noted, log-self, same-on, no-cut}
 use Rattle.run_acts.proofs.NotesThen.{select-now, hand-now, refuse-now}
 use Rattle.run_acts.specs.ByHand.{entry_from, session_at, cabin_holding, entered_run, stop_of, stop_by, stopped_in, stop_in, holding}
 use Rattle.run_acts.proofs.ByHand.{holding-slots, holding-alike, cards-same, taken-there}
@@ -105,8 +105,8 @@ module _ (o : Origin) (done : List TraceSecond) (s : TraceSecond) (speed : ℕ) 
           stay = subst (λ (b : Beginning). AllStay o (marked before.marks.items (truths_within o b.run.log done s)) s.number (log_of pre) (notes_within b done s (In (suc (length front))) (log_of pre)) run.keeper.memory.registration run.keeper.cabin d) (sym g.began)
               (subst (λ (l : RunLog). AllStay o (marked before.marks.items (truths_within o h.within.b.run.log done s)) s.number l (notes_within h.within.b done s (In (suc (length front))) l) run.keeper.memory.registration run.keeper.cabin d) (sym same)
               (all-noted o (marked before.marks.items (truths_within o h.within.b.run.log done s)) s.number (log_of before) (and_refused (log_of before) line) (notes_within h.within.b done s (In (length front)) (log_of before)) (notes_within h.within.b done s (In (suc (length front))) (and_refused (log_of before) line))
-              run.keeper.memory.registration run.keeper.cabin d (λ none. record { none = none; finds = refl; judged = refl })
-              (λ none c. refuse-now o done s front rest a are (values_of run before) d h.within fault (refuses (Some fault) is) line c) h.stay));
+              run.keeper.memory.registration run.keeper.cabin d (same-on o (log_of before) (and_refused (log_of before) line) d refl refl)
+              (λ whose known c in_. refuse-now o done s front rest a are (values_of run before) d h.within fault (refuses (Some fault) is) line c) h.stay));
         };
         began = g.began;
       }))
@@ -129,7 +129,7 @@ module _ (o : Origin) (done : List TraceSecond) (s : TraceSecond) (speed : ℕ) 
           odometer = same-odometer g.within.b g.began;
           stay = subst (λ (b : Beginning). AllStay o (marked before.marks.items (truths_within o b.run.log done s)) s.number (log_of before) (notes_within b done s (In (suc (length front))) (log_of before)) run.keeper.memory.registration run.keeper.cabin d) (sym g.began)
               (all-noted o (marked before.marks.items (truths_within o h.within.b.run.log done s)) s.number (log_of before) (log_of before) (notes_within h.within.b done s (In (length front)) (log_of before)) (notes_within h.within.b done s (In (suc (length front))) (log_of before)) run.keeper.memory.registration run.keeper.cabin d
-              (log-self (log_of before)) (λ none c. select-now o done s front rest slot pick (subst (λ (x : Action). s.actions ≡ front ++ x ∷ rest) is are) (values_of run before) d h.within c) h.stay);
+              (log-self o (log_of before) d) (λ whose known c in_. select-now o done s front rest slot pick (subst (λ (x : Action). s.actions ≡ front ++ x ∷ rest) is are) (values_of run before) d h.within c) h.stay);
         };
         began = g.began;
       })
@@ -157,7 +157,7 @@ module _ (o : Origin) (done : List TraceSecond) (s : TraceSecond) (speed : ℕ) 
               (subst (λ (ms : List Mark). AllStay o (marked ms (truths_within o h.within.b.run.log done s)) s.number (log_of after) (notes_within h.within.b done s (In (suc (length front))) (log_of after)) run.keeper.memory.registration cabin d) (sym (ap (λ (l : Listed Mark). l.items) marks))
               (subst (λ (l : RunLog). AllStay o (marked before.marks.items (truths_within o h.within.b.run.log done s)) s.number l (notes_within h.within.b done s (In (suc (length front))) l) run.keeper.memory.registration cabin d) (sym log)
               (all-noted o (marked before.marks.items (truths_within o h.within.b.run.log done s)) s.number (log_of before) (log_of before) (notes_within h.within.b done s (In (length front)) (log_of before)) (notes_within h.within.b done s (In (suc (length front))) (log_of before)) run.keeper.memory.registration cabin d
-              (log-self (log_of before)) (λ none c. hand-now o done s front rest slot pick minute here (values_of run before) d h.within c) stays)));
+              (log-self o (log_of before) d) (λ whose known c in_. hand-now o done s front rest slot pick minute here (values_of run before) d h.within c) stays)));
         };
         began = g.began;
       }

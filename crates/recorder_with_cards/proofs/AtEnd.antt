@@ -1,14 +1,10 @@
 -- Which card has a session once a run is over: one that sits in a slot; so the spells of its stays are the noted ones. And what is true of them then.
-use Rattle.std.proofs.Common.{◌≡◌, ◌∙◌, ⊎_elim, ℕ, Bool, true, false, List, [], ◌∷◌, All, Option, Some, None, is_some, refl, ap, sym}
+use Rattle.std.proofs.Common.{◌≡◌, ◌∙◌, ⊎_elim, ℕ, Bool, true, false, List, [], ◌∷◌, Option, Some, None, is_some, refl, ap, sym}
 use Rattle.std.specs.List.{AllByRecursion}
-use Rattle.activity_codec.specs.declared.entries.Entry.{Entry}
 use Rattle.trace_model.specs.declared.Card.{Card}
-use Rattle.log_model.specs.declared.lines.Find.{Find}
 use Rattle.trace_model.specs.Trace.{TraceSecond}
 use Rattle.log_model.specs.Course.{ToldSecond}
 use Rattle.log_model.specs.declared.lines.Mark.{Mark}
-use Rattle.log_model.specs.Causes.{device_of}
-use Rattle.history_model.specs.Completeness.{IsMarked}
 use Rattle.tacho_types.specs.declared.texts.Registration.{Registration}
 use Rattle.safety_model.specs.Safe.{Devices}
 use Rattle.run_unit_course.specs.Followed.{UnitPower, Lit as IsLit, Due as IsDue, Lost as IsLost}
@@ -24,8 +20,8 @@ use Rattle.run_acts.specs.declared.run.Power.{Power}
 use Rattle.run_acts.specs.declared.run.Power.TheVariants.{Lit, Due, Lost}
 use Rattle.run_acts.specs.Recording.{Supplies, RunRecorded, values_of}
 use Rattle.run_acts.specs.Closings.{Spell}
-use Rattle.run_acts.specs.Truths.{past_of, truths_by}
-use Rattle.run_acts.specs.Stays.{Stay, Shown, after_stay, sits_in, as_noted, AreOwed, IsTrueOf}
+use Rattle.run_acts.specs.Truths.{Truths, past_of, truths_by, marked}
+use Rattle.run_acts.specs.Stays.{Stay, Shown, after_stay, sits_in, as_noted, AreOwed, Whose, Both, Only, owed_by, IsTrueOf}
 use Rattle.run_acts.proofs.SeatsThen.{sits-in-one}
 use Rattle.unit_model.specs.Image.{odometer_at}
 use Rattle.safety_model.specs.Recording.{Recording, brought, start_of}
@@ -75,8 +71,14 @@ module _ (r : Recording) where
   odometers-so [] all = tt
   odometers-so (s ∷ ss) all = ((all.0.0, all.0.1), odometers-so ss all.1)
 
--- what was owed to a card at each, and that each entry of it has its mark
-pub owes-so : (Owes : Find → (mark : ℕ) → List Entry → Type 0) (marks : List Mark) (c : Card) (vehicle : Registration) (size : ℕ) (ss : List Stay) (p : Shown) →
-    AreOwed (λ f mark es. Owes f mark es × All (λ (e : Entry). IsMarked marks (device_of c) e.minute) es) vehicle size ss p → AreOwed Owes vehicle size ss p × AllByRecursion (IsAcknowledgedSo marks c) ss
-owes-so Owes marks c vehicle size [] p h = (tt, tt)
-owes-so Owes marks c vehicle size (s ∷ ss) p h = let rest = owes-so Owes marks c vehicle size ss (after_stay vehicle size s p) h.1 in ((h.0.0, rest.0), (h.0.1, rest.1))
+-- what was owed to a card at each
+pub owes-so : (t : Truths) (marks : List Mark) (c : Card) (vehicle : Registration) (size : ℕ) (ss : List Stay) (p : Shown) → AreOwed (owed_by Both (marked marks t) c) vehicle size ss p → AreOwed (t.owed c) vehicle size ss p
+owes-so t marks c vehicle size [] p h = tt
+owes-so t marks c vehicle size (s ∷ ss) p h = (h.0.0, owes-so t marks c vehicle size ss (after_stay vehicle size s p) h.1)
+
+-- and that each entry of it has its mark
+pub acknowledged-so : (whose : Whose) (t : Truths) (marks : List Mark) (c : Card) (vehicle : Registration) (size : ℕ) (ss : List Stay) (p : Shown) → AreOwed (owed_by whose (marked marks t) c) vehicle size ss p → AllByRecursion (IsAcknowledgedSo marks c) ss
+acknowledged-so Both t marks c vehicle size [] p h = tt
+acknowledged-so (Only k) t marks c vehicle size [] p h = tt
+acknowledged-so Both t marks c vehicle size (s ∷ ss) p h = (h.0.1, acknowledged-so Both t marks c vehicle size ss (after_stay vehicle size s p) h.1)
+acknowledged-so (Only k) t marks c vehicle size (s ∷ ss) p h = (h.0, acknowledged-so (Only k) t marks c vehicle size ss (after_stay vehicle size s p) h.1)

@@ -45,10 +45,11 @@ use Rattle.run_course.proofs.Telling.{card-torn, card-judged}
 use Rattle.run_course.specs.Reached.{Reaches, moved_with, course_at, moved_at, IsTearAt, IsFindAt}
 use Rattle.run_course.proofs.Reached.{lines-reached}
 use Rattle.run_course.proofs.Lines.{who-sits, find-seen}
-use Rattle.run_events.specs.Shown.{by_kind}
+use Rattle.run_events.specs.Shown.{by_kind, none_sure}
+use Rattle.run_events.proofs.Shows.{moment-first}
 use Rattle.run_promise.specs.Origin.{Origin}
 use Rattle.run_note_record.specs.Opened.{session_in, HasComeBefore}
-use Rattle.run_note_record.specs.Evented.{Evented}
+use Rattle.run_note_record.specs.Evented.{number_in, NotesMore, Evented}
 use Rattle.run_note_record.specs.Uses.{FindsMore}
 use Rattle.run_note_record.specs.Noting.{Ended, NotesThese}
 use Rattle.run_note_record.specs.EventsSoFar.{puts_into, Adds, EventedNow, NotesUnsure, BeginsNow, AreBare, ComesInTurn, IsOpenWith, stage_in, fault_with, judged_with, crew_at}
@@ -67,7 +68,6 @@ use Rattle.run_acts.specs.NotedEvents.{AreTold, NotesSo}
 use Rattle.run_acts.specs.ActsEvented.{IsFailing}
 use Rattle.run_crew.specs.declared.cabin.Cabin.{Cabin}
 use Rattle.run_insertion.specs.Noted.{UnitNote, Inserts, BeginsRow, Tells, notes_by}
-use Rattle.unit_events.specs.Noted.{are_sure}
 use Rattle.recorder_with_cards.specs.EnteredEvents.{events_in}
 use Rattle.recorder_with_cards.specs.EnteredTold.{TellEvents, moving_events, unclosed_events, events_by, IsLow, AreNamed}
 use Rattle.recorder_with_cards.proofs.EnteredTold.{events-told}
@@ -196,12 +196,18 @@ noted-or (Unnoted entered clock) speed second beforehand accepted left = inr ref
 noted-or (Seated entered clock entry) speed second beforehand accepted left = inl refl
 noted-or (Lost entered clock entry) speed second beforehand accepted left = inl refl
 
+-- where none was noted, none of those that were to be is sure
+none-noted : (o : Origin) (all : List Event) (d e : Devices) → NotesMore o none_sure (by_kind []) d e → NotesMore o none_sure (by_kind all) d e
+none-noted o all d e none_came = λ c there. let one = none_came c there in (one.0, one.1, moment-first (number_in o) [] all one.0 c one.2)
+
 -- so it is noted, or the unit failed in that
 pub unsure-added : (o : Origin) (ending : Ending) (speed second : ℕ) (beforehand accepted left : Crew) (d e : Devices) → NotesSo true o (events_by ending speed second beforehand accepted left) d e → NotesUnsure o (added_by ending speed second beforehand accepted left) d e
-unsure-added o ending speed second beforehand accepted left d e notes log now unsure = notes log now (⊎_elim
-    (λ same. subst (AllByRecursion (λ (g : Event). are_sure log (now g.kind) ≡ true → ⊥)) (sym same) unsure)
-    (λ gone. subst (AllByRecursion (λ (g : Event). are_sure log (now g.kind) ≡ true → ⊥)) (sym gone) tt)
-    (noted-or ending speed second beforehand accepted left))
+unsure-added o ending speed second beforehand accepted left d e notes =
+    let all : List Event = added_by ending speed second beforehand accepted left in
+    ⊎_elim
+    (λ same. subst (λ (es : List Event). NotesMore o none_sure (by_kind es) d e) same notes)
+    (λ gone. none-noted o all d e (subst (λ (es : List Event). NotesMore o none_sure (by_kind es) d e) gone notes))
+    (noted-or ending speed second beforehand accepted left)
 
 -- ---- WHAT IT ADDS
 module _ (d : Devices) (o : Origin) (done : List TraceSecond) (p : Progress) (span : List ToldSecond) (s : TraceSecond) (b : BeginsNow o done p span s) (n : ℕ) (log : RunLog) (r : Reaches p s (In n) log) (e : Entering) (second : e.at.second ≡ s.number) (begun : e.at.begun ≡ n)

@@ -9,8 +9,11 @@ use Rattle.run_note_record.specs.Evented.{number_in}
 use Rattle.run_insertion.specs.Noted.{UnitNote, Inserts, BeginsRow, Tells, IsOnUnit, IsComing, AreDone, HasNoted}
 use Rattle.recorder_with_cards.specs.EnteredTold.{TellEvents}
 use Rattle.run_acts.specs.NotedEvents.{AreTold, NotesEvents}
+use Rattle.run_events.specs.Shown.{by_kind}
+use Rattle.run_events.proofs.Shows.{nothing-of}
+use Rattle.run_acts.proofs.NotedEvents.{same-says}
 use Rattle.recorder_with_cards.specs.EnteredEvents.{events_in}
-use Rattle.recorder_with_cards.proofs.EnteredTold.{same-shown, told-shown, told-moment}
+use Rattle.recorder_with_cards.proofs.EnteredTold.{told-shown, told-coming}
 
 tell-told : (number : Card → List ℕ) (notes : List UnitNote) (es : List Event) → AreTold number (events_in notes) es → TellEvents number notes es
 tell-told number [] [] h = tt
@@ -35,9 +38,13 @@ module _ (U V A B C D : State) (notes : List UnitNote) (whole : IsCoherent U) (b
       let is : V.image ≡ Some c = behind.only c works there in
       let was = by-image U.image V.image c is h.moments.tells in
       let done = subst (λ (q : Option (List ℕ)). IfSome q (λ y. AreDone IsOnUnit notes was.0 y)) is (subst (λ (q : Option (List ℕ)). IfSome q (λ x. IfSome V.image (AreDone IsOnUnit notes x))) was.1 (h.whole refl)) in
-      (was.0, whole.is_left was.0 was.1, λ log now. told-shown (number_in o) long log now notes es was.0 c (long-enough was.0 was.1) (tell-told (number_in o) notes es told) done)
-  entered-noted true h works o long es told = λ log now unsure c there.
+      (was.0, whole.is_left was.0 was.1, told-shown (number_in o) long notes es was.0 c (long-enough was.0 was.1) (tell-told (number_in o) notes es told) done)
+  entered-noted true h works o long es told = λ c there.
       ⊎_elim
-      (λ was. (c, was, same-shown (number_in o) long log now c c refl))
-      (λ moment. (moment.0, whole.is_left moment.0 moment.1, told-moment (number_in o) long log now notes es moment.0 c (tell-told (number_in o) notes es told) unsure moment.2))
+      (λ was. (c, was, nothing-of (number_in o) (by_kind es) c c (same-says c)))
+      (λ moment. (
+        moment.0,
+        whole.is_left moment.0 moment.1,
+        told-coming (number_in o) long notes es moment.0 c (long-enough moment.0 moment.1) (tell-told (number_in o) notes es told) moment.2,
+      ))
       (h.moments.now c there)

@@ -1,10 +1,11 @@
 -- A card is judged: the places of each card stay as they are, whatever becomes of it, and its vehicle entries are measured.
-use Rattle.std.proofs.Common.{◌≡◌, ◌∙◌, ◌⊎◌, inl, inr, ⊎_elim, ℕ, ◌+◌, ◌≤◌, Bool, None, List, [], ◌∷◌, ◌++◌, length, take, drop, refl, sym, ap, subst, arith}
+use Rattle.std.proofs.Common.{◌≡◌, ◌≢◌, ◌∙◌, ◌⊎◌, inl, inr, ⊎_elim, ℕ, ◌+◌, ◌<◌, ◌≤◌, ◌^◌, Bool, true, None, List, [], ◌∷◌, ◌++◌, filter, length, take, drop, refl, sym, ap, subst, arith}
 use Rattle.std.proofs.lemmas.List.{take-take, drop-take, take_at, length-take-le, length-append}
 use Rattle.card_layout.proofs.Images.{part_before}
 use Rattle.activity_codec.specs.declared.values.Activity.TheVariants.{Rest}
 use Rattle.activity_codec.specs.declared.entries.Entry.{Entry}
 use Rattle.trace_model.specs.declared.Card.{Card}
+use Rattle.trace_model.specs.declared.Card.TheVariants.{A, B}
 use Rattle.trace_model.specs.Trace.{TraceSecond}
 use Rattle.tach_media.specs.Medium.{State, bytes_at, put}
 use Rattle.tacho_types.specs.declared.texts.Registration.{Registration}
@@ -30,7 +31,9 @@ use Rattle.card_session.proofs.InsertingUse.{use_inside}
 use Rattle.card_session.proofs.InsertingAgain.{inserting_keeps}
 use Rattle.device_calls.specs.Entering.{owed_on}
 use Rattle.device_rule.specs.Views.{other}
-use Rattle.log_model.specs.Log.{In}
+use Rattle.log_model.specs.declared.lines.Verdict.{Verdict}
+use Rattle.log_model.specs.Log.{RunLog, In, found_in, is_accepting}
+use Rattle.log_model.specs.Slots.{same_card}
 use Rattle.log_model.specs.Course.{Visit}
 use Rattle.note_model.specs.Odometer.{SpanFrom}
 use Rattle.safety_model.specs.Recording.{card_image}
@@ -39,22 +42,25 @@ use Rattle.run_devices.specs.Told.{arranged}
 use Rattle.run_devices.specs.Measured.{GoesMeasured}
 use Rattle.run_devices.proofs.Holders.{event-places, noted-places, card-places}
 use Rattle.run_devices.proofs.Measured.{goes-itself, goes-then, bytes-go, inserting-goes, event-vehicles, noted-vehicles}
+use Rattle.run_devices.specs.Sessions.{SessionGoes}
+use Rattle.run_devices.proofs.Sessions.{session-itself, session-then, session-more, inserting-session, event-session, noted-session}
 use Rattle.run_outcome.specs.declared.outcome.Outcome.{Outcome}
 use Rattle.run_promise.specs.Origin.{Origin}
-use Rattle.run_note_record.specs.OnCards.{HasSamePlaces, LeavesPlaces, PlacesStay, IsReading, GoesByReadings, VehiclesGo, CardsStay}
+use Rattle.run_note_record.specs.OnCards.{has_call_failed_in, HasSamePlaces, LeavesPlaces, PlacesStay, IsReading, GoesByReadings, VehiclesGo, SessionsGo, CardsGo}
 use Rattle.run_minutes.specs.declared.keeper.Keeper.{Keeper}
 use Rattle.run_insertion.specs.declared.lines.Entering.{Entering}
-use Rattle.run_insertion.specs.Entering.{Way, Unread, Unsized, Judged}
+use Rattle.run_insertion.specs.Entering.{Ending, Unfit, Ahead, Fell, Unasked, Unnoted, Seated, Lost, Way, Unread, Unsized, Judged, ending_of}
 use Rattle.run_insertion.specs.Noted.{CardNote, PutIn, Shows, IsOnCard, IsComingOnCard, AreBeingDone, AreComingOnCard, card_notes_by}
 use Rattle.run_insertion.specs.Entered.{IsFoundIn}
 use Rattle.run_record.specs.Within.{RecordInSecond}
 use Rattle.run_acts.specs.Entered.{values_with, MayJudge, HasGone, AreSound}
-use Rattle.run_acts.specs.Recording.{IsOrigin}
+use Rattle.run_acts.specs.Recording.{IsOrigin, log_of}
 use Rattle.run_acts.specs.RunCards.{sizes_in}
 use Rattle.run_acts.proofs.CardPlaces.{file-ring}
 use Rattle.run_acts.proofs.CardStays.{valid-found}
 use Rattle.run_acts.proofs.EnteredFacts.{mine-back, each, card-run}
 use Rattle.run_acts.proofs.EnteredWhole.{found-in}
+use Rattle.recorder_with_cards.specs.JudgedRings.{JudgesIn}
 
 -- ---- bytes
 
@@ -211,11 +217,44 @@ module _ (app : Application) (good : IsApplication app) (Is : ℕ → Type 0) (r
       let same = done.entry.outside.same_length in
       goes-then app Is x z c (bytes-go app Is good x z (noted-vehicles app x z event done)) (coming-goes notes z c (omega (arith, fits, same)) rest)
 
+-- ---- and its session
+
+module _ (app : Application) (registration : Registration) (named : length registration.0 ≡ 15) (e : Entering) (small : e.at.second < 2 ^ 32) (unit : List ℕ) where
+  coming-session : (notes : List CardNote) (x c : List ℕ) → image_size_of app ≤ length x → AreBeingDone (IsOnCard app registration e unit) (IsComingOnCard app registration e unit) notes x c → SessionGoes app (λ t. t ≡ e.at.second) x c
+  coming-session [] x c fits h = absurd h
+  coming-session (PutIn ∷ notes) x c fits (inl moment) = inserting-session app registration e.at.second named small e.odometer.0 (owed_on app unit x) x c fits moment
+  coming-session (Shows event ∷ notes) x c fits (inl moment) = event-session app (λ t. t ≡ e.at.second) event x c moment
+  coming-session (PutIn ∷ notes) x c fits (inr (z, done, rest)) =
+      let moment = inserted_moment app registration e.odometer.0 e.at.second (owed_on app unit x) x z done in
+      let same = (inserting_keeps app registration e.odometer.0 e.at.second (owed_on app unit x) named x z (omega (arith, fits, use_inside app)) moment).1 in
+      session-then app (λ t. t ≡ e.at.second) x z c (inserting-session app registration e.at.second named small e.odometer.0 (owed_on app unit x) x z fits moment) (coming-session notes z c (omega (arith, fits, same)) rest)
+  coming-session (Shows event ∷ notes) x c fits (inr (z, done, rest)) =
+      let same = done.entry.outside.same_length in
+      session-then app (λ t. t ≡ e.at.second) x z c (noted-session app (λ t. t ≡ e.at.second) event x z done) (coming-session notes z c (omega (arith, fits, same)) rest)
+
+same-self : (x : Card) → same_card x x ≡ true
+same-self A = refl
+same-self B = refl
+
+-- what is to be known of an ending in which the card was called: it is accepted, or a call failed
+abbrev pub IsToldOpen : RunLog → (second : ℕ) → List Verdict → Ending → Type 0
+IsToldOpen log u verdicts (Unfit fid place) = Unit {0}
+IsToldOpen log u verdicts (Ahead stored) = Unit {0}
+IsToldOpen log u verdicts Fell = has_call_failed_in log u ≡ true
+IsToldOpen log u verdicts Unasked = Unit {0}
+IsToldOpen log u verdicts (Unnoted entered clock) = filter is_accepting verdicts ≢ []
+IsToldOpen log u verdicts (Seated entered clock entry) = filter is_accepting verdicts ≢ []
+IsToldOpen log u verdicts (Lost entered clock entry) = filter is_accepting verdicts ≢ []
+
 -- ---- IT IS JUDGED
 
 module _ (o : Origin) (done : List TraceSecond) (s : TraceSecond) (n : ℕ) (waits fewer : List Visit) (e : Entering) (k : Keeper) (out : Outcome) (unfound next_ begun : ℕ) (minutes : Kept) (U X Z : State) (w : RecordInSecond o done s (In n) waits None [] (values_with k out unfound next_ begun minutes) (arranged e.which U X Z)) (m : MayJudge o done s n waits fewer e k out unfound next_ begun minutes U X Z w)
     (origin : IsOrigin o) (failed : Bool) (k' : Keeper) (noted noted' : ℕ) (out' : Outcome) (W Y : State) (way : Way) (g : HasGone e failed k k' noted noted' out out' U W X Y Z way) (sound : AreSound U W X Y) (fits : LARGEST_IMAGE ≤ X.size)
-    (spans : List SpanFrom) (reads : IsReading spans e.odometer.0) where
+    (spans : List SpanFrom) (reads : IsReading spans e.odometer.0) (second : e.at.second ≡ s.number) (small : s.number < 2 ^ 32) (opens : IsToldOpen (log_of out') s.number (found_in (log_of out') s.number (In n) e.slot) (ending_of way)) where
+  -- the session that it may tell
+  abbrev May : Card → ℕ → Type 0
+  May = JudgesIn (log_of out') (record { second = s.number; slot = e.slot; card = e.which }) (found_in (log_of out') s.number (In n) e.slot)
+
   -- of this card, where it was valid
   module _ (valid : IsOwnValid (card_image o.recording e.which)) where
     there : IsOwnValid (found_of o.found e.which).image
@@ -271,6 +310,42 @@ module _ (o : Origin) (done : List TraceSecond) (s : TraceSecond) (n : ℕ) (wai
         (λ late. (late.2.0, late.2.1, by-way-goes way run.0 late.2.0 y late.2.1 was.2 late.2.2))
         (run.1.now y left)
 
+    -- a session of this second comes where it was called
+    module _ (u x y : List ℕ) where
+      comes-open : (ending : Ending) → IsToldOpen (log_of out') s.number (found_in (log_of out') s.number (In n) e.slot) ending
+          → AreBeingDone (IsOnCard (sizes_in o e.which) k.memory.registration e u) (IsComingOnCard (sizes_in o e.which) k.memory.registration e u) (card_notes_by ending k.memory.registration e) x y
+          → (t : ℕ) → t ≡ e.at.second → May e.which t
+      comes-open (Unfit fid place) told comes t is = absurd comes
+      comes-open (Ahead stored) told comes t is = absurd comes
+      comes-open Fell told comes t is = inr (is ∙ second, told)
+      comes-open Unasked told comes t is = absurd comes
+      comes-open (Unnoted entered clock) told comes t is = inl (same-self e.which, told, is ∙ second)
+      comes-open (Seated entered clock entry) told comes t is = inl (same-self e.which, told, is ∙ second)
+      comes-open (Lost entered clock entry) told comes t is = inl (same-self e.which, told, is ∙ second)
+
+      coming-opens : (ending : Ending) → IsToldOpen (log_of out') s.number (found_in (log_of out') s.number (In n) e.slot) ending → X.may_leave x
+          → AreBeingDone (IsOnCard (sizes_in o e.which) k.memory.registration e u) (IsComingOnCard (sizes_in o e.which) k.memory.registration e u) (card_notes_by ending k.memory.registration e) x y
+          → SessionGoes (sizes_in o e.which) (May e.which) x y
+      coming-opens ending told at comes =
+          session-more (sizes_in o e.which) (λ t. t ≡ e.at.second) (May e.which) (comes-open ending told comes) x y
+          (coming-session (sizes_in o e.which) k.memory.registration named e (omega (arith, second, small)) u (card_notes_by ending k.memory.registration e) x y (all x at) comes)
+
+      by-way-opens : (v : Way) → IsToldOpen (log_of out') s.number (found_in (log_of out') s.number (In n) e.slot) (ending_of v) → X.may_leave x → IsFoundIn e.at.second U.image v was.0 → AreComingOnCard v k.memory.registration e u x y → SessionGoes (sizes_in o e.which) (May e.which) x y
+      by-way-opens Unread told at found comes = absurd comes
+      by-way-opens (Unsized field) told at found comes = absurd comes
+      by-way-opens (Judged app ending) told at found comes =
+          let same : app ≡ sizes_in o e.which = sym found.0 ∙ sizes-are was.0 was.1 in
+          coming-opens ending told at
+          (subst (λ (a : Application). AreBeingDone (IsOnCard a k.memory.registration e u) (IsComingOnCard a k.memory.registration e u) (card_notes_by ending k.memory.registration e) x y) same comes)
+
+    own-opens : (y : List ℕ) → Y.may_leave y → (x : List ℕ) × X.may_leave x × SessionGoes (sizes_in o e.which) (May e.which) x y
+    own-opens y left =
+        let run = card-run o done s n waits fewer e k out unfound next_ begun minutes U X Z w m failed k' noted noted' out' W Y way g sound in
+        ⊎_elim
+        (λ before. (y, before, session-itself (sizes_in o e.which) (May e.which) y))
+        (λ late. (late.2.0, late.2.1, by-way-opens run.0 late.2.0 y way opens late.2.1 was.2 late.2.2))
+        (run.1.now y left)
+
   stays : PlacesStay o (arranged e.which U X Z) (arranged e.which W Y Z)
   stays c valid =
       each e.which U W X Y Z (λ (q : Card) (a b : State). IsOwnValid (card_image o.recording q) → LeavesPlaces (card_image o.recording q) a b) (λ v. own v) (λ v y left. (y, left, refl)) c valid
@@ -280,6 +355,11 @@ module _ (o : Origin) (done : List TraceSecond) (s : TraceSecond) (n : ℕ) (wai
       each e.which U W X Y Z (λ (q : Card) (a b : State). IsOwnValid (card_image o.recording q) → (y : List ℕ) → b.may_leave y → (x : List ℕ) × a.may_leave x × GoesByReadings spans (card_image o.recording q) x y)
       (λ v. own-goes v) (λ v y left. (y, left, goes-itself (sizes_in o (other e.which)) (IsReading spans) y)) c valid
 
-  -- SO THE PLACES of both cards stay, and their vehicle entries are measured
-  pub judged-places : CardsStay o spans (arranged e.which U X Z) (arranged e.which W Y Z)
-  judged-places = record { places = stays; vehicles = goes }
+  sessions : SessionsGo o May (arranged e.which U X Z) (arranged e.which W Y Z)
+  sessions c valid =
+      each e.which U W X Y Z (λ (q : Card) (a b : State). IsOwnValid (card_image o.recording q) → (y : List ℕ) → b.may_leave y → (x : List ℕ) × a.may_leave x × SessionGoes (sizes_in o q) (May q) x y)
+      (λ v. own-opens v) (λ v y left. (y, left, session-itself (sizes_in o (other e.which)) (May (other e.which)) y)) c valid
+
+  -- SO THE PLACES of both cards stay, their vehicle entries are measured, and no other session comes
+  pub judged-places : CardsGo o spans May (arranged e.which U X Z) (arranged e.which W Y Z)
+  judged-places = record { places = stays; vehicles = goes; sessions = sessions }

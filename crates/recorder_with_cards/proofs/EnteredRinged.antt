@@ -42,7 +42,7 @@ use Rattle.run_outcome.specs.declared.outcome.Outcome.{Outcome}
 use Rattle.run_promise.specs.Origin.{Origin}
 use Rattle.run_promise.specs.Beside.{HaveLeftMore}
 use Rattle.run_note_record.specs.Ringed.{Seating, one_behind, Since, since_in}
-use Rattle.run_note_record.specs.OnCards.{CardsStay}
+use Rattle.run_note_record.specs.OnCards.{has_call_failed_in, CardsGo}
 use Rattle.run_note_record.specs.RingsSoFar.{AreFewer}
 use Rattle.run_minutes.specs.declared.keeper.Keeper.{Keeper}
 use Rattle.run_minutes.specs.declared.keeper.Moment.{Moment as KeepingAt}
@@ -57,11 +57,12 @@ use Rattle.run_acts.specs.Ringing.{seating_of}
 use Rattle.run_acts.proofs.EnteredFacts.{before, mine-back, units, now-is, card-began, unit-told, known as known-behind, left}
 use Rattle.run_acts.proofs.EnteredWhole.{found-in}
 use Rattle.recorder_with_cards.specs.EnteredRings.{WritesBy}
-use Rattle.recorder_with_cards.specs.JudgedRings.{IsInsertionNow, AreSeatedWith, JudgedInRings, TellsHere, IsOdometerOf}
+use Rattle.recorder_with_cards.specs.JudgedRings.{JudgesIn, IsInsertionNow, AreSeatedWith, JudgedInRings, TellsHere, IsOdometerOf}
 use Rattle.recorder_with_cards.proofs.EnteredAdds.{log_with}
 use Rattle.recorder_with_cards.proofs.EnteredHolder.{insertion-now}
 use Rattle.recorder_with_cards.proofs.EnteredLines.{TellsOf, verdicts_of, ending-tells, ending-here, tells-same}
-use Rattle.recorder_with_cards.proofs.EnteredPlaces.{judged-places}
+use Rattle.run_acts.proofs.CardPlaces.{tear-failed}
+use Rattle.recorder_with_cards.proofs.EnteredPlaces.{IsToldOpen, judged-places}
 use Rattle.recorder_with_cards.proofs.EnteredRings.{accept-writes}
 
 -- ---- where the insertions of the accepted cards stand
@@ -198,7 +199,7 @@ pub record IsRinged (o : Since) (s : TraceSecond) (n : ℕ) (e : Entering) (span
   pub cut : cut_in (log_of out') s.number ≡ cut_in (log_of out) s.number
   pub same : (x : ℕ) → n ≡ suc x → TellSameTo (log_of out) (log_of out') s.number x
   pub left : HaveLeftMore o.origin d later
-  pub places : CardsStay o.origin spans d later
+  pub places : CardsGo o.origin spans (JudgesIn (log_of out') (record { second = s.number; slot = e.slot; card = e.which }) (found_in (log_of out') s.number (In n) e.slot)) d later
   pub counted : noted' ≤ length (log_of out').finds
 
 module _ (o : Origin) (done : List TraceSecond) (s : TraceSecond) (n : ℕ) (waits fewer : List Visit) (e : Entering) (k : Keeper) (out : Outcome) (unfound next_ begun : ℕ) (minutes : Kept) (U X Z : State) (w : RecordInSecond o done s (In n) waits None [] (values_with k out unfound next_ begun minutes) (arranged e.which U X Z)) (m : MayJudge o done s n waits fewer e k out unfound next_ begun minutes U X Z w)
@@ -306,6 +307,22 @@ module _ (o : Origin) (done : List TraceSecond) (s : TraceSecond) (n : ℕ) (wai
       (subst (λ (x : ℕ). JudgedInRings failed (since_in o w.b.run.log done s) a (verdicts_of (ending_of way) e) spans (seats_in noted k.cabin.cards) (seats_in x cabin.cards) d later) (sym g.entered.left.count)
       (ending-rings (since_in o w.b.run.log done s) d later e s.number spans noted k.cabin (sizes_by way) others failed (ending_of way) (way-told way g.entered.is y.2 told len) writes)))
 
+  -- in which it was called: it is accepted, or a call failed
+  open-told : IsToldOpen (log_of out') s.number (found_in (log_of out') s.number (In n) e.slot) (ending_of way)
+  open-told =
+      subst (λ (vs : List Verdict). IsToldOpen (log_of out') s.number vs (ending_of way)) (sym (tells.own ∙ ap (λ (vs : List Verdict). vs ++ verdicts_of (ending_of way) e) m.none)) (by (ending_of way) refl)
+    where
+      by : (q : Ending) → ending_of way ≡ q → IsToldOpen (log_of out') s.number (verdicts_of q e) q
+      by (Unfit fid place) is = tt
+      by (Ahead stored) is = tt
+      by Fell is =
+          ap (λ (l : RunLog). has_call_failed_in l s.number) (log-is ∙ ap (λ (q : Ending). log_with q e (log_of out)) is)
+          ∙ subst (λ (u : ℕ). has_call_failed_in (log_with Fell e (log_of out)) u ≡ true) second (tear-failed (log_of out) e.slot e.at)
+      by Unasked is = tt
+      by (Unnoted entered clock) is = λ none. let wrong : verdict.Accepted entered.replayed ∷ [] ≡ [] = none in cc
+      by (Seated entered clock entry) is = λ none. let wrong : verdict.Accepted entered.replayed ∷ [] ≡ [] = none in cc
+      by (Lost entered clock entry) is = λ none. let wrong : verdict.Accepted entered.replayed ∷ [] ≡ [] = none in cc
+
   -- all of it
   pub judged-ringed : IsRinged (since_in o w.b.run.log done s) s n e spans noted noted' k k' out out' failed (arranged e.which U X Z) (arranged e.which W Y Z)
-  judged-ringed = record { rings = judged-rings; others = others-found; here = tells-here; cut = tells.cut; same = same-before; left = more; places = judged-places o done s n waits fewer e k out unfound next_ begun minutes U X Z w m origin failed k' noted noted' out' W Y way g sound sized spans odometer.reads; counted = counted-then }
+  judged-ringed = record { rings = judged-rings; others = others-found; here = tells-here; cut = tells.cut; same = same-before; left = more; places = judged-places o done s n waits fewer e k out unfound next_ begun minutes U X Z w m origin failed k' noted noted' out' W Y way g sound sized spans odometer.reads second small open-told; counted = counted-then }

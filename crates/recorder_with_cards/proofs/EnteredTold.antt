@@ -4,22 +4,19 @@ use Rattle.std.proofs.lemmas.Bool.{eq-eqb}
 use Rattle.std.proofs.lemmas.Bool.Decides.{nat_tests}
 use Rattle.card_layout.specs.Images.{SameOutside}
 use Rattle.trace_model.specs.declared.Card.{Card}
-use Rattle.log_model.specs.Log.{RunLog}
 use Rattle.log_model.specs.declared.lines.Verdict.TheVariants.{Accepted}
 use Rattle.log_model.specs.Course.{Visit}
-use Rattle.unit_model.specs.declared.layout.TheConstants.{FIRST_OVER, OVER_COUNT}
-use Rattle.unit_model.specs.Image as image
 use Rattle.event_model.specs.declared.kinds.TheConstants.{CARD_NOT_VALID, TIME_OVERLAP, INSERTION_WHILE_DRIVING, SESSION_NOT_CLOSED, CARD_FAULT, OVER_SPEEDING}
 use Rattle.event_model.specs.Events.{Event, Crew, Seen, Tearing, number_of, noted_with, crew_judged}
-use Rattle.note_model.specs.Tables.{table_in}
+use Rattle.unit_notes.specs.declared.unit_event.UnitEvent.{UnitEvent}
 use Rattle.unit_notes.specs.Entries.{fault_bytes}
 use Rattle.unit_notes.specs.Noting.{IsEventNoted, IsNotingEvent}
 use Rattle.unit_events.specs.Shown.{all_kinds}
-use Rattle.unit_events.proofs.NoteFrames.{others-same, numbers-same}
-use Rattle.run_events.specs.Shown.{by_kind, none, ShowsMore, AreNumbers, SaysNothingBut}
+use Rattle.run_events.specs.Shown.{by_kind, none_sure, all_sure, ShowsEvents, AreNumbers, SaysNothing}
 use Rattle.run_events.specs.Running.{judged_notes}
-use Rattle.run_events.proofs.Shows.{more-then, nothing-more, nothing-but}
-use Rattle.run_events.proofs.Frames.{all-apart, event-more, event-but, between-nothing}
+use Rattle.run_events.proofs.Shows.{more-then, moment-first, moment-then, nothing-more, nothing-of}
+use Rattle.run_events.proofs.Frames.{event-more, event-coming, between-nothing}
+use Rattle.run_events.proofs.Turned.{says-same}
 use Rattle.run_crew.specs.declared.cabin.Cabin.{Cabin}
 use Rattle.run_crew.specs.declared.cards.Crew.{Crew as Numbers}
 use Rattle.run_crew.specs.Cabin.{torn_out, crew_of}
@@ -27,63 +24,51 @@ use Rattle.run_events.specs.Entries.{IsCrewOf, entry_of}
 use Rattle.run_insertion.specs.declared.lines.Entering.{Entering}
 use Rattle.run_insertion.specs.Entering.{Ending, Unfit, Ahead, Fell, Unasked, Unnoted, Seated, Lost, seated}
 use Rattle.run_insertion.specs.Noted.{AreDone, AreBeingDone, UnitNote, Inserts, BeginsRow, Tells, IsOnUnit, IsComing, event_of, fault_of, moving_notes, unclosed_notes, notes_by}
-use Rattle.recorder_with_cards.specs.EnteredTold.{NoteTellsEvent, TellEvents, AreUnsure, moving_events, unclosed_events, events_by, IsLow, AreNamed}
+use Rattle.recorder_with_cards.specs.EnteredTold.{NoteTellsEvent, TellEvents, moving_events, unclosed_events, events_by, IsLow, AreNamed}
 
--- what was noted leaves the other types alone
-noted-but : (kind : ℕ) → Contains all_kinds kind → (front x y : List ℕ) → IsEventNoted kind front x y → SaysNothingBut kind x y
-noted-but kind there front x y noted =
-    let numbers = numbers-same kind (all-apart kind there) x y noted.outside in
-    record { tables = λ other at ne. others-same kind (all-apart kind there) x y noted.outside other at ne; first_over = λ ne. numbers.0; over_count = λ ne. numbers.1 }
+-- rings and rows tell of none
+ring-says : (x y : List ℕ) → SameOutside 2115044 264196 x y → SaysNothing x y
+ring-says x y same = between-nothing 2115044 264196 x y same (omega arith) (omega arith)
 
-module _ (number : Card → List ℕ) (long : AreNumbers number) (log : RunLog) (now : ℕ → List Event) where
-  pub same-shown : (x y : List ℕ) → y ≡ x → ShowsMore number log now none x y
-  same-shown x y is = nothing-more number log now x y (record {
-    tables = λ kind there. ap (table_in kind) is;
-    first_over = ap (λ (l : List ℕ). image.number_of l FIRST_OVER) is;
-    over_count = ap (λ (l : List ℕ). image.number_of l OVER_COUNT) is;
-  })
+rows-says : (x y : List ℕ) → SameOutside 624 384 x y → SaysNothing x y
+rows-says x y same = between-nothing 624 384 x y same (omega arith) (omega arith)
 
-  ring-shown : (x y : List ℕ) → SameOutside 2115044 264196 x y → ShowsMore number log now none x y
-  ring-shown x y same = nothing-more number log now x y (between-nothing 2115044 264196 x y same (omega arith) (omega arith))
-
-  rows-shown : (x y : List ℕ) → SameOutside 624 384 x y → ShowsMore number log now none x y
-  rows-shown x y same = nothing-more number log now x y (between-nothing 624 384 x y same (omega arith) (omega arith))
+module _ (number : Card → List ℕ) (long : AreNumbers number) where
+  one-told : (v : UnitEvent) (e : Event) → NoteTellsEvent number e v → (x z : List ℕ) → length x ≡ 2485808 → IsEventNoted v.kind (fault_bytes v) x z → ShowsEvents number all_sure x (by_kind (e ∷ [])) z
+  one-told v e told x z sized one =
+      event-more number long e told.there x z sized v told.other told.begin told.end told.is (subst (λ (k : ℕ). IsEventNoted k (fault_bytes v) x z) told.is.kind one)
 
   -- ALL WERE NOTED
-  pub told-shown : (notes : List UnitNote) (events : List Event) (x y : List ℕ) → length x ≡ 2485808 → TellEvents number notes events → AreDone IsOnUnit notes x y → ShowsMore number log now (by_kind events) x y
-  told-shown [] [] x y sized told done = same-shown x y done
+  pub told-shown : (notes : List UnitNote) (events : List Event) (x y : List ℕ) → length x ≡ 2485808 → TellEvents number notes events → AreDone IsOnUnit notes x y → ShowsEvents number all_sure x (by_kind events) y
+  told-shown [] [] x y sized told done = nothing-more number all_sure x y (says-same x y done)
   told-shown [] (e ∷ events) x y sized told done = absurd told
   told-shown (Inserts insertion ∷ notes) events x y sized told (z, one, rest) =
-      more-then number log now [] events x z y (ring-shown x z one.outside) (told-shown notes events z y (one.outside.same_length ∙ sized) told rest)
+      more-then number all_sure [] events x z y (nothing-more number all_sure x z (ring-says x z one.outside)) (told-shown notes events z y (one.outside.same_length ∙ sized) told rest)
   told-shown (BeginsRow card session spared ∷ notes) events x y sized told (z, one, rest) =
-      more-then number log now [] events x z y (rows-shown x z one.beginning.outside) (told-shown notes events z y (one.beginning.outside.same_length ∙ sized) told rest)
+      more-then number all_sure [] events x z y (nothing-more number all_sure x z (rows-says x z one.beginning.outside)) (told-shown notes events z y (one.beginning.outside.same_length ∙ sized) told rest)
   told-shown (Tells v ∷ notes) [] x y sized told done = absurd told
   told-shown (Tells v ∷ notes) (e ∷ events) x y sized told (z, one, rest) =
-      let first = told.0 in
-      more-then number log now (e ∷ []) events x z y
-      (event-more number long log now e first.there x z sized v first.other first.begin first.end first.is (subst (λ (k : ℕ). IsEventNoted k (fault_bytes v) x z) first.is.kind one))
-      (told-shown notes events z y (one.outside.same_length ∙ sized) told.1 rest)
+      more-then number all_sure (e ∷ []) events x z y (one-told v e told.0 x z sized one) (told-shown notes events z y (one.outside.same_length ∙ sized) told.1 rest)
 
-  -- OR THAT WAS CUT SHORT, and of what was noted nothing is sure
-  pub told-moment : (notes : List UnitNote) (events : List Event) (x c : List ℕ) → TellEvents number notes events → AreUnsure log now events → AreBeingDone IsOnUnit IsComing notes x c → ShowsMore number log now none x c
-  told-moment [] events x c told unsure moment = absurd moment
-  told-moment (Inserts insertion ∷ notes) events x c told unsure (inl moment) = ring-shown x c moment.outside
-  told-moment (Inserts insertion ∷ notes) events x c told unsure (inr (z, one, rest)) =
-      more-then number log now [] [] x z c (ring-shown x z one.outside) (told-moment notes events z c told unsure rest)
-  told-moment (BeginsRow card session spared ∷ notes) events x c told unsure (inl moment) = rows-shown x c moment.outside
-  told-moment (BeginsRow card session spared ∷ notes) events x c told unsure (inr (z, one, rest)) =
-      more-then number log now [] [] x z c (rows-shown x z one.beginning.outside) (told-moment notes events z c told unsure rest)
-  told-moment (Tells v ∷ notes) [] x c told unsure moment = absurd told
-  told-moment (Tells v ∷ notes) (e ∷ events) x c told unsure (inl moment) =
+  -- OR THAT WAS CUT SHORT: the first were noted, and the next one was, or nothing has come of it, or its place is empty
+  pub told-coming : (notes : List UnitNote) (events : List Event) (x c : List ℕ) → length x ≡ 2485808 → TellEvents number notes events → AreBeingDone IsOnUnit IsComing notes x c → ShowsEvents number none_sure x (by_kind events) c
+  told-coming [] events x c sized told moment = absurd moment
+  told-coming (Inserts insertion ∷ notes) events x c sized told (inl moment) = nothing-of number (by_kind events) x c (ring-says x c moment.outside)
+  told-coming (Inserts insertion ∷ notes) events x c sized told (inr (z, one, rest)) =
+      moment-then number [] events x z c (nothing-more number all_sure x z (ring-says x z one.outside)) (told-coming notes events z c (one.outside.same_length ∙ sized) told rest)
+  told-coming (BeginsRow card session spared ∷ notes) events x c sized told (inl moment) = nothing-of number (by_kind events) x c (rows-says x c moment.outside)
+  told-coming (BeginsRow card session spared ∷ notes) events x c sized told (inr (z, one, rest)) =
+      moment-then number [] events x z c (nothing-more number all_sure x z (rows-says x z one.beginning.outside)) (told-coming notes events z c (one.beginning.outside.same_length ∙ sized) told rest)
+  told-coming (Tells v ∷ notes) [] x c sized told moment = absurd told
+  told-coming (Tells v ∷ notes) (e ∷ events) x c sized told (inl moment) =
       let first = told.0 in
-      nothing-but number log now e.kind x c (event-but e.kind first.there (fault_bytes v) x c (subst (λ (k : ℕ). IsNotingEvent k (fault_bytes v) x c) first.is.kind moment)) unsure.0
-  told-moment (Tells v ∷ notes) (e ∷ events) x c told unsure (inr (z, one, rest)) =
-      let first = told.0 in
-      more-then number log now [] [] x z c
-      (nothing-but number log now e.kind x z (noted-but e.kind first.there (fault_bytes v) x z (subst (λ (k : ℕ). IsEventNoted k (fault_bytes v) x z) first.is.kind one)) unsure.0)
-      (told-moment notes events z c told.1 unsure.1 rest)
+      moment-first number (e ∷ []) events x c
+      (event-coming number long e first.there x c sized v first.other first.begin first.end first.is (subst (λ (k : ℕ). IsNotingEvent k (fault_bytes v) x c) first.is.kind moment))
+  told-coming (Tells v ∷ notes) (e ∷ events) x c sized told (inr (z, one, rest)) =
+      moment-then number (e ∷ []) events x z c (one-told v e told.0 x z sized one) (told-coming notes events z c (one.outside.same_length ∙ sized) told.1 rest)
 
 -- WHICH EVENTS ARE TOLD
+
 module _ (number : Card → List ℕ) (second : ℕ) (low : second < 2 ^ 32) where
   entry-told : (kind begin end : ℕ) (crew : Crew) (numbers : Numbers) → Contains all_kinds kind → kind ≢ OVER_SPEEDING → begin < 2 ^ 32 → end < 2 ^ 32 → IsCrewOf number crew numbers →
       NoteTellsEvent number (noted_with kind begin end crew) (entry_of kind begin end numbers numbers)

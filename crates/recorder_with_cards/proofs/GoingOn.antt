@@ -94,7 +94,7 @@ module _ (o : Origin) (origin : IsOrigin o) (done : List TraceSecond) (s : Trace
         odometer = odometer ∙ ap (λ (b : Beginning). odometer_after (odometer_at o.recording.unit) b.travel.before) (sym h.began);
         stay = subst (λ (b : Beginning). AllStay o (marked out.marks.items (truths_within o b.run.log done s)) s.number (log_of out) (notes_within b done s (In 0) (log_of out)) run.keeper.memory.registration cabin d) (sym h.began)
             (subst (λ (ns : List Note). AllStay o (marked out.marks.items (truths_within o (log_of out) done s)) s.number (log_of out) ns run.keeper.memory.registration cabin d) (sym (notes-begin (begun_behind o done (t ∷ span) (values_of run out) d r) done s r.recorded.followed.power.running))
-            (all-true o (marked out.marks.items (truths_of o (log_of out) done)) (marked out.marks.items (truths_within o (log_of out) done s)) s.number (log_of out) (notes_in (log_of out) done) run.keeper.memory.registration cabin d (λ none. marked-still out.marks.items (truths_of o (log_of out) done) (truths_within o (log_of out) done s) (truths-begin o (log_of out) done s)) stays));
+            (all-true o (marked out.marks.items (truths_of o (log_of out) done)) (marked out.marks.items (truths_within o (log_of out) done s)) s.number (log_of out) (notes_in (log_of out) done) run.keeper.memory.registration cabin d (λ whose known. marked-still out.marks.items (truths_of o (log_of out) done) (truths_within o (log_of out) done s) (truths-begin o (log_of out) done s)) stays));
       },
       h.began,
     )

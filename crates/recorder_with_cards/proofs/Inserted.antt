@@ -176,7 +176,7 @@ module _ (slot : Slot) (card : Card) (at : Moment) (speed : ℕ) (old : Run) (be
 
   pub stays-put : AllStay o (marked before.marks.items (truths_within o h.within.b.run.log done s)) s.number (log_of before) notes-put old.keeper.memory.registration (with_card_in slot card old.keeper.cabin) d
   stays-put =
-      all-moved o (marked before.marks.items (truths_within o h.within.b.run.log done s)) s.number (log_of before) (log_of before) notes-before notes-put old.keeper.memory.registration old.keeper.cabin (with_card_in slot card old.keeper.cabin) d (log-self (log_of before)) (λ none_ c. each-put c) (λ none_ c. places-put c) h.stay
+      all-moved o (marked before.marks.items (truths_within o h.within.b.run.log done s)) s.number (log_of before) (log_of before) notes-before notes-put old.keeper.memory.registration old.keeper.cabin (with_card_in slot card old.keeper.cabin) d (log-self o (log_of before) d) (λ whose known c in_. each-put c) (λ whose known c in_. places-put c) h.stay
 
   within-actions : suc n ≤ length s.actions
   within-actions = let all = ap (λ (xs : List Action). length xs) actions in let long = length-append front (Insert slot card ∷ rest) in omega (arith, all, long)
@@ -205,19 +205,19 @@ module _ (slot : Slot) (card : Card) (at : Moment) (speed : ℕ) (old : Run) (be
     settled-places e stay time spans t now_ = stay o done s n waits at-is waiting time spans t (subst (λ (b : Beginning). AreSpansNow done s b.run.log spans old.keeper.odometer t) (sym put.goes.began) now_)
 
     module _ (e : Devices) (records : RecordsSettling decided at failed (put_run slot card old) mid before told d e) (time : HaveTime e) where
-      kept : SettlesTo failed o done s (In (suc n)) waits waiting.within.b waiting.within.from (waiting.within.from + length decided) (put_run slot card old) mid before told e
+      kept : SettlesTo failed o done s (In (suc n)) waits waiting.within.b waiting.within.from (waiting.within.from + length decided) (put_run slot card old) mid before told d e
       kept = records o done s (suc n) waits (omega arith) at-is waiting time
 
       -- the unit failed as they were kept
       pub unsettled : failed ≡ true → RunFails o done s (In at.begun) mid told e
       unsettled fails =
-          let cut = subst (λ (f : Bool). SettlesTo f o done s (In (suc n)) waits waiting.within.b waiting.within.from (waiting.within.from + length decided) (put_run slot card old) mid before told e) fails kept in
+          let cut = subst (λ (f : Bool). SettlesTo f o done s (In (suc n)) waits waiting.within.b waiting.within.from (waiting.within.from + length decided) (put_run slot card old) mid before told d e) fails kept in
           subst (λ (m : ℕ). RunFails o done s (In m) mid told e) (sym begun) (record { waits = waits; cabin = mid.keeper.cabin; same = refl; odometer = mid.keeper.odometer; counted = λ power. refl; vehicle = ap (λ (m : UnitFacts). m.registration) (settled-watched at failed (put_run slot card old) mid before told settles).memory ∙ h.vehicle; within = cut })
 
       -- or they are kept, and the card is judged
       module _ (well : failed ≡ false) (seat : seat_in mid.keeper.cabin.slots.seats slot ≡ Some (record { card = card; newest = None })) where
-        abbrev on : IsSettledIn o done s (In (suc n)) waits waiting.within.b waiting.within.from (waiting.within.from + length decided) (put_run slot card old) mid before told e
-        on = subst (λ (f : Bool). SettlesTo f o done s (In (suc n)) waits waiting.within.b waiting.within.from (waiting.within.from + length decided) (put_run slot card old) mid before told e) well kept
+        abbrev on : IsSettledIn o done s (In (suc n)) waits waiting.within.b waiting.within.from (waiting.within.from + length decided) (put_run slot card old) mid before told d e
+        on = subst (λ (f : Bool). SettlesTo f o done s (In (suc n)) waits waiting.within.b waiting.within.from (waiting.within.from + length decided) (put_run slot card old) mid before told d e) well kept
 
         lines : (added : List Break) × (told.breaks.items ≡ before.breaks.items ++ added) × AreTearsAt s (In (suc n)) added
         lines =

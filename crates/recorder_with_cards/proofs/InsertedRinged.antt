@@ -13,10 +13,11 @@ use Rattle.log_model.specs.Log.{RunLog, In, cut_in, found_in, is_accepting}
 use Rattle.log_model.specs.Slots.{refusal}
 use Rattle.log_model.specs.Course.{ToldSecond, Before, Visit, begins, went}
 use Rattle.note_model.specs.Odometer.{SpanFrom}
-use Rattle.note_model.specs.Noted.{Note, Accepts}
+use Rattle.note_model.specs.Noted.{Acceptance, Note, Accepts}
 use Rattle.safety_model.specs.Safe.{Devices}
 use Rattle.unit_rule.specs.Odometer.{odometer_by}
 use Rattle.run_outcome.specs.declared.outcome.Outcome.{Outcome}
+use Rattle.run_unit_course.specs.Lines.{cut_at}
 use Rattle.run_promise.specs.Origin.{Origin}
 use Rattle.run_promise.specs.Beside.{HaveLeftMore}
 use Rattle.run_rings.specs.Notes.{TellSameTo, NotesMore, accepts_by, course_behind}
@@ -24,6 +25,8 @@ use Rattle.run_rings.specs.Spans.{with_second}
 use Rattle.run_rings.proofs.Actions.{insertions}
 use Rattle.run_note_record.specs.Ringed.{StaysInRings, since_in}
 use Rattle.run_note_record.specs.OnCards.{CardsStay}
+use Rattle.run_note_record.specs.Sessions.{FailsIn}
+use Rattle.run_note_record.proofs.Sessions.{stay-may}
 use Rattle.run_note_record.specs.RingsSoFar.{RingedBehind, RingedIn, AreFewer, HasMoreBreaks}
 use Rattle.run_note_record.specs.Steps.{GoesOnTo, IsCutIn, nobody, spans_cut}
 use Rattle.run_note_record.proofs.SoFar.{go-on-in}
@@ -36,6 +39,7 @@ use Rattle.run_acts.proofs.Readings.{spans-here, insertion-reads}
 use Rattle.run_acts.proofs.RingedLines.{AreTears}
 use Rattle.run_acts.proofs.RingedSecond.{odometer-here, cut-found, since-begun}
 use Rattle.recorder_with_cards.specs.JudgedRings.{JudgedInRings, IsJudgedInRings, IsOdometerOf}
+use Rattle.recorder_with_cards.proofs.JudgedSessions.{cards-fail, cards-open}
 use Rattle.recorder_with_cards.proofs.SettledLines.{TellsOn, tears-on}
 use Rattle.recorder_with_cards.proofs.RingsHere.{here-then, here-more, goes-to, course-then, course-cut, is-cut}
 
@@ -65,7 +69,7 @@ module _ (o : Origin) (done : List TraceSecond) (s : TraceSecond) (front rest : 
 
   -- the rings as the card is to be judged
   settled-in : RingedIn o done s w.within.b.run.log front (log_of told) spans old.keeper.odometer t (seats_of mid) e
-  settled-in = go-on-in d e o done s w.within.b.run.log front (log_of before) (log_of told) spans old.keeper.odometer t (seats_of old) (seats_of mid) rings.ringed told-on.more told-on.same leaves left places fewer
+  settled-in = go-on-in d e o done s w.within.b.run.log front (log_of before) (log_of told) spans old.keeper.odometer t (seats_of old) (seats_of mid) rings.ringed told-on.more told-on.same leaves left (stay-may o (with_second spans old.keeper.odometer t) (FailsIn (log_of told) s.number) d e places) fewer
 
   -- and so it is as the card is judged
   pub odometer-mid : (waits : List Visit) (x : RunWithin o done s (In (suc (length front))) waits [] mid told e) → x.within.b ≡ w.within.b →
@@ -117,7 +121,7 @@ module _ (o : Origin) (done : List TraceSecond) (s : TraceSecond) (front rest : 
             (action-cut d e o done s w.within.b.run.log (log_of before) cut front (Insert slot card) rest spans old.keeper.odometer t (seats_of old) rings.ringed told-cut
             (notes-none cut told-cut.goes.begun
             (ap (λ c. refusal c.slots s.speed (Insert slot card)) (course-cut (log_of before) (log_of told) s front rest (Insert slot card) are uncut told-on.more told-on.same told-on.uncut was) ∙ allowed)
-            (ap (filter is_accepting) (cut-found_ (log_of told) told-on.uncut) ∙ ap (filter is_accepting) none-told)) leaves left places);
+            (ap (filter is_accepting) (cut-found_ (log_of told) told-on.uncut) ∙ ap (filter is_accepting) none-told)) leaves left (stay-may o (with_second spans old.keeper.odometer t) (FailsIn cut s.number) d e places));
       }
     where
       cut-found_ : (later : RunLog) → cut_in later s.number ≡ None → found_in (with_cut later s (front ++ Insert slot card ∷ [])) s.number (In (suc (length front))) slot ≡ found_in later s.number (In (suc (length front))) slot
@@ -159,15 +163,28 @@ module _ (o : Origin) (done : List TraceSecond) (s : TraceSecond) (front rest : 
     found-cut : found_in (with_cut (log_of after) s (front ++ Insert slot card ∷ [])) s.number (In (suc (length front))) slot ≡ found_in (log_of after) s.number (In (suc (length front))) slot
     found-cut = cut-found (log_of after) s.number (length (front ++ Insert slot card ∷ [])) uncut-after (In (suc (length front))) slot
 
+    -- which session the card may tell, by the log behind it, or by one with a cut more
+    abbrev acceptance : Acceptance
+    acceptance = record { second = s.number; slot = slot; card = card }
+
+    abbrev verdicts : List Verdict
+    verdicts = found_in (log_of after) s.number (In (suc (length front))) slot
+
+    cut-more : HasMoreBreaks (log_of after) (with_cut (log_of after) s (front ++ Insert slot card ∷ []))
+    cut-more = (cut_at s.number true (length (front ++ Insert slot card ∷ [])) ∷ [], refl)
+
+    none-more : HasMoreBreaks (log_of after) (log_of after)
+    none-more = ([], sym (append-nil (log_of after).breaks))
+
     by : (b : Bool) → JudgedInRings b (since_in o w.within.b.run.log done s) (record { second = s.number; slot = slot; card = card }) (found_in (log_of after) s.number (In (suc (length front))) slot) (with_second spans old.keeper.odometer t) (seats_of mid) (seats_of new) e f →
         RingsGoOn b o done s w.within.b (front ++ Insert slot card ∷ []) new (log_of after) spans t f
     by false h = record {
       base = subst (λ (b : ℕ). IsLastFrom b (with_second spans b t)) (sym (j.odometer ∙ same_odometer)) rings.base;
       counted = j.counted;
       ringed = subst (λ (b : ℕ). RingedIn o done s w.within.b.run.log (front ++ Insert slot card ∷ []) (log_of after) spans b t (seats_of new) f) (sym (j.odometer ∙ same_odometer)) (⊎_elim
-          (λ p. passes e f o done s w.within.b.run.log (log_of told) (log_of after) front (Insert slot card) spans old.keeper.odometer t (seats_of mid) (seats_of new) settled-in goes (notes-none (log_of after) goes.begun fine-after p.none) p.stays j.left j.places p.fewer_sit)
+          (λ p. passes e f o done s w.within.b.run.log (log_of told) (log_of after) front (Insert slot card) spans old.keeper.odometer t (seats_of mid) (seats_of new) settled-in goes (notes-none (log_of after) goes.begun fine-after p.none) p.stays j.left (cards-fail o (with_second spans old.keeper.odometer t) e f (log_of after) (log_of after) none-more acceptance verdicts j.places p.none) p.fewer_sit)
           (λ i. card-accepted e f o done s w.within.b.run.log (log_of told) (log_of after) front spans old.keeper.odometer t (seats_of mid) i.now (seats_of new) settled-in goes slot card fine-after i.verdict
-          (ap (λ (k : ℕ). found_in (log_of after) s.number (In k) slot) longer ∙ i.found) i.accepting i.head i.index i.writes i.inserts.long (i.inserts.is (log_of after)) i.seated j.left j.places i.fewer_sit)
+          (ap (λ (k : ℕ). found_in (log_of after) s.number (In k) slot) longer ∙ i.found) i.accepting i.head i.index i.writes i.inserts.long (i.inserts.is (log_of after)) i.seated j.left (cards-open o (with_second spans old.keeper.odometer t) e f (log_of after) (log_of after) none-more acceptance verdicts j.places) i.fewer_sit)
           h);
     }
     by true h =
@@ -178,9 +195,9 @@ module _ (o : Origin) (done : List TraceSecond) (s : TraceSecond) (front rest : 
           behind = cuts.behind;
           odometer = j.odometer ∙ same_odometer ∙ w.odometer;
           ringed = subst (λ (b : ℕ). RingedBehind o (done ++ s ∷ []) cut (suc s.number) (spans_cut spans b cut done s) nobody f) (sym (j.odometer ∙ same_odometer)) (⊎_elim
-              (λ p. action-cut e f o done s w.within.b.run.log (log_of told) cut front (Insert slot card) rest spans old.keeper.odometer t (seats_of mid) settled-in cuts (notes-none cut cuts.goes.begun fine-cut (ap (filter is_accepting) found-cut ∙ p.0)) p.1 j.left j.places)
+              (λ p. action-cut e f o done s w.within.b.run.log (log_of told) cut front (Insert slot card) rest spans old.keeper.odometer t (seats_of mid) settled-in cuts (notes-none cut cuts.goes.begun fine-cut (ap (filter is_accepting) found-cut ∙ p.0)) p.1 j.left (cards-fail o (with_second spans old.keeper.odometer t) e f (log_of after) cut cut-more acceptance verdicts j.places p.0))
               (λ i. acceptance-is-cut e f o done s w.within.b.run.log (log_of told) cut front rest spans old.keeper.odometer t (seats_of mid) settled-in slot card cuts fine-cut i.verdict
-              (ap (λ (k : ℕ). found_in cut s.number (In k) slot) longer ∙ found-cut ∙ i.found) i.accepting i.head i.writes i.inserts.long (i.inserts.is cut) j.left j.places)
+              (ap (λ (k : ℕ). found_in cut s.number (In k) slot) longer ∙ found-cut ∙ i.found) i.accepting i.head i.writes i.inserts.long (i.inserts.is cut) j.left (cards-open o (with_second spans old.keeper.odometer t) e f (log_of after) cut cut-more acceptance verdicts j.places))
               h);
         }
 

@@ -11,6 +11,7 @@ pub mod EnteredBefore
 pub mod EnteredLines
 pub mod EnteredRinged
 pub mod EnteredPlaces
+pub mod JudgedSessions
 pub mod RingsHere
 pub mod SettledLines
 pub mod InsertedRinged
@@ -56,6 +57,7 @@ pub mod SecondsEvented
 pub mod BegunEvented
 pub mod Uncut
 pub mod WholeOdometer
+pub mod Breakdowns
 pub mod GapEvented
 pub mod WokenEvented
 pub mod WokenRinged

@@ -44,7 +44,9 @@ use Rattle.run_note_record.specs.Ringed.{Seating, Ringed, notes_in, noted_next, 
 use Rattle.run_note_record.specs.OnCards.{IsReading}
 use Rattle.run_note_record.specs.RingsSoFar.{AreEarlier, RingedBehind, AreFewer}
 use Rattle.run_note_record.proofs.Noted.{second-notes}
+use Rattle.run_note_record.specs.Sessions.{IsBrokenSince}
 use Rattle.run_note_record.proofs.OnCards.{call-failed-more, stay-itself}
+use Rattle.run_note_record.proofs.Sessions.{stay-may}
 use Rattle.run_note_record.proofs.Rings.{fewer-sit, rings-stay, come-before}
 use Rattle.run_note_record.proofs.SoFar.{failed-more, goes-alike, left-itself}
 use Rattle.run_acts.specs.Truths.{Grow, truths_of}
@@ -237,7 +239,7 @@ module _ (rule : Rule) (start : Start) (from first : ℕ) (p : Progress) (t : To
     off-behind =
         let done : List TraceSecond = front ++ r ∷ [] in
         let ringed : Ringed (since_behind o p.log done) later (cut_off spans) (notes_in p.log done) seats d =
-        rings-stay d d (since_behind o p.log done) p.log later spans (cut_off spans) (notes_in p.log done) seats v.ringed (rings-left d.unit) (left-itself o d) (stay-itself o (cut_off spans) d)
+        rings-stay d d (since_behind o p.log done) p.log later spans (cut_off spans) (notes_in p.log done) seats v.ringed (rings-left d.unit) (left-itself o d) (stay-may o (cut_off spans) (λ c t. IsBrokenSince later c (notes_in p.log done) t) d d (stay-itself o (cut_off spans) d))
         (goes-alike p.log later spans (cut_off spans) (notes_in p.log done) (failed-more p.log later (cut ∷ [], refl)) (call-failed-more p.log later (cut ∷ [], refl)) (cut-odometer spans) (reads-cut spans)) in
         let now : Ringed (since_behind o later done) later (cut_off spans) (notes_in p.log done) seats d =
         come-before d o (went p.log done).told (went later done).told done done (come-as p.log later front r front-same entered-same done) later (cut_off spans) (notes_in p.log done) seats ringed in

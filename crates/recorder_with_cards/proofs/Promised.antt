@@ -5,7 +5,7 @@ use Rattle.trace_model.specs.declared.Card.TheVariants.{A, B}
 use Rattle.tacho_types.specs.declared.texts.Registration.{Registration}
 use Rattle.trace_model.specs.declared.Item.{Item}
 use Rattle.trace_model.specs.Trace.{TraceSecond, seconds_of}
-use Rattle.tach_media.specs.Medium.{State, IsCoherent}
+use Rattle.tach_media.specs.Medium.{State, IsCoherent, last_count}
 use Rattle.card_layout.specs.Application.{IsApplication}
 use Rattle.card_layout.proofs.Sizes.{largest_image}
 use Rattle.card_model.specs.Days.{AreDays}
@@ -65,7 +65,7 @@ use Rattle.run_promise.specs.Seconds.{empty_log}
 use Rattle.run_promise.proofs.RecordEnds.{ends-run}
 use Rattle.event_model.specs.Events.{Seen, seen_of}
 use Rattle.run_note_record.specs.Evented.{images_in, Evented}
-use Rattle.run_note_record.specs.Uses.{uses_from, use_behind, vehicle_of, use_in, insertions_on, uses_in}
+use Rattle.run_note_record.specs.Uses.{uses_from, vehicle_of, use_in, insertions_on, uses_in}
 use Rattle.run_note_record.proofs.Ends.{nothing-noted, events-shown}
 use Rattle.run_note_record.specs.OnCards.{places_in, HasPlaces, GoesByReadings}
 use Rattle.run_note_record.specs.Ringed.{Seating, Ringed, notes_in, since_behind}
@@ -108,24 +108,30 @@ use Rattle.recorder_with_cards.proofs.SideShown.{insertions-inside, places-insid
 use Rattle.recorder_with_cards.proofs.Written.{are-written, keep-holders, keep-vehicles}
 use Rattle.recorder_with_cards.specs.Placed.{ShowsPlaces}
 use Rattle.recorder_with_cards.specs.Measured.{MeasuresVehicles}
+use Rattle.recorder_with_cards.specs.Sessions.{TellsSession}
+use Rattle.run_note_record.specs.Sessions.{MayTell, session_told}
 use Rattle.recorder_with_cards.proofs.KeptAfter.{end-kept}
 use Rattle.recorder_with_cards.specs.LastKept.{TellsLast}
 use Rattle.recorder_with_cards.proofs.LastKept.{safe-last}
 use Rattle.run_acts.specs.Closings.{spells_of}
 use Rattle.run_acts.specs.Comings.{TellsMore}
 use Rattle.run_acts.proofs.Comings.{tells-none}
-use Rattle.run_acts.specs.Stays.{Stay, Coming, comings_on, registration_in, AreMerged, spells, sits_in, HasStays, ShowsStays, start_shown, AreOwed, AreJudged, is_late}
-use Rattle.recorder_with_cards.proofs.AtEnd.{noted-at-end, sits-at-end, words-so, odometers-so, owes-so}
-use Rattle.run_promise.specs.Whole.{NothingFailed}
+use Rattle.run_acts.specs.Stays.{Stay, Coming, comings_on, registration_in, AreMerged, spells, sits_in, HasStays, ShowsStays, start_shown, AreOwed, AreJudged, is_late, acceptances_told, judged_told, judged_in, TellsBefores, Whose, Both, Only, covers, AreKnown, AreTold, AreToldBefore, AllStay}
+use Rattle.run_acts.specs.Truths.{Truths, truths_of, marked}
+use Rattle.run_acts.proofs.ToldLines.{OfOne, told-of}
+use Rattle.run_acts.proofs.SeatsThen.{same-itself}
+use Rattle.recorder_with_cards.specs.Stays.{NothingFailedOn}
+use Rattle.recorder_with_cards.proofs.AtEnd.{noted-at-end, sits-at-end, words-so, odometers-so, owes-so, acknowledged-so}
+use Rattle.run_promise.specs.Whole.{IsUntorn}
 use Rattle.run_crew.specs.Cabin.{CabinIsSound}
 use Rattle.std.specs.Prelude.{filter, option_to_list, ◌++◌}
 use Rattle.std.proofs.Common.{append_assoc}
-use Rattle.log_model.specs.Causes.{device_of}
+use Rattle.log_model.specs.Causes.{tears, device_of}
 use Rattle.log_model.specs.declared.lines.Find.{Find}
 use Rattle.log_model.specs.ByHand.{by_slots, stops, asked_of}
 use Rattle.log_model.specs.declared.lines.Refused.{Refused}
 use Rattle.run_acts.proofs.Stays.{stays-start}
-use Rattle.run_acts.proofs.AllStay.{placed-bare}
+use Rattle.run_acts.proofs.AllStay.{placed-bare, all-of}
 use Rattle.run_acts.specs.Owed.{IsOwed}
 use Rattle.run_record.proofs.HandsFold.{hands-end}
 use Rattle.safety_model.specs.ByHand.{IsStoppedBy, IsNoLater}
@@ -252,30 +258,51 @@ module _ (x a b : List ℕ) (start : ℕ) (items : List Item) (began now : Devic
     ends = let safe = run-ends.safe in record run-ends { safe = record safe { unit = unit-last.0 } };
     side = shows;
     written = are-written o (seconds_of start items) h.evented.recorded.supply (values_of run out) began now h.evented.recorded.recorded (found-by r0 (seconds_of start items) (log_of out) (found_in r0 began) began found);
-    stays = λ none.
-        let all = h.evented.recorded.stay none in
+    stays = λ c on.
+        let k = known-of c on in
+        let all = stays-at k.0 k.1 in
+        let told = told-own k.0 k.1 c k.2 in
         record {
-          vehicle = run.keeper.memory.registration;
-          says = all.says;
-          stays = all.stays;
-          since = all.since;
-          only = λ c. only-both (all.only c) (all.lone c) (λ valid. subst IsOwnValid (of_image c) valid);
+          stays = all.stays c;
+          since = all.since c;
+          others = told.others;
+          only = own-only k.0 k.1 c k.2;
+          judged = told.merged;
+          entered = all.entered c k.2;
+          theirs = told.theirs;
+          verdicts = own-verdicts k.0 k.1 c k.2;
+          shows = own-shows k.0 k.1 c k.2;
+          closed = own-closed k.0 k.1 c k.2;
+          words = words-so r (all.stays c) (all.hold c k.2).0;
+          acknowledged = acknowledged-so k.0 (truths_of o (log_of out) (seconds_of start items)) out.marks.items c (vehicle_of x) (own_sizes (found_of o.found c).image).activity (all.stays c) (start_shown (found_of o.found c).image) (all.hold c k.2).1;
+          odometers = odometers-so r (all.stays c) (all.hold c k.2).0;
+        };
+    both = λ none.
+        let all = stays-at Both none in
+        record {
+          own = λ c. record {
+            stays = all.stays c;
+            since = all.since c;
+            others = (told-own Both none c refl).others;
+            only = own-only Both none c refl;
+            judged = (told-own Both none c refl).merged;
+            entered = all.entered c refl;
+            theirs = (told-own Both none c refl).theirs;
+            verdicts = own-verdicts Both none c refl;
+            shows = own-shows Both none c refl;
+            closed = own-closed Both none c refl;
+            words = words-so r (all.stays c) (all.hold c refl).0;
+            acknowledged = acknowledged-so Both (truths_of o (log_of out) (seconds_of start items)) out.marks.items c (vehicle_of x) (own_sizes (found_of o.found c).image).activity (all.stays c) (start_shown (found_of o.found c).image) (all.hold c refl).1;
+            odometers = odometers-so r (all.stays c) (all.hold c refl).0;
+          };
           judged = all.judged;
-          verdicts = λ c valid. subst (λ (i : List ℕ). AreJudged run.keeper.memory.registration (own_sizes i).activity (all.stays c) (all.since c) (start_shown i)) (of_image c) (all.verdicts c (subst IsOwnValid (sym (of_image c)) valid));
-          shows = stay_shows none;
-          closed = stay_spells none;
-          entered = all.entered;
-          words = λ c. words-so r (all.stays c) (all.hold c).0;
-          odometers = λ c. odometers-so r (all.stays c) (all.hold c).0;
           owes = λ c. owes-as c (all.stays c)
-              (subst (λ (i : List ℕ). AreOwed (IsOwed (rule_of o) (start_at o) (log_of out) (seconds_of start items) c (brought r0 c).owed) run.keeper.memory.registration (own_sizes i).activity (all.stays c) (start_shown i)) (of_image c)
-              (owes-so (IsOwed (rule_of o) (start_at o) (log_of out) (seconds_of start items) c (brought r0 c).owed) out.marks.items c run.keeper.memory.registration (own_sizes (found_of o.found c).image).activity (all.stays c) (start_shown (found_of o.found c).image) (all.hold c).1).0);
-          acknowledged = λ c.
-              (owes-so (IsOwed (rule_of o) (start_at o) (log_of out) (seconds_of start items) c (brought r0 c).owed) out.marks.items c run.keeper.memory.registration (own_sizes (found_of o.found c).image).activity (all.stays c) (start_shown (found_of o.found c).image) (all.hold c).1).1;
+              (subst (λ (i : List ℕ). AreOwed (IsOwed (rule_of o) (start_at o) (log_of out) (seconds_of start items) c (brought r0 c).owed) (vehicle_of x) (own_sizes i).activity (all.stays c) (start_shown i)) (of_image c)
+              (owes-so (truths_of o (log_of out) (seconds_of start items)) out.marks.items c (vehicle_of x) (own_sizes (found_of o.found c).image).activity (all.stays c) (start_shown (found_of o.found c).image) (all.hold c refl).1));
           befores = record {
             comings = all.befores.comings;
             lines = all.befores.lines;
-            merged = merged-by all.befores.comings run.keeper.memory.registration (all.stays A) (all.stays B) (found_of o.found A).image (found_of o.found B).image (card_image r A) (card_image r B) (of_image A) (of_image B) all.befores.merged;
+            merged = merged-by all.befores.comings (vehicle_of x) (all.stays A) (all.stays B) (found_of o.found A).image (found_of o.found B).image (card_image r A) (card_image r B) (of_image A) (of_image B) all.befores.merged;
             tells = all.befores.tells;
           };
         };
@@ -293,6 +320,7 @@ module _ (x a b : List ℕ) (start : ℕ) (items : List Item) (began now : Devic
     holders = keep-holders o (seconds_of start items) h.evented.recorded.supply (values_of run out) began now h.evented.recorded.recorded (found-by r0 (seconds_of start items) (log_of out) (found_in r0 began) began found);
     vehicles = keep-vehicles o (seconds_of start items) h.evented.recorded.supply (values_of run out) began now h.evented.recorded.recorded (found-by r0 (seconds_of start items) (log_of out) (found_in r0 began) began found);
     measures = record { spans = h.spans; are_spans = record { spans_are = h.ringed.spans_are; bases = stores.0 }; measures = measures-vehicles };
+    sessions = tells-session;
     places = record { spans = h.spans; are_spans = record { spans_are = h.ringed.spans_are; bases = stores.0 }; shows = shows-places };
     cards = λ c valid.
         let one = carded.cards c (subst IsOwnValid (images c) valid) in
@@ -300,9 +328,9 @@ module _ (x a b : List ℕ) (start : ℕ) (items : List Item) (began now : Devic
           uses = one.uses;
           are = subst (λ (n : ℕ). AreUses ((card_of now c).left_since n) one.uses (accepted_on c (seen_of r.log r.trace))) (clocks c) one.are;
           exact = λ none. one.exact none ∙ ap (λ (i : List ℕ). uses_from (vehicle_of x) (use_in i) (insertions_on c (notes_in (log_of out) (seconds_of start items)))) (sym (images c));
-          left = λ none y there.
-              shown-use run.keeper.memory.registration (card_image r c) ((h.evented.recorded.stay none).stays c) (insertions_on c (notes_in (log_of out) (seconds_of start items))) (card_of now c) (stay_spells none c valid) (stay_shows none c valid) y there
-              ∙ (λ i. use_behind (record { 0 = (h.evented.recorded.stay none).says i }) (use_in (card_image r c)) (insertions_on c (notes_in (log_of out) (seconds_of start items))));
+          left = λ on y there.
+              let k = known-of c on in
+              shown-use (vehicle_of x) (card_image r c) ((stays-at k.0 k.1).stays c) (insertions_on c (notes_in (log_of out) (seconds_of start items))) (card_of now c) (own-closed k.0 k.1 c k.2 valid) (own-shows k.0 k.1 c k.2 valid) y there;
           shows = subst (λ (i : List ℕ). ShowsOn c (vehicle_of x) one.uses (own_sizes i) i r.log r.trace (card_of now c)) (sym (images c)) one.shows;
         };
   }
@@ -330,23 +358,51 @@ module _ (x a b : List ℕ) (start : ℕ) (items : List Item) (began now : Devic
           (is-carried (seconds_of start items) (values_of run out) (carried (values_of run out) hr.due hr.book hr.standing hr.brought hr.hands hr.firsts) h.evented.recorded.supply hr.held).unit run-ends.safe.unit
 
       -- what was owed to it at the start does not hang on the seconds
-      owes-as : (c : Card) (stays : List Stay) → AreOwed (IsOwed (rule_of o) (start_at o) (log_of out) (seconds_of start items) c (brought r0 c).owed) run.keeper.memory.registration (own_sizes (card_image r c)).activity stays (start_shown (card_image r c)) →
-          AreOwed (IsOwed r.rule (start_of r) r.log r.trace c (brought r c).owed) run.keeper.memory.registration (own_sizes (card_image r c)).activity stays (start_shown (card_image r c))
+      owes-as : (c : Card) (stays : List Stay) → AreOwed (IsOwed (rule_of o) (start_at o) (log_of out) (seconds_of start items) c (brought r0 c).owed) (vehicle_of x) (own_sizes (card_image r c)).activity stays (start_shown (card_image r c)) →
+          AreOwed (IsOwed r.rule (start_of r) r.log r.trace c (brought r c).owed) (vehicle_of x) (own_sizes (card_image r c)).activity stays (start_shown (card_image r c))
       owes-as A stays h = h
       owes-as B stays h = h
 
-      own : (none : NothingFailed (log_of out)) (c : Card) → IsOwnValid (card_image r c) →
-          HasStays 0 (found_of o.found c) run.keeper.memory.registration (spells_of c (notes_in (log_of out) (seconds_of start items))) (sits_in run.keeper.cabin.slots.seats c) ((h.evented.recorded.stay none).stays c) (session_of run.keeper.cabin.cards c) (card_of now c)
-      own none c valid = (h.evented.recorded.stay none).each c (subst IsOwnValid (sym (of_image c)) valid)
+      -- whose stays are known
+      known-of : (c : Card) → NothingFailedOn r c began → (whose : Whose) × AreKnown whose o (log_of out) now × (covers whose c ≡ true)
+      known-of c on = by on.untorn on.low
+        where
+          by : IsUntorn r c → (tears true r.log ≡ []) ⊎ (breakdowns_of began (device_of c) < last_count) → (whose : Whose) × AreKnown whose o (log_of out) now × (covers whose c ≡ true)
+          by (inl none) low = (Both, (on.uncut, none), refl)
+          by (inr mine) (inl none) = (Both, (on.uncut, none), refl)
+          by (inr mine) (inr low) = (Only c, record { uncut = on.uncut; low = low; stands = run-ends.still c mine }, same-itself c)
+
+      -- in the vehicle that the unit's image says
+      stays-at : AllStay o (marked out.marks.items (truths_of o (log_of out) (seconds_of start items))) 0 (log_of out) (notes_in (log_of out) (seconds_of start items)) (vehicle_of x) run.keeper.cabin now
+      stays-at = all-of o (marked out.marks.items (truths_of o (log_of out) (seconds_of start items))) 0 (log_of out) (notes_in (log_of out) (seconds_of start items)) run.keeper.memory.registration (vehicle_of x) run.keeper.cabin now (sym h.evented.recorded.vehicle) h.evented.recorded.stay
+
+      told-own : (whose : Whose) (known : AreKnown whose o (log_of out) now) (c : Card) → covers whose c ≡ true →
+          OfOne (marked out.marks.items (truths_of o (log_of out) (seconds_of start items))) c (judged_told (log_of out)) (judged_in ((stays-at whose known).stays c) ((stays-at whose known).since c))
+      told-own whose known c in_ =
+          let all = stays-at whose known in
+          told-of whose (marked out.marks.items (truths_of o (log_of out) (seconds_of start items))) c (judged_told (log_of out)) (λ (k : Card). judged_in (all.stays k) (all.since k)) all.entered in_ all.judged
+
+      own-only : (whose : Whose) (known : AreKnown whose o (log_of out) now) (c : Card) → covers whose c ≡ true → (((stays-at whose known).stays c ≡ []) × ((stays-at whose known).since c ≡ [])) ⊎ IsOwnValid (card_image r c)
+      own-only whose known c in_ = let all = stays-at whose known in only-both (all.only c in_) (all.lone c in_) (λ valid. subst IsOwnValid (of_image c) valid)
+
+      own-verdicts : (whose : Whose) (known : AreKnown whose o (log_of out) now) (c : Card) → covers whose c ≡ true → IsOwnValid (card_image r c) →
+          AreJudged (vehicle_of x) (own_sizes (card_image r c)).activity ((stays-at whose known).stays c) ((stays-at whose known).since c) (start_shown (card_image r c))
+      own-verdicts whose known c in_ valid =
+          subst (λ (i : List ℕ). AreJudged (vehicle_of x) (own_sizes i).activity ((stays-at whose known).stays c) ((stays-at whose known).since c) (start_shown i)) (of_image c)
+          ((stays-at whose known).verdicts c in_ (subst IsOwnValid (sym (of_image c)) valid))
+
+      own : (whose : Whose) (known : AreKnown whose o (log_of out) now) (c : Card) → covers whose c ≡ true → IsOwnValid (card_image r c) →
+          HasStays 0 (found_of o.found c) (vehicle_of x) (spells_of c (notes_in (log_of out) (seconds_of start items))) (sits_in run.keeper.cabin.slots.seats c) ((stays-at whose known).stays c) (session_of run.keeper.cabin.cards c) (card_of now c)
+      own whose known c in_ valid = (stays-at whose known).each c in_ (subst IsOwnValid (sym (of_image c)) valid)
 
       -- each card shows its stays, which are as they are noted
-      stay_shows : (none : NothingFailed (log_of out)) (c : Card) → IsOwnValid (card_image r c) → ShowsStays run.keeper.memory.registration (card_image r c) ((h.evented.recorded.stay none).stays c) (card_of now c)
-      stay_shows none c valid = subst (λ (i : List ℕ). ShowsStays run.keeper.memory.registration i ((h.evented.recorded.stay none).stays c) (card_of now c)) (of_image c) (own none c valid).shows
+      own-shows : (whose : Whose) (known : AreKnown whose o (log_of out) now) (c : Card) → covers whose c ≡ true → IsOwnValid (card_image r c) → ShowsStays (vehicle_of x) (card_image r c) ((stays-at whose known).stays c) (card_of now c)
+      own-shows whose known c in_ valid = subst (λ (i : List ℕ). ShowsStays (vehicle_of x) i ((stays-at whose known).stays c) (card_of now c)) (of_image c) (own whose known c in_ valid).shows
 
-      stay_spells : (none : NothingFailed (log_of out)) (c : Card) → IsOwnValid (card_image r c) → spells ((h.evented.recorded.stay none).stays c) ≡ spells_of c (notes_in (log_of out) (seconds_of start items))
-      stay_spells none c valid =
-          sym (noted-at-end 0 (session_of run.keeper.cabin.cards c) (sits_in run.keeper.cabin.slots.seats c) (spells ((h.evented.recorded.stay none).stays c)) (sits-at-end o (seconds_of start items) run out now h.evented.recorded sits c))
-          ∙ (own none c valid).spell
+      own-closed : (whose : Whose) (known : AreKnown whose o (log_of out) now) (c : Card) → covers whose c ≡ true → IsOwnValid (card_image r c) → spells ((stays-at whose known).stays c) ≡ spells_of c (notes_in (log_of out) (seconds_of start items))
+      own-closed whose known c in_ valid =
+          sym (noted-at-end 0 (session_of run.keeper.cabin.cards c) (sits_in run.keeper.cabin.slots.seats c) (spells ((stays-at whose known).stays c)) (sits-at-end o (seconds_of start items) run out now h.evented.recorded sits c))
+          ∙ (own whose known c in_ valid).spell
 
       clocks : (c : Card) → (found_of o.found c).began ≡ (card_of began c).clock
       clocks = both (λ c. (found_of o.found c).began ≡ (card_of began c).clock) refl refl
@@ -371,6 +427,12 @@ module _ (x a b : List ℕ) (start : ℕ) (items : List Item) (began now : Devic
           let goes : GoesByReadings h.spans (card_image r c) (card_image r c) y = subst (λ (i : List ℕ). GoesByReadings h.spans i i y) (sym (images c)) (h.ringed.ringed.vehicles c (subst IsOwnValid (images c) valid) y left) in
           (goes (own-vehicles (card_image r c) valid)).1
 
+      -- it tells of the session that is carried with the rings
+      tells-session : (c : Card) → IsOwnValid (card_image r c) → (y : List ℕ) → (card_of now c).may_leave y → TellsSession r c y
+      tells-session c valid y left =
+          subst (λ (i : List ℕ). MayTell (log_of out) c (session_told i i) (notes_in (log_of out) (seconds_of start items)) (session_told i y)) (sym (images c))
+          (h.ringed.ringed.sessions c (subst IsOwnValid (images c) valid) y left)
+
       -- and that of its places
       shows-places : (c : Card) → IsOwnValid (card_image r c) → (y : List ℕ) → (card_of now c).may_leave y → ShowsPlaces r h.spans c y
       shows-places c valid y left =
@@ -382,6 +444,15 @@ module _ (x a b : List ℕ) (start : ℕ) (items : List Item) (began now : Devic
           }
 
 -- ---- as the run begins
+
+-- no line is told yet, and no vehicle
+no-lines : (whose : Whose) (t : Truths) (lines : List Find) → lines ≡ [] → AreTold whose t lines (λ (c : Card). [])
+no-lines Both t lines none = subst (λ (fs : List Find). AreMerged fs [] []) (sym none) (refl, refl)
+no-lines (Only c) t lines none = ([], subst (λ (fs : List Find). AreMerged fs [] []) (sym none) (refl, refl), tt)
+
+no-befores : (whose : Whose) (unit : List ℕ) (acceptances : List Find) (vehicle : Registration) (image : Card → List ℕ) (now : State) → TellsBefores unit acceptances vehicle image (λ (c : Card). []) now → AreToldBefore whose unit acceptances vehicle image (λ (c : Card). []) now
+no-befores Both unit acceptances vehicle image now h = h
+no-befores (Only k) unit acceptances vehicle image now h = tt
 
 no-spans : (log : RunLog) → spans_of (went log []).told ≡ []
 unfolding went spans_of
@@ -531,25 +602,25 @@ module _ (x a b : List ℕ) (start : ℕ) (began now : Devices) (opened : Opened
         travels = travels;
       });
       odometer = λ lit. absurd (let bad : Due ≡ Lit = sym due ∙ lit in cc);
-      stay = λ none. record {
+      stay = λ whose known. record {
         says = registered;
         stays = λ c. [];
-        befores = record {
+        befores = no-befores whose x (acceptances_told (log_of out)) run.keeper.memory.registration (λ (c : Card). (found_of f c).image) now.unit (record {
           comings = [];
           lines = ap (λ (fs : List Find). filter (λ (g : Find). is_accepting g.verdict) fs) (sym finds);
           merged = (refl, refl);
           tells = λ stood y left. subst (TellsMore [] x) (sym (only_unit y left)) (tells-none x stood);
-        };
-        only = λ c. inl refl;
-        hold = λ c. (tt, tt);
-        placed = λ c valid. placed-bare (notes_in (log_of out) []) run.keeper.cabin c (bare c);
+        });
+        only = λ c in_. inl refl;
+        hold = λ c in_. (tt, tt);
+        placed = λ c in_ valid. placed-bare (notes_in (log_of out) []) run.keeper.cabin c (bare c);
         since = λ c. [];
-        lone = λ c. inl refl;
-        entered = λ c. tt;
-        judged = subst (λ (fs : List Find). AreMerged (filter (λ (g : Find). is_accepting g.verdict || is_late g.verdict) fs) [] []) (sym finds) (refl, refl);
-        verdicts = λ c valid. tt;
-        waits = λ c valid some. refl;
-        each = λ c valid.
+        lone = λ c in_. inl refl;
+        entered = λ c in_. tt;
+        judged = no-lines whose (marked out.marks.items (truths_of first-o (log_of out) [])) (judged_told (log_of out)) (ap (λ (fs : List Find). filter (λ (g : Find). is_accepting g.verdict || is_late g.verdict) fs) finds);
+        verdicts = λ c in_ valid. tt;
+        waits = λ c in_ valid some. refl;
+        each = λ c in_ valid.
             subst (λ (ns : List Note). HasStays 0 (found_of f c) run.keeper.memory.registration (spells_of c ns) (sits_in run.keeper.cabin.slots.seats c) [] (session_of run.keeper.cabin.cards c) (card_of now c)) (sym (no-notes (log_of out)))
             (subst (λ (s : Option Accepted). HasStays 0 (found_of f c) run.keeper.memory.registration [] (sits_in run.keeper.cabin.slots.seats c) [] s (card_of now c)) (sym (bare c))
             (stays-start 0 (found_of f c) run.keeper.memory.registration (sits_in run.keeper.cabin.slots.seats c) (card_of now c) (λ y left. untouched c y ((whole c).counts_now (found_of f c).began y (there.clocks c) left))));

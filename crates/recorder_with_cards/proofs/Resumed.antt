@@ -311,9 +311,9 @@ module _ (o : Origin) (origin : IsOrigin o) (done : List TraceSecond) (s : Trace
         (subst (λ (ms : List Mark). AllStay o (marked ms (truths_within o b.run.log done s)) s.number (log_of out) (notes_within b done s (In 0) (log_of out)) old.keeper.memory.registration v.cabin e) (sym (ap (λ (x : Values). x.marks) values))
         (subst (λ (l : RunLog). AllStay o (marked v.marks (truths_within o b.run.log done s)) s.number l (notes_within b done s (In 0) (log_of out)) old.keeper.memory.registration v.cabin e) (sym (ap (λ (x : Values). x.log) values))
         (all-second o (marked v.marks (truths_within o b.run.log done s)) 0 s.number (found_log v.unfound j.kept v.log) (notes_within b done s (In 0) (log_of out)) old.keeper.memory.registration v.cabin e none-sits
-        (all-true o (marked v.marks (truths_of o v.log done)) (marked v.marks (truths_within o b.run.log done s)) 0 (found_log v.unfound j.kept v.log) (notes_within b done s (In 0) (log_of out)) old.keeper.memory.registration v.cabin e (λ none. marked-still v.marks (truths_of o v.log done) (truths_within o b.run.log done s) woken-true)
-        (all-noted o (marked v.marks (truths_of o v.log done)) 0 v.log (found_log v.unfound j.kept v.log) (notes_in v.log done) (notes_within b done s (In 0) (log_of out)) old.keeper.memory.registration v.cabin e (found-on v.unfound j.kept v.log)
-        (λ none c. ap (λ (ns : List Note). spells_of c ns) notes-woken)
+        (all-true o (marked v.marks (truths_of o v.log done)) (marked v.marks (truths_within o b.run.log done s)) 0 (found_log v.unfound j.kept v.log) (notes_within b done s (In 0) (log_of out)) old.keeper.memory.registration v.cabin e (λ whose known. marked-still v.marks (truths_of o v.log done) (truths_within o b.run.log done s) woken-true)
+        (all-noted o (marked v.marks (truths_of o v.log done)) 0 v.log (found_log v.unfound j.kept v.log) (notes_in v.log done) (notes_within b done s (In 0) (log_of out)) old.keeper.memory.registration v.cabin e (found-on o v.unfound j.kept v.log e)
+        (λ whose known c in_. ap (λ (ns : List Note). spells_of c ns) notes-woken)
         (all-unit o (marked v.marks (truths_of o v.log done)) 0 v.log (notes_in v.log done) old.keeper.memory.registration v.cabin U W X Y (leaves-more U W (rings-moments U W (IsMending j) whole mends (λ x c m. behind-same x c m.outside.after))) stay)))))))
 
     pub awake : (begins : Beginning) × RunWaking o done s begins (waiting_in Driver (card_in new.keeper.cabin.slots.seats.driver) ++ waiting_in CoDriver (card_in new.keeper.cabin.slots.seats.codriver)) both_slots new out (devices W X Y)

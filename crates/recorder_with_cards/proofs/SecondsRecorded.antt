@@ -45,7 +45,7 @@ use Rattle.run_note_record.specs.Ringed.{notes_in}
 use Rattle.run_acts.specs.Closings.{spells_of}
 use Rattle.run_acts.specs.Truths.{truths_of, marked}
 use Rattle.run_acts.specs.Stays.{sits_in, AllStay}
-use Rattle.run_acts.proofs.AllStay.{moves-gone, placed-bare, all-moved, all-noted, all-true, lines-on}
+use Rattle.run_acts.proofs.AllStay.{moves-gone, placed-bare, all-moved, all-noted, all-true, lines-on, same-on, stood-self}
 use Rattle.run_acts.proofs.Truths.{grow-on, marked-still}
 use Rattle.run_acts.proofs.TruthsThen.{truths-same, truths-more}
 use Rattle.run_acts.proofs.SeatsThen.{sits-in-one}
@@ -142,14 +142,14 @@ module _ (o : Origin) (done : List TraceSecond) (old : Run) (before : Outcome) (
         stay = subst (λ (log : RunLog). AllStay o (marked before.marks.items (truths_of o log (done ++ driven (suc n) old.next speed actions))) 0 log (notes_in log (done ++ driven (suc n) old.next speed actions)) old.keeper.memory.registration old.keeper.cabin d) (sym (log-dark before old.next actions))
             (all-true o (marked before.marks.items (truths_of o (log_of before) done)) (marked before.marks.items (truths_of o (record (log_of before) { refused = by_slots before.refused.items ++ refused_dark old.next actions }) (done ++ driven (suc n) old.next speed actions))) 0 (record (log_of before) { refused = by_slots before.refused.items ++ refused_dark old.next actions })
             (notes_in (record (log_of before) { refused = by_slots before.refused.items ++ refused_dark old.next actions }) (done ++ driven (suc n) old.next speed actions)) old.keeper.memory.registration old.keeper.cabin d
-            (λ none.
+            (λ whose known.
             marked-still before.marks.items (truths_of o (log_of before) done) (truths_of o (record (log_of before) { refused = by_slots before.refused.items ++ refused_dark old.next actions }) (done ++ driven (suc n) old.next speed actions))
             (grow-on (truths_of o (log_of before) done) (truths_of o (record (log_of before) { refused = by_slots before.refused.items ++ refused_dark old.next actions }) done) (truths_of o (record (log_of before) { refused = by_slots before.refused.items ++ refused_dark old.next actions }) (done ++ driven (suc n) old.next speed actions))
             (truths-same o (log_of before) (record (log_of before) { refused = by_slots before.refused.items ++ refused_dark old.next actions }) done (went-refused (log_of before) (by_slots before.refused.items ++ refused_dark old.next actions) done))
             (truths-more o (record (log_of before) { refused = by_slots before.refused.items ++ refused_dark old.next actions }) done (driven (suc n) old.next speed actions))))
             (all-noted o (marked before.marks.items (truths_of o (log_of before) done)) 0 (log_of before) (record (log_of before) { refused = by_slots before.refused.items ++ refused_dark old.next actions }) (notes_in (log_of before) done)
-            (notes_in (record (log_of before) { refused = by_slots before.refused.items ++ refused_dark old.next actions }) (done ++ driven (suc n) old.next speed actions)) old.keeper.memory.registration old.keeper.cabin d (λ none. record { none = none; finds = refl; judged = refl })
-            (λ none c. ap (λ (ns : List Note). spells_of c ns)
+            (notes_in (record (log_of before) { refused = by_slots before.refused.items ++ refused_dark old.next actions }) (done ++ driven (suc n) old.next speed actions)) old.keeper.memory.registration old.keeper.cabin d (same-on o (log_of before) (record (log_of before) { refused = by_slots before.refused.items ++ refused_dark old.next actions }) d refl refl)
+            (λ whose known c in_. ap (λ (ns : List Note). spells_of c ns)
             (notes-refused (log_of before) (by_slots before.refused.items ++ refused_dark old.next actions) (done ++ driven (suc n) old.next speed actions)
             ∙ notes-lost (suc n) (log_of before) done old.next speed actions was.recorded.followed.power lost.1 fits)) h.stay));
       }))
@@ -183,14 +183,14 @@ module _ (o : Origin) (done : List TraceSecond) (old : Run) (before : Outcome) (
       off-due =
           all-true o (marked before.marks.items (truths_of o (log_of before) done)) (marked before.marks.items (truths_of o (log_of (told_off false old before)) (done ++ dark (suc n) old.next))) 0 (log_of (told_off false old before)) (notes_in (log_of (told_off false old before)) (done ++ dark (suc n) old.next))
           old.keeper.memory.registration old.keeper.cabin d
-          (λ none.
+          (λ whose known.
           marked-still before.marks.items (truths_of o (log_of before) done) (truths_of o (log_of (told_off false old before)) (done ++ dark (suc n) old.next))
           (grow-on (truths_of o (log_of before) done) (truths_of o (log_of (told_off false old before)) done) (truths_of o (log_of (told_off false old before)) (done ++ dark (suc n) old.next))
           (truths-same o (log_of before) (log_of (told_off false old before)) done (ap (λ (bs : List Break). went (record (log_of before) { breaks = bs }) done) (append-nil before.breaks.items)))
           (truths-more o (log_of (told_off false old before)) done (dark (suc n) old.next))))
           (all-noted o (marked before.marks.items (truths_of o (log_of before) done)) 0 (log_of before) (log_of (told_off false old before)) (notes_in (log_of before) done) (notes_in (log_of (told_off false old before)) (done ++ dark (suc n) old.next)) old.keeper.memory.registration old.keeper.cabin d
-          (λ none. lines-on (log_of before) ((log_of before).breaks ++ []) [] refl none)
-          (λ none c. ap (λ (ns : List Note). spells_of c ns)
+          (lines-on o (log_of before) ((log_of before).breaks ++ []) [] d d refl (stood-self o d))
+          (λ whose known c in_. ap (λ (ns : List Note). spells_of c ns)
           (ap (λ (bs : List Break). notes_in (record (log_of before) { breaks = bs }) (done ++ dark (suc n) old.next)) (append-nil before.breaks.items) ∙ notes-off (suc n) (log_of before) done old.next)) h.stay)
 
       -- a card that has a session sits in a slot
@@ -203,21 +203,21 @@ module _ (o : Origin) (done : List TraceSecond) (old : Run) (before : Outcome) (
       off-lit stands t span r =
           all-true o (marked before.marks.items (truths_of o (log_of before) done)) (marked before.marks.items (truths_of o (log_of (told_off true old before)) (done ++ dark (suc n) old.next))) 0 (log_of (told_off true old before)) (notes_in (log_of (told_off true old before)) (done ++ dark (suc n) old.next))
           old.keeper.memory.registration (with_power_lost (old.next - 1) old.keeper.cabin) d
-          (λ none.
+          (λ whose known.
           marked-still before.marks.items (truths_of o (log_of before) done) (truths_of o (log_of (told_off true old before)) (done ++ dark (suc n) old.next))
           (grow-on (truths_of o (log_of before) done) (truths_of o (log_of (told_off true old before)) done) (truths_of o (log_of (told_off true old before)) (done ++ dark (suc n) old.next))
           (off-cut-true (rule_of o) (start_at o) o.from (first_of o) done (progress (values_of old before) (IsLit (t ∷ span)) r.book) t span r.recorded.followed o)
           (truths-more o (log_of (told_off true old before)) done (dark (suc n) old.next))))
           (all-moved o (marked before.marks.items (truths_of o (log_of before) done)) 0 (log_of before) (log_of (told_off true old before)) (notes_in (log_of before) done) (notes_in (log_of (told_off true old before)) (done ++ dark (suc n) old.next)) old.keeper.memory.registration
           old.keeper.cabin (with_power_lost (old.next - 1) old.keeper.cabin) d
-          (λ none. lines-on (log_of before) ((log_of before).breaks ++ cut_at (old.next - 1) false old.begun ∷ []) (cut_at (old.next - 1) false old.begun ∷ []) refl none)
-          (λ none c. moves-gone 0 (spells_of c (notes_in (log_of before) done)) (spells_of c (notes_in (log_of (told_off true old before)) (done ++ dark (suc n) old.next))) (sits_in old.keeper.cabin.slots.seats c)
+          (lines-on o (log_of before) ((log_of before).breaks ++ cut_at (old.next - 1) false old.begun ∷ []) (cut_at (old.next - 1) false old.begun ∷ []) d d refl (stood-self o d))
+          (λ whose known c in_. moves-gone 0 (spells_of c (notes_in (log_of before) done)) (spells_of c (notes_in (log_of (told_off true old before)) (done ++ dark (suc n) old.next))) (sits_in old.keeper.cabin.slots.seats c)
           (sits_in (with_power_lost (old.next - 1) old.keeper.cabin).slots.seats c) (session_of old.keeper.cabin.cards c) (session_of (with_power_lost (old.next - 1) old.keeper.cabin).cards c)
           (ap (λ (ns : List Note). spells_of c ns)
           (notes-off (suc n) (log_of (told_off true old before)) done old.next
           ∙ off-cut-notes (rule_of o) (start_at o) o.from (first_of o) done (progress (values_of old before) (IsLit (t ∷ span)) r.book) t span r.recorded.followed))
           (seated stands c) (bare-off c))
-          (λ none c was. placed-bare (notes_in (log_of (told_off true old before)) (done ++ dark (suc n) old.next)) (with_power_lost (old.next - 1) old.keeper.cabin) c (bare-off c)) h.stay)
+          (λ whose known c in_ was. placed-bare (notes_in (log_of (told_off true old before)) (done ++ dark (suc n) old.next)) (with_power_lost (old.next - 1) old.keeper.cabin) c (bare-off c)) h.stay)
 
       plain : RecordBetweenSeconds o (done ++ dark (suc n) old.next) IsDue (off_values (suc n) (values_of old before)) d → RecordBetweenSeconds o (done ++ dark (suc n) old.next) IsDue (values_of (off_as false (suc n) old) (told_off false old before)) d
       plain r = subst (λ (bs : List Break). RecordBetweenSeconds o (done ++ dark (suc n) old.next) IsDue (values_of (off_as false (suc n) old) (record before { breaks = record { items = bs; room = before.breaks.room } })) d) (sym (append-nil before.breaks.items)) r

@@ -12,7 +12,7 @@ use Rattle.safety_model.specs.Safe.{Devices}
 use Rattle.card_slots.specs.Calls.{seat_in, card_in}
 use Rattle.run_promise.specs.Between.{devices}
 use Rattle.unit_events.proofs.EventFrames.{slots-keeps}
-use Rattle.run_events.specs.Shown.{SaysNothing}
+use Rattle.run_events.specs.Shown.{none_sure, SaysNothing}
 use Rattle.run_events.proofs.Frames.{keeps-nothing}
 use Rattle.run_events.proofs.Shows.{nothing-more}
 use Rattle.run_note_record.specs.Evented.{number_in}
@@ -29,7 +29,7 @@ use Rattle.recorder_with_cards.specs.Noting.{judged_events, NotesAnew, JudgesThe
 
 -- images that say the same are cut
 quiet-cut : (U V A B : State) → ((c : List ℕ) → V.may_leave c → (x : List ℕ) × U.may_leave x × SaysNothing x c) → NotesEvents [] true (devices U A B) (devices V A B)
-quiet-cut U V A B same o long [] told = λ log now unsure c there. let one = same c there in (one.0, one.1, nothing-more (number_in o) log now one.0 c one.2)
+quiet-cut U V A B same o long [] told = λ c there. let one = same c there in (one.0, one.1, nothing-more (number_in o) none_sure one.0 c one.2)
 quiet-cut U V A B same o long (e ∷ es) told = absurd told
 
 -- a mending tells of no event

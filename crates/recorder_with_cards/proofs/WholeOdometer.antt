@@ -25,6 +25,7 @@ use Rattle.history_model.proofs.Decided.{decided-after, nothing-was-lost}
 use Rattle.unit_model.specs.declared.layout.TheConstants.{DAY_SLOTS, HIGHEST_ODOMETER}
 use Rattle.unit_model.specs.Days.{UnitMinute, ShownDay, StoredDay, day_of, minute_at, minutes_shown, day_shown, days_shown, padded, with_minute, day_from, filled, newest_days, minutes_of}
 use Rattle.unit_model.specs.Image.{last_kept, odometer_at, recorded, unit_days}
+use Rattle.log_model.specs.Causes.{cuts}
 use Rattle.device_rule.specs.Filling.{seen_by_unit, filled_with}
 use Rattle.run_unit_course.specs.Followed.{IsKnown}
 use Rattle.run_unit_course.specs.Legs.{kilometres_of, AreWhole, whole_legs}
@@ -34,7 +35,6 @@ use Rattle.safety_model.specs.Recording.{Recording, start_of, told_of, history_o
 use Rattle.safety_model.specs.Unit.{HasEachDecided, IsFilled}
 use Rattle.safety_model.specs.Safe.{Devices}
 use Rattle.run_promise.specs.Days.{IsBegunIn}
-use Rattle.run_promise.specs.Whole.{NothingFailed}
 use Rattle.run_outcome.specs.declared.outcome.Outcome.{Outcome}
 use Rattle.run_acts.specs.Recording.{log_of}
 use Rattle.recorder_with_cards.specs.Ends.{recording_of, EndsTrace}
@@ -250,11 +250,11 @@ module _ (r : Recording) (begun_at : ℕ) (order : AreInOrder begun_at r.trace) 
         sum_is = b.sum_is ∙ ap (λ (ls : List ℕ). min (odometer_at r.unit + kilometres_of (ls ++ b.minute.travelled ∷ [])) HIGHEST_ODOMETER) legs;
       }
 
-pub all-there : (unit card_a card_b : List ℕ) (start : ℕ) (items : List Item) (out : Outcome) (began now : Devices) → EndsTrace unit card_a card_b start items out began now → NothingFailed (log_of out) →
+pub all-there : (unit card_a card_b : List ℕ) (start : ℕ) (items : List Item) (out : Outcome) (began now : Devices) → EndsTrace unit card_a card_b start items out began now → cuts true (log_of out) ≡ [] →
     IsAllThere (recording_of unit card_a card_b start items out) now
-all-there unit card_a card_b start items out began now h nothing =
+all-there unit card_a card_b start items out began now h uncut =
     let r : Recording = recording_of unit card_a card_b start items out in
-    let w = h.ends.whole nothing in
+    let w = h.ends.whole uncut in
     record {
       minutes = w;
       odometer = λ x left. whole-odometer r.rule (start_of r) r.log start r.trace (seconds-order start items) w.decided (recorded r.unit) (odometer_at r.unit) x (w.unit x left) (h.ends.odometer x left);

@@ -28,7 +28,7 @@ use Rattle.run_course.specs.Moment.{goes_on}
 use Rattle.run_course.specs.Reached.{course_at}
 use Rattle.run_course.proofs.Moment.{moment-begins}
 use Rattle.run_course.proofs.Reached.{nothing-told}
-use Rattle.run_events.specs.Shown.{SaysNothing}
+use Rattle.run_events.specs.Shown.{none_sure, SaysNothing}
 use Rattle.run_events.specs.Seconds.{span_before, seen_next}
 use Rattle.run_events.proofs.Shows.{nothing-more}
 use Rattle.run_outcome.specs.Lines.{Listed}
@@ -93,7 +93,7 @@ module _ (o : Origin) (done : List TraceSecond) (s : TraceSecond) (supply : Unit
   -- or the unit failed as it was mended
   pub unmended-evented : IsReadAgain o done p k d e → Evented o (done ++ s ∷ []) (and_break q.log (cut_at s.number true 0)) q.unfound (suc q.next) IsLost e
   unmended-evented read =
-      failure-cuts e e o done q [] s q-begins Waking Waking q.log q.log [] q-evented (adds-nothing e o done s Waking q.log) (λ log now unsure c there. (c, there, nothing-more (number_in o) log now c c (itself c)))
+      failure-cuts e e o done q [] s q-begins Waking Waking q.log q.log [] q-evented (adds-nothing e o done s Waking q.log) (λ c there. (c, there, nothing-more (number_in o) none_sure c c (itself c)))
       (record { unit = λ x h. h; card = λ card x h. h }) (In 0) (fresh true (went q.log done).before.slots).entered (breakdowns_of d) (breakdowns_of d) (breakdowns_of e)
       (moment-begins (rule_of o) (start_at o) o.from (first_of o) done q followed [] refl s number given (breakdowns_of d)).0 read.more read.broke s.actions ([], refl, refl) (λ ended. absurd (cc))
     where

@@ -17,6 +17,7 @@ use Rattle.log_model.specs.Log.{RunLog, Phase, In, cut_in, is_torn_in, found_in,
 use Rattle.log_model.specs.Slots.{Slots, Sitting, in_slot, other_slot}
 use Rattle.log_model.specs.Course.{Course, fresh, unmoved, with_slot, ToldSecond, Before, Moved, Visit, Went, visits, leaves, slot_told, both_told, has_power, went, second_told}
 use Rattle.note_model.specs.Odometer.{SpanFrom}
+use Rattle.note_model.specs.Noted.{Acceptance}
 use Rattle.card_image.specs.Own.{own_sizes}
 use Rattle.safety_model.specs.Recording.{card_image}
 use Rattle.safety_model.specs.Safe.{Devices}
@@ -47,7 +48,9 @@ use Rattle.run_promise.specs.Origin.{Origin, rule_of, start_at, first_of}
 use Rattle.run_rings.specs.Spans.{with_second}
 use Rattle.run_rings.specs.Same.{LeavesRings}
 use Rattle.run_rings.proofs.Same.{behind-same, rings-left, rings-moments}
-use Rattle.run_note_record.specs.OnCards.{PlacesStay, IsReading, VehiclesGo, CardsStay}
+use Rattle.run_note_record.specs.OnCards.{PlacesStay, IsReading, VehiclesGo, SessionsGo, NoOtherComes, CardsGo, CardsStay}
+use Rattle.run_note_record.specs.Sessions.{FailsIn, OpensIn}
+use Rattle.run_note_record.proofs.Sessions.{stay-may}
 use Rattle.run_note_record.specs.Ringed.{Seating, IsInsertionIn, since_in}
 use Rattle.run_note_record.specs.RingsSoFar.{RingedBehind, IsSecond, RingedIn, HasMoreBreaks, GoesBehind}
 use Rattle.run_note_record.specs.Steps.{nobody, spans_cut}
@@ -74,13 +77,14 @@ use Rattle.recorder_with_cards.specs.Judged.{moment_in, RunNext, JudgesAnew}
 use Rattle.recorder_with_cards.specs.JudgedRings.{AreSeatedWith, JudgedInRings, IsJudgedInRings, IsOdometerOf, RingsJudged, RingsJudgedAnew}
 use Rattle.recorder_with_cards.specs.Woken.{EventsWoken, RingsWoken}
 use Rattle.recorder_with_cards.proofs.Resumed.{RunWaking, within-of, waiting_in, driver-next, codriver-next, codriver-began}
+use Rattle.recorder_with_cards.proofs.JudgedSessions.{cards-fail, cards-open}
 use Rattle.recorder_with_cards.proofs.RingsHere.{here-then, here-more, here-cut, goes-behind}
 
 -- ---- calls that write no ring
 
 -- those on the unit alone leave the cards
 pub cards-beside : (o : Origin) (spans : List SpanFrom) (U W X Y : State) → CardsStay o spans (devices U X Y) (devices W X Y)
-cards-beside o spans U W X Y = record { places = places; vehicles = vehicles }
+cards-beside o spans U W X Y = record { places = places; vehicles = vehicles; sessions = sessions }
   where
     places : PlacesStay o (devices U X Y) (devices W X Y)
     places A valid y left = (y, left, refl)
@@ -89,6 +93,10 @@ cards-beside o spans U W X Y = record { places = places; vehicles = vehicles }
     vehicles : VehiclesGo o spans (devices U X Y) (devices W X Y)
     vehicles A valid y left = (y, left, goes-itself (own_sizes (card_image o.recording A)) (IsReading spans) y)
     vehicles B valid y left = (y, left, goes-itself (own_sizes (card_image o.recording B)) (IsReading spans) y)
+
+    sessions : SessionsGo o NoOtherComes (devices U X Y) (devices W X Y)
+    sessions A valid y left = (y, left, inl refl)
+    sessions B valid y left = (y, left, inl refl)
 
 -- images that differ in rows and slots of minutes alone have the same rings
 pub mend-leaves : (j : Notes) (U W : State) → IsCoherent U → LeavesOnly U W (IsMending j) → LeavesRings U W
@@ -195,7 +203,7 @@ module _ (o : Origin) (done : List TraceSecond) (s : TraceSecond) (p : Progress)
         begun_later = λ k lt. absurd (omega (arith, lt));
         torn = λ k slot le. cut-torn p.log s.number 0 at_once.none.cut (In k) slot;
         found = λ k slot le. cut-found p.log s.number 0 at_once.none.cut (In k) slot;
-      }) (rings-left d.unit) (left-itself o d) (stay-itself o (with_second spans base t) d) (λ c. inl refl) in
+      }) (rings-left d.unit) (left-itself o d) (stay-may o (with_second spans base t) (FailsIn (with_cut p.log s []) s.number) d d (stay-itself o (with_second spans base t) d)) (λ c. inl refl) in
       cut-ends d o done s p.log (with_cut p.log s []) [] s.actions spans base t nobody nobody told at_once.behind at_once.power refl (cut-is p.log s.number 0 at_once.none.cut) (λ c. inl refl)
 
 -- power may come with the next second
@@ -288,6 +296,23 @@ module _ (o : Origin) (done : List TraceSecond) (s : TraceSecond) (waits fewer :
       IsInsertionIn (since_in o next.goes.within.b.run.log done s) log (with_second spans old.keeper.odometer t) e (record { accepted = record { second = s.number; slot = slot; card = sat.0.card }; withdrawn = None }) head
   of-sitter log head is = subst (λ (c : Card). IsInsertionIn (since_in o next.goes.within.b.run.log done s) log (with_second spans old.keeper.odometer t) e (record { accepted = record { second = s.number; slot = slot; card = c }; withdrawn = None }) head) (sym sat.2) is
 
+  -- which session the card may tell, by the log behind it, or by one with a cut more
+  abbrev acceptance : Acceptance
+  acceptance = record { second = s.number; slot = slot; card = card }
+
+  abbrev verdicts : List Verdict
+  verdicts = found_in (log_of after) s.number (In 0) slot
+
+  after-more : HasMoreBreaks (log_of after) (with_cut (log_of after) s [])
+  after-more = (cut_at s.number true 0 ∷ [], refl)
+
+  none-more : HasMoreBreaks (log_of after) (log_of after)
+  none-more = ([], sym (append-nil (log_of after).breaks))
+
+  -- of who sits there
+  sitter-opens : (log : RunLog) → CardsGo o (with_second spans old.keeper.odometer t) (OpensIn log (record { second = s.number; slot = slot; card = card })) d e → CardsGo o (with_second spans old.keeper.odometer t) (OpensIn log (record { second = s.number; slot = slot; card = sat.0.card })) d e
+  sitter-opens log cards = subst (λ (c : Card). CardsGo o (with_second spans old.keeper.odometer t) (OpensIn log (record { second = s.number; slot = slot; card = c })) d e) (sym sat.2) cards
+
   by : (b : Bool) → JudgedInRings b (since_in o next.goes.within.b.run.log done s) (record { second = s.number; slot = slot; card = card }) (found_in (log_of after) s.number (In 0) slot) (with_second spans old.keeper.odometer t) (seats_of old) (seats_of new) d e →
       RingsGoOn b o done s next.goes.within.b [] new (log_of after) spans t e
   by false h = record {
@@ -295,10 +320,10 @@ module _ (o : Origin) (done : List TraceSecond) (s : TraceSecond) (waits fewer :
     counted = j.counted;
     ringed = subst (λ (n : ℕ). RingedIn o done s next.goes.within.b.run.log [] (log_of after) spans n t (seats_of new) e) (sym j.odometer) (⊎_elim
         (λ p. passed-anew d e o done s next.goes.within.b.run.log (log_of before) (log_of after) spans old.keeper.odometer t (seats_of old) (seats_of new) rings.ringed off (here-more (log_of before) (log_of after) s.number j.here) slot (found_in (log_of after) s.number (In 0) slot)
-        (anew-by (log_of before) (log_of after) slot (found_in (log_of after) s.number (In 0) slot) first next.none j.others refl) (inr p.none) p.stays j.left j.places p.fewer_sit)
+        (anew-by (log_of before) (log_of after) slot (found_in (log_of after) s.number (In 0) slot) first next.none j.others refl) (inr p.none) p.stays j.left (cards-fail o (with_second spans old.keeper.odometer t) d e (log_of after) (log_of after) none-more acceptance verdicts j.places p.none) p.fewer_sit)
         (λ i. accepted-anew d e o done s next.goes.within.b.run.log (log_of before) (log_of after) spans old.keeper.odometer t (seats_of old) i.now (seats_of new) rings.ringed off (here-more (log_of before) (log_of after) s.number j.here) slot sat.0 sat.1 i.verdict
         (anew-by (log_of before) (log_of after) slot (i.verdict ∷ []) first next.none j.others i.found) i.accepting i.head i.index i.writes i.inserts.long (of-sitter (log_of after) i.head (i.inserts.is (log_of after)))
-        (subst (λ (c : Card). AreSeatedWith c i.index (seats_of old) i.now) (sym sat.2) i.seated) j.left j.places i.fewer_sit)
+        (subst (λ (c : Card). AreSeatedWith c i.index (seats_of old) i.now) (sym sat.2) i.seated) j.left (sitter-opens (log_of after) (cards-open o (with_second spans old.keeper.odometer t) d e (log_of after) (log_of after) none-more acceptance verdicts j.places)) i.fewer_sit)
         h);
   }
   by true h =
@@ -312,11 +337,11 @@ module _ (o : Origin) (done : List TraceSecond) (s : TraceSecond) (waits fewer :
             (λ p.
             let passed : RingedIn o done s next.goes.within.b.run.log [] cut spans old.keeper.odometer t nobody e =
             passed-anew d e o done s next.goes.within.b.run.log (log_of before) cut spans old.keeper.odometer t (seats_of old) nobody rings.ringed off cut-more slot (found_in (log_of after) s.number (In 0) slot)
-            (anew-by (log_of before) cut slot (found_in (log_of after) s.number (In 0) slot) first next.none (cut-found_ (other_slot slot) ∙ j.others) (cut-found_ slot)) (inr p.0) p.1 j.left j.places (λ c. inr refl) in
+            (anew-by (log_of before) cut slot (found_in (log_of after) s.number (In 0) slot) first next.none (cut-found_ (other_slot slot) ∙ j.others) (cut-found_ slot)) (inr p.0) p.1 j.left (cards-fail o (with_second spans old.keeper.odometer t) d e (log_of after) cut after-more acceptance verdicts j.places p.0) (λ c. inr refl) in
             cut-ends e o done s next.goes.within.b.run.log cut [] s.actions spans old.keeper.odometer t nobody nobody passed behind-cut power-then refl (cut-is (log_of after) s.number 0 uncut) (λ c. inl refl))
             (λ i. cut-anew d e o done s next.goes.within.b.run.log (log_of before) cut spans old.keeper.odometer t (seats_of old) rings.ringed off cut-more slot sat.0 sat.1 i.verdict
             (anew-by (log_of before) cut slot (i.verdict ∷ []) first next.none (cut-found_ (other_slot slot) ∙ j.others) (cut-found_ slot ∙ i.found)) i.accepting behind-cut power-then (cut-is (log_of after) s.number 0 uncut) (cut-failed (log_of after) s.number 0 uncut)
-            i.head i.writes i.inserts.long (of-sitter cut i.head (i.inserts.is cut)) j.left j.places)
+            i.head i.writes i.inserts.long (of-sitter cut i.head (i.inserts.is cut)) j.left (sitter-opens cut (cards-open o (with_second spans old.keeper.odometer t) d e (log_of after) cut after-more acceptance verdicts j.places)))
             h);
       }
 

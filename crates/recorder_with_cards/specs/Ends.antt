@@ -21,13 +21,14 @@ use Rattle.log_model.specs.declared.lines.Refused.{Refused}
 use Rattle.log_model.specs.ByHand.{stops}
 use Rattle.run_acts.specs.Recording.{log_of}
 use Rattle.recorder_with_cards.specs.Written.{AreWritten}
-use Rattle.recorder_with_cards.specs.Stays.{HasAllStays}
+use Rattle.recorder_with_cards.specs.Stays.{HaveTheirStays, HasAllStays}
 use Rattle.recorder_with_cards.specs.Still.{StayDense, KeepTheirHolders, KeepTheirVehicles}
 use Rattle.recorder_with_cards.specs.Side.{ShowTheSide}
 use Rattle.recorder_with_cards.specs.KeptAfter.{TellsKept}
 use Rattle.recorder_with_cards.specs.LastKept.{TellsLast}
 use Rattle.recorder_with_cards.specs.Placed.{ShowTheirPlaces}
 use Rattle.recorder_with_cards.specs.Measured.{MeasureTheirVehicles}
+use Rattle.recorder_with_cards.specs.Sessions.{TellTheirSessions}
 use Rattle.recorder_with_cards.specs.CardEvents.{ShowTheirEvents}
 use Rattle.recorder_with_cards.specs.Speeds.{CarriesItsSpeeds}
 
@@ -88,22 +89,26 @@ BeginsAgain began now = (unit card_a card_b : List ℕ) → now.unit.left_since 
 -- WHAT A RUN PROMISES that was recorded: it could begin (`may`); the crash-safety theorem, causes and completeness hold
 -- of it (`ends`); every image that a stop may leave of the unit shows its auxiliary records: events and faults,
 -- insertions with their withdrawals, places, and the odometer (`side`); every image of a card that was valid has been
--- written so (`written`), and where no call failed each of these shows exactly what its stays in the slots make of it
--- (`stays`). What was found kept after its cuts was so (`kept`), and the last-kept minute of each image of the unit is
--- that of the last minute which it shows (`last`). Rings that were dense stay dense (`dense`); each valid card stays
+-- written so (`written`), and of a card on which no call failed, where none on the unit did, each of these shows
+-- exactly what its stays in the slots make of it, whatever the other card did (`stays`); where no call failed at all,
+-- they are the stays of both by the lines of the log, with what was owed at each and the vehicle before it (`both`).
+-- What was found kept after its cuts was so (`kept`), and the last-kept minute of each image of the unit is that of the
+-- last minute which it shows (`last`). Rings that were dense stay dense (`dense`); each valid card stays
 -- its holder's, with all that no call writes (`holders`), has no vehicle entry but of the unit's vehicle and of those
--- that it had (`vehicles`), and shows the places that were entered by it (`places`) and its events of the run
--- (`cards`). The owed rows of every image of the unit since the start stand as they stood, or were taken for one of the
--- two cards, and what is owed to any other card stays (`rows`). Where the ring of detailed speed was dense, every image
--- that a stop may leave of the unit carries the blocks of the run (`speeds`). And with whatever a stop might have left
--- a run may begin again (`again`).
+-- that it had (`vehicles`), with odometers that the vehicle had in the run or the card before it (`measures`), tells of
+-- no session that was closed (`sessions`), and shows the places that were entered by it (`places`) and its events of
+-- the run (`cards`). The owed rows of every image of the unit since the start stand as they stood, or were taken for
+-- one of the two cards, and what is owed to any other card stays (`rows`). Where the ring of detailed speed was dense,
+-- every image that a stop may leave of the unit carries the blocks of the run (`speeds`). And with whatever a stop
+-- might have left a run may begin again (`again`).
 pub record EndsTrace (unit card_a card_b : List ℕ) (start : ℕ) (items : List Item) (out : Outcome)
     (began now : Devices) : Type 0 where
   pub may : MayRecord unit card_a card_b start
   pub ends : EndsRun (recording_of unit card_a card_b start items out) out.marks.items began now
   pub side : ShowTheSide (recording_of unit card_a card_b start items out) began now
   pub written : AreWritten (recording_of unit card_a card_b start items out) now
-  pub stays : HasAllStays (recording_of unit card_a card_b start items out) out.marks.items now
+  pub stays : HaveTheirStays (recording_of unit card_a card_b start items out) out.marks.items began now
+  pub both : HasAllStays (recording_of unit card_a card_b start items out) out.marks.items now
   pub rows : (y : List ℕ) → now.unit.left_since began.unit.clock y → KeepsRows unit card_a card_b y
   pub kept : TellsKept (recording_of unit card_a card_b start items out) began.unit.clock now.unit
   pub last : TellsLast (last_kept unit) ends.safe.unit
@@ -111,6 +116,7 @@ pub record EndsTrace (unit card_a card_b : List ℕ) (start : ℕ) (items : List
   pub holders : KeepTheirHolders (recording_of unit card_a card_b start items out) began now
   pub vehicles : KeepTheirVehicles (recording_of unit card_a card_b start items out) began now
   pub measures : MeasureTheirVehicles (recording_of unit card_a card_b start items out) now
+  pub sessions : TellTheirSessions (recording_of unit card_a card_b start items out) now
   pub places : ShowTheirPlaces (recording_of unit card_a card_b start items out) now
   pub cards : ShowTheirEvents (recording_of unit card_a card_b start items out) began now
   pub speeds : CarriesItsSpeeds (recording_of unit card_a card_b start items out) began now

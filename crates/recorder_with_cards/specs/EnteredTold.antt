@@ -4,7 +4,7 @@ use Rattle.trace_model.specs.declared.Card.{Card}
 use Rattle.event_model.specs.declared.kinds.TheConstants.{CARD_NOT_VALID, TIME_OVERLAP, INSERTION_WHILE_DRIVING}
 use Rattle.event_model.specs.declared.kinds.TheConstants.{SESSION_NOT_CLOSED, CARD_FAULT}
 use Rattle.event_model.specs.Events.{Event, Crew, noted_with}
-pub use Rattle.run_acts.specs.NotedEvents.{NoteTellsEvent, AreUnsure}
+pub use Rattle.run_acts.specs.NotedEvents.{NoteTellsEvent}
 use Rattle.run_crew.specs.declared.cabin.Cabin.{Cabin}
 use Rattle.run_crew.specs.Cabin.{torn_out, crew_of}
 use Rattle.run_events.specs.Entries.{IsCrewOf}

@@ -1,7 +1,7 @@
 -- What a card that is judged makes of the rings of a run with cards, over devices that tell their images (profile): its
 -- insertion is noted where it is accepted, in an action and at a power-on alike.
-use Rattle.std.specs.Prelude.{◌≡◌, ◌⊎◌, ℕ, suc, ◌≤◌, Bool, true, false, Option, Some, None, option_map, List, [], ◌∷◌}
-use Rattle.std.specs.Prelude.{◌++◌, length, filter}
+use Rattle.std.specs.Prelude.{◌≡◌, ◌≢◌, ◌⊎◌, ℕ, suc, ◌≤◌, Bool, true, false, Option, Some, None, option_map, List, []}
+use Rattle.std.specs.Prelude.{◌∷◌, ◌++◌, length, filter}
 use Rattle.std.specs.List.{AllByRecursion}
 use Rattle.activity_codec.specs.declared.values.Slot.{Slot}
 use Rattle.trace_model.specs.declared.Card.{Card}
@@ -24,7 +24,8 @@ use Rattle.run_promise.specs.Origin.{Origin}
 use Rattle.run_promise.specs.Beside.{HaveLeftMore}
 use Rattle.run_note_record.specs.Ringed.{Seating, one_behind, StaysInRings, WritesRing, IsInsertionIn, IsAddedAt}
 use Rattle.run_note_record.specs.Ringed.{MayBeAdded, Since, since_in}
-use Rattle.run_note_record.specs.OnCards.{IsReading, CardsStay}
+use Rattle.run_note_record.specs.OnCards.{IsReading, CardsGo}
+use Rattle.run_note_record.specs.Sessions.{FailsIn}
 use Rattle.run_note_record.specs.RingsSoFar.{AreFewer}
 use Rattle.run_minutes.specs.declared.keeper.Moment.{Moment}
 use Rattle.run_minutes.specs.Minutes.{odometer_by}
@@ -45,6 +46,11 @@ abbrev pub AreSeatedWith : Card → (index : ℕ) → (seats now : Card → Opti
 AreSeatedWith card index seats now = (c : Card)
     → ((same_card card c ≡ false) × (now c ≡ option_map one_behind (seats c)))
     ⊎ ((same_card card c ≡ true) × (now c ≡ Some (record { index = index; behind = 0 })))
+
+-- WHICH SESSION A CARD THAT IS JUDGED MAY TELL: one of this second, where it is accepted, or where a call failed in it
+abbrev pub JudgesIn : RunLog → Acceptance → (verdicts : List Verdict) → Card → ℕ → Type 0
+JudgesIn log a verdicts c t =
+    ((same_card a.card c ≡ true) × (filter is_accepting verdicts ≢ []) × (t ≡ a.second)) ⊎ FailsIn log a.second c t
 
 -- NOTHING WAS FOUND, or it is turned away, and no ring is written;
 pub record PassesInRings (verdicts : List Verdict) (seats fewer : Card → Option Seating) (d e : Devices) : Type 0 where
@@ -102,7 +108,11 @@ pub record IsJudgedInRings (failed : Bool) (o : Since) (s : TraceSecond) (n : �
   pub cut : cut_in (log_of after) s.number ≡ cut_in (log_of before) s.number
   pub same : (m : ℕ) → n ≡ suc m → TellSameTo (log_of before) (log_of after) s.number m
   pub left : HaveLeftMore o.origin d e
-  pub places : CardsStay o.origin spans d e
+  pub places : CardsGo o.origin spans (JudgesIn (log_of after) (record {
+    second = s.number;
+    slot = slot;
+    card = card;
+  }) (found_in (log_of after) s.number (In n) slot)) d e
   pub odometer : new.keeper.odometer ≡ old.keeper.odometer
   pub counted : new.noted ≤ length (log_of after).finds
 

@@ -1,4 +1,4 @@
--- What is there after a run in which no call failed: every minute, and every whole kilometre (profile).
+-- What is there after a run in which no failed call cut the power: every minute, and every whole kilometre (profile).
 use Rattle.std.specs.Prelude.{◌≡◌, ◌⊎◌, ℕ, ◌+◌, ◌/◌, ◌≤◌, min, List, [], ◌∷◌, ◌++◌, Contains}
 use Rattle.minute_model.specs.declared.Rule.{Rule}
 use Rattle.minute_model.specs.declared.Minute.{Minute}
@@ -36,8 +36,8 @@ pub record HasDayOdometer (r : Recording) (day odometer : ℕ) : Type 0 where
   pub sum_is : odometer ≡ min (odometer_at r.unit + kilometres_of (whole_legs r.rule earlier ++ minute.travelled ∷ []))
       HIGHEST_ODOMETER
 
--- Each decided minute stands in the history, the unit has all of it, a card that was accepted all of its entries; and
--- so is the odometer, and that of each day which the unit records.
+-- Each decided minute stands in the history, the unit has all of it, a card that was accepted, and that no failed call
+-- has torn out, all of its entries; and so is the odometer, and that of each day which the unit records.
 pub record IsAllThere (r : Recording) (now : Devices) : Type 0 where
   pub minutes : IsWhole r now
   pub odometer : (x : List ℕ) → now.unit.may_leave x → HasWholeOdometer r.rule (told_of r) (odometer_at r.unit) x

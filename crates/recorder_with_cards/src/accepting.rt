@@ -15,11 +15,28 @@ ghost use Rattle.recorder_with_cards.specs.Acts.{PromisesAnew, PromisesHere};
 
 use activity_codec::Slot;
 use run_acts::Run;
-use run_insertion::{Entering, accept};
+use run_insertion::{Beside, Entering, accept};
 use run_minutes::Moment;
 use run_outcome::Outcome;
 use tach_media::{Chip, Failed, Medium};
 use trace_model::Card;
+
+/// A card in a slot, at a moment and a speed in km/h.
+#[derive(Clone, Copy)]
+pub(crate) struct SlotCard {
+    pub slot: Slot,
+    pub card: Card,
+    pub at: Moment,
+    pub speed: u8,
+}
+
+/// A slot whose card, if there is one, is judged anew, at a moment and a speed in km/h.
+#[derive(Clone, Copy)]
+pub(crate) struct SlotAnew {
+    pub slot: Slot,
+    pub at: Moment,
+    pub speed: u8,
+}
 
 // A card that sits in a slot, not accepted, is judged.
 pub(crate) fn accept_here<M: Medium, C: Chip, D: Chip>(
@@ -68,15 +85,8 @@ pub(crate) fn accept_here<M: Medium, C: Chip, D: Chip>(
     ensures cause { HasCause (M.state unit.old) (M.state unit.new) (is_err result) }
 {
     let mut noted = run.noted;
-    let answer = accept(
-        &mut run.keeper,
-        &mut noted,
-        entering,
-        unit,
-        card,
-        others,
-        outcome,
-    );
+    let beside = Beside { entering, others };
+    let answer = accept(&mut run.keeper, &mut noted, beside, unit, card, outcome);
     run.noted = noted;
     // So many insertions were noted at most: a find was told of each.
     let _most = outcome.finds.len();
@@ -86,10 +96,7 @@ pub(crate) fn accept_here<M: Medium, C: Chip, D: Chip>(
 // The card that sits in a slot, not accepted, is judged.
 pub(crate) fn accept_in<M: Medium, C: Chip, D: Chip>(
     run: &mut Run,
-    slot: Slot,
-    card: Card,
-    at: Moment,
-    speed: u8,
+    put: SlotCard,
     unit: &mut M,
     card_a: &mut C,
     card_b: &mut D,
@@ -98,11 +105,12 @@ pub(crate) fn accept_in<M: Medium, C: Chip, D: Chip>(
     requires acting { IsActing run.old (M.state unit.old) (C.card card_a.old) (D.card card_b.old) (C.state card_a.old)
         (D.state card_b.old) }
     requires none { run.old.minutes.owing ≡ 0 }
-    requires at { at.second ≡ run.old.next }
-    requires seat { seat_in run.old.keeper.cabin.slots.seats slot ≡ Some (record { card = card; newest = None }) }
+    requires at { put.at.second ≡ run.old.next }
+    requires seat { seat_in run.old.keeper.cabin.slots.seats put.slot ≡ Some
+        (record { card = put.card; newest = None }) }
     requires breaks { length outcome.old.breaks.items + falls_of run.old.keeper.cabin ≤ outcome.old.breaks.room }
     requires finds { length outcome.old.finds.items < outcome.old.finds.room }
-    ensures accepted { AcceptsIn slot card at speed run.old run.new outcome.old outcome.new }
+    ensures accepted { AcceptsIn put.slot put.card put.at put.speed run.old run.new outcome.old outcome.new }
     ensures held { IsHeldBehind (is_err result) run.new
         (devices (M.state unit.old) (C.state card_a.old) (D.state card_b.old))
         (devices (M.state unit.new) (C.state card_a.new) (D.state card_b.new))
@@ -111,10 +119,12 @@ pub(crate) fn accept_in<M: Medium, C: Chip, D: Chip>(
         (D.card card_b.new) (C.state card_a.new) (D.state card_b.new)) }
     ensures takes { Takes 1 0 0 run.old run.new outcome.old outcome.new }
     // What a run promises goes on with it.
-    ensures promises { PromisesAccepting slot card at speed (is_err result) run.old run.new outcome.old outcome.new
+    ensures promises { PromisesAccepting put.slot put.card put.at put.speed
+        (is_err result) run.old run.new outcome.old outcome.new
         (devices (M.state unit.old) (C.state card_a.old) (D.state card_b.old))
         (devices (M.state unit.new) (C.state card_a.new) (D.state card_b.new)) }
-    ensures leaves { LeavesAccepted slot card at speed (is_err result) run.old run.new outcome.old outcome.new
+    ensures leaves { LeavesAccepted put.slot put.card put.at put.speed
+        (is_err result) run.old run.new outcome.old outcome.new
         (devices (M.state unit.old) (C.state card_a.old) (D.state card_b.old))
         (devices (M.state unit.new) (C.state card_a.new) (D.state card_b.new)) }
     ensures goes { DevicesGo 24 1072 outcome.old.breaks.items outcome.new.breaks.items
@@ -122,13 +132,13 @@ pub(crate) fn accept_in<M: Medium, C: Chip, D: Chip>(
         (devices (M.state unit.new) (C.state card_a.new) (D.state card_b.new)) }
 {
     let odometer = run.odometer_now();
-    match card {
+    match put.card {
         Card::A => {
             let entering = Entering {
                 which: Card::A,
-                slot,
-                at,
-                speed,
+                slot: put.slot,
+                at: put.at,
+                speed: put.speed,
                 odometer,
             };
             accept_here(run, entering, unit, card_a, card_b, outcome)
@@ -136,9 +146,9 @@ pub(crate) fn accept_in<M: Medium, C: Chip, D: Chip>(
         Card::B => {
             let entering = Entering {
                 which: Card::B,
-                slot,
-                at,
-                speed,
+                slot: put.slot,
+                at: put.at,
+                speed: put.speed,
                 odometer,
             };
             accept_here(run, entering, unit, card_b, card_a, outcome)
@@ -153,9 +163,7 @@ pub(crate) fn accept_in<M: Medium, C: Chip, D: Chip>(
 /// `Failed` where the unit failed.
 pub(crate) fn accept_anew<M: Medium, C: Chip, D: Chip>(
     run: &mut Run,
-    slot: Slot,
-    at: Moment,
-    speed: u8,
+    anew: SlotAnew,
     unit: &mut M,
     card_a: &mut C,
     card_b: &mut D,
@@ -164,34 +172,41 @@ pub(crate) fn accept_anew<M: Medium, C: Chip, D: Chip>(
     requires acting { IsActing run.old (M.state unit.old) (C.card card_a.old) (D.card card_b.old) (C.state card_a.old)
         (D.state card_b.old) }
     requires none { run.old.minutes.owing ≡ 0 }
-    requires at { at.second ≡ run.old.next }
-    requires bare { IsBare (seat_in run.old.keeper.cabin.slots.seats slot) }
+    requires at { anew.at.second ≡ run.old.next }
+    requires bare { IsBare (seat_in run.old.keeper.cabin.slots.seats anew.slot) }
     requires breaks { length outcome.old.breaks.items + falls_of run.old.keeper.cabin ≤ outcome.old.breaks.room }
-    requires finds { length outcome.old.finds.items + bare_count (seat_in run.old.keeper.cabin.slots.seats slot)
+    requires finds { length outcome.old.finds.items + bare_count (seat_in run.old.keeper.cabin.slots.seats anew.slot)
         ≤ outcome.old.finds.room }
-    ensures accepted { AcceptsAnew slot at speed run.old run.new outcome.old outcome.new }
+    ensures accepted { AcceptsAnew anew.slot anew.at anew.speed run.old run.new outcome.old outcome.new }
     ensures held { IsHeldBehind (is_err result) run.new
         (devices (M.state unit.old) (C.state card_a.old) (D.state card_b.old))
         (devices (M.state unit.new) (C.state card_a.new) (D.state card_b.new))
         (C.card card_a.new) (D.card card_b.new) }
     ensures going { OnOk result (RunHasPowerAllSeated (run.new.next / 60) run.new (M.state unit.new) (C.card card_a.new)
         (D.card card_b.new) (C.state card_a.new) (D.state card_b.new)) }
-    ensures takes { Takes (bare_count (seat_in run.old.keeper.cabin.slots.seats slot)) 0 0 run.old run.new outcome.old
+    ensures takes { Takes
+        (bare_count (seat_in run.old.keeper.cabin.slots.seats anew.slot)) 0 0 run.old run.new outcome.old
         outcome.new }
-    ensures promises { PromisesAnew slot at speed (is_err result) run.old run.new outcome.old outcome.new
+    ensures promises { PromisesAnew anew.slot anew.at anew.speed (is_err result) run.old run.new outcome.old outcome.new
         (devices (M.state unit.old) (C.state card_a.old) (D.state card_b.old))
         (devices (M.state unit.new) (C.state card_a.new) (D.state card_b.new)) }
-    ensures still { card_in (seat_in run.old.keeper.cabin.slots.seats slot) ≡ None
+    ensures still { card_in (seat_in run.old.keeper.cabin.slots.seats anew.slot) ≡ None
         → (unit.new ≡ unit.old) × (card_a.new ≡ card_a.old) × (card_b.new ≡ card_b.old) }
-    ensures leaves { LeavesAnew slot at speed (is_err result) run.old run.new outcome.old outcome.new
+    ensures leaves { LeavesAnew anew.slot anew.at anew.speed (is_err result) run.old run.new outcome.old outcome.new
         (devices (M.state unit.old) (C.state card_a.old) (D.state card_b.old))
         (devices (M.state unit.new) (C.state card_a.new) (D.state card_b.new)) }
     ensures goes { DevicesGo 24 1072 outcome.old.breaks.items outcome.new.breaks.items
         (devices (M.state unit.old) (C.state card_a.old) (D.state card_b.old))
         (devices (M.state unit.new) (C.state card_a.new) (D.state card_b.new)) }
 {
-    let Some(card) = run.keeper.cabin.slots.card(slot) else {
+    let Some(card) = run.keeper.cabin.slots.card(anew.slot) else {
         return Ok(());
     };
-    accept_in(run, slot, card, at, speed, unit, card_a, card_b, outcome)
+    let put = SlotCard {
+        slot: anew.slot,
+        card,
+        at: anew.at,
+        speed: anew.speed,
+    };
+    accept_in(run, put, unit, card_a, card_b, outcome)
 }

@@ -23,10 +23,11 @@ ghost use Rattle.run_acts.specs.Acts.{AllGoOn, IsHeldBehind};
 ghost use Rattle.recorder_with_cards.specs.Acts.{ActGoes, ActsAll, ActsItem, ActsLit, ActsSo, CarriesOut, LeavesDone};
 ghost use Rattle.recorder_with_cards.specs.Acts.{PromisesAction, PromisesActions, PromisesAll};
 
+use crate::accepting::SlotCard;
 use crate::inserting::insert;
 use activity_codec::Slot;
 use log_model::SlotFault;
-use run_acts::{Run, enter, may_enter, note_place, place, pull, withdraw};
+use run_acts::{Run, SlotPlace, Withdrawal, enter, may_enter, note_place, place, pull, withdraw};
 use run_outcome::Outcome;
 use tach_media::{Chip, Failed, Medium};
 use trace_text::{Action, Item, Items};
@@ -38,50 +39,84 @@ pub(crate) fn number_of(actions: usize) -> u32
     actions.min(u32::MAX as usize) as u32
 }
 
+/// A second, by the items of its actions, from one index to another: whether it has power at its beginning, and at
+/// which speed in km/h.
+#[derive(Clone, Copy)]
+pub(crate) struct SecondDue<I> {
+    pub items: I,
+    pub from: usize,
+    pub to: usize,
+    pub has_power: bool,
+    pub speed: u8,
+}
+
+// An item of the trace that is due in a second: as its action of this number, whether the second has power at its
+// beginning, and at which speed in km/h.
+#[derive(Clone, Copy)]
+struct ItemDue {
+    item: Item,
+    begun: u32,
+    has_power: bool,
+    speed: u8,
+}
+
+// An action that is due, in the same way.
+#[derive(Clone, Copy)]
+struct Deed {
+    action: Action,
+    begun: u32,
+    has_power: bool,
+    speed: u8,
+}
+
 /// The actions of one second in their order, which are the items from one index to another.
 pub(crate) fn act_all<M: Medium, C: Chip, D: Chip>(
     run: &mut Run,
-    items: &Items,
-    from: usize,
-    to: usize,
-    has_power: bool,
-    speed: u8,
+    due: SecondDue<&Items>,
     unit: &mut M,
     card_a: &mut C,
     card_b: &mut D,
     outcome: &mut Outcome,
 )
-    requires first { from ≤ to }
-    requires last { to ≤ length items.now }
+    requires first { due.from ≤ due.to }
+    requires last { due.to ≤ length due.items.now }
     requires going { IsInsideSecond run.old (M.state unit.old) (C.card card_a.old) (D.card card_b.old)
         (C.state card_a.old) (D.state card_b.old) }
-    requires dark { has_power ≡ false → is_lit run.old.power ≡ false }
-    requires room { HasRoomWithin run.old outcome.old 1 0 (insertions_in from to items.now) (to - from) }
-    ensures acted { ActsAll has_power speed (between from to items.now) run.old run.new outcome.old outcome.new }
+    requires dark { due.has_power ≡ false → is_lit run.old.power ≡ false }
+    requires room { HasRoomWithin run.old outcome.old 1 0 (insertions_in due.from due.to due.items.now)
+        (due.to - due.from) }
+    ensures acted { ActsAll due.entry.has_power due.entry.speed
+        (between due.entry.from due.entry.to due.entry.items.now) run.old run.new outcome.old outcome.new }
     // What a run promises goes on with them.
-    ensures promises { PromisesAll has_power speed (to - from) (between from to items.now) run.old run.new outcome.old
+    ensures promises { PromisesAll due.entry.has_power due.entry.speed (due.entry.to - due.entry.from)
+        (between due.entry.from due.entry.to due.entry.items.now) run.old run.new outcome.old
         outcome.new
         (devices (M.state unit.old) (C.state card_a.old) (D.state card_b.old))
         (devices (M.state unit.new) (C.state card_a.new) (D.state card_b.new)) }
     ensures still { is_lit run.old.power ≡ false
         → (is_lit run.new.power ≡ false) × (unit.new ≡ unit.old) × (card_a.new ≡ card_a.old)
         × (card_b.new ≡ card_b.old) }
-    ensures goes { ActGoes (to - from) outcome.old.breaks.items outcome.new.breaks.items
+    ensures goes { ActGoes (due.entry.to - due.entry.from) outcome.old.breaks.items outcome.new.breaks.items
         (devices (M.state unit.old) (C.state card_a.old) (D.state card_b.old))
         (devices (M.state unit.new) (C.state card_a.new) (D.state card_b.new)) }
     ensures going { IsInsideSecond run.new (M.state unit.new) (C.card card_a.new) (D.card card_b.new)
         (C.state card_a.new) (D.state card_b.new) }
     ensures room { (left offs insertions actions : ℕ)
-        → HasRoomWithin run.old outcome.old (1 + left) offs (insertions_in from to items.now + insertions)
-        (to - from + actions) → HasRoomWithin run.new outcome.new (1 + left) offs insertions actions }
+        → HasRoomWithin run.old outcome.old (1 + left) offs
+        (insertions_in due.entry.from due.entry.to due.entry.items.now + insertions)
+        (due.entry.to - due.entry.from + actions) → HasRoomWithin run.new outcome.new
+        (1 + left) offs insertions actions }
 {
-    for i in from..to {
+    let from = due.from;
+    for i in from..due.to {
         act_item(
             run,
-            items.get(i),
-            number_of(i - from + 1),
-            has_power,
-            speed,
+            ItemDue {
+                item: *due.items.get(i),
+                begun: number_of(i - from + 1),
+                has_power: due.has_power,
+                speed: due.speed,
+            },
             unit,
             card_a,
             card_b,
@@ -93,10 +128,7 @@ pub(crate) fn act_all<M: Medium, C: Chip, D: Chip>(
 // An action among the items.
 fn act_item<M: Medium, C: Chip, D: Chip>(
     run: &mut Run,
-    item: &Item,
-    begun: u32,
-    has_power: bool,
-    speed: u8,
+    due: ItemDue,
     unit: &mut M,
     card_a: &mut C,
     card_b: &mut D,
@@ -104,15 +136,15 @@ fn act_item<M: Medium, C: Chip, D: Chip>(
 )
     requires going { IsInsideSecond run.old (M.state unit.old) (C.card card_a.old) (D.card card_b.old)
         (C.state card_a.old) (D.state card_b.old) }
-    requires dark { has_power ≡ false → is_lit run.old.power ≡ false }
-    requires room { HasRoomWithin run.old outcome.old 1 0 (insertion_count item.now) 1 }
-    ensures acted { ActsItem item.now has_power begun speed run.old run.new outcome.old outcome.new }
-    ensures ringed { has_power ≡ true
-        → RingsActions (action_of item.now) begun speed run.old run.new outcome.old outcome.new
+    requires dark { due.has_power ≡ false → is_lit run.old.power ≡ false }
+    requires room { HasRoomWithin run.old outcome.old 1 0 (insertion_count due.item) 1 }
+    ensures acted { ActsItem due.item due.has_power due.begun due.speed run.old run.new outcome.old outcome.new }
+    ensures ringed { due.has_power ≡ true
+        → RingsActions (action_of due.item) due.begun due.speed run.old run.new outcome.old outcome.new
         (devices (M.state unit.old) (C.state card_a.old) (D.state card_b.old))
         (devices (M.state unit.new) (C.state card_a.new) (D.state card_b.new)) }
-    ensures cards { has_power ≡ true
-        → CardsActions (action_of item.now) begun speed run.old run.new outcome.old outcome.new
+    ensures cards { due.has_power ≡ true
+        → CardsActions (action_of due.item) due.begun due.speed run.old run.new outcome.old outcome.new
         (devices (M.state unit.old) (C.state card_a.old) (D.state card_b.old))
         (devices (M.state unit.new) (C.state card_a.new) (D.state card_b.new)) }
     ensures still { is_lit run.old.power ≡ false
@@ -123,15 +155,21 @@ fn act_item<M: Medium, C: Chip, D: Chip>(
         (devices (M.state unit.new) (C.state card_a.new) (D.state card_b.new)) }
     ensures going { IsInsideSecond run.new (M.state unit.new) (C.card card_a.new) (D.card card_b.new)
         (C.state card_a.new) (D.state card_b.new) }
-    ensures dark { has_power ≡ false → is_lit run.new.power ≡ false }
+    ensures dark { due.has_power ≡ false → is_lit run.new.power ≡ false }
     ensures room { (left offs insertions actions : ℕ)
-        → HasRoomWithin run.old outcome.old (1 + left) offs (insertion_count item.now + insertions) (1 + actions)
+        → HasRoomWithin run.old outcome.old (1 + left) offs (insertion_count due.item + insertions) (1 + actions)
         → HasRoomWithin run.new outcome.new (1 + left) offs insertions actions }
 {
-    match item {
-        Item::Act(action) => act(
-            run, *action, begun, has_power, speed, unit, card_a, card_b, outcome,
-        ),
+    match due.item {
+        Item::Act(action) => {
+            let deed = Deed {
+                action,
+                begun: due.begun,
+                has_power: due.has_power,
+                speed: due.speed,
+            };
+            act(run, deed, unit, card_a, card_b, outcome)
+        }
         Item::Run { .. } => {}
         Item::Off { .. } => {}
     }
@@ -140,10 +178,7 @@ fn act_item<M: Medium, C: Chip, D: Chip>(
 // One action: in a second without power it is refused, and one that comes after a cut in its second is not carried out.
 fn act<M: Medium, C: Chip, D: Chip>(
     run: &mut Run,
-    action: Action,
-    begun: u32,
-    has_power: bool,
-    speed: u8,
+    deed: Deed,
     unit: &mut M,
     card_a: &mut C,
     card_b: &mut D,
@@ -151,19 +186,19 @@ fn act<M: Medium, C: Chip, D: Chip>(
 )
     requires going { IsInsideSecond run.old (M.state unit.old) (C.card card_a.old) (D.card card_b.old)
         (C.state card_a.old) (D.state card_b.old) }
-    requires dark { has_power ≡ false → is_lit run.old.power ≡ false }
-    requires room { HasRoomWithin run.old outcome.old 1 0 (put_count action) 1 }
-    ensures acted { ActsSo has_power action begun speed run.old run.new outcome.old outcome.new }
-    ensures ringed { has_power ≡ true
-        → RingsActions (action ∷ []) begun speed run.old run.new outcome.old outcome.new
+    requires dark { deed.has_power ≡ false → is_lit run.old.power ≡ false }
+    requires room { HasRoomWithin run.old outcome.old 1 0 (put_count deed.action) 1 }
+    ensures acted { ActsSo deed.has_power deed.action deed.begun deed.speed run.old run.new outcome.old outcome.new }
+    ensures ringed { deed.has_power ≡ true
+        → RingsActions (deed.action ∷ []) deed.begun deed.speed run.old run.new outcome.old outcome.new
         (devices (M.state unit.old) (C.state card_a.old) (D.state card_b.old))
         (devices (M.state unit.new) (C.state card_a.new) (D.state card_b.new)) }
-    ensures cards { has_power ≡ true
-        → CardsActions (action ∷ []) begun speed run.old run.new outcome.old outcome.new
+    ensures cards { deed.has_power ≡ true
+        → CardsActions (deed.action ∷ []) deed.begun deed.speed run.old run.new outcome.old outcome.new
         (devices (M.state unit.old) (C.state card_a.old) (D.state card_b.old))
         (devices (M.state unit.new) (C.state card_a.new) (D.state card_b.new)) }
-    ensures still { (has_power ≡ true → is_lit run.old.power ≡ true
-        → CallsNone (refusal (logged run.old.keeper.cabin.slots.seats) speed action) action)
+    ensures still { (deed.has_power ≡ true → is_lit run.old.power ≡ true
+        → CallsNone (refusal (logged run.old.keeper.cabin.slots.seats) deed.speed deed.action) deed.action)
         → (unit.new ≡ unit.old) × (card_a.new ≡ card_a.old) × (card_b.new ≡ card_b.old) }
     ensures goes { ActGoes 1 outcome.old.breaks.items outcome.new.breaks.items
         (devices (M.state unit.old) (C.state card_a.old) (D.state card_b.old))
@@ -172,25 +207,24 @@ fn act<M: Medium, C: Chip, D: Chip>(
         (C.state card_a.new) (D.state card_b.new) }
     ensures dark { is_lit run.old.power ≡ false → is_lit run.new.power ≡ false }
     ensures room { (left offs insertions actions : ℕ)
-        → HasRoomWithin run.old outcome.old (1 + left) offs (put_count action + insertions) (1 + actions)
+        → HasRoomWithin run.old outcome.old (1 + left) offs (put_count deed.action + insertions) (1 + actions)
         → HasRoomWithin run.new outcome.new (1 + left) offs insertions actions }
 {
+    let has_power = deed.has_power;
     if !has_power {
-        run.refuse(begun, SlotFault::NoPower, &mut outcome.refused);
+        run.refuse(deed.begun, SlotFault::NoPower, &mut outcome.refused);
         return;
     }
     if !run.is_lit() {
         return;
     }
-    act_lit(run, action, begun, speed, unit, card_a, card_b, outcome);
+    act_lit(run, deed, unit, card_a, card_b, outcome);
 }
 
 // One action with power.
 fn act_lit<M: Medium, C: Chip, D: Chip>(
     run: &mut Run,
-    action: Action,
-    begun: u32,
-    speed: u8,
+    deed: Deed,
     unit: &mut M,
     card_a: &mut C,
     card_b: &mut D,
@@ -199,12 +233,12 @@ fn act_lit<M: Medium, C: Chip, D: Chip>(
     requires lit { run.old.power ≡ Lit }
     requires going { IsInsideSecond run.old (M.state unit.old) (C.card card_a.old) (D.card card_b.old)
         (C.state card_a.old) (D.state card_b.old) }
-    requires room { HasRoomWithin run.old outcome.old 1 0 (put_count action) 1 }
-    ensures acted { ActsLit action begun speed run.old run.new outcome.old outcome.new }
-    ensures promises { PromisesActions (action ∷ []) begun speed run.old run.new outcome.old outcome.new
+    requires room { HasRoomWithin run.old outcome.old 1 0 (put_count deed.action) 1 }
+    ensures acted { ActsLit deed.action deed.begun deed.speed run.old run.new outcome.old outcome.new }
+    ensures promises { PromisesActions (deed.action ∷ []) deed.begun deed.speed run.old run.new outcome.old outcome.new
         (devices (M.state unit.old) (C.state card_a.old) (D.state card_b.old))
         (devices (M.state unit.new) (C.state card_a.new) (D.state card_b.new)) }
-    ensures still { CallsNone (refusal (logged run.old.keeper.cabin.slots.seats) speed action) action
+    ensures still { CallsNone (refusal (logged run.old.keeper.cabin.slots.seats) deed.speed deed.action) deed.action
         → (unit.new ≡ unit.old) × (card_a.new ≡ card_a.old) × (card_b.new ≡ card_b.old) }
     ensures goes { ActGoes 1 outcome.old.breaks.items outcome.new.breaks.items
         (devices (M.state unit.old) (C.state card_a.old) (D.state card_b.old))
@@ -212,15 +246,15 @@ fn act_lit<M: Medium, C: Chip, D: Chip>(
     ensures going { IsInsideSecond run.new (M.state unit.new) (C.card card_a.new) (D.card card_b.new)
         (C.state card_a.new) (D.state card_b.new) }
     ensures room { (left offs insertions actions : ℕ)
-        → HasRoomWithin run.old outcome.old (1 + left) offs (put_count action + insertions) (1 + actions)
+        → HasRoomWithin run.old outcome.old (1 + left) offs (put_count deed.action + insertions) (1 + actions)
         → HasRoomWithin run.new outcome.new (1 + left) offs insertions actions }
 {
-    if let Err(fault) = may(run, action, speed) {
-        run.refuse(begun, fault, &mut outcome.refused);
+    if let Err(fault) = may(run, deed.action, deed.speed) {
+        run.refuse(deed.begun, fault, &mut outcome.refused);
         return;
     }
-    if carry_out(run, action, begun, speed, unit, card_a, card_b, outcome).is_err() {
-        run.cut(run.next, true, begun, &mut outcome.breaks);
+    if carry_out(run, deed, unit, card_a, card_b, outcome).is_err() {
+        run.cut(run.next, true, deed.begun, &mut outcome.breaks);
     }
 }
 
@@ -250,9 +284,7 @@ fn may_hold(run: &Run, slot: Slot, minute: u16, speed: u8) -> Result<(), SlotFau
 // An action that is not refused.
 fn carry_out<M: Medium, C: Chip, D: Chip>(
     run: &mut Run,
-    action: Action,
-    begun: u32,
-    speed: u8,
+    deed: Deed,
     unit: &mut M,
     card_a: &mut C,
     card_b: &mut D,
@@ -261,19 +293,22 @@ fn carry_out<M: Medium, C: Chip, D: Chip>(
     requires lit { run.old.power ≡ Lit }
     requires going { IsInsideSecond run.old (M.state unit.old) (C.card card_a.old) (D.card card_b.old)
         (C.state card_a.old) (D.state card_b.old) }
-    requires allowed { stopped_in run.old speed action ≡ None }
-    requires room { HasRoomWithin run.old outcome.old 1 0 (put_count action) 0 }
-    ensures done { CarriesOut action (moment_of begun run.old) speed (is_err result) run.old run.new outcome.old
+    requires allowed { stopped_in run.old deed.speed deed.action ≡ None }
+    requires room { HasRoomWithin run.old outcome.old 1 0 (put_count deed.action) 0 }
+    ensures done { CarriesOut deed.action (moment_of deed.begun run.old) deed.speed
+        (is_err result) run.old run.new outcome.old
         outcome.new }
     // What a run promises goes on with it.
-    ensures promises { PromisesAction action begun speed (is_err result) run.old run.new outcome.old outcome.new
+    ensures promises { PromisesAction deed.action deed.begun deed.speed
+        (is_err result) run.old run.new outcome.old outcome.new
         (devices (M.state unit.old) (C.state card_a.old) (D.state card_b.old))
         (devices (M.state unit.new) (C.state card_a.new) (D.state card_b.new)) }
-    ensures leaves { LeavesDone action (moment_of begun run.old) speed (is_err result) run.old run.new outcome.old
+    ensures leaves { LeavesDone deed.action (moment_of deed.begun run.old) deed.speed
+        (is_err result) run.old run.new outcome.old
         outcome.new
         (devices (M.state unit.old) (C.state card_a.old) (D.state card_b.old))
         (devices (M.state unit.new) (C.state card_a.new) (D.state card_b.new)) }
-    ensures still { CallsNone None action
+    ensures still { CallsNone None deed.action
         → (unit.new ≡ unit.old) × (card_a.new ≡ card_a.old) × (card_b.new ≡ card_b.old) }
     ensures goes { AllGoOn 102 1366 outcome.old.breaks.items outcome.new.breaks.items
         (devices (M.state unit.old) (C.state card_a.old) (D.state card_b.old))
@@ -284,18 +319,27 @@ fn carry_out<M: Medium, C: Chip, D: Chip>(
         (C.card card_a.new) (D.card card_b.new) }
     ensures going { OnOk result (RunHasPowerAllSeated (run.new.next / 60) run.new (M.state unit.new) (C.card card_a.new)
         (D.card card_b.new) (C.state card_a.new) (D.state card_b.new)) }
-    ensures takes { Takes (put_count action) (put_count action) 0 run.old run.new outcome.old outcome.new }
+    ensures takes { Takes (put_count deed.action) (put_count deed.action) 0 run.old run.new outcome.old outcome.new }
 {
-    let at = run.moment(begun);
-    match action {
+    let at = run.moment(deed.begun);
+    match deed.action {
         Action::Select { slot, pick } => {
             run.minutes.select(slot, pick);
             Ok(())
         }
         Action::Insert { slot, card } => {
-            insert(run, slot, card, at, speed, unit, card_a, card_b, outcome)
+            let put = SlotCard {
+                slot,
+                card,
+                at,
+                speed: deed.speed,
+            };
+            insert(run, put, unit, card_a, card_b, outcome)
         }
-        Action::Withdraw { slot } => withdraw(run, slot, at, unit, card_a, card_b, outcome),
+        Action::Withdraw { slot } => {
+            let withdrawal = Withdrawal { slot, at };
+            withdraw(run, withdrawal, unit, card_a, card_b, outcome)
+        }
         Action::Tear { slot } => {
             pull(run, slot, at, &mut outcome.breaks);
             Ok(())
@@ -307,8 +351,9 @@ fn carry_out<M: Medium, C: Chip, D: Chip>(
             region,
         } => {
             let entry = place(run, ending, country, region);
+            let entered = SlotPlace { slot, entry, at };
             let breaks = &mut outcome.breaks;
-            note_place(run, slot, &entry, at, unit, card_a, card_b, breaks)
+            note_place(run, entered, unit, card_a, card_b, breaks)
         }
         Action::Manual { slot, pick, minute } => {
             enter(run, slot, pick, minute);

@@ -11,23 +11,36 @@ ghost use Rattle.recorder_with_cards.specs.Recorded.{actions_in, RingsSeconds, R
 ghost use Rattle.recorder_with_cards.specs.Carded.{CardsSeconds, CardsMore};
 ghost use Rattle.recorder_with_cards.specs.Gone.{HasGone};
 
-use crate::acts::{act_all, number_of};
+use crate::acts::{SecondDue, act_all, number_of};
 use crate::resuming::begin_second;
-use run_acts::{Run, turn, turn_length};
+use run_acts::{Run, Stretch, turn, turn_length};
 use run_opening::RunFault;
 use run_outcome::Outcome;
 use tach_media::{Chip, Medium};
 use trace_text::Items;
 
+/// So many seconds at one speed in km/h, with the items of the actions at their beginning, from one index to another.
+#[derive(Clone, Copy)]
+pub(crate) struct SecondsDue<I> {
+    pub items: I,
+    pub from: usize,
+    pub to: usize,
+    pub seconds: u32,
+    pub speed: u8,
+}
+
+// So many more seconds at one speed in km/h.
+#[derive(Clone, Copy)]
+struct AtSpeed {
+    seconds: u32,
+    speed: u8,
+}
+
 /// So many seconds at one speed, from 1 on, with the actions among the items from one index to another at their
 /// beginning.
 pub(crate) fn drive<M: Medium, C: Chip, D: Chip>(
     run: &mut Run,
-    items: &Items,
-    from: usize,
-    to: usize,
-    seconds: u32,
-    speed: u8,
+    due: SecondsDue<&Items>,
     unit: &mut M,
     card_a: &mut C,
     card_b: &mut D,
@@ -35,48 +48,71 @@ pub(crate) fn drive<M: Medium, C: Chip, D: Chip>(
 ) -> Result<(), RunFault>
     requires going { IsBetweenSeconds run.old (M.state unit.old) (C.card card_a.old) (D.card card_b.old)
         (C.state card_a.old) (D.state card_b.old) }
-    requires some { 0 < seconds }
-    requires small { run.old.next + seconds ≤ end_of_seconds }
-    requires first { from ≤ to }
-    requires last { to ≤ length items.now }
-    requires room { HasRoom run.old outcome.old seconds 0 (insertions_in from to items.now) (to - from) }
+    requires some { 0 < due.seconds }
+    requires small { run.old.next + due.seconds ≤ end_of_seconds }
+    requires first { due.from ≤ due.to }
+    requires last { due.to ≤ length due.items.now }
+    requires room { HasRoom run.old outcome.old due.seconds 0 (insertions_in due.from due.to due.items.now)
+        (due.to - due.from) }
     requires unfound { run.old.unfound ≤ length outcome.old.breaks.items }
-    ensures ringed { length (actions_in (between from to items.now)) ≡ to - from → to - from ≤ largest_number
-        → RingsSeconds result seconds speed (actions_in (between from to items.now)) run.old run.new outcome.old
+    ensures ringed { length
+        (actions_in (between due.entry.from due.entry.to due.entry.items.now)) ≡ due.entry.to - due.entry.from
+        → due.entry.to - due.entry.from ≤ largest_number
+        → RingsSeconds result due.entry.seconds due.entry.speed
+        (actions_in (between due.entry.from due.entry.to due.entry.items.now)) run.old run.new outcome.old
         outcome.new (devices (M.state unit.old) (C.state card_a.old) (D.state card_b.old))
         (devices (M.state unit.new) (C.state card_a.new) (D.state card_b.new)) }
-    ensures cards { length (actions_in (between from to items.now)) ≡ to - from → to - from ≤ largest_number
-        → CardsSeconds result seconds speed (actions_in (between from to items.now)) run.old run.new outcome.old
+    ensures cards { length
+        (actions_in (between due.entry.from due.entry.to due.entry.items.now)) ≡ due.entry.to - due.entry.from
+        → due.entry.to - due.entry.from ≤ largest_number
+        → CardsSeconds result due.entry.seconds due.entry.speed
+        (actions_in (between due.entry.from due.entry.to due.entry.items.now)) run.old run.new outcome.old
         outcome.new (devices (M.state unit.old) (C.state card_a.old) (D.state card_b.old))
         (devices (M.state unit.new) (C.state card_a.new) (D.state card_b.new)) }
     ensures later { AreAfter (devices (M.state unit.old) (C.state card_a.old) (D.state card_b.old))
         (devices (M.state unit.new) (C.state card_a.new) (D.state card_b.new)) }
-    ensures most { WritesFor seconds (to - from) (devices (M.state unit.old) (C.state card_a.old) (D.state card_b.old))
+    ensures most { WritesFor due.entry.seconds (due.entry.to - due.entry.from)
+        (devices (M.state unit.old) (C.state card_a.old) (D.state card_b.old))
         (devices (M.state unit.new) (C.state card_a.new) (D.state card_b.new)) }
     ensures calm { AreCalm outcome.old.breaks.items outcome.new.breaks.items
         (devices (M.state unit.old) (C.state card_a.old) (D.state card_b.old))
         (devices (M.state unit.new) (C.state card_a.new) (D.state card_b.new)) }
-    ensures gone { HasGone result seconds run.old run.new outcome.new (M.state unit.new) (C.card card_a.new)
+    ensures gone { HasGone result due.entry.seconds run.old run.new outcome.new (M.state unit.new) (C.card card_a.new)
         (D.card card_b.new) (C.state card_a.new) (D.state card_b.new) }
     ensures room { (left offs insertions actions : ℕ)
-        → HasRoom run.old outcome.old (seconds + left) offs (insertions_in from to items.now + insertions)
-        (to - from + actions) → OnOk result (HasRoom run.new outcome.new left offs insertions actions) }
+        → HasRoom run.old outcome.old (due.entry.seconds + left) offs
+        (insertions_in due.entry.from due.entry.to due.entry.items.now + insertions)
+        (due.entry.to - due.entry.from + actions) → OnOk result
+        (HasRoom run.new outcome.new left offs insertions actions) }
     ensures broke { BreaksDown outcome.old.breaks.items outcome.new.breaks.items (M.state unit.old) (M.state unit.new) }
 {
-    let has_power = begin_second(run, speed, unit, card_a, card_b, outcome)?;
-    act_all(
-        run, items, from, to, has_power, speed, unit, card_a, card_b, outcome,
-    );
-    let begun = number_of(to - from);
-    turn(run, 1, speed, begun, unit, card_a, card_b, outcome);
-    drive_on(run, seconds - 1, speed, unit, card_a, card_b, outcome)
+    let has_power = begin_second(run, due.speed, unit, card_a, card_b, outcome)?;
+    let first = SecondDue {
+        items: due.items,
+        from: due.from,
+        to: due.to,
+        has_power,
+        speed: due.speed,
+    };
+    act_all(run, first, unit, card_a, card_b, outcome);
+    let begun = number_of(due.to - due.from);
+    let stretch = Stretch {
+        n: 1,
+        speed: due.speed,
+        begun,
+    };
+    turn(run, stretch, unit, card_a, card_b, outcome);
+    let more = AtSpeed {
+        seconds: due.seconds - 1,
+        speed: due.speed,
+    };
+    drive_on(run, more, unit, card_a, card_b, outcome)
 }
 
 // So many more seconds at one speed, at most a minute at a time.
 fn drive_on<M: Medium, C: Chip, D: Chip>(
     run: &mut Run,
-    seconds: u32,
-    speed: u8,
+    more: AtSpeed,
     unit: &mut M,
     card_a: &mut C,
     card_b: &mut D,
@@ -84,33 +120,37 @@ fn drive_on<M: Medium, C: Chip, D: Chip>(
 ) -> Result<(), RunFault>
     requires going { IsBetweenSeconds run.old (M.state unit.old) (C.card card_a.old) (D.card card_b.old)
         (C.state card_a.old) (D.state card_b.old) }
-    requires small { run.old.next + seconds ≤ end_of_seconds }
-    requires room { HasRoom run.old outcome.old seconds 0 0 0 }
+    requires small { run.old.next + more.seconds ≤ end_of_seconds }
+    requires room { HasRoom run.old outcome.old more.seconds 0 0 0 }
     requires unfound { run.old.unfound ≤ length outcome.old.breaks.items }
-    ensures ringed { RingsMore result seconds speed run.old run.new outcome.old outcome.new
+    ensures ringed { RingsMore result more.seconds more.speed run.old run.new outcome.old outcome.new
         (devices (M.state unit.old) (C.state card_a.old) (D.state card_b.old))
         (devices (M.state unit.new) (C.state card_a.new) (D.state card_b.new)) }
-    ensures cards { CardsMore result seconds speed run.old run.new outcome.old outcome.new
+    ensures cards { CardsMore result more.seconds more.speed run.old run.new outcome.old outcome.new
         (devices (M.state unit.old) (C.state card_a.old) (D.state card_b.old))
         (devices (M.state unit.new) (C.state card_a.new) (D.state card_b.new)) }
     ensures later { AreAfter (devices (M.state unit.old) (C.state card_a.old) (D.state card_b.old))
         (devices (M.state unit.new) (C.state card_a.new) (D.state card_b.new)) }
-    ensures most { WritesFor seconds 0 (devices (M.state unit.old) (C.state card_a.old) (D.state card_b.old))
+    ensures most { WritesFor more.seconds 0 (devices (M.state unit.old) (C.state card_a.old) (D.state card_b.old))
         (devices (M.state unit.new) (C.state card_a.new) (D.state card_b.new)) }
     ensures calm { AreCalm outcome.old.breaks.items outcome.new.breaks.items
         (devices (M.state unit.old) (C.state card_a.old) (D.state card_b.old))
         (devices (M.state unit.new) (C.state card_a.new) (D.state card_b.new)) }
-    ensures gone { HasGone result seconds run.old run.new outcome.new (M.state unit.new) (C.card card_a.new)
+    ensures gone { HasGone result more.seconds run.old run.new outcome.new (M.state unit.new) (C.card card_a.new)
         (D.card card_b.new) (C.state card_a.new) (D.state card_b.new) }
     ensures room { (left offs insertions actions : ℕ)
-        → HasRoom run.old outcome.old (seconds + left) offs insertions actions
+        → HasRoom run.old outcome.old (more.seconds + left) offs insertions actions
         → OnOk result (HasRoom run.new outcome.new left offs insertions actions) }
     ensures broke { BreaksDown outcome.old.breaks.items outcome.new.breaks.items (M.state unit.old) (M.state unit.new) }
 {
-    let mut left = seconds;
+    let mut left = more.seconds;
     while left > 0 {
         let n = turn_length(run.next, left);
-        step(run, n, speed, unit, card_a, card_b, outcome)?;
+        let turned = AtSpeed {
+            seconds: n,
+            speed: more.speed,
+        };
+        step(run, turned, unit, card_a, card_b, outcome)?;
         left -= n;
     }
     Ok(())
@@ -119,8 +159,7 @@ fn drive_on<M: Medium, C: Chip, D: Chip>(
 // So many seconds of one minute without actions.
 fn step<M: Medium, C: Chip, D: Chip>(
     run: &mut Run,
-    n: u32,
-    speed: u8,
+    more: AtSpeed,
     unit: &mut M,
     card_a: &mut C,
     card_b: &mut D,
@@ -128,31 +167,37 @@ fn step<M: Medium, C: Chip, D: Chip>(
 ) -> Result<(), RunFault>
     requires going { IsBetweenSeconds run.old (M.state unit.old) (C.card card_a.old) (D.card card_b.old)
         (C.state card_a.old) (D.state card_b.old) }
-    requires some { 0 < n }
-    requires minute { run.old.next % 60 + n ≤ 60 }
-    requires small { run.old.next + n ≤ end_of_seconds }
-    requires room { HasRoom run.old outcome.old n 0 0 0 }
+    requires some { 0 < more.seconds }
+    requires minute { run.old.next % 60 + more.seconds ≤ 60 }
+    requires small { run.old.next + more.seconds ≤ end_of_seconds }
+    requires room { HasRoom run.old outcome.old more.seconds 0 0 0 }
     requires unfound { run.old.unfound ≤ length outcome.old.breaks.items }
-    ensures ringed { RingsMore result n speed run.old run.new outcome.old outcome.new
+    ensures ringed { RingsMore result more.seconds more.speed run.old run.new outcome.old outcome.new
         (devices (M.state unit.old) (C.state card_a.old) (D.state card_b.old))
         (devices (M.state unit.new) (C.state card_a.new) (D.state card_b.new)) }
-    ensures cards { CardsMore result n speed run.old run.new outcome.old outcome.new
+    ensures cards { CardsMore result more.seconds more.speed run.old run.new outcome.old outcome.new
         (devices (M.state unit.old) (C.state card_a.old) (D.state card_b.old))
         (devices (M.state unit.new) (C.state card_a.new) (D.state card_b.new)) }
     ensures later { AreAfter (devices (M.state unit.old) (C.state card_a.old) (D.state card_b.old))
         (devices (M.state unit.new) (C.state card_a.new) (D.state card_b.new)) }
-    ensures most { WritesFor n 0 (devices (M.state unit.old) (C.state card_a.old) (D.state card_b.old))
+    ensures most { WritesFor more.seconds 0 (devices (M.state unit.old) (C.state card_a.old) (D.state card_b.old))
         (devices (M.state unit.new) (C.state card_a.new) (D.state card_b.new)) }
     ensures calm { AreCalm outcome.old.breaks.items outcome.new.breaks.items
         (devices (M.state unit.old) (C.state card_a.old) (D.state card_b.old))
         (devices (M.state unit.new) (C.state card_a.new) (D.state card_b.new)) }
-    ensures gone { HasGone result n run.old run.new outcome.new (M.state unit.new) (C.card card_a.new)
+    ensures gone { HasGone result more.seconds run.old run.new outcome.new (M.state unit.new) (C.card card_a.new)
         (D.card card_b.new) (C.state card_a.new) (D.state card_b.new) }
-    ensures room { (left offs insertions actions : ℕ) → HasRoom run.old outcome.old (n + left) offs insertions actions
+    ensures room { (left offs insertions actions : ℕ) → HasRoom run.old outcome.old
+        (more.seconds + left) offs insertions actions
         → OnOk result (HasRoom run.new outcome.new left offs insertions actions) }
     ensures broke { BreaksDown outcome.old.breaks.items outcome.new.breaks.items (M.state unit.old) (M.state unit.new) }
 {
-    begin_second(run, speed, unit, card_a, card_b, outcome)?;
-    turn(run, n, speed, 0, unit, card_a, card_b, outcome);
+    begin_second(run, more.speed, unit, card_a, card_b, outcome)?;
+    let stretch = Stretch {
+        n: more.seconds,
+        speed: more.speed,
+        begun: 0,
+    };
+    turn(run, stretch, unit, card_a, card_b, outcome);
     Ok(())
 }

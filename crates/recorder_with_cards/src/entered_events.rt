@@ -1,30 +1,29 @@
 ghost use Rattle.std.specs.Prelude.{◌≡◌, ℕ, ◌^◌, ◌<◌, Some, List, ◌++◌, length};
 ghost use Rattle.trace_model.specs.declared.Card.{Card};
-ghost use Rattle.log_model.specs.Log.{RunLog};
 ghost use Rattle.log_model.specs.Course.{Visit};
 ghost use Rattle.log_model.specs.declared.lines.Verdict.TheVariants.{Accepted};
 ghost use Rattle.unit_model.specs.declared.layout.TheConstants.{IMAGE_SIZE};
 ghost use Rattle.event_model.specs.Events.{Event, Crew, Seen, Tearing, number_of, crew_judged};
-ghost use Rattle.run_events.specs.Shown.{by_kind, none, ShowsMore, AreNumbers};
+ghost use Rattle.run_events.specs.Shown.{by_kind, none_sure, all_sure, ShowsEvents, AreNumbers};
 ghost use Rattle.run_events.specs.Running.{judged_notes};
 ghost use Rattle.run_crew.specs.declared.cabin.Cabin.{Cabin};
 ghost use Rattle.run_insertion.specs.declared.lines.Entering.{Entering};
 ghost use Rattle.run_insertion.specs.Entering.{Ending};
 ghost use Rattle.run_insertion.specs.Noted.{AreDone, AreBeingDone, UnitNote, IsOnUnit, IsComing, notes_by};
-ghost use Rattle.recorder_with_cards.specs.EnteredTold.{TellEvents, AreUnsure, moving_events, unclosed_events};
+ghost use Rattle.recorder_with_cards.specs.EnteredTold.{TellEvents, moving_events, unclosed_events};
 ghost use Rattle.recorder_with_cards.specs.EnteredTold.{events_by, IsLow, AreNamed};
 
-/// Notes of the unit that tell these events show them more, once all are done; at a moment of them nothing more is
-/// shown, where of the types of these events none is sure.
+/// Notes of the unit that tell these events show them more, once all are done; at a moment of them the first are noted,
+/// and the next one is, or nothing has come of it, or its place is empty.
 pub fn what_is_noted_of_a_card_is_shown()
     ensures done { (number : Card → List ℕ) → AreNumbers number
-        → (log : RunLog) (now : ℕ → List Event) (notes : List UnitNote) (events : List Event) (x y : List ℕ)
+        → (notes : List UnitNote) (events : List Event) (x y : List ℕ)
         → length x ≡ IMAGE_SIZE → TellEvents number notes events →
-        AreDone IsOnUnit notes x y → ShowsMore number log now (by_kind events) x y }
+        AreDone IsOnUnit notes x y → ShowsEvents number all_sure x (by_kind events) y }
     ensures moment { (number : Card → List ℕ) → AreNumbers number
-        → (log : RunLog) (now : ℕ → List Event) (notes : List UnitNote) (events : List Event) (x c : List ℕ)
-        → TellEvents number notes events → AreUnsure log now events →
-        AreBeingDone IsOnUnit IsComing notes x c → ShowsMore number log now none x c }
+        → (notes : List UnitNote) (events : List Event) (x c : List ℕ)
+        → length x ≡ IMAGE_SIZE → TellEvents number notes events →
+        AreBeingDone IsOnUnit IsComing notes x c → ShowsEvents number none_sure x (by_kind events) c }
 {}
 
 /// What the unit notes of a card that entered are these events, by what became of the card.

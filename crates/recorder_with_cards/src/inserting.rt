@@ -8,13 +8,10 @@ ghost use Rattle.run_promise.specs.Between.{devices};
 ghost use Rattle.run_acts.specs.Acts.{IsHeldBehind};
 ghost use Rattle.recorder_with_cards.specs.Acts.{DevicesGo, Inserts, LeavesInserted, PromisesInsertion};
 
-use crate::accepting::accept_in;
-use activity_codec::Slot;
+use crate::accepting::{SlotCard, accept_in};
 use run_acts::{Run, settle};
-use run_minutes::Moment;
 use run_outcome::Outcome;
 use tach_media::{Chip, Failed, Medium};
-use trace_model::Card;
 
 /// A card is put into a slot: what that settles is kept first, and then it is accepted or turned away.
 ///
@@ -23,10 +20,7 @@ use trace_model::Card;
 /// `Failed` where the unit failed.
 pub(crate) fn insert<M: Medium, C: Chip, D: Chip>(
     run: &mut Run,
-    slot: Slot,
-    card: Card,
-    at: Moment,
-    speed: u8,
+    put: SlotCard,
     unit: &mut M,
     card_a: &mut C,
     card_b: &mut D,
@@ -34,13 +28,14 @@ pub(crate) fn insert<M: Medium, C: Chip, D: Chip>(
 ) -> Result<(), Failed>
     requires acting { IsActing run.old (M.state unit.old) (C.card card_a.old) (D.card card_b.old) (C.state card_a.old)
         (D.state card_b.old) }
-    requires at { at.second ≡ run.old.next }
-    requires empty { seat_in run.old.keeper.cabin.slots.seats slot ≡ None }
-    requires elsewhere { is_card (seat_in run.old.keeper.cabin.slots.seats (other_slot slot)) card ≡ false }
+    requires at { put.at.second ≡ run.old.next }
+    requires empty { seat_in run.old.keeper.cabin.slots.seats put.slot ≡ None }
+    requires elsewhere { is_card (seat_in run.old.keeper.cabin.slots.seats (other_slot put.slot)) put.card ≡ false }
     requires marks { length outcome.old.marks.items + 3 * run.old.minutes.owing ≤ outcome.old.marks.room }
     requires breaks { length outcome.old.breaks.items + falls_of run.old.keeper.cabin + 1 ≤ outcome.old.breaks.room }
     requires finds { length outcome.old.finds.items < outcome.old.finds.room }
-    ensures inserted { Inserts slot card at speed (is_err result) run.old run.new outcome.old outcome.new }
+    ensures inserted { Inserts put.slot put.card put.at put.speed
+        (is_err result) run.old run.new outcome.old outcome.new }
     ensures held { IsHeldBehind (is_err result) run.new
         (devices (M.state unit.old) (C.state card_a.old) (D.state card_b.old))
         (devices (M.state unit.new) (C.state card_a.new) (D.state card_b.new))
@@ -49,17 +44,19 @@ pub(crate) fn insert<M: Medium, C: Chip, D: Chip>(
         (D.card card_b.new) (C.state card_a.new) (D.state card_b.new)) }
     ensures takes { Takes 1 1 0 run.old run.new outcome.old outcome.new }
     // What a run promises goes on with it.
-    ensures promises { PromisesInsertion slot card at speed (is_err result) run.old run.new outcome.old outcome.new
+    ensures promises { PromisesInsertion put.slot put.card put.at put.speed
+        (is_err result) run.old run.new outcome.old outcome.new
         (devices (M.state unit.old) (C.state card_a.old) (D.state card_b.old))
         (devices (M.state unit.new) (C.state card_a.new) (D.state card_b.new)) }
-    ensures leaves { LeavesInserted slot card at speed (is_err result) run.old run.new outcome.old outcome.new
+    ensures leaves { LeavesInserted put.slot put.card put.at put.speed
+        (is_err result) run.old run.new outcome.old outcome.new
         (devices (M.state unit.old) (C.state card_a.old) (D.state card_b.old))
         (devices (M.state unit.new) (C.state card_a.new) (D.state card_b.new)) }
     ensures goes { DevicesGo 102 1366 outcome.old.breaks.items outcome.new.breaks.items
         (devices (M.state unit.old) (C.state card_a.old) (D.state card_b.old))
         (devices (M.state unit.new) (C.state card_a.new) (D.state card_b.new)) }
 {
-    run.keeper.cabin.put_in(slot, card);
-    settle(run, at, unit, card_a, card_b, outcome)?;
-    accept_in(run, slot, card, at, speed, unit, card_a, card_b, outcome)
+    run.keeper.cabin.put_in(put.slot, put.card);
+    settle(run, put.at, unit, card_a, card_b, outcome)?;
+    accept_in(run, put, unit, card_a, card_b, outcome)
 }

@@ -14,7 +14,7 @@ ghost use Rattle.run_acts.specs.Acts.{AllGoOn, IsHeldBehind};
 ghost use Rattle.recorder_with_cards.specs.Acts.{BeginsSecond, BreaksGo, IsWoken, PromisesResuming, PromisesSecond};
 ghost use Rattle.recorder_with_cards.specs.Acts.{PromisesWaking, Resumes};
 
-use crate::accepting::accept_anew;
+use crate::accepting::{SlotAnew, accept_anew};
 use activity_codec::Slot;
 use device_calls::mend;
 use minute_rules::Rule;
@@ -108,16 +108,12 @@ fn power_on<M: Medium, C: Chip, D: Chip>(
     match open_unit(unit) {
         Ok(opened) => {
             let rule = opened.memory.rule();
-            found(
-                run,
-                opened.journal,
+            let waking = Waking {
+                journal: opened.journal,
                 rule,
                 speed,
-                unit,
-                card_a,
-                card_b,
-                outcome,
-            )
+            };
+            found(run, waking, unit, card_a, card_b, outcome)
         }
         Err(UnitFault::BadUnit(place)) => Err(RunFault::BadUnit(place)),
         Err(UnitFault::Failed) => {
@@ -127,12 +123,18 @@ fn power_on<M: Medium, C: Chip, D: Chip>(
     }
 }
 
-// The unit has this journal: the cuts since the last one tell what it says, and a new span begins.
-fn found<M: Medium, C: Chip, D: Chip>(
-    run: &mut Run,
+// What a unit tells where power is back, and the speed in km/h at which it is.
+#[derive(Drop)]
+struct Waking {
     journal: Journal,
     rule: Rule,
     speed: u8,
+}
+
+// The unit has this journal: the cuts since the last one tell what it says, and a new span begins.
+fn found<M: Medium, C: Chip, D: Chip>(
+    run: &mut Run,
+    waking: Waking,
     unit: &mut M,
     card_a: &mut C,
     card_b: &mut D,
@@ -141,8 +143,8 @@ fn found<M: Medium, C: Chip, D: Chip>(
     requires dark { is_lit run.old.power ≡ false }
     requires going { IsInsideSecond run.old (M.state unit.old) (C.card card_a.old) (D.card card_b.old)
         (C.state card_a.old) (D.state card_b.old) }
-    requires loaded { IsLoaded (M.state unit.old) journal }
-    requires rule { IfSome (M.state unit.old).image (λ x. rule ≡ rule_of x) }
+    requires loaded { IsLoaded (M.state unit.old) waking.journal }
+    requires rule { IfSome (M.state unit.old).image (λ x. waking.rule ≡ rule_of x) }
     requires breaks { length outcome.old.breaks.items + falls_of run.old.keeper.cabin < outcome.old.breaks.room }
     requires finds { length outcome.old.finds.items + bare_seats run.old.keeper.cabin.slots.seats
         ≤ outcome.old.finds.room }
@@ -153,20 +155,20 @@ fn found<M: Medium, C: Chip, D: Chip>(
     ensures takes { TakesAwake run.old run.new outcome.old outcome.new }
     ensures unit { IsUnit (M.state unit.new) }
     // What a run promises goes on with it.
-    ensures promises { PromisesWaking result speed run.old run.new outcome.old outcome.new
+    ensures promises { PromisesWaking result waking.speed run.old run.new outcome.old outcome.new
         (devices (M.state unit.old) (C.state card_a.old) (D.state card_b.old))
         (devices (M.state unit.new) (C.state card_a.new) (D.state card_b.new)) }
-    ensures noted { OnOk result (NotesFound journal.kept speed run.old run.new outcome.old outcome.new
+    ensures noted { OnOk result (NotesFound waking.journal.kept waking.speed run.old run.new outcome.old outcome.new
         (devices (M.state unit.old) (C.state card_a.old) (D.state card_b.old))
         (devices (M.state unit.new) (C.state card_a.new) (D.state card_b.new))) }
     ensures goes { BreaksGo 94 2152 outcome.old.breaks.items outcome.new.breaks.items
         (devices (M.state unit.old) (C.state card_a.old) (D.state card_b.old))
         (devices (M.state unit.new) (C.state card_a.new) (D.state card_b.new)) }
 {
-    let kept = journal.last_kept();
+    let kept = waking.journal.last_kept();
     run.learn(kept, &mut outcome.breaks);
     judge_clock(kept, run.next)?;
-    if resume(run, journal, rule, speed, unit, card_a, card_b, outcome).is_err() {
+    if resume(run, waking, unit, card_a, card_b, outcome).is_err() {
         run.cut(run.next, true, 0, &mut outcome.breaks);
         return Ok(());
     }
@@ -177,9 +179,7 @@ fn found<M: Medium, C: Chip, D: Chip>(
 // noted, if a power-on came before this one.
 fn resume<M: Medium, C: Chip, D: Chip>(
     run: &mut Run,
-    mut journal: Journal,
-    rule: Rule,
-    speed: u8,
+    waking: Waking,
     unit: &mut M,
     card_a: &mut C,
     card_b: &mut D,
@@ -188,9 +188,9 @@ fn resume<M: Medium, C: Chip, D: Chip>(
     requires dark { is_lit run.old.power ≡ false }
     requires going { IsInsideSecond run.old (M.state unit.old) (C.card card_a.old) (D.card card_b.old)
         (C.state card_a.old) (D.state card_b.old) }
-    requires loaded { IsLoaded (M.state unit.old) journal }
-    requires rule { IfSome (M.state unit.old).image (λ x. rule ≡ rule_of x) }
-    requires later { journal.kept < run.old.next / 60 }
+    requires loaded { IsLoaded (M.state unit.old) waking.journal }
+    requires rule { IfSome (M.state unit.old).image (λ x. waking.rule ≡ rule_of x) }
+    requires later { waking.journal.kept < run.old.next / 60 }
     requires breaks { length outcome.old.breaks.items + falls_of run.old.keeper.cabin < outcome.old.breaks.room }
     requires finds { length outcome.old.finds.items + bare_seats run.old.keeper.cabin.slots.seats
         ≤ outcome.old.finds.room }
@@ -203,32 +203,37 @@ fn resume<M: Medium, C: Chip, D: Chip>(
         (D.card card_b.new) (C.state card_a.new) (D.state card_b.new)) }
     ensures takes { TakesUp run.old run.new outcome.old outcome.new }
     // What a run promises goes on with it.
-    ensures promises { PromisesResuming journal.kept speed (is_err result) run.old run.new outcome.old outcome.new
+    ensures promises { PromisesResuming waking.journal.kept waking.speed
+        (is_err result) run.old run.new outcome.old outcome.new
         (devices (M.state unit.old) (C.state card_a.old) (D.state card_b.old))
         (devices (M.state unit.new) (C.state card_a.new) (D.state card_b.new)) }
-    ensures noted { NotesWaking journal.kept speed (is_err result) run.old run.new outcome.old outcome.new
+    ensures noted { NotesWaking waking.journal.kept waking.speed (is_err result) run.old run.new outcome.old outcome.new
         (devices (M.state unit.old) (C.state card_a.old) (D.state card_b.old))
         (devices (M.state unit.new) (C.state card_a.new) (D.state card_b.new)) }
     ensures goes { AllGoOn 94 2152 outcome.old.breaks.items outcome.new.breaks.items
         (devices (M.state unit.old) (C.state card_a.old) (D.state card_b.old))
         (devices (M.state unit.new) (C.state card_a.new) (D.state card_b.new)) }
 {
+    let rule = waking.rule;
+    let speed = waking.speed;
+    let mut journal = waking.journal;
     let kept = journal.last_kept();
     let is_first = outcome.breaks.is_empty();
     mend(unit, &mut journal, card_a, card_b)?;
     run.begin_span(journal, rule);
     let at = run.moment(0);
-    accept_anew(run, Slot::Driver, at, speed, unit, card_a, card_b, outcome)?;
-    accept_anew(
-        run,
-        Slot::CoDriver,
+    let driver = SlotAnew {
+        slot: Slot::Driver,
         at,
         speed,
-        unit,
-        card_a,
-        card_b,
-        outcome,
-    )?;
+    };
+    let codriver = SlotAnew {
+        slot: Slot::CoDriver,
+        at,
+        speed,
+    };
+    accept_anew(run, driver, unit, card_a, card_b, outcome)?;
+    accept_anew(run, codriver, unit, card_a, card_b, outcome)?;
     if is_first {
         return Ok(());
     }

@@ -1,5 +1,5 @@
 //! A run: the seconds of a trace, one after another.
-ghost use Rattle.std.specs.Prelude.{◌≡◌, ℕ, ◌+◌, ◌-◌, ◌<◌, ◌≤◌, ◌^◌, List, [], OnOk, IfErr, length, true, false};
+ghost use Rattle.std.specs.Prelude.{◌≡◌, ℕ, ◌+◌, ◌-◌, ◌<◌, ◌≤◌, ◌^◌, List, OnOk, IfErr, length, true, false};
 ghost use Rattle.trace_model.specs.Trace.{item_seconds, total_seconds};
 ghost use Rattle.trace_text.specs.Trace.{IsWellFormed};
 ghost use Rattle.trace_text.specs.Line.{InRange};
@@ -9,20 +9,18 @@ ghost use Rattle.run_outcome.specs.Room.{off_count, IsReserved};
 ghost use Rattle.run_promise.specs.Between.{devices};
 ghost use Rattle.run_minutes.specs.Books.{HaveTime};
 ghost use Rattle.run_minutes.specs.Later.{AreAfter};
-ghost use Rattle.run_acts.specs.Recording.{log_of};
-ghost use Rattle.log_model.specs.Causes.{cuts, tears};
-ghost use Rattle.tach_media.specs.Medium.{HasBroken};
 ghost use Rattle.run_acts.specs.Going.{largest_number, end_of_seconds, IsBetweenSeconds};
 ghost use Rattle.run_acts.specs.Room.{HasRoom};
 ghost use Rattle.recorder_with_cards.specs.Writes.{WritesFor};
 ghost use Rattle.recorder_with_cards.specs.Items.{between, insertions_in};
 ghost use Rattle.recorder_with_cards.specs.Recorded.{actions_in, RingsItem};
 ghost use Rattle.recorder_with_cards.specs.Carded.{CardsItem};
-ghost use Rattle.recorder_with_cards.specs.Ends.{BeginAs, EndsTrace, MayRecord, IsKeptFrom};
-ghost use Rattle.recorder_with_cards.specs.Gone.{first_waiting, has_seconds, HasGone, IsRefusedBy};
+ghost use Rattle.recorder_with_cards.specs.Breakdowns.{BreakdownsAreCounted};
+ghost use Rattle.recorder_with_cards.specs.Ends.{recording_of, BeginAs, EndsTrace, MayRecord, IsKeptFrom};
+ghost use Rattle.recorder_with_cards.specs.Gone.{first_waiting, has_seconds, HasGone, IsRefusedBy, TellsBreakdowns};
 ghost use Rattle.recorder_with_cards.specs.Acts.{ItemGoes};
 
-use crate::driving::drive;
+use crate::driving::{SecondsDue, drive};
 use run_acts::Run;
 use run_opening::{RunFault, judge};
 use run_outcome::Outcome;
@@ -78,16 +76,21 @@ pub fn run_trace<U: Medium, C: Chip>(
     ensures most { WritesFor (total_seconds trace.now.items) (length trace.now.items)
         (devices (U.state unit.old) (C.state card_a.old) (C.state card_b.old))
         (devices (U.state unit.new) (C.state card_a.new) (C.state card_b.new)) }
-    // Each cut that a failed call made is a breakdown of the unit more, whatever it tells.
-    ensures broke { HasBroken (U.state unit.old) (U.state unit.new) (length (cuts true (log_of outcome.new))) }
-    // And each breakdown has its cut: where no failed call has cut the power of a run that is recorded, the unit has
-    // not broken down.
-    ensures calm { OnOk result (cuts true (log_of outcome.new) ≡ []
-        → (U.state unit.new).breakdowns ≡ (U.state unit.old).breakdowns) }
-    // The same of the cards: where no failed call has torn one out, neither has broken down.
-    ensures still { OnOk result (tears true (log_of outcome.new) ≡ []
-        → ((C.state card_a.new).breakdowns ≡ (C.state card_a.old).breakdowns)
-        × ((C.state card_b.new).breakdowns ≡ (C.state card_b.old).breakdowns)) }
+    // Each cut that a failed call made is a breakdown of the unit more, whatever it tells. And each breakdown has its
+    // cut: where no failed call has cut the power of a run that is recorded, the unit has not broken down; and where
+    // none has torn a card out, neither card has. And no breakdown is untold: they are no more than those cuts and
+    // tears.
+    ensures breakdowns { TellsBreakdowns result outcome.new
+        (devices (U.state unit.old) (C.state card_a.old) (C.state card_b.old))
+        (devices (U.state unit.new) (C.state card_a.new) (C.state card_b.new)) }
+    // So each device has broken down just as often as it is told.
+    ensures counted { (x a b : List ℕ)
+        → BeginAs x a b (devices (U.state unit.old) (C.state card_a.old) (C.state card_b.old))
+        → HaveTime (devices (U.state unit.new) (C.state card_a.new) (C.state card_b.new))
+        → length trace.now.items ≤ largest_number
+        → OnOk result (BreakdownsAreCounted (recording_of x a b trace.now.start trace.now.items outcome.new)
+        (devices (U.state unit.old) (C.state card_a.old) (C.state card_b.old))
+        (devices (U.state unit.new) (C.state card_a.new) (C.state card_b.new))) }
 {
     card_a.holds_bytes();
     card_b.holds_bytes();
@@ -96,17 +99,13 @@ pub fn run_trace<U: Medium, C: Chip>(
     let mut first = 0;
     for i in 0..trace.items.len() {
         let item = *trace.items.get(i);
-        go_on(
-            &mut run,
-            &trace.items,
-            first,
-            i,
+        let due = ItemDriven {
+            items: &trace.items,
+            from: first,
+            to: i,
             item,
-            unit,
-            card_a,
-            card_b,
-            outcome,
-        )?;
+        };
+        go_on(&mut run, due, unit, card_a, card_b, outcome)?;
         first = first_waiting(item, first, i);
     }
     Ok(())
@@ -123,55 +122,77 @@ fn first_waiting(item: Item, first: usize, index: usize) -> usize
     }
 }
 
-// An item, where the actions among the items from one index to another wait for their second.
-fn go_on<M: Medium, C: Chip, D: Chip>(
-    run: &mut Run,
-    items: &Items,
+// An item, with the items of the actions that wait for their second, from one index to another.
+#[derive(Clone, Copy)]
+struct ItemDriven<I> {
+    items: I,
     from: usize,
     to: usize,
     item: Item,
+}
+
+// An item, where the actions among the items from one index to another wait for their second.
+fn go_on<M: Medium, C: Chip, D: Chip>(
+    run: &mut Run,
+    due: ItemDriven<&Items>,
     unit: &mut M,
     card_a: &mut C,
     card_b: &mut D,
     outcome: &mut Outcome,
 ) -> Result<(), RunFault>
-    requires first { from ≤ to }
-    requires last { to ≤ length items.now }
-    requires item { InRange item }
-    requires small { run.old.next + item_seconds item ≤ end_of_seconds }
-    requires room { HasRoom run.old outcome.old (item_seconds item) (off_count item) (insertions_in from to items.now)
-        (to - from) }
+    requires first { due.from ≤ due.to }
+    requires last { due.to ≤ length due.items.now }
+    requires item { InRange due.item }
+    requires small { run.old.next + item_seconds due.item ≤ end_of_seconds }
+    requires room { HasRoom run.old outcome.old (item_seconds due.item) (off_count due.item)
+        (insertions_in due.from due.to due.items.now)
+        (due.to - due.from) }
     requires going { IsBetweenSeconds run.old (M.state unit.old) (C.card card_a.old) (D.card card_b.old)
         (C.state card_a.old) (D.state card_b.old) }
     requires unfound { run.old.unfound ≤ length outcome.old.breaks.items }
-    ensures ringed { length (actions_in (between from to items.now)) ≡ to - from
-        → RingsItem result item (actions_in (between from to items.now)) run.old run.new outcome.old outcome.new
+    ensures ringed { length
+        (actions_in (between due.entry.from due.entry.to due.entry.items.now)) ≡ due.entry.to - due.entry.from
+        → RingsItem result due.entry.item
+        (actions_in (between due.entry.from due.entry.to due.entry.items.now)) run.old run.new outcome.old outcome.new
         (devices (M.state unit.old) (C.state card_a.old) (D.state card_b.old))
         (devices (M.state unit.new) (C.state card_a.new) (D.state card_b.new)) }
-    ensures cards { length (actions_in (between from to items.now)) ≡ to - from
-        → CardsItem result item (actions_in (between from to items.now)) run.old run.new outcome.old outcome.new
+    ensures cards { length
+        (actions_in (between due.entry.from due.entry.to due.entry.items.now)) ≡ due.entry.to - due.entry.from
+        → CardsItem result due.entry.item
+        (actions_in (between due.entry.from due.entry.to due.entry.items.now)) run.old run.new outcome.old outcome.new
         (devices (M.state unit.old) (C.state card_a.old) (D.state card_b.old))
         (devices (M.state unit.new) (C.state card_a.new) (D.state card_b.new)) }
-    ensures goes { ItemGoes (item_seconds item) (first_waiting item from to - from) outcome.old.breaks.items
+    ensures goes { ItemGoes (item_seconds due.entry.item)
+        (first_waiting due.entry.item due.entry.from due.entry.to - due.entry.from) outcome.old.breaks.items
         outcome.new.breaks.items
         (devices (M.state unit.old) (C.state card_a.old) (D.state card_b.old))
         (devices (M.state unit.new) (C.state card_a.new) (D.state card_b.new)) }
-    ensures gone { HasGone result (item_seconds item) run.old run.new outcome.new (M.state unit.new) (C.card card_a.new)
+    ensures gone { HasGone result (item_seconds due.entry.item) run.old run.new outcome.new (M.state unit.new)
+        (C.card card_a.new)
         (D.card card_b.new) (C.state card_a.new) (D.state card_b.new) }
-    ensures idle { OnOk result (has_seconds item ≡ false → (run.new ≡ run.old) × (outcome.new ≡ outcome.old)) }
+    ensures idle { OnOk result
+        (has_seconds due.entry.item ≡ false → (run.new ≡ run.old) × (outcome.new ≡ outcome.old)) }
     ensures room { (left offs insertions actions : ℕ)
-        → HasRoom run.old outcome.old (item_seconds item + left) (off_count item + offs)
-        (insertions_in from to items.now + insertions) (to - from + actions)
-        → OnOk result (has_seconds item ≡ true → HasRoom run.new outcome.new left offs insertions actions) }
+        → HasRoom run.old outcome.old (item_seconds due.entry.item + left) (off_count due.entry.item + offs)
+        (insertions_in due.entry.from due.entry.to due.entry.items.now + insertions)
+        (due.entry.to - due.entry.from + actions)
+        → OnOk result (has_seconds due.entry.item ≡ true → HasRoom run.new outcome.new left offs insertions actions) }
 {
-    match item {
+    match due.item {
         Item::Act(_) => Ok(()),
         Item::Off { seconds } => {
             run.off(seconds, &mut outcome.breaks);
             Ok(())
         }
-        Item::Run { seconds, speed } => drive(
-            run, items, from, to, seconds, speed, unit, card_a, card_b, outcome,
-        ),
+        Item::Run { seconds, speed } => {
+            let driven = SecondsDue {
+                items: due.items,
+                from: due.from,
+                to: due.to,
+                seconds,
+                speed,
+            };
+            drive(run, driven, unit, card_a, card_b, outcome)
+        }
     }
 }

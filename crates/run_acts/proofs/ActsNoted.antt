@@ -13,7 +13,7 @@ use Rattle.unit_notes.specs.declared.unit_event.UnitEvent.{UnitEvent}
 use Rattle.unit_notes.specs.Noting.{IsWithdrawing}
 use Rattle.safety_model.specs.Safe.{Devices}
 use Rattle.run_promise.specs.Between.{devices}
-use Rattle.run_events.specs.Shown.{SaysNothing}
+use Rattle.run_events.specs.Shown.{none_sure, SaysNothing}
 use Rattle.run_events.proofs.Shows.{nothing-more}
 use Rattle.run_events.proofs.Frames.{between-nothing}
 use Rattle.run_outcome.specs.Lines.{Listed}
@@ -42,7 +42,7 @@ pub says-still : (U : State) → SaysNoMore U U
 says-still U = λ c there. (c, there, same-says c)
 
 quiet-cut : (U V A B C D : State) → SaysNoMore U V → NotesEvents [] true (devices U A B) (devices V C D)
-quiet-cut U V A B C D same o long [] told = λ log now unsure c there. let one = same c there in (one.0, one.1, nothing-more (number_in o) log now one.0 c one.2)
+quiet-cut U V A B C D same o long [] told = λ c there. let one = same c there in (one.0, one.1, nothing-more (number_in o) none_sure one.0 c one.2)
 quiet-cut U V A B C D same o long (e ∷ es) told = absurd told
 
 pub quiet-any : (U V A B C D : State) (failed : Bool) → SaysNoMore U V → NotesEvents [] failed (devices U A B) (devices V C D)

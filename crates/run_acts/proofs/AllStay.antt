@@ -1,30 +1,31 @@
--- The stays of both cards, over what each call makes of them and of the log.
-use Rattle.std.proofs.Common.{◌≡◌, ◌⊎◌, ◌∙◌, inl, inr, ⊎_elim, ℕ, suc, zero, Bool, true, false, List, [], ◌∷◌, ◌++◌, append_assoc, Contains, Option, Some, None, refl, ap, sym, subst}
-use Rattle.std.specs.Prelude.{not, ◌&&◌, filter, map, is_some}
+-- The stays of both cards, and of each by itself, over what each call makes of them and of the log.
+use Rattle.std.proofs.Common.{◌≡◌, ◌⊎◌, ◌∙◌, inl, inr, ⊎_elim, ℕ, suc, zero, ◌+◌, ◌<◌, ◌≤◌, min, Bool, true, false, List, [], ◌∷◌, ◌++◌, append_assoc, Contains, Option, Some, None, refl, ap, sym, subst, arith}
+use Rattle.std.specs.Prelude.{not, ◌&&◌, ◌||◌, filter, map, is_some}
 use Rattle.std.specs.List.{AllByRecursion}
 use Rattle.std.proofs.lemmas.List.{append-nil, map-append}
 use Rattle.std.proofs.lemmas.List.Elements.{filter-append, Contains-append_left}
 use Rattle.activity_codec.specs.declared.values.Slot.{Slot}
+use Rattle.activity_codec.specs.declared.entries.Entry.{Entry}
 use Rattle.activity_codec.specs.declared.values.Slot.TheVariants.{Driver, CoDriver}
 use Rattle.trace_model.specs.declared.Card.{Card}
 use Rattle.trace_model.specs.declared.Card.TheVariants.{A, B}
-use Rattle.tach_media.specs.Medium.{State}
+use Rattle.tach_media.specs.Medium.{State, HasBroken, last_count}
 use Rattle.tacho_types.specs.declared.texts.Registration.{Registration}
-use Rattle.log_model.specs.Log.{RunLog}
-use Rattle.log_model.specs.Causes.{is_cut, has_failed}
+use Rattle.log_model.specs.Log.{RunLog, is_accepting}
+use Rattle.log_model.specs.Causes.{is_cut, has_failed, cuts, device_of}
 use Rattle.log_model.specs.Slots.{same_card}
 use Rattle.log_model.specs.declared.lines.Find.{Find}
 use Rattle.log_model.specs.declared.lines.Break.{Break}
 use Rattle.log_model.specs.declared.lines.Mark.{Mark}
 use Rattle.log_model.specs.declared.lines.Break.TheVariants.{Cut, Tear}
+use Rattle.run_course.specs.Telling.{IsMore}
 use Rattle.run_unit_course.specs.Lines.{cut_at, with_kept, found_from}
 use Rattle.card_image.specs.Own.{own_sizes, IsOwnValid}
 use Rattle.card_session.specs.declared.session.Kept.{Kept}
 use Rattle.device_rule.specs.Views.{other}
 use Rattle.note_model.specs.Noted.{Note}
-use Rattle.safety_model.specs.Safe.{Devices, card_of}
+use Rattle.safety_model.specs.Safe.{Devices, card_of, breakdowns_of}
 use Rattle.card_slots.specs.declared.seats.Present.{Present}
-use Rattle.card_slots.specs.Kept.{Kept as SlotsKept}
 use Rattle.run_crew.specs.declared.cards.Accepted.{Accepted}
 use Rattle.run_crew.specs.declared.cards.Cards.{Cards}
 use Rattle.run_crew.specs.declared.cabin.Cabin.{Cabin}
@@ -40,13 +41,14 @@ use Rattle.run_minutes.specs.Keeping.{Fate, Still, Has, Fell, has_fallen, cabin_
 use Rattle.minute_model.specs.declared.Minute.{Minute}
 use Rattle.run_minutes.specs.Minutes.{KeepingState, Done, Reach, Round, Whole, Short, IsReach, IsLast, told_after, told_by, unit_mark, present_at}
 use Rattle.run_acts.specs.Booked.{IsTurnReach}
+use Rattle.run_acts.proofs.RingedLines.{AreTears, tears-both}
 use Rattle.run_minutes.specs.Deeds.{KeepsOn, AllKeep}
 use Rattle.card_slots.specs.Calls.{Seats, seat_in, card_in}
 use Rattle.run_acts.specs.Closings.{Spell, spells_of, with_last_shut, last_slot}
 use Rattle.run_acts.specs.Comings.{VehicleTold, told_of, TellsMore, TellMore}
 use Rattle.run_acts.proofs.Comings.{tells-none, tells-then}
 use Rattle.run_acts.specs.Truths.{Truths, Grow}
-use Rattle.run_acts.specs.Stays.{Stay, Coming, comings_on, befores_of, TellsBefores, acceptances_told, spells, sits_in, as_noted, IsPlaced, AreMerged, StaysIn, HasStays, AreStays, AllStay, AreTrue, start_shown, judged_told, judged_in, AreJudged}
+use Rattle.run_acts.specs.Stays.{Stay, Coming, comings_on, befores_of, TellsBefores, acceptances_told, spells, sits_in, as_noted, IsPlaced, AreMerged, StaysIn, HasStays, Whose, Both, Only, covers, AreKnown, owed_by, AreTold, AreToldBefore, AreStays, AllStay, AreTrue, start_shown, is_late, judged_told, judged_in, AreJudged}
 use Rattle.run_acts.proofs.Stays.{all-both, on_last, on-last-comings, on-last-none, on-last-true, with_kepts, true-kepts, all-true-grow, merged-one, merged-other, stays-still, stays-moved, stays-keep, on-last-owes, owes-grow, on-last-judged, on-last-verdicts}
 
 -- ---- the log tells of no failed call
@@ -76,29 +78,114 @@ back-none p xs ys none = by (filter p xs) (sym (filter-append p xs ys) ∙ none)
 pub fewer-none : (log : RunLog) (more : List Break) → NothingFailed (record log { breaks = log.breaks ++ more }) → NothingFailed log
 fewer-none log more none = (front-none failed_cut log.breaks more none.0, front-none failed_tear log.breaks more none.1)
 
--- A LOG GOES ON, in which no call has failed: it tells the same acceptances, and judges the same cards
-pub record Goes (log later : RunLog) : Type 0 where
-  pub none : NothingFailed log
+-- nor of a cut that one made
+pub fewer-uncut : (log : RunLog) (more : List Break) → cuts true (record log { breaks = log.breaks ++ more }) ≡ [] → cuts true log ≡ []
+fewer-uncut log more none = front-none failed_cut log.breaks more none
+
+-- where stays are known no failed call has cut the power
+pub known-uncut : (whose : Whose) (o : Origin) (log : RunLog) (d : Devices) → AreKnown whose o log d → cuts true log ≡ []
+known-uncut Both o log d known = known.0
+known-uncut (Only c) o log d known = known.uncut
+
+-- A CARD THAT STANDS AS IT BEGAN behind calls did so before them
+abbrev pub StoodBefore : Origin → (d e : Devices) → Type 0
+StoodBefore o d e = (c : Card) → o.breakdowns (device_of c) < last_count → breakdowns_of e (device_of c) ≡ o.breakdowns (device_of c) → breakdowns_of d (device_of c) ≡ o.breakdowns (device_of c)
+
+pub stood-self : (o : Origin) (d : Devices) → StoodBefore o d d
+stood-self o d c low is = is
+
+-- whatever became of the unit
+pub stood-unit : (o : Origin) (U V X Y : State) → StoodBefore o (devices U X Y) (devices V X Y)
+stood-unit o U V X Y A low is = is
+stood-unit o U V X Y B low is = is
+
+-- its count was no lower as it began, and has not fallen since
+pub stood-grown : (o : Origin) (d e : Devices) → ((c : Card) → o.breakdowns (device_of c) < last_count → o.breakdowns (device_of c) ≤ breakdowns_of d (device_of c)) → ((c : Card) → breakdowns_of d (device_of c) ≤ breakdowns_of e (device_of c)) → StoodBefore o d e
+stood-grown o d e floor grows c low is = between (o.breakdowns (device_of c)) (breakdowns_of d (device_of c)) (breakdowns_of e (device_of c)) (floor c low) (grows c) is
+  where
+    between : (a b c : ℕ) → a ≤ b → b ≤ c → c ≡ a → b ≡ a
+    between a b c low high is = omega (arith, low, high, is)
+
+-- WHAT IS KNOWN WAS KNOWN, with fewer lines, and before calls behind which a card stands
+pub known-before : (whose : Whose) (o : Origin) (log : RunLog) (more : List Break) (d e : Devices) → StoodBefore o d e → AreKnown whose o (record log { breaks = log.breaks ++ more }) e → AreKnown whose o log d
+known-before Both o log more d e stood known = fewer-none log more known
+known-before (Only c) o log more d e stood known = record { uncut = fewer-uncut log more known.uncut; low = known.low; stands = stood c known.low known.stands }
+
+-- by the same log
+pub known-still : (whose : Whose) (o : Origin) (log : RunLog) (d e : Devices) → StoodBefore o d e → AreKnown whose o log e → AreKnown whose o log d
+known-still Both o log d e stood known = known
+known-still (Only c) o log d e stood known = record { uncut = known.uncut; low = known.low; stands = stood c known.low known.stands }
+
+-- A LOG GOES ON: what is known was known, and it tells the same acceptances, and judges the same cards
+pub record Goes (whose : Whose) (o : Origin) (log later : RunLog) (d : Devices) : Type 0 where
+  pub known : AreKnown whose o log d
   pub finds : acceptances_told later ≡ acceptances_told log
   pub judged : judged_told later ≡ judged_told log
 
-pub log-self : (log : RunLog) → NothingFailed log → Goes log log
-log-self log none = record { none = none; finds = refl; judged = refl }
+-- so it does over these devices, as far as it is known
+abbrev pub GoesOn : Origin → (log later : RunLog) → (d e : Devices) → Type 0
+GoesOn o log later d e = (whose : Whose) → AreKnown whose o later e → Goes whose o log later d
+
+pub log-self : (o : Origin) (log : RunLog) (d : Devices) → GoesOn o log log d d
+log-self o log d whose known = record { known = known; finds = refl; judged = refl }
 
 -- breaks are told
-pub lines-on : (log : RunLog) (bs more : List Break) → bs ≡ log.breaks ++ more → NothingFailed (record log { breaks = bs }) → Goes log (record log { breaks = bs })
-lines-on log bs more is none = record {
-  none = fewer-none log more (subst (λ (l : List Break). NothingFailed (record log { breaks = l })) is none);
+pub lines-on : (o : Origin) (log : RunLog) (bs more : List Break) (d e : Devices) → bs ≡ log.breaks ++ more → StoodBefore o d e → GoesOn o log (record log { breaks = bs }) d e
+lines-on o log bs more d e is stood whose known = record {
+  known = known-before whose o log more d e stood (subst (λ (l : List Break). AreKnown whose o (record log { breaks = l }) e) is known);
   finds = refl;
   judged = refl;
 }
 
--- a cut where a call failed, and a card that fell, are told
-pub no-cut : {T : Type 0} (log : RunLog) (second begun : ℕ) → NothingFailed (record log { breaks = log.breaks ++ cut_at second true begun ∷ [] }) → T
-no-cut log second begun none = let some = back-none failed_cut log.breaks (cut_at second true begun ∷ []) none.0 in absurd (cc)
+-- a cut where a call failed is told,
+pub no-cut : {T : Type 0} (log : RunLog) (second begun : ℕ) → cuts true (record log { breaks = log.breaks ++ cut_at second true begun ∷ [] }) ≡ [] → T
+no-cut log second begun none = let some = back-none failed_cut log.breaks (cut_at second true begun ∷ []) none in absurd (cc)
 
+-- and a card that fell, where no call has failed; and its count rises
 pub no-tear : {T : Type 0} (log : RunLog) (slot : Slot) (at : Moment) → NothingFailed (record log { breaks = log.breaks ++ tear_of slot at ∷ [] }) → T
 no-tear log slot at none = let some = back-none failed_tear log.breaks (tear_of slot at ∷ []) none.1 in absurd (cc)
+
+pub none-rises : {T : Type 0} (o d e : ℕ) → o < last_count → o ≤ d → min (d + 1) last_count ≤ e → e ≡ o → T
+none-rises o d e low from rose is = absurd (omega (arith, low, from, rose, is))
+
+stands-broken : (n o x y : ℕ) → o < last_count → o ≤ x → min (x + n) last_count ≤ y → y ≡ o → x ≡ o
+stands-broken n o x y low from broke is = omega (arith, low, from, broke, is)
+
+-- a card that has broken down so often at least
+pub stood-broken : (o : Origin) (n : ℕ) (c : Card) (U V X Y Z : State) → ((k : Card) → o.breakdowns (device_of k) < last_count → o.breakdowns (device_of k) ≤ breakdowns_of (arranged c U X Z) (device_of k)) → HasBroken X Y n → StoodBefore o (arranged c U X Z) (arranged c V Y Z)
+stood-broken o n A U V X Y Z floor broken A low is = stands-broken n (o.breakdowns (device_of A)) X.breakdowns Y.breakdowns low (floor A low) broken.breakdowns is
+stood-broken o n A U V X Y Z floor broken B low is = is
+stood-broken o n B U V X Y Z floor broken A low is = is
+stood-broken o n B U V X Y Z floor broken B low is = stands-broken n (o.breakdowns (device_of B)) X.breakdowns Y.breakdowns low (floor B low) broken.breakdowns is
+
+-- no card broke down
+pub stood-calm : (o : Origin) (d e : Devices) → IsMore (breakdowns_of d) (breakdowns_of e) → StoodBefore o d e
+stood-calm o d e more c low is = sym (more.cards c) ∙ is
+
+-- a log with the same breaks
+pub known-as : (whose : Whose) (o : Origin) (log later : RunLog) (d : Devices) → later.breaks ≡ log.breaks → AreKnown whose o later d → AreKnown whose o log d
+known-as Both o log later d same known = (ap (λ (bs : List Break). filter failed_cut bs) (sym same) ∙ known.0, ap (λ (bs : List Break). filter failed_tear bs) (sym same) ∙ known.1)
+known-as (Only c) o log later d same known = record { uncut = ap (λ (bs : List Break). filter failed_cut bs) (sym same) ∙ known.uncut; low = known.low; stands = known.stands }
+
+pub same-on : (o : Origin) (log later : RunLog) (d : Devices) → later.breaks ≡ log.breaks → later.finds ≡ log.finds → GoesOn o log later d d
+same-on o log later d breaks finds whose known = record {
+  known = known-as whose o log later d breaks known;
+  finds = ap (λ (fs : List Find). filter (λ (f : Find). is_accepting f.verdict) fs) finds;
+  judged = ap (λ (fs : List Find). filter (λ (f : Find). is_accepting f.verdict || is_late f.verdict) fs) finds;
+}
+
+-- THE STAYS OF A CARD THAT FELL, of which a tear is told, are not known
+pub no-fall : {T : Type 0} (whose : Whose) (o : Origin) (log later : RunLog) (slot : Slot) (at : Moment) (c : Card) (U V X Y Z : State) → later.breaks ≡ log.breaks ++ tear_of slot at ∷ [] → ((k : Card) → o.breakdowns (device_of k) < last_count → o.breakdowns (device_of k) ≤ breakdowns_of (arranged c U X Z) (device_of k)) → HasBroken X Y 1
+    → covers whose c ≡ true → AreKnown whose o later (arranged c V Y Z) → T
+no-fall Both o log later slot at c U V X Y Z is floor broken in_ known = no-tear log slot at (known-as Both o (record log { breaks = log.breaks ++ tear_of slot at ∷ [] }) later (arranged c V Y Z) is known)
+no-fall (Only A) o log later slot at A U V X Y Z is floor broken in_ known = none-rises (o.breakdowns (device_of A)) X.breakdowns Y.breakdowns known.low (floor A known.low) broken.breakdowns known.stands
+no-fall (Only A) o log later slot at B U V X Y Z is floor broken in_ known = absurd (let wrong : false ≡ true = in_ in cc)
+no-fall (Only B) o log later slot at A U V X Y Z is floor broken in_ known = absurd (let wrong : false ≡ true = in_ in cc)
+no-fall (Only B) o log later slot at B U V X Y Z is floor broken in_ known = none-rises (o.breakdowns (device_of B)) X.breakdowns Y.breakdowns known.low (floor B known.low) broken.breakdowns known.stands
+
+pub other-apart : (c : Card) → same_card c (other c) ≡ false
+other-apart A = refl
+other-apart B = refl
 
 -- ---- a session that is gone
 
@@ -123,12 +210,12 @@ pub kept_stays : Option Accepted → List Kept → List Stay → List Stay
 kept_stays None ks ss = ss
 kept_stays (Some a) ks ss = on_last (with_kepts ks) ss
 
-kept-hold : (t : Truths) (c : Card) (r : Registration) (image : List ℕ) (s : Option Accepted) (ks : List Kept) (ss : List Stay) → AllByRecursion t.kept ks → AreTrue t c r image ss → AreTrue t c r image (kept_stays s ks ss)
+kept-hold : (whose : Whose) (t : Truths) (c : Card) (r : Registration) (image : List ℕ) (s : Option Accepted) (ks : List Kept) (ss : List Stay) → AllByRecursion t.kept ks → AreTrue whose t c r image ss → AreTrue whose t c r image (kept_stays s ks ss)
 unfolding kept_stays
-kept-hold t c r image None ks ss more all = all
-kept-hold t c r image (Some a) ks ss more all = (
+kept-hold whose t c r image None ks ss more all = all
+kept-hold whose t c r image (Some a) ks ss more all = (
   on-last-true t (with_kepts ks) ss (λ x front are is. true-kepts t ks more x is) all.0,
-  on-last-owes (t.owed c) (with_kepts ks) (λ x. refl) (λ x. refl) r (own_sizes image).activity ss (start_shown image) all.1,
+  on-last-owes (owed_by whose t c) (with_kepts ks) (λ x. refl) (λ x. refl) r (own_sizes image).activity ss (start_shown image) all.1,
 )
 
 kept-none : (s : Option Accepted) (ks : List Kept) (ss : List Stay) → ss ≡ [] → kept_stays s ks ss ≡ []
@@ -179,8 +266,38 @@ judged-own : (own : Find → Type 0) (lines later was now : List Find) → Judge
 judged-own own lines later was now (inl t) all = subst (AllByRecursion own) (sym t.1) all
 judged-own own lines later was now (inr t) all = subst (AllByRecursion own) (sym t.2) (all-both own was (t.0 ∷ []) all (t.3, tt))
 
+-- ---- of both cards, or of one
+
+-- the same lines
+told-as : (whose : Whose) (t : Truths) (lines later : List Find) (own now : Card → List Find) → later ≡ lines → ((c : Card) → covers whose c ≡ true → now c ≡ own c) → AreTold whose t lines own → AreTold whose t later now
+told-as Both t lines later own now same as_ h = merged-as lines later (own A) (now A) (now B) same (as_ A refl) (merged-as-other lines lines (own A) (own B) (now B) refl (as_ B refl) h)
+told-as (Only A) t lines later own now same as_ h = (h.0, merged-as lines later (own A) (now A) h.0 same (as_ A refl) h.1, h.2)
+told-as (Only B) t lines later own now same as_ h = (h.0, merged-as lines later (own B) (now B) h.0 same (as_ B refl) h.1, h.2)
+
+-- one is judged of which it is said, and may have a line more
+told-one : (whose : Whose) (t : Truths) (c : Card) (lines later was now : List Find) (own all : Card → List Find) → covers whose c ≡ true → own c ≡ was → all c ≡ now → all (other c) ≡ own (other c) → JudgesOne (t.entered c) lines later was now → AreTold whose t lines own → AreTold whose t later all
+told-one Both t A lines later was now own all in_ mine is beside j h = merged-as later later now (all A) (all B) refl is (merged-as-other later later now (own B) (all B) refl beside (one-judged (t.entered A) lines later was now (own B) j (merged-as lines lines (own A) was (own B) refl (sym mine) h)))
+told-one Both t B lines later was now own all in_ mine is beside j h = merged-as later later (own A) (all A) (all B) refl beside (merged-as-other later later (own A) now (all B) refl is (other-judged (t.entered B) lines later was now (own A) j (merged-as-other lines lines (own A) (own B) was refl (sym mine) h)))
+told-one (Only A) t A lines later was now own all in_ mine is beside j h = (h.0, merged-as later later now (all A) h.0 refl is (one-judged (t.entered A) lines later was now h.0 j (merged-as lines lines (own A) was h.0 refl (sym mine) h.1)), h.2)
+told-one (Only A) t B lines later was now own all in_ mine is beside j h = absurd (let wrong : false ≡ true = in_ in cc)
+told-one (Only B) t A lines later was now own all in_ mine is beside j h = absurd (let wrong : false ≡ true = in_ in cc)
+told-one (Only B) t B lines later was now own all in_ mine is beside j h = (h.0, merged-as later later now (all B) h.0 refl is (one-judged (t.entered B) lines later was now h.0 j (merged-as lines lines (own B) was h.0 refl (sym mine) h.1)), h.2)
+
+-- the other may have one
+abbrev pub TellsAside : (own : Find → Type 0) → (lines later : List Find) → Type 0
+TellsAside own lines later = (later ≡ lines) ⊎ ((g : Find) × (later ≡ lines ++ g ∷ []) × own g)
+
+told-aside : (whose : Whose) (t : Truths) (c : Card) (lines later : List Find) (own : Card → List Find) → covers whose c ≡ false → TellsAside (t.entered c) lines later → AreTold whose t lines own → AreTold whose t later own
+told-aside Both t c lines later own out aside h = absurd (let wrong : true ≡ false = out in cc)
+told-aside (Only A) t A lines later own out aside h = absurd (let wrong : true ≡ false = out in cc)
+told-aside (Only A) t B lines later own out (inl same) h = (h.0, subst (λ (l : List Find). AreMerged l (own A) h.0) (sym same) h.1, h.2)
+told-aside (Only A) t B lines later own out (inr g) h = (h.0 ++ g.0 ∷ [], subst (λ (l : List Find). AreMerged l (own A) (h.0 ++ g.0 ∷ [])) (sym g.1) (merged-other lines (own A) h.0 g.0 h.1), all-both (t.entered B) h.0 (g.0 ∷ []) h.2 (g.2, tt))
+told-aside (Only B) t A lines later own out (inl same) h = (h.0, subst (λ (l : List Find). AreMerged l (own B) h.0) (sym same) h.1, h.2)
+told-aside (Only B) t A lines later own out (inr g) h = (h.0 ++ g.0 ∷ [], subst (λ (l : List Find). AreMerged l (own B) (h.0 ++ g.0 ∷ [])) (sym g.1) (merged-other lines (own B) h.0 g.0 h.1), all-both (t.entered A) h.0 (g.0 ∷ []) h.2 (g.2, tt))
+told-aside (Only B) t B lines later own out aside h = absurd (let wrong : true ≡ false = out in cc)
+
 -- A CALL makes of the stays of a card these, as its session and its seat become others, and its spells these
-pub record Turns (truths : Truths) (card : Card) (second : ℕ) (f : CardFound) (log later : RunLog) (r : Registration) (noted noted_now : List Spell) (sits sits_now : Bool) (s t : Option Accepted) (U V X Y : State) (ss : List Stay) (since : List Find) : Type 0 where
+pub record Turns (whose : Whose) (truths : Truths) (card : Card) (second : ℕ) (f : CardFound) (log later : RunLog) (r : Registration) (noted noted_now : List Spell) (sits sits_now : Bool) (s t : Option Accepted) (U V X Y : State) (ss : List Stay) (since : List Find) : Type 0 where
   pub now : List Stay
   pub left : List Find
   pub lone : (since ≡ []) ⊎ IsOwnValid f.image → (left ≡ []) ⊎ IsOwnValid f.image
@@ -189,16 +306,16 @@ pub record Turns (truths : Truths) (card : Card) (second : ℕ) (f : CardFound) 
   pub waits : IsOwnValid f.image → (is_some s ≡ true → since ≡ []) → is_some t ≡ true → left ≡ []
   pub only : (ss ≡ []) ⊎ IsOwnValid f.image → (now ≡ []) ⊎ IsOwnValid f.image
   pub shows : IsOwnValid f.image → HasStays second f r noted sits ss s X → HasStays second f r noted_now sits_now now t Y
-  pub hold : (ss ≡ []) ⊎ IsOwnValid f.image → (IsOwnValid f.image → HasStays second f r noted sits ss s X) → AreTrue truths card r f.image ss → AreTrue truths card r f.image now
+  pub hold : (ss ≡ []) ⊎ IsOwnValid f.image → (IsOwnValid f.image → HasStays second f r noted sits ss s X) → AreTrue whose truths card r f.image ss → AreTrue whose truths card r f.image now
   pub comes : (IsOwnValid f.image → HasStays second f r noted sits ss s X) → ComesOne f r (acceptances_told log) (acceptances_told later) ss now U V
 
 -- none begins
-pub turns-so : (truths : Truths) (card : Card) (second : ℕ) (f : CardFound) (log : RunLog) (r : Registration) (noted : List Spell) (sits : Bool) (s t : Option Accepted) (U V X Y : State) (turn : List Stay → List Stay)
+pub turns-so : (whose : Whose) (truths : Truths) (card : Card) (second : ℕ) (f : CardFound) (log : RunLog) (r : Registration) (noted : List Spell) (sits : Bool) (s t : Option Accepted) (U V X Y : State) (turn : List Stay → List Stay)
     → ((ss : List Stay) → ss ≡ [] → turn ss ≡ []) → ((ss : List Stay) → comings_on r f.image (turn ss) ≡ comings_on r f.image ss) → TellMore [] U V → ((ss : List Stay) (since : List Find) → judged_in (turn ss) since ≡ judged_in ss since)
     → ((ss : List Stay) (since : List Find) → (is_some s ≡ true → since ≡ []) → AreJudged r (own_sizes f.image).activity ss since (start_shown f.image) → AreJudged r (own_sizes f.image).activity (turn ss) since (start_shown f.image)) → (IsOwnValid f.image → is_some t ≡ true → is_some s ≡ true)
     → (ss : List Stay) (since : List Find) → (IsOwnValid f.image → HasStays second f r noted sits ss s X → HasStays second f r noted sits (turn ss) t Y)
-    → ((ss ≡ []) ⊎ IsOwnValid f.image → (IsOwnValid f.image → HasStays second f r noted sits ss s X) → AreTrue truths card r f.image ss → AreTrue truths card r f.image (turn ss)) → Turns truths card second f log log r noted noted sits sits s t U V X Y ss since
-turns-so truths card second f log r noted sits s t U V X Y turn none comes go judged verdicts had ss since shows hold = record {
+    → ((ss ≡ []) ⊎ IsOwnValid f.image → (IsOwnValid f.image → HasStays second f r noted sits ss s X) → AreTrue whose truths card r f.image ss → AreTrue whose truths card r f.image (turn ss)) → Turns whose truths card second f log log r noted noted sits sits s t U V X Y ss since
+turns-so whose truths card second f log r noted sits s t U V X Y turn none comes go judged verdicts had ss since shows hold = record {
   now = turn ss;
   left = since;
   lone = λ was. was;
@@ -283,22 +400,27 @@ with_since A mine fs B = fs B
 with_since B mine fs A = fs A
 with_since B mine fs B = mine
 
+-- A CARD KEEPS ITS SEAT: it sits in a slot as it did, and in none in which it did not sit
+pub record KeepsSeat (cabin after : Cabin) (c : Card) : Type 0 where
+  pub sits : sits_in after.slots.seats c ≡ sits_in cabin.slots.seats c
+  pub there : (slot : Slot) → card_in (seat_in after.slots.seats slot) ≡ Some c → card_in (seat_in cabin.slots.seats slot) ≡ Some c
+
 -- ---- both cards
 
 module _ (o : Origin) (t : Truths) (u : ℕ) where
   abbrev f : Card → CardFound
   f c = found_of o.found c
 
-  abbrev Are : RunLog → List Note → Registration → Cabin → Devices → Type 0
-  Are log notes r cabin d = AreStays o t u notes (acceptances_told log) (judged_told log) r cabin d
+  abbrev Are : Whose → RunLog → List Note → Registration → Cabin → Devices → Type 0
+  Are whose log notes r cabin d = AreStays whose o t u notes (acceptances_told log) (judged_told log) r cabin d
 
   -- of one card
   abbrev HasOf : Registration → List Note → Cabin → Card → List Stay → State → Type 0
   HasOf r notes cabin c ss X = HasStays u (f c) r (spells_of c notes) (sits_in cabin.slots.seats c) ss (session_of cabin.cards c) X
 
-  abbrev TurnsOf : Card → (log later : RunLog) → (notes now : List Note) → Registration → (cabin after : Cabin) → (U V X Y : State) → List Stay → List Find → Type 0
-  TurnsOf c log later notes now r cabin after U V X Y ss since =
-      Turns t c u (f c) log later r (spells_of c notes) (spells_of c now) (sits_in cabin.slots.seats c) (sits_in after.slots.seats c) (session_of cabin.cards c) (session_of after.cards c) U V X Y ss since
+  abbrev TurnsOf : Whose → Card → (log later : RunLog) → (notes now : List Note) → Registration → (cabin after : Cabin) → (U V X Y : State) → List Stay → List Find → Type 0
+  TurnsOf whose c log later notes now r cabin after U V X Y ss since =
+      Turns whose t c u (f c) log later r (spells_of c notes) (spells_of c now) (sits_in cabin.slots.seats c) (sits_in after.slots.seats c) (session_of cabin.cards c) (session_of after.cards c) U V X Y ss since
 
   -- ---- what the unit tells of the vehicles before
 
@@ -349,15 +471,31 @@ module _ (o : Origin) (t : Truths) (u : ℕ) where
       by B B own = own
   befores-turned c told later r ss mine U V (inr t) h = befores-one c told later r ss mine t.0 U V t.1 t.2 t.3 h
 
+  -- as they are those of both cards, or not
+  told-befores : (whose : Whose) (told later : List Find) (r : Registration) (ss now : Card → List Stay) (U V : State) → later ≡ told → ((c : Card) → comings_on r (f c).image (now c) ≡ comings_on r (f c).image (ss c)) → TellMore [] U V →
+      AreToldBefore whose o.recording.unit told r (λ (c : Card). (found_of o.found c).image) ss U → AreToldBefore whose o.recording.unit later r (λ (c : Card). (found_of o.found c).image) now V
+  told-befores Both told later r ss now U V same as_ go h = befores-as told later r ss now U V same as_ go h
+  told-befores (Only k) told later r ss now U V same as_ go h = tt
+
+  told-turned : (whose : Whose) (c : Card) (told later : List Find) (r : Registration) (ss : Card → List Stay) (mine : List Stay) (U V : State) → ComesOne (f c) r told later (ss c) mine U V →
+      AreToldBefore whose o.recording.unit told r (λ (k : Card). (found_of o.found k).image) ss U → AreToldBefore whose o.recording.unit later r (λ (k : Card). (found_of o.found k).image) (with_mine c mine ss) V
+  told-turned Both c told later r ss mine U V comes h = befores-turned c told later r ss mine U V comes h
+  told-turned (Only k) c told later r ss mine U V comes h = tt
+
+  -- aside of one card nothing is said of them
+  told-nothing : (whose : Whose) (c : Card) (told : List Find) (r : Registration) (ss : Card → List Stay) (U : State) → covers whose c ≡ false → AreToldBefore whose o.recording.unit told r (λ (k : Card). (found_of o.found k).image) ss U
+  told-nothing Both c told r ss U out = absurd (let wrong : true ≡ false = out in cc)
+  told-nothing (Only k) c told r ss U out = tt
+
   -- the unit alone differs, and tells no vehicle more
   pub all-unit : (log : RunLog) (notes : List Note) (r : Registration) (cabin : Cabin) (U V X Y : State) → TellMore [] U V → AllStay o t u log notes r cabin (devices U X Y) → AllStay o t u log notes r cabin (devices V X Y)
-  all-unit log notes r cabin U V X Y go all none =
-      let h = all none in
+  all-unit log notes r cabin U V X Y go all whose known =
+      let h = all whose (known-still whose o log (devices U X Y) (devices V X Y) (stood-unit o U V X Y) known) in
       record {
         says = h.says;
         stays = h.stays;
         only = h.only;
-        each = λ c valid. by h c valid;
+        each = λ c in_ valid. by whose h c in_ valid;
         hold = h.hold;
         placed = h.placed;
         since = h.since;
@@ -366,41 +504,41 @@ module _ (o : Origin) (t : Truths) (u : ℕ) where
         entered = h.entered;
         verdicts = h.verdicts;
         waits = h.waits;
-        befores = befores-as (acceptances_told log) (acceptances_told log) r h.stays h.stays U V refl (λ c. refl) go h.befores;
+        befores = told-befores whose (acceptances_told log) (acceptances_told log) r h.stays h.stays U V refl (λ c. refl) go h.befores;
       }
     where
-      by : (h : Are log notes r cabin (devices U X Y)) (c : Card) → IsOwnValid (f c).image → HasOf r notes cabin c (h.stays c) (card_of (devices V X Y) c)
-      by h A valid = h.each A valid
-      by h B valid = h.each B valid
+      by : (whose : Whose) (h : Are whose log notes r cabin (devices U X Y)) (c : Card) → covers whose c ≡ true → IsOwnValid (f c).image → HasOf r notes cabin c (h.stays c) (card_of (devices V X Y) c)
+      by whose h A in_ valid = h.each A in_ valid
+      by whose h B in_ valid = h.each B in_ valid
 
   -- the vehicle is the same
   pub all-of : (log : RunLog) (notes : List Note) (r new : Registration) (cabin : Cabin) (d : Devices) → new ≡ r → AllStay o t u log notes r cabin d → AllStay o t u log notes new cabin d
   all-of log notes r new cabin d same all = subst (λ (v : Registration). AllStay o t u log notes v cabin d) (sym same) all
 
   -- THE LOG AND THE NOTES GO ON, as sessions and seats do; no card is called
-  pub all-moved : (log later : RunLog) (notes now : List Note) (r : Registration) (cabin after : Cabin) (d : Devices) → (NothingFailed later → Goes log later) →
-      (NothingFailed later → (c : Card) → Moves u (spells_of c notes) (spells_of c now) (sits_in cabin.slots.seats c) (sits_in after.slots.seats c) (session_of cabin.cards c) (session_of after.cards c)) →
-      (NothingFailed later → (c : Card) → IsPlaced notes cabin c → IsPlaced now after c) → AllStay o t u log notes r cabin d → AllStay o t u later now r after d
-  all-moved log later notes now r cabin after d on moves places all none =
-      let g = on none in
-      let h = all g.none in
+  pub all-moved : (log later : RunLog) (notes now : List Note) (r : Registration) (cabin after : Cabin) (d : Devices) → GoesOn o log later d d →
+      ((whose : Whose) → AreKnown whose o later d → (c : Card) → covers whose c ≡ true → Moves u (spells_of c notes) (spells_of c now) (sits_in cabin.slots.seats c) (sits_in after.slots.seats c) (session_of cabin.cards c) (session_of after.cards c)) →
+      ((whose : Whose) → AreKnown whose o later d → (c : Card) → covers whose c ≡ true → IsPlaced notes cabin c → IsPlaced now after c) → AllStay o t u log notes r cabin d → AllStay o t u later now r after d
+  all-moved log later notes now r cabin after d on moves places all whose known =
+      let g = on whose known in
+      let h = all whose g.known in
       record {
         says = h.says;
         stays = h.stays;
         only = h.only;
-        each = λ c valid.
-            let m = moves none c in
+        each = λ c in_ valid.
+            let m = moves whose known c in_ in
             stays-moved u (f c) r (spells_of c notes) (spells_of c now) (sits_in cabin.slots.seats c) (sits_in after.slots.seats c) (h.stays c) (session_of cabin.cards c) (session_of after.cards c) (card_of d c)
-            (λ was. goes (h.stays c) (session_of cabin.cards c) (session_of after.cards c) m.session was) (m.spell (spells (h.stays c))) (h.each c valid);
+            (λ was. goes (h.stays c) (session_of cabin.cards c) (session_of after.cards c) m.session was) (m.spell (spells (h.stays c))) (h.each c in_ valid);
         hold = h.hold;
-        placed = λ c valid. places none c (h.placed c valid);
+        placed = λ c in_ valid. places whose known c in_ (h.placed c in_ valid);
         since = h.since;
         lone = h.lone;
         entered = h.entered;
-        judged = merged-as (judged_told log) (judged_told later) (judged_in (h.stays A) (h.since A)) (judged_in (h.stays A) (h.since A)) (judged_in (h.stays B) (h.since B)) g.judged refl h.judged;
+        judged = told-as whose t (judged_told log) (judged_told later) (λ (c : Card). judged_in (h.stays c) (h.since c)) (λ (c : Card). judged_in (h.stays c) (h.since c)) g.judged (λ c in_. refl) h.judged;
         verdicts = h.verdicts;
-        waits = λ c valid some. h.waits c valid (had (session_of cabin.cards c) (session_of after.cards c) (moves none c).session some);
-        befores = befores-as (acceptances_told log) (acceptances_told later) r h.stays h.stays d.unit d.unit g.finds (λ c. refl) (unit-still d.unit) h.befores;
+        waits = λ c in_ valid some. h.waits c in_ valid (had (session_of cabin.cards c) (session_of after.cards c) (moves whose known c in_).session some);
+        befores = told-befores whose (acceptances_told log) (acceptances_told later) r h.stays h.stays d.unit d.unit g.finds (λ c. refl) (unit-still d.unit) h.befores;
       }
     where
       had : (s t : Option Accepted) → (t ≡ s) ⊎ (t ≡ None) → is_some t ≡ true → is_some s ≡ true
@@ -412,133 +550,226 @@ module _ (o : Origin) (t : Truths) (u : ℕ) where
       goes ss s t (inr none) was = subst (λ (q : Option Accepted). StaysIn r ss q) (sym none) tt
 
   -- the log alone goes on, or the notes, with the same spells
-  pub all-noted : (log later : RunLog) (notes now : List Note) (r : Registration) (cabin : Cabin) (d : Devices) → (NothingFailed later → Goes log later) → (NothingFailed later → (c : Card) → spells_of c now ≡ spells_of c notes) → AllStay o t u log notes r cabin d → AllStay o t u later now r cabin d
+  pub all-noted : (log later : RunLog) (notes now : List Note) (r : Registration) (cabin : Cabin) (d : Devices) → GoesOn o log later d d → ((whose : Whose) → AreKnown whose o later d → (c : Card) → covers whose c ≡ true → spells_of c now ≡ spells_of c notes) → AllStay o t u log notes r cabin d → AllStay o t u later now r cabin d
   all-noted log later notes now r cabin d on same all =
       all-moved log later notes now r cabin cabin d on
-      (λ none c. moves-same u (spells_of c notes) (spells_of c now) (sits_in cabin.slots.seats c) (sits_in cabin.slots.seats c) (session_of cabin.cards c) (session_of cabin.cards c) (same none c) refl refl)
-      (λ none c was. placed-same notes now cabin cabin c (ap last_slot (same none c)) (λ slot there. there) (λ some. some) was) all
+      (λ whose known c in_. moves-same u (spells_of c notes) (spells_of c now) (sits_in cabin.slots.seats c) (sits_in cabin.slots.seats c) (session_of cabin.cards c) (session_of cabin.cards c) (same whose known c in_) refl refl)
+      (λ whose known c in_ was. placed-same notes now cabin cabin c (ap last_slot (same whose known c in_)) (λ slot there. there) (λ some. some) was) all
 
   -- the cabin alone differs, with the same seats and sessions
   pub all-seated : (log : RunLog) (notes : List Note) (r : Registration) (cabin after : Cabin) (d : Devices) → after.slots.seats ≡ cabin.slots.seats → ((c : Card) → session_of after.cards c ≡ session_of cabin.cards c) →
       AllStay o t u log notes r cabin d → AllStay o t u log notes r after d
   all-seated log notes r cabin after d seats sessions all =
-      all-moved log log notes notes r cabin after d (log-self log)
-      (λ none c. moves-same u (spells_of c notes) (spells_of c notes) (sits_in cabin.slots.seats c) (sits_in after.slots.seats c) (session_of cabin.cards c) (session_of after.cards c) refl (ap (λ (q : Seats). sits_in q c) seats) (sessions c))
-      (λ none c was.
+      all-moved log log notes notes r cabin after d (log-self o log d)
+      (λ whose known c in_. moves-same u (spells_of c notes) (spells_of c notes) (sits_in cabin.slots.seats c) (sits_in after.slots.seats c) (session_of cabin.cards c) (session_of after.cards c) refl (ap (λ (q : Seats). sits_in q c) seats) (sessions c))
+      (λ whose known c in_ was.
       placed-same notes notes cabin after c refl (λ slot there. ap (λ (q : Seats). card_in (seat_in q slot)) (sym seats) ∙ there) (λ some. ap (λ (q : Option Accepted). is_some q) (sym (sessions c)) ∙ some) was) all
 
-  -- a call that is about one card, and the unit: nothing is noted of the other one, which has its session and its seat
-  pub all-one : (c : Card) (log later : RunLog) (notes now : List Note) (r : Registration) (cabin after : Cabin) (U V X Y Z : State) → (NothingFailed later → NothingFailed log) → session_of after.cards (other c) ≡ session_of cabin.cards (other c) →
+  -- A CALL THAT IS ABOUT ONE CARD, and the unit: nothing is noted of the other one, which has its session and its seat.
+  -- Where that card fell only the other's stays are known.
+  pub all-one : (c : Card) (log later : RunLog) (notes now : List Note) (r : Registration) (cabin after : Cabin) (U V X Y Z : State) → ((whose : Whose) → AreKnown whose o later (arranged c V Y Z) → AreKnown whose o log (arranged c U X Z)) → session_of after.cards (other c) ≡ session_of cabin.cards (other c) →
       sits_in after.slots.seats (other c) ≡ sits_in cabin.slots.seats (other c) →
-      ((slot : Slot) → card_in (seat_in after.slots.seats slot) ≡ Some (other c) → card_in (seat_in cabin.slots.seats slot) ≡ Some (other c)) → (NothingFailed later → spells_of (other c) now ≡ spells_of (other c) notes)
-      → (NothingFailed later → IsPlaced notes cabin c → IsPlaced now after c) → (NothingFailed later → (h : Are log notes r cabin (arranged c U X Z)) → TurnsOf c log later notes now r cabin after U V X Y (h.stays c) (h.since c))
+      ((slot : Slot) → card_in (seat_in after.slots.seats slot) ≡ Some (other c) → card_in (seat_in cabin.slots.seats slot) ≡ Some (other c)) → ((whose : Whose) → AreKnown whose o later (arranged c V Y Z) → covers whose (other c) ≡ true → spells_of (other c) now ≡ spells_of (other c) notes)
+      → ((whose : Whose) → AreKnown whose o later (arranged c V Y Z) → covers whose c ≡ true → IsPlaced notes cabin c → IsPlaced now after c)
+      → ((whose : Whose) → AreKnown whose o later (arranged c V Y Z) → covers whose c ≡ true → (h : Are whose log notes r cabin (arranged c U X Z)) → TurnsOf whose c log later notes now r cabin after U V X Y (h.stays c) (h.since c))
+      → ((whose : Whose) → AreKnown whose o later (arranged c V Y Z) → covers whose c ≡ false → TellsAside (t.entered c) (judged_told log) (judged_told later))
       → AllStay o t u log notes r cabin (arranged c U X Z) → AllStay o t u later now r after (arranged c V Y Z)
-  all-one A log later notes now r cabin after U V X Y Z fewer same seat beside spell place own all none = by (all (fewer none))
+  all-one A log later notes now r cabin after U V X Y Z fewer same seat beside spell place own aside all whose known = by (covers whose A) refl (all whose (fewer whose known))
     where
-      by : Are log notes r cabin (arranged A U X Z) → Are later now r after (arranged A V Y Z)
-      by h =
-          let x = own none h in
-          record {
-            says = h.says;
-            stays = with_mine A x.now h.stays;
-            only = λ c. only h x c;
-            each = λ c valid. each h x c valid;
-            hold = λ c. hold h x c;
-            placed = λ c valid. placed h c valid;
-            since = with_since A x.left h.since;
-            lone = λ c. lone h x c;
-            entered = λ c. entered h x c;
-            judged = one-judged (t.entered A) (judged_told log) (judged_told later) (judged_in (h.stays A) (h.since A)) (judged_in x.now x.left) (judged_in (h.stays B) (h.since B)) x.judged h.judged;
-            verdicts = λ c valid. verdicts h x c valid;
-            waits = λ c valid some. waits h x c valid some;
-            befores = befores-turned A (acceptances_told log) (acceptances_told later) r h.stays x.now U V (x.comes (h.each A)) h.befores;
-          }
+      kept : (h : Are whose log notes r cabin (arranged A U X Z)) → covers whose B ≡ true → IsOwnValid (f B).image → HasOf r now after B (h.stays B) Z
+      kept h in_ valid =
+          as-same u (f B) r (spells_of B notes) (spells_of B now) (sits_in cabin.slots.seats B) (sits_in after.slots.seats B) (h.stays B) (session_of cabin.cards B) (session_of after.cards B) Z (spell whose known in_) seat same (h.each B in_ valid)
+
+      kept-placed : (h : Are whose log notes r cabin (arranged A U X Z)) → covers whose B ≡ true → IsOwnValid (f B).image → IsPlaced now after B
+      kept-placed h in_ valid = placed-same notes now cabin after B (ap last_slot (spell whose known in_)) beside (λ some. ap (λ (q : Option Accepted). is_some q) (sym same) ∙ some) (h.placed B in_ valid)
+
+      kept-waits : (h : Are whose log notes r cabin (arranged A U X Z)) → covers whose B ≡ true → IsOwnValid (f B).image → is_some (session_of after.cards B) ≡ true → h.since B ≡ []
+      kept-waits h in_ valid some = h.waits B in_ valid (sym (ap (λ (q : Option Accepted). is_some q) same) ∙ some)
+
+      -- it is said of the card
+      covered : covers whose A ≡ true → (h : Are whose log notes r cabin (arranged A U X Z)) → TurnsOf whose A log later notes now r cabin after U V X Y (h.stays A) (h.since A) → Are whose later now r after (arranged A V Y Z)
+      covered mine h x = record {
+        says = h.says;
+        stays = with_mine A x.now h.stays;
+        only = λ c in_. only c in_;
+        each = λ c in_ valid. each c in_ valid;
+        hold = λ c in_. hold c in_;
+        placed = λ c in_ valid. placed c in_ valid;
+        since = with_since A x.left h.since;
+        lone = λ c in_. lone c in_;
+        entered = λ c in_. entered c in_;
+        judged = told-one whose t A (judged_told log) (judged_told later) (judged_in (h.stays A) (h.since A)) (judged_in x.now x.left) (λ (c : Card). judged_in (h.stays c) (h.since c)) (λ (c : Card). judged_in (with_mine A x.now h.stays c) (with_since A x.left h.since c)) mine refl refl refl x.judged h.judged;
+        verdicts = λ c in_ valid. verdicts c in_ valid;
+        waits = λ c in_ valid some. waits c in_ valid some;
+        befores = told-turned whose A (acceptances_told log) (acceptances_told later) r h.stays x.now U V (x.comes (h.each A mine)) h.befores;
+      }
         where
-          only : (h : Are log notes r cabin (arranged A U X Z)) (x : TurnsOf A log later notes now r cabin after U V X Y (h.stays A) (h.since A)) (c : Card) → (with_mine A x.now h.stays c ≡ []) ⊎ IsOwnValid (f c).image
-          only h x A = x.only (h.only A)
-          only h x B = h.only B
+          only : (c : Card) → covers whose c ≡ true → (with_mine A x.now h.stays c ≡ []) ⊎ IsOwnValid (f c).image
+          only A in_ = x.only (h.only A in_)
+          only B in_ = h.only B in_
 
-          each : (h : Are log notes r cabin (arranged A U X Z)) (x : TurnsOf A log later notes now r cabin after U V X Y (h.stays A) (h.since A)) (c : Card) → IsOwnValid (f c).image → HasOf r now after c (with_mine A x.now h.stays c) (card_of (arranged A V Y Z) c)
-          each h x A valid = x.shows valid (h.each A valid)
-          each h x B valid =
-              as-same u (f B) r (spells_of B notes) (spells_of B now) (sits_in cabin.slots.seats B) (sits_in after.slots.seats B) (h.stays B) (session_of cabin.cards B) (session_of after.cards B) Z (spell none) seat same (h.each B valid)
+          each : (c : Card) → covers whose c ≡ true → IsOwnValid (f c).image → HasOf r now after c (with_mine A x.now h.stays c) (card_of (arranged A V Y Z) c)
+          each A in_ valid = x.shows valid (h.each A in_ valid)
+          each B in_ valid = kept h in_ valid
 
-          hold : (h : Are log notes r cabin (arranged A U X Z)) (x : TurnsOf A log later notes now r cabin after U V X Y (h.stays A) (h.since A)) (c : Card) → AreTrue t c r (f c).image (with_mine A x.now h.stays c)
-          hold h x A = x.hold (h.only A) (h.each A) (h.hold A)
-          hold h x B = h.hold B
+          hold : (c : Card) → covers whose c ≡ true → AreTrue whose t c r (f c).image (with_mine A x.now h.stays c)
+          hold A in_ = x.hold (h.only A in_) (h.each A in_) (h.hold A in_)
+          hold B in_ = h.hold B in_
 
-          verdicts : (h : Are log notes r cabin (arranged A U X Z)) (x : TurnsOf A log later notes now r cabin after U V X Y (h.stays A) (h.since A)) (c : Card) → IsOwnValid (f c).image → AreJudged r (own_sizes (f c).image).activity (with_mine A x.now h.stays c) (with_since A x.left h.since c) (start_shown (f c).image)
-          verdicts h x A valid = x.verdicts valid (h.each A valid) (h.waits A valid) (h.verdicts A valid)
-          verdicts h x B valid = h.verdicts B valid
+          verdicts : (c : Card) → covers whose c ≡ true → IsOwnValid (f c).image → AreJudged r (own_sizes (f c).image).activity (with_mine A x.now h.stays c) (with_since A x.left h.since c) (start_shown (f c).image)
+          verdicts A in_ valid = x.verdicts valid (h.each A in_ valid) (h.waits A in_ valid) (h.verdicts A in_ valid)
+          verdicts B in_ valid = h.verdicts B in_ valid
 
-          waits : (h : Are log notes r cabin (arranged A U X Z)) (x : TurnsOf A log later notes now r cabin after U V X Y (h.stays A) (h.since A)) (c : Card) → IsOwnValid (f c).image → is_some (session_of after.cards c) ≡ true → with_since A x.left h.since c ≡ []
-          waits h x A valid some = x.waits valid (h.waits A valid) some
-          waits h x B valid some = h.waits B valid (sym (ap (λ (q : Option Accepted). is_some q) same) ∙ some)
+          waits : (c : Card) → covers whose c ≡ true → IsOwnValid (f c).image → is_some (session_of after.cards c) ≡ true → with_since A x.left h.since c ≡ []
+          waits A in_ valid some = x.waits valid (h.waits A in_ valid) some
+          waits B in_ valid some = kept-waits h in_ valid some
 
-          entered : (h : Are log notes r cabin (arranged A U X Z)) (x : TurnsOf A log later notes now r cabin after U V X Y (h.stays A) (h.since A)) (c : Card) → AllByRecursion (t.entered c) (judged_in (with_mine A x.now h.stays c) (with_since A x.left h.since c))
-          entered h x A = judged-own (t.entered A) (judged_told log) (judged_told later) (judged_in (h.stays A) (h.since A)) (judged_in x.now x.left) x.judged (h.entered A)
-          entered h x B = h.entered B
+          entered : (c : Card) → covers whose c ≡ true → AllByRecursion (t.entered c) (judged_in (with_mine A x.now h.stays c) (with_since A x.left h.since c))
+          entered A in_ = judged-own (t.entered A) (judged_told log) (judged_told later) (judged_in (h.stays A) (h.since A)) (judged_in x.now x.left) x.judged (h.entered A in_)
+          entered B in_ = h.entered B in_
 
-          lone : (h : Are log notes r cabin (arranged A U X Z)) (x : TurnsOf A log later notes now r cabin after U V X Y (h.stays A) (h.since A)) (c : Card) → (with_since A x.left h.since c ≡ []) ⊎ IsOwnValid (f c).image
-          lone h x A = x.lone (h.lone A)
-          lone h x B = h.lone B
+          lone : (c : Card) → covers whose c ≡ true → (with_since A x.left h.since c ≡ []) ⊎ IsOwnValid (f c).image
+          lone A in_ = x.lone (h.lone A in_)
+          lone B in_ = h.lone B in_
 
-          placed : (h : Are log notes r cabin (arranged A U X Z)) (c : Card) → IsOwnValid (f c).image → IsPlaced now after c
-          placed h A valid = place none (h.placed A valid)
-          placed h B valid = placed-same notes now cabin after B (ap last_slot (spell none)) beside (λ some. ap (λ (q : Option Accepted). is_some q) (sym same) ∙ some) (h.placed B valid)
-  all-one B log later notes now r cabin after U V X Y Z fewer same seat beside spell place own all none = by (all (fewer none))
+          placed : (c : Card) → covers whose c ≡ true → IsOwnValid (f c).image → IsPlaced now after c
+          placed A in_ valid = place whose known in_ (h.placed A in_ valid)
+          placed B in_ valid = kept-placed h in_ valid
+
+      -- or of the other alone
+      out-of : {T : Type 0} → covers whose A ≡ false → covers whose A ≡ true → T
+      out-of out in_ = absurd (let wrong : false ≡ true = sym out ∙ in_ in cc)
+
+      beside-it : covers whose A ≡ false → (h : Are whose log notes r cabin (arranged A U X Z)) → Are whose later now r after (arranged A V Y Z)
+      beside-it out h = record {
+        says = h.says;
+        stays = h.stays;
+        only = h.only;
+        each = λ c in_ valid. each c in_ valid;
+        hold = h.hold;
+        placed = λ c in_ valid. placed c in_ valid;
+        since = h.since;
+        lone = h.lone;
+        entered = h.entered;
+        judged = told-aside whose t A (judged_told log) (judged_told later) (λ (c : Card). judged_in (h.stays c) (h.since c)) out (aside whose known out) h.judged;
+        verdicts = h.verdicts;
+        waits = λ c in_ valid some. waits c in_ valid some;
+        befores = told-nothing whose A (acceptances_told later) r h.stays V out;
+      }
+        where
+          each : (c : Card) → covers whose c ≡ true → IsOwnValid (f c).image → HasOf r now after c (h.stays c) (card_of (arranged A V Y Z) c)
+          each A in_ valid = out-of out in_
+          each B in_ valid = kept h in_ valid
+
+          placed : (c : Card) → covers whose c ≡ true → IsOwnValid (f c).image → IsPlaced now after c
+          placed A in_ valid = out-of out in_
+          placed B in_ valid = kept-placed h in_ valid
+
+          waits : (c : Card) → covers whose c ≡ true → IsOwnValid (f c).image → is_some (session_of after.cards c) ≡ true → h.since c ≡ []
+          waits A in_ valid some = out-of out in_
+          waits B in_ valid some = kept-waits h in_ valid some
+
+      by : (b : Bool) → covers whose A ≡ b → Are whose log notes r cabin (arranged A U X Z) → Are whose later now r after (arranged A V Y Z)
+      by true mine h = covered mine h (own whose known mine h)
+      by false out h = beside-it out h
+  all-one B log later notes now r cabin after U V X Y Z fewer same seat beside spell place own aside all whose known = by (covers whose B) refl (all whose (fewer whose known))
     where
-      by : Are log notes r cabin (arranged B U X Z) → Are later now r after (arranged B V Y Z)
-      by h =
-          let x = own none h in
-          record {
-            says = h.says;
-            stays = with_mine B x.now h.stays;
-            only = λ c. only h x c;
-            each = λ c valid. each h x c valid;
-            hold = λ c. hold h x c;
-            placed = λ c valid. placed h c valid;
-            since = with_since B x.left h.since;
-            lone = λ c. lone h x c;
-            entered = λ c. entered h x c;
-            judged = other-judged (t.entered B) (judged_told log) (judged_told later) (judged_in (h.stays B) (h.since B)) (judged_in x.now x.left) (judged_in (h.stays A) (h.since A)) x.judged h.judged;
-            verdicts = λ c valid. verdicts h x c valid;
-            waits = λ c valid some. waits h x c valid some;
-            befores = befores-turned B (acceptances_told log) (acceptances_told later) r h.stays x.now U V (x.comes (h.each B)) h.befores;
-          }
+      kept : (h : Are whose log notes r cabin (arranged B U X Z)) → covers whose A ≡ true → IsOwnValid (f A).image → HasOf r now after A (h.stays A) Z
+      kept h in_ valid =
+          as-same u (f A) r (spells_of A notes) (spells_of A now) (sits_in cabin.slots.seats A) (sits_in after.slots.seats A) (h.stays A) (session_of cabin.cards A) (session_of after.cards A) Z (spell whose known in_) seat same (h.each A in_ valid)
+
+      kept-placed : (h : Are whose log notes r cabin (arranged B U X Z)) → covers whose A ≡ true → IsOwnValid (f A).image → IsPlaced now after A
+      kept-placed h in_ valid = placed-same notes now cabin after A (ap last_slot (spell whose known in_)) beside (λ some. ap (λ (q : Option Accepted). is_some q) (sym same) ∙ some) (h.placed A in_ valid)
+
+      kept-waits : (h : Are whose log notes r cabin (arranged B U X Z)) → covers whose A ≡ true → IsOwnValid (f A).image → is_some (session_of after.cards A) ≡ true → h.since A ≡ []
+      kept-waits h in_ valid some = h.waits A in_ valid (sym (ap (λ (q : Option Accepted). is_some q) same) ∙ some)
+
+      -- it is said of the card
+      covered : covers whose B ≡ true → (h : Are whose log notes r cabin (arranged B U X Z)) → TurnsOf whose B log later notes now r cabin after U V X Y (h.stays B) (h.since B) → Are whose later now r after (arranged B V Y Z)
+      covered mine h x = record {
+        says = h.says;
+        stays = with_mine B x.now h.stays;
+        only = λ c in_. only c in_;
+        each = λ c in_ valid. each c in_ valid;
+        hold = λ c in_. hold c in_;
+        placed = λ c in_ valid. placed c in_ valid;
+        since = with_since B x.left h.since;
+        lone = λ c in_. lone c in_;
+        entered = λ c in_. entered c in_;
+        judged = told-one whose t B (judged_told log) (judged_told later) (judged_in (h.stays B) (h.since B)) (judged_in x.now x.left) (λ (c : Card). judged_in (h.stays c) (h.since c)) (λ (c : Card). judged_in (with_mine B x.now h.stays c) (with_since B x.left h.since c)) mine refl refl refl x.judged h.judged;
+        verdicts = λ c in_ valid. verdicts c in_ valid;
+        waits = λ c in_ valid some. waits c in_ valid some;
+        befores = told-turned whose B (acceptances_told log) (acceptances_told later) r h.stays x.now U V (x.comes (h.each B mine)) h.befores;
+      }
         where
-          only : (h : Are log notes r cabin (arranged B U X Z)) (x : TurnsOf B log later notes now r cabin after U V X Y (h.stays B) (h.since B)) (c : Card) → (with_mine B x.now h.stays c ≡ []) ⊎ IsOwnValid (f c).image
-          only h x A = h.only A
-          only h x B = x.only (h.only B)
+          only : (c : Card) → covers whose c ≡ true → (with_mine B x.now h.stays c ≡ []) ⊎ IsOwnValid (f c).image
+          only B in_ = x.only (h.only B in_)
+          only A in_ = h.only A in_
 
-          each : (h : Are log notes r cabin (arranged B U X Z)) (x : TurnsOf B log later notes now r cabin after U V X Y (h.stays B) (h.since B)) (c : Card) → IsOwnValid (f c).image → HasOf r now after c (with_mine B x.now h.stays c) (card_of (arranged B V Y Z) c)
-          each h x A valid =
-              as-same u (f A) r (spells_of A notes) (spells_of A now) (sits_in cabin.slots.seats A) (sits_in after.slots.seats A) (h.stays A) (session_of cabin.cards A) (session_of after.cards A) Z (spell none) seat same (h.each A valid)
-          each h x B valid = x.shows valid (h.each B valid)
+          each : (c : Card) → covers whose c ≡ true → IsOwnValid (f c).image → HasOf r now after c (with_mine B x.now h.stays c) (card_of (arranged B V Y Z) c)
+          each B in_ valid = x.shows valid (h.each B in_ valid)
+          each A in_ valid = kept h in_ valid
 
-          hold : (h : Are log notes r cabin (arranged B U X Z)) (x : TurnsOf B log later notes now r cabin after U V X Y (h.stays B) (h.since B)) (c : Card) → AreTrue t c r (f c).image (with_mine B x.now h.stays c)
-          hold h x A = h.hold A
-          hold h x B = x.hold (h.only B) (h.each B) (h.hold B)
+          hold : (c : Card) → covers whose c ≡ true → AreTrue whose t c r (f c).image (with_mine B x.now h.stays c)
+          hold B in_ = x.hold (h.only B in_) (h.each B in_) (h.hold B in_)
+          hold A in_ = h.hold A in_
 
-          verdicts : (h : Are log notes r cabin (arranged B U X Z)) (x : TurnsOf B log later notes now r cabin after U V X Y (h.stays B) (h.since B)) (c : Card) → IsOwnValid (f c).image → AreJudged r (own_sizes (f c).image).activity (with_mine B x.now h.stays c) (with_since B x.left h.since c) (start_shown (f c).image)
-          verdicts h x A valid = h.verdicts A valid
-          verdicts h x B valid = x.verdicts valid (h.each B valid) (h.waits B valid) (h.verdicts B valid)
+          verdicts : (c : Card) → covers whose c ≡ true → IsOwnValid (f c).image → AreJudged r (own_sizes (f c).image).activity (with_mine B x.now h.stays c) (with_since B x.left h.since c) (start_shown (f c).image)
+          verdicts B in_ valid = x.verdicts valid (h.each B in_ valid) (h.waits B in_ valid) (h.verdicts B in_ valid)
+          verdicts A in_ valid = h.verdicts A in_ valid
 
-          waits : (h : Are log notes r cabin (arranged B U X Z)) (x : TurnsOf B log later notes now r cabin after U V X Y (h.stays B) (h.since B)) (c : Card) → IsOwnValid (f c).image → is_some (session_of after.cards c) ≡ true → with_since B x.left h.since c ≡ []
-          waits h x A valid some = h.waits A valid (sym (ap (λ (q : Option Accepted). is_some q) same) ∙ some)
-          waits h x B valid some = x.waits valid (h.waits B valid) some
+          waits : (c : Card) → covers whose c ≡ true → IsOwnValid (f c).image → is_some (session_of after.cards c) ≡ true → with_since B x.left h.since c ≡ []
+          waits B in_ valid some = x.waits valid (h.waits B in_ valid) some
+          waits A in_ valid some = kept-waits h in_ valid some
 
-          entered : (h : Are log notes r cabin (arranged B U X Z)) (x : TurnsOf B log later notes now r cabin after U V X Y (h.stays B) (h.since B)) (c : Card) → AllByRecursion (t.entered c) (judged_in (with_mine B x.now h.stays c) (with_since B x.left h.since c))
-          entered h x A = h.entered A
-          entered h x B = judged-own (t.entered B) (judged_told log) (judged_told later) (judged_in (h.stays B) (h.since B)) (judged_in x.now x.left) x.judged (h.entered B)
+          entered : (c : Card) → covers whose c ≡ true → AllByRecursion (t.entered c) (judged_in (with_mine B x.now h.stays c) (with_since B x.left h.since c))
+          entered B in_ = judged-own (t.entered B) (judged_told log) (judged_told later) (judged_in (h.stays B) (h.since B)) (judged_in x.now x.left) x.judged (h.entered B in_)
+          entered A in_ = h.entered A in_
 
-          lone : (h : Are log notes r cabin (arranged B U X Z)) (x : TurnsOf B log later notes now r cabin after U V X Y (h.stays B) (h.since B)) (c : Card) → (with_since B x.left h.since c ≡ []) ⊎ IsOwnValid (f c).image
-          lone h x A = h.lone A
-          lone h x B = x.lone (h.lone B)
+          lone : (c : Card) → covers whose c ≡ true → (with_since B x.left h.since c ≡ []) ⊎ IsOwnValid (f c).image
+          lone B in_ = x.lone (h.lone B in_)
+          lone A in_ = h.lone A in_
 
-          placed : (h : Are log notes r cabin (arranged B U X Z)) (c : Card) → IsOwnValid (f c).image → IsPlaced now after c
-          placed h A valid = placed-same notes now cabin after A (ap last_slot (spell none)) beside (λ some. ap (λ (q : Option Accepted). is_some q) (sym same) ∙ some) (h.placed A valid)
-          placed h B valid = place none (h.placed B valid)
+          placed : (c : Card) → covers whose c ≡ true → IsOwnValid (f c).image → IsPlaced now after c
+          placed B in_ valid = place whose known in_ (h.placed B in_ valid)
+          placed A in_ valid = kept-placed h in_ valid
+
+      -- or of the other alone
+      out-of : {T : Type 0} → covers whose B ≡ false → covers whose B ≡ true → T
+      out-of out in_ = absurd (let wrong : false ≡ true = sym out ∙ in_ in cc)
+
+      beside-it : covers whose B ≡ false → (h : Are whose log notes r cabin (arranged B U X Z)) → Are whose later now r after (arranged B V Y Z)
+      beside-it out h = record {
+        says = h.says;
+        stays = h.stays;
+        only = h.only;
+        each = λ c in_ valid. each c in_ valid;
+        hold = h.hold;
+        placed = λ c in_ valid. placed c in_ valid;
+        since = h.since;
+        lone = h.lone;
+        entered = h.entered;
+        judged = told-aside whose t B (judged_told log) (judged_told later) (λ (c : Card). judged_in (h.stays c) (h.since c)) out (aside whose known out) h.judged;
+        verdicts = h.verdicts;
+        waits = λ c in_ valid some. waits c in_ valid some;
+        befores = told-nothing whose B (acceptances_told later) r h.stays V out;
+      }
+        where
+          each : (c : Card) → covers whose c ≡ true → IsOwnValid (f c).image → HasOf r now after c (h.stays c) (card_of (arranged B V Y Z) c)
+          each B in_ valid = out-of out in_
+          each A in_ valid = kept h in_ valid
+
+          placed : (c : Card) → covers whose c ≡ true → IsOwnValid (f c).image → IsPlaced now after c
+          placed B in_ valid = out-of out in_
+          placed A in_ valid = kept-placed h in_ valid
+
+          waits : (c : Card) → covers whose c ≡ true → IsOwnValid (f c).image → is_some (session_of after.cards c) ≡ true → h.since c ≡ []
+          waits B in_ valid some = out-of out in_
+          waits A in_ valid some = kept-waits h in_ valid some
+
+      by : (b : Bool) → covers whose B ≡ b → Are whose log notes r cabin (arranged B U X Z) → Are whose later now r after (arranged B V Y Z)
+      by true mine h = covered mine h (own whose known mine h)
+      by false out h = beside-it out h
 
   -- minutes are kept
   one-kept : (r : Registration) (c : Card) (noted : List Spell) (sits : Bool) (ss : List Stay) (ks : List Kept) (s q : Option Accepted) (X Y : State) → (is_some s ≡ true → is_some q ≡ true) → KeepsOn (f c) ks s q X Y → HasStays u (f c) r noted sits ss s X → HasStays u (f c) r noted sits (kept_stays s ks ss) q Y
@@ -553,35 +784,33 @@ module _ (o : Origin) (t : Truths) (u : ℕ) where
   had-session c ks None (Some b) X Y on some = absurd on
   had-session c ks (Some a) q X Y on some = refl
 
-  -- nothing is noted, and each card has its seat
-  pub all-kept : (log later : RunLog) (notes now : List Note) (r : Registration) (ks : Card → List Kept) (cabin after : Cabin) (d e : Devices) → TellMore [] d.unit e.unit → (NothingFailed later → Goes log later) → (NothingFailed later → (c : Card) → spells_of c now ≡ spells_of c notes) →
-      (NothingFailed later → after.slots ≡ cabin.slots) → (NothingFailed later → (c : Card) → is_some (session_of cabin.cards c) ≡ true → is_some (session_of after.cards c) ≡ true)
-      → AllKeep o.found ks cabin.cards after.cards d e → (NothingFailed later → (c : Card) → AllByRecursion t.kept (ks c)) → AllStay o t u log notes r cabin d → AllStay o t u later now r after e
-  all-kept log later notes now r ks cabin after d e go on spell seats some keep kepts all none =
-      let g = on none in
-      let h = all g.none in
+  -- nothing is noted, and a card that does not fall has its seat and its session
+  pub all-kept : (log later : RunLog) (notes now : List Note) (r : Registration) (ks : Card → List Kept) (cabin after : Cabin) (d e : Devices) → TellMore [] d.unit e.unit → GoesOn o log later d e → ((whose : Whose) → AreKnown whose o later e → (c : Card) → covers whose c ≡ true → spells_of c now ≡ spells_of c notes) →
+      ((whose : Whose) → AreKnown whose o later e → (c : Card) → covers whose c ≡ true → KeepsSeat cabin after c) → ((whose : Whose) → AreKnown whose o later e → (c : Card) → covers whose c ≡ true → is_some (session_of cabin.cards c) ≡ true → is_some (session_of after.cards c) ≡ true)
+      → AllKeep o.found ks cabin.cards after.cards d e → ((whose : Whose) → AreKnown whose o later e → (c : Card) → AllByRecursion t.kept (ks c)) → AllStay o t u log notes r cabin d → AllStay o t u later now r after e
+  all-kept log later notes now r ks cabin after d e go on spell seats some keep kepts all whose known =
+      let g = on whose known in
+      let h = all whose g.known in
       record {
         says = h.says;
         stays = λ c. kept_stays (session_of cabin.cards c) (ks c) (h.stays c);
-        only = λ c. ⊎_elim (λ was. inl (kept-none (session_of cabin.cards c) (ks c) (h.stays c) was)) (λ valid. inr valid) (h.only c);
-        each = λ c valid.
+        only = λ c in_. ⊎_elim (λ was. inl (kept-none (session_of cabin.cards c) (ks c) (h.stays c) was)) (λ valid. inr valid) (h.only c in_);
+        each = λ c in_ valid.
             as-same u (f c) r (spells_of c notes) (spells_of c now) (sits_in cabin.slots.seats c) (sits_in after.slots.seats c) (kept_stays (session_of cabin.cards c) (ks c) (h.stays c)) (session_of after.cards c) (session_of after.cards c) (card_of e c)
-            (spell none c) (ap (λ (k : SlotsKept). sits_in k.seats c) (seats none)) refl
-            (one-kept r c (spells_of c notes) (sits_in cabin.slots.seats c) (h.stays c) (ks c) (session_of cabin.cards c) (session_of after.cards c) (card_of d c) (card_of e c) (some none c) (keep c valid) (h.each c valid));
+            (spell whose known c in_) (seats whose known c in_).sits refl
+            (one-kept r c (spells_of c notes) (sits_in cabin.slots.seats c) (h.stays c) (ks c) (session_of cabin.cards c) (session_of after.cards c) (card_of d c) (card_of e c) (some whose known c in_) (keep c valid) (h.each c in_ valid));
         since = h.since;
         lone = h.lone;
-        entered = λ c. subst (AllByRecursion (t.entered c)) (sym (kept-judged (session_of cabin.cards c) (ks c) (h.stays c) (h.since c))) (h.entered c);
-        judged = merged-as (judged_told log) (judged_told later) (judged_in (h.stays A) (h.since A)) (judged_in (kept_stays (session_of cabin.cards A) (ks A) (h.stays A)) (h.since A)) (judged_in (kept_stays (session_of cabin.cards B) (ks B) (h.stays B)) (h.since B)) g.judged
-            (kept-judged (session_of cabin.cards A) (ks A) (h.stays A) (h.since A))
-            (merged-as-other (judged_told log) (judged_told log) (judged_in (h.stays A) (h.since A)) (judged_in (h.stays B) (h.since B)) (judged_in (kept_stays (session_of cabin.cards B) (ks B) (h.stays B)) (h.since B)) refl
-            (kept-judged (session_of cabin.cards B) (ks B) (h.stays B) (h.since B)) h.judged);
-        verdicts = λ c valid. kept-verdicts r (f c).image (session_of cabin.cards c) (ks c) (h.stays c) (h.since c) (h.waits c valid) (h.verdicts c valid);
-        waits = λ c valid some. h.waits c valid (had-session c (ks c) (session_of cabin.cards c) (session_of after.cards c) (card_of d c) (card_of e c) (keep c valid) some);
-        hold = λ c. kept-hold t c r (f c).image (session_of cabin.cards c) (ks c) (h.stays c) (kepts none c) (h.hold c);
-        placed = λ c valid.
-            placed-same notes now cabin after c (ap last_slot (spell none c)) (λ slot there. ap (λ (k : SlotsKept). card_in (seat_in k.seats slot)) (sym (seats none)) ∙ there)
-            (had-session c (ks c) (session_of cabin.cards c) (session_of after.cards c) (card_of d c) (card_of e c) (keep c valid)) (h.placed c valid);
-        befores = befores-as (acceptances_told log) (acceptances_told later) r h.stays (λ (c : Card). kept_stays (session_of cabin.cards c) (ks c) (h.stays c)) d.unit e.unit g.finds
+        entered = λ c in_. subst (AllByRecursion (t.entered c)) (sym (kept-judged (session_of cabin.cards c) (ks c) (h.stays c) (h.since c))) (h.entered c in_);
+        judged = told-as whose t (judged_told log) (judged_told later) (λ (c : Card). judged_in (h.stays c) (h.since c)) (λ (c : Card). judged_in (kept_stays (session_of cabin.cards c) (ks c) (h.stays c)) (h.since c)) g.judged
+            (λ c in_. kept-judged (session_of cabin.cards c) (ks c) (h.stays c) (h.since c)) h.judged;
+        verdicts = λ c in_ valid. kept-verdicts r (f c).image (session_of cabin.cards c) (ks c) (h.stays c) (h.since c) (h.waits c in_ valid) (h.verdicts c in_ valid);
+        waits = λ c in_ valid some. h.waits c in_ valid (had-session c (ks c) (session_of cabin.cards c) (session_of after.cards c) (card_of d c) (card_of e c) (keep c valid) some);
+        hold = λ c in_. kept-hold whose t c r (f c).image (session_of cabin.cards c) (ks c) (h.stays c) (kepts whose known c) (h.hold c in_);
+        placed = λ c in_ valid.
+            placed-same notes now cabin after c (ap last_slot (spell whose known c in_)) (seats whose known c in_).there
+            (had-session c (ks c) (session_of cabin.cards c) (session_of after.cards c) (card_of d c) (card_of e c) (keep c valid)) (h.placed c in_ valid);
+        befores = told-befores whose (acceptances_told log) (acceptances_told later) r h.stays (λ (c : Card). kept_stays (session_of cabin.cards c) (ks c) (h.stays c)) d.unit e.unit g.finds
             (λ c. kept-comings r (f c).image (session_of cabin.cards c) (ks c) (h.stays c)) go h.befores;
       }
 
@@ -591,25 +820,35 @@ lines-grow : (own now : Find → Type 0) → ((g : Find) → own g → now g) �
 lines-grow own now goes [] all = tt
 lines-grow own now goes (f ∷ fs) all = (goes f all.0, lines-grow own now goes fs all.1)
 
--- WHAT IS TRUE STAYS TRUE, where no call has failed
-pub all-true : (o : Origin) (t now : Truths) (u : ℕ) (log : RunLog) (notes : List Note) (r : Registration) (cabin : Cabin) (d : Devices) → (NothingFailed log → Grow t now) → AllStay o t u log notes r cabin d → AllStay o now u log notes r cabin d
-all-true o t now u log notes r cabin d grows all none =
-    let h = all none in
+-- so those of the other's do
+told-grow : (whose : Whose) (t now : Truths) (lines : List Find) (own : Card → List Find) → ((c : Card) (g : Find) → t.entered c g → now.entered c g) → AreTold whose t lines own → AreTold whose now lines own
+told-grow Both t now lines own goes h = h
+told-grow (Only c) t now lines own goes h = (h.0, h.1, lines-grow (t.entered (other c)) (now.entered (other c)) (goes (other c)) h.0 h.2)
+
+owed-grow : (whose : Whose) (t now : Truths) (c : Card) → Grow t now → (g : Find) (mark : ℕ) (es : List Entry) → owed_by whose t c g mark es → owed_by whose now c g mark es
+owed-grow Both t now c more g mark es h = more.owed c g mark es h
+owed-grow (Only k) t now c more g mark es h = more.got c es h
+
+-- WHAT IS TRUE STAYS TRUE, where stays are known
+pub all-true : (o : Origin) (t now : Truths) (u : ℕ) (log : RunLog) (notes : List Note) (r : Registration) (cabin : Cabin) (d : Devices) → ((whose : Whose) → AreKnown whose o log d → Grow t now) → AllStay o t u log notes r cabin d → AllStay o now u log notes r cabin d
+all-true o t now u log notes r cabin d grows all whose known =
+    let h = all whose known in
+    let more = grows whose known in
     record {
       says = h.says;
       stays = h.stays;
       only = h.only;
       each = h.each;
-      hold = λ c. (
-        all-true-grow t now (grows none) (h.stays c) (h.hold c).0,
-        owes-grow (t.owed c) (now.owed c) (λ g mark es was. (grows none).owed c g mark es was) r (own_sizes (found_of o.found c).image).activity (h.stays c) (start_shown (found_of o.found c).image) (h.hold c).1,
+      hold = λ c in_. (
+        all-true-grow t now more (h.stays c) (h.hold c in_).0,
+        owes-grow (owed_by whose t c) (owed_by whose now c) (owed-grow whose t now c more) r (own_sizes (found_of o.found c).image).activity (h.stays c) (start_shown (found_of o.found c).image) (h.hold c in_).1,
       );
       placed = h.placed;
       befores = h.befores;
       since = h.since;
       lone = h.lone;
-      judged = h.judged;
-      entered = λ c. lines-grow (t.entered c) (now.entered c) (λ g was. (grows none).entered c g was) (judged_in (h.stays c) (h.since c)) (h.entered c);
+      judged = told-grow whose t now (judged_told log) (λ (c : Card). judged_in (h.stays c) (h.since c)) (λ c g was. more.entered c g was) h.judged;
+      entered = λ c in_. lines-grow (t.entered c) (now.entered c) (λ g was. more.entered c g was) (judged_in (h.stays c) (h.since c)) (h.entered c in_);
       verdicts = h.verdicts;
       waits = h.waits;
     }
@@ -617,14 +856,14 @@ all-true o t now u log notes r cabin d grows all none =
 -- ANOTHER SECOND goes on, where each card with a session sits in a slot
 pub all-second : (o : Origin) (t : Truths) (u now : ℕ) (log : RunLog) (notes : List Note) (r : Registration) (cabin : Cabin) (d : Devices) → ((c : Card) → is_some (session_of cabin.cards c) ≡ true → sits_in cabin.slots.seats c ≡ true) →
     AllStay o t u log notes r cabin d → AllStay o t now log notes r cabin d
-all-second o t u now log notes r cabin d sits all none =
-    let h = all none in
+all-second o t u now log notes r cabin d sits all whose known =
+    let h = all whose known in
     record {
       says = h.says;
       stays = h.stays;
       only = h.only;
-      each = λ c valid.
-          let e = h.each c valid in
+      each = λ c in_ valid.
+          let e = h.each c in_ valid in
           record { shows = e.shows; goes = e.goes; spell = sitting (session_of cabin.cards c) (sits_in cabin.slots.seats c) (sits c) (spells (h.stays c)) ∙ e.spell };
       hold = h.hold;
       placed = h.placed;
@@ -655,34 +894,32 @@ fate-stays (Has a n) (Some B) second cabin A up some = some
 fate-stays (Has a n) (Some B) second cabin B up some = refl
 fate-stays Fell (Some k) second cabin c up some = absurd (cc)
 
-fate-slots : (fate : Fate) (present : Option Card) (second : ℕ) (cabin : Cabin) → has_fallen fate ≡ false → (cabin_by fate present second cabin).slots ≡ cabin.slots
-fate-slots Still None second cabin up = refl
-fate-slots (Has a n) None second cabin up = refl
-fate-slots Fell None second cabin up = refl
-fate-slots Still (Some k) second cabin up = refl
-fate-slots (Has a n) (Some k) second cabin up = refl
-fate-slots Fell (Some k) second cabin up = absurd (cc)
-
 fate-lines : (fate : Fate) (slot : Slot) (at : Moment) → has_fallen fate ≡ false → breaks_by fate slot at ≡ []
 fate-lines Still slot at up = refl
 fate-lines (Has a n) slot at up = refl
 fate-lines Fell slot at up = absurd (cc)
 
-no-fall : (fate : Fate) (slot : Slot) (at : Moment) → filter failed_tear (breaks_by fate slot at) ≡ [] → has_fallen fate ≡ false
-no-fall Still slot at none = refl
-no-fall (Has a n) slot at none = refl
-no-fall Fell slot at none = absurd (cc)
+fate-tears : (fate : Fate) (slot : Slot) (at : Moment) → AreTears at (breaks_by fate slot at)
+fate-tears Still slot at = tt
+fate-tears (Has a n) slot at = tt
+fate-tears Fell slot at = ((slot, refl), tt)
+
+stands-up : (fate : Fate) (slot : Slot) (at : Moment) → filter failed_tear (breaks_by fate slot at) ≡ [] → has_fallen fate ≡ false
+stands-up Still slot at none = refl
+stands-up (Has a n) slot at none = refl
+stands-up Fell slot at none = absurd (cc)
 
 module _ (k : Keeper) (at : Moment) where
-  -- behind some rounds there are lines more
-  pub lines-by : (xs : List Done) (t : KeepingState) → (more : List Break) × ((told_by k at xs t).breaks.items ≡ t.breaks.items ++ more)
-  lines-by [] t = ([], sym (append-nil t.breaks.items))
+  -- behind some rounds there are lines more, each of a card that was torn out
+  pub lines-by : (xs : List Done) (t : KeepingState) → (more : List Break) × ((told_by k at xs t).breaks.items ≡ t.breaks.items ++ more) × AreTears at more
+  lines-by [] t = ([], sym (append-nil t.breaks.items), tt)
   lines-by (x ∷ xs) t =
       let rest = lines-by xs (told_after (present_at k.cabin x.minute.minute) x.minute.minute at x.round t) in
       let first : List Break = breaks_by x.round.driver Driver at in
       let second : List Break = breaks_by x.round.codriver CoDriver at in (
         first ++ (second ++ rest.0),
         rest.1 ∙ append_assoc (t.breaks.items ++ first) second rest.0 ∙ append_assoc t.breaks.items first (second ++ rest.0),
+        tears-both at first (second ++ rest.0) (fate-tears x.round.driver Driver at) (tears-both at second rest.0 (fate-tears x.round.codriver CoDriver at) rest.2),
       )
 
   pub sessions-stay : (xs : List Done) (t : KeepingState) (c : Card) → filter failed_tear (told_by k at xs t).breaks.items ≡ [] → is_some (session_of t.keeper.cabin.cards c) ≡ true → is_some (session_of (told_by k at xs t).keeper.cabin.cards c) ≡ true
@@ -694,14 +931,14 @@ module _ (k : Keeper) (at : Moment) where
       let here : filter failed_tear next.breaks.items ≡ [] = front-none failed_tear next.breaks.items lines.0 (ap (λ (bs : List Break). filter failed_tear bs) (sym lines.1) ∙ none) in
       let driver : List Break = breaks_by x.round.driver Driver at in
       let codriver : List Break = breaks_by x.round.codriver CoDriver at in
-      let two = no-fall x.round.codriver CoDriver at (back-none failed_tear (t.breaks.items ++ driver) codriver here) in
-      let one = no-fall x.round.driver Driver at (back-none failed_tear t.breaks.items driver (front-none failed_tear (t.breaks.items ++ driver) codriver here)) in
+      let two = stands-up x.round.codriver CoDriver at (back-none failed_tear (t.breaks.items ++ driver) codriver here) in
+      let one = stands-up x.round.driver Driver at (back-none failed_tear t.breaks.items driver (front-none failed_tear (t.breaks.items ++ driver) codriver here)) in
       sessions-stay xs next c none
       (fate-stays x.round.codriver present.codriver at.second (cabin_by x.round.driver present.driver at.second t.keeper.cabin) c two (fate-stays x.round.driver present.driver at.second t.keeper.cabin c one some))
 
-  -- where none of them tells of a failed call no line is told, and each card has its seat
-  lines-none : (xs : List Done) (t : KeepingState) → filter failed_tear (told_by k at xs t).breaks.items ≡ [] → ((told_by k at xs t).breaks.items ≡ t.breaks.items) × ((told_by k at xs t).keeper.cabin.slots ≡ t.keeper.cabin.slots)
-  lines-none [] t none = (refl, refl)
+  -- where none of them tells of a failed call no line is told
+  lines-none : (xs : List Done) (t : KeepingState) → filter failed_tear (told_by k at xs t).breaks.items ≡ [] → (told_by k at xs t).breaks.items ≡ t.breaks.items
+  lines-none [] t none = refl
   lines-none (x ∷ xs) t none =
       let present : Present = present_at k.cabin x.minute.minute in
       let next : KeepingState = told_after present x.minute.minute at x.round t in
@@ -709,16 +946,13 @@ module _ (k : Keeper) (at : Moment) where
       let here : filter failed_tear next.breaks.items ≡ [] = front-none failed_tear next.breaks.items lines.0 (ap (λ (bs : List Break). filter failed_tear bs) (sym lines.1) ∙ none) in
       let driver : List Break = breaks_by x.round.driver Driver at in
       let codriver : List Break = breaks_by x.round.codriver CoDriver at in
-      let two = no-fall x.round.codriver CoDriver at (back-none failed_tear (t.breaks.items ++ driver) codriver here) in
-      let one = no-fall x.round.driver Driver at (back-none failed_tear t.breaks.items driver (front-none failed_tear (t.breaks.items ++ driver) codriver here)) in
-      let rest = lines-none xs next none in
+      let two = stands-up x.round.codriver CoDriver at (back-none failed_tear (t.breaks.items ++ driver) codriver here) in
+      let one = stands-up x.round.driver Driver at (back-none failed_tear t.breaks.items driver (front-none failed_tear (t.breaks.items ++ driver) codriver here)) in
       let none_driver : driver ≡ [] = fate-lines x.round.driver Driver at one in
       let none_codriver : codriver ≡ [] = fate-lines x.round.codriver CoDriver at two in
       let same : next.breaks.items ≡ t.breaks.items =
       ap (λ (bs : List Break). (t.breaks.items ++ driver) ++ bs) none_codriver ∙ append-nil (t.breaks.items ++ driver) ∙ ap (λ (bs : List Break). t.breaks.items ++ bs) none_driver ∙ append-nil t.breaks.items in
-      let seats : next.keeper.cabin.slots ≡ t.keeper.cabin.slots =
-      fate-slots x.round.codriver present.codriver at.second (cabin_by x.round.driver present.driver at.second t.keeper.cabin) two ∙ fate-slots x.round.driver present.driver at.second t.keeper.cabin one in
-      (rest.0 ∙ same, rest.1 ∙ seats)
+      lines-none xs next none ∙ same
 
 -- what the unit remembers of its vehicle stays
 memory-by : (k : Keeper) (at : Moment) (xs : List Done) (t : KeepingState) → (told_by k at xs t).keeper.memory.registration ≡ t.keeper.memory.registration
@@ -753,20 +987,29 @@ marks-stay : (k : Keeper) (at : Moment) (xs : List Done) (t : KeepingState) (mar
 marks-stay k at [] t mark among = among
 marks-stay k at (x ∷ xs) t mark among = marks-stay k at xs (told_after (present_at k.cabin x.minute.minute) x.minute.minute at x.round t) mark (marks-one x k at t mark among)
 
--- what a keeping that did not fail leaves: lines more, and each session where none of them tells of a failed call
-pub record Reached (t u : KeepingState) : Type 0 where
+-- what a keeping that did not fail leaves: lines more, each of a card that was torn out; and each session where none of them tells of a failed call
+pub record Reached (at : Moment) (t u : KeepingState) : Type 0 where
   pub more : List Break
   pub lines : u.breaks.items ≡ t.breaks.items ++ more
+  pub tears : AreTears at more
   pub stay : (c : Card) → filter failed_tear u.breaks.items ≡ [] → is_some (session_of t.keeper.cabin.cards c) ≡ true → is_some (session_of u.keeper.cabin.cards c) ≡ true
   pub registered : u.keeper.memory.registration ≡ t.keeper.memory.registration
   pub marks : (mark : Mark) → Contains t.marks.items mark → Contains u.marks.items mark
-  pub same : filter failed_tear u.breaks.items ≡ [] → (u.breaks.items ≡ t.breaks.items) × (u.keeper.cabin.slots ≡ t.keeper.cabin.slots)
+  pub same : filter failed_tear u.breaks.items ≡ [] → u.breaks.items ≡ t.breaks.items
 
-pub reach-told : (decided : List Minute) (at : Moment) (t u : KeepingState) (reach : Reach) → IsReach decided at false t u reach → Reached t u
+pub reach-told : (decided : List Minute) (at : Moment) (t u : KeepingState) (reach : Reach) → IsReach decided at false t u reach → Reached at t u
 reach-told decided at t u (Short xs m round) is = absurd is
 reach-told decided at t u (Whole xs) is =
-    subst (Reached t) (sym is.2)
-    (let lines = lines-by t.keeper at xs t in record { more = lines.0; lines = lines.1; stay = λ c none some. sessions-stay t.keeper at xs t c none some; registered = memory-by t.keeper at xs t; marks = λ mark among. marks-stay t.keeper at xs t mark among; same = λ none. lines-none t.keeper at xs t none })
+    subst (Reached at t) (sym is.2)
+    (let lines = lines-by t.keeper at xs t in record {
+      more = lines.0;
+      lines = lines.1;
+      tears = lines.2;
+      stay = λ c none some. sessions-stay t.keeper at xs t c none some;
+      registered = memory-by t.keeper at xs t;
+      marks = λ mark among. marks-stay t.keeper at xs t mark among;
+      same = λ none. lines-none t.keeper at xs t none;
+    })
 
 -- ---- what was kept is found
 
@@ -799,5 +1042,9 @@ found-tears (suc i) k (Tear s slot false begun late ∷ bs) none = found-tears i
 pub found-none : (i k : ℕ) (log : RunLog) → NothingFailed (record log { breaks = found_from i k log.breaks }) → NothingFailed log
 found-none i k log none = (found-cuts i k log.breaks none.0, found-tears i k log.breaks none.1)
 
-pub found-on : (i k : ℕ) (log : RunLog) → NothingFailed (record log { breaks = found_from i k log.breaks }) → Goes log (record log { breaks = found_from i k log.breaks })
-found-on i k log none = record { none = found-none i k log none; finds = refl; judged = refl }
+known-found : (whose : Whose) (o : Origin) (i k : ℕ) (log : RunLog) (d : Devices) → AreKnown whose o (record log { breaks = found_from i k log.breaks }) d → AreKnown whose o log d
+known-found Both o i k log d known = found-none i k log known
+known-found (Only c) o i k log d known = record { uncut = found-cuts i k log.breaks known.uncut; low = known.low; stands = known.stands }
+
+pub found-on : (o : Origin) (i k : ℕ) (log : RunLog) (d : Devices) → GoesOn o log (record log { breaks = found_from i k log.breaks }) d d
+found-on o i k log d whose known = record { known = known-found whose o i k log d known; finds = refl; judged = refl }

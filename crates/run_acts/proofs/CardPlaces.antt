@@ -24,11 +24,12 @@ use Rattle.card_files.specs.declared.card_event.CardEvent.{CardEvent}
 use Rattle.card_files.specs.Noting.{IsNotingEvent, IsPlaceNoted, IsNotingPlace}
 use Rattle.card_files.specs.Rings.{file, place_ring}
 use Rattle.card_image.specs.Beside.{HaveSameVehicles}
-use Rattle.card_image.specs.Fields.{file_bytes, vehicle_ring}
+use Rattle.card_image.specs.Fields.{file_bytes, vehicle_ring, current_use, session_time}
 use Rattle.card_image.specs.Own.{own_sizes, IsOwnValid}
 use Rattle.card_session.specs.Sessions.{IsSession}
 use Rattle.card_session.specs.Cards.{IsCardClosing}
 use Rattle.card_session.proofs.InsertingUse.{use_inside}
+use Rattle.card_session.proofs.Stopping.{closed_session}
 use Rattle.minute_model.specs.declared.Minute.{Minute}
 use Rattle.log_model.specs.declared.lines.Break.{Break}
 use Rattle.log_model.specs.Causes.{has_failed, second_of}
@@ -47,19 +48,23 @@ use Rattle.run_promise.specs.Found.{found_of}
 use Rattle.run_promise.specs.Between.{RunLedger}
 use Rattle.run_devices.specs.Told.{AreFoundCards, DevicesPowered, SessionIsOnCard, arranged}
 use Rattle.run_devices.specs.Measured.{GoesMeasured}
+use Rattle.run_devices.specs.Sessions.{SessionGoes}
+use Rattle.run_devices.proofs.CardUse.{note-use}
+use Rattle.run_devices.proofs.Sessions.{session-itself, session-then, session-same, file-session, close-session}
 use Rattle.run_devices.proofs.Holders.{event-places, closing-places}
 use Rattle.run_devices.proofs.Measured.{goes-itself, goes-then, goes-more, bytes-go, close-goes, event-vehicles, place-vehicles}
 use Rattle.run_devices.proofs.Parts.{CardLit, parts-of}
 use Rattle.run_record.proofs.Seats.{this-or}
 use Rattle.run_outcome.specs.declared.outcome.Outcome.{Outcome}
 use Rattle.run_promise.specs.Origin.{Origin}
-use Rattle.run_note_record.specs.OnCards.{has_call_failed_in, places_in, place_width, PlacesStay, IsReading, GoesByReadings, VehiclesGo, CardsStay, TakesPlace, PlaceIsTaken, LeavesPlaces as LeavesRing}
+use Rattle.run_note_record.specs.OnCards.{has_call_failed_in, places_in, place_width, PlacesStay, IsReading, GoesByReadings, VehiclesGo, SessionsGo, NoOtherComes, CardsStay, TakesPlace, PlaceIsTaken, LeavesPlaces as LeavesRing}
 use Rattle.run_minutes.specs.declared.keeper.Moment.{Moment}
 use Rattle.run_minutes.specs.Books.{AreTimedOn}
 use Rattle.run_minutes.specs.Keeping.{CardMayBeCalled, tear_of}
 use Rattle.run_acts.specs.declared.run.Run.{Run}
 use Rattle.run_acts.specs.CardNotes.{LeavesPlaces, LeavePlaces}
-use Rattle.run_acts.specs.CardWrites.{MayHavePlace, MayTakePlace, PlaceOn}
+use Rattle.run_acts.specs.Acting.{Closed}
+use Rattle.run_acts.specs.CardWrites.{MayHavePlace, MayTakePlace, PlaceOn, ClosesCard}
 use Rattle.run_acts.specs.Recording.{IsOrigin, RunWithin}
 use Rattle.run_acts.specs.RunCards.{sizes_in}
 use Rattle.run_acts.proofs.CardSecond.{any-last}
@@ -83,13 +88,19 @@ pub file-ring : (app : Application) (x y : List ℕ) → file_bytes app 0x0506 y
 file-ring app x y same = subst (λ (n : ℕ). bytes_at y (place_of app (file 0x0506)) n ≡ bytes_at x (place_of app (file 0x0506)) n) (ring-file app) same
 
 pub stays-then : (o : Origin) (spans : List SpanFrom) (d e f : Devices) → CardsStay o spans d e → CardsStay o spans e f → CardsStay o spans d f
-stays-then o spans d e f first next = record { places = stay-then o d e f first.places next.places; vehicles = vehicles }
+stays-then o spans d e f first next = record { places = stay-then o d e f first.places next.places; vehicles = vehicles; sessions = sessions }
   where
     vehicles : VehiclesGo o spans d f
     vehicles c valid z left =
         let behind = next.vehicles c valid z left in
         let was = first.vehicles c valid behind.0 behind.1 in
         (was.0, was.1, goes-then (sizes_in o c) (IsReading spans) was.0 behind.0 z was.2 behind.2)
+
+    sessions : SessionsGo o NoOtherComes d f
+    sessions c valid z left =
+        let behind = next.sessions c valid z left in
+        let was = first.sessions c valid behind.0 behind.1 in
+        (was.0, was.1, session-then (sizes_in o c) (NoOtherComes c) was.0 behind.0 z was.2 behind.2)
 
 -- ---- MINUTES ARE KEPT
 timed-places : (o : Origin) → IsOrigin o → (values : List ℕ) (d e : Devices) → AreTimedOn o.found values d e → PlacesStay o d e
@@ -99,12 +110,17 @@ timed-places o origin values d e h c valid y left =
 
 -- with readings of these spans alone
 pub timed-stays : (o : Origin) → IsOrigin o → (values : List ℕ) (d e : Devices) → AreTimedOn o.found values d e → (spans : List SpanFrom) → ((n : ℕ) → Contains values n → IsReading spans n) → CardsStay o spans d e
-timed-stays o origin values d e h spans reads = record { places = timed-places o origin values d e h; vehicles = vehicles }
+timed-stays o origin values d e h spans reads = record { places = timed-places o origin values d e h; vehicles = vehicles; sessions = sessions }
   where
     vehicles : VehiclesGo o spans d e
     vehicles c valid y left =
         let was = (h c (valid-found o origin c valid)).2 y left in
         (was.0, was.1, goes-more (sizes_in o c) (λ n. Contains values n) (IsReading spans) reads was.0 y (subst (λ (x : List ℕ). GoesMeasured (own_sizes x) (λ n. Contains values n) was.0 y) (origin.image c) was.2))
+
+    sessions : SessionsGo o NoOtherComes d e
+    sessions c valid y left =
+        let was = (h c (valid-found o origin c valid)).1 y left in
+        (was.0, was.1, file-session (sizes_in o c) (NoOtherComes c) was.0 y (subst (λ (x : List ℕ). file_bytes (own_sizes x) 0x0507 y ≡ file_bytes (own_sizes x) 0x0507 was.0) (origin.image c) was.3))
 
 -- ---- A SESSION IS CLOSED, or was about to be
 closes-places : (o : Origin) (w : RunLedger) (cards : Cards) (c : Card) (U X Z : State) (Y : State) → IsOrigin o → AreFoundCards o.found cards → IsCoherent X → LARGEST_IMAGE ≤ X.size → (a : Accepted) (act : Activity) → session_of cards c ≡ Some a → DevicesPowered o.found w cards (arranged c U X Z) →
@@ -172,18 +188,70 @@ closing-go {C = C} state o spans done s at waits rest run out c U V Z x y w whol
     by v None is h = subst (λ (z : C). ImagesGo spans (card_image o.recording c) (state x) (state z)) (sym (still is)) (λ z there. (z, there, goes-itself (sizes_in o c) (IsReading spans) z))
     by v (Some a) is h = closes-vehicles o spans _ run.keeper.cabin.cards c U (state x) Z (state y) w.origin w.within.found whole size a h.0 is w.within.powered h.1 v
 
+-- and its session goes on, or is closed
+abbrev SessionGo : (start : List ℕ) → Card → (old new : State) → Type 0
+SessionGo start c old new = (y : List ℕ) → new.may_leave y → (x : List ℕ) × old.may_leave x × SessionGoes (own_sizes start) (NoOtherComes c) x y
+
+closes-session : (o : Origin) (w : RunLedger) (cards : Cards) (c : Card) (U X Z : State) (Y : State) → IsOrigin o → AreFoundCards o.found cards → IsCoherent X → LARGEST_IMAGE ≤ X.size → (a : Accepted) (act : Activity) → session_of cards c ≡ Some a → DevicesPowered o.found w cards (arranged c U X Z) →
+    LeavesOnly X Y (λ i n. IsSession a.session i → IsCardClosing a.session act i n) → IsOwnValid (card_image o.recording c) → SessionGo (card_image o.recording c) c X Y
+closes-session o w cards c U X Z Y origin found whole size a act has p run valid y left =
+    let there : IsOwnValid (found_of o.found c).image = valid-found o origin c valid in
+    let one : CardLit o.found w.book (w.standing c) (w.hands c) (w.firsts c) (w.brought c) (Some a) c U X = subst (λ (q : Option Accepted). CardLit o.found w.book (w.standing c) (w.hands c) (w.firsts c) (w.brought c) q c U X) has ((parts-of o.found w cards c U X Z p).mine there) in
+    let on : SessionIsOnCard (found_of o.found c) (w.hands c) one.goes.has (w.standing c) a.session X = one.goes.goes.0 in
+    let sizes : a.session.application ≡ own_sizes (card_image o.recording c) = on.sizes ∙ ap own_sizes (origin.image c) in
+    let fits = largest_image a.session.application (subst IsApplication (sym on.sizes) (found.sizes c there)) in
+    ⊎_elim
+    (λ before. (y, before, session-itself (sizes_in o c) (NoOtherComes c) y))
+    (λ (x, is, closes).
+    let long = whole.sized x is in (
+      x,
+      whole.is_left x is,
+      subst (λ (app : Application). SessionGoes app (NoOtherComes c) x y) sizes
+          (close-session (NoOtherComes c) a.session act x y (omega (arith, fits, size, long)) (closes (at_image (IsSession a.session) is on.session))),
+    ))
+    (run.now y left)
+
+closing-session : {C : Type 0} (state : C → State) (o : Origin) (done : List TraceSecond) (s : TraceSecond) (at : Phase) (waits : List Visit) (rest : List Minute) (run : Run) (out : Outcome) (c : Card) (U V Z : State) (x y : C) → RunWithin o done s at waits rest run out (arranged c U (state x) Z) →
+    IsCoherent (state x) → LARGEST_IMAGE ≤ (state x).size → IfSome (session_of run.keeper.cabin.cards c) (λ s. (act : Activity) × LeavesOnly (state x) (state y) (λ i n. IsSession s.session i → IsCardClosing s.session act i n)) →
+    (session_of run.keeper.cabin.cards c ≡ None → y ≡ x) → SessionsGo o NoOtherComes (arranged c U (state x) Z) (arranged c V (state y) Z)
+closing-session {C = C} state o done s at waits rest run out c U V Z x y w whole size left still q0 valid =
+    each c U V (state x) (state y) Z (λ (q : Card) (a b : State). IsOwnValid (card_image o.recording q) → SessionGo (card_image o.recording q) q a b)
+    (λ v. by v (session_of run.keeper.cabin.cards c) refl left) (λ v z there. (z, there, session-itself (sizes_in o (other c)) (NoOtherComes (other c)) z)) q0 valid
+  where
+    by : IsOwnValid (card_image o.recording c) → (q : Option Accepted) → session_of run.keeper.cabin.cards c ≡ q → IfSome q (λ s. (act : Activity) × LeavesOnly (state x) (state y) (λ i n. IsSession s.session i → IsCardClosing s.session act i n)) → SessionGo (card_image o.recording c) c (state x) (state y)
+    by v None is h = subst (λ (z : C). SessionGo (card_image o.recording c) c (state x) (state z)) (sym (still is)) (λ z there. (z, there, session-itself (sizes_in o c) (NoOtherComes c) z))
+    by v (Some a) is h = closes-session o _ run.keeper.cabin.cards c U (state x) Z (state y) w.origin w.within.found whole size a h.0 is w.within.powered h.1 v
+
+-- WHERE IT IS CLOSED each image tells of none
+pub closed-none : (o : Origin) (w : RunLedger) (cards : Cards) (c : Card) (U X Z Y : State) → IsOrigin o → AreFoundCards o.found cards → IsCoherent X → LARGEST_IMAGE ≤ X.size → (a : Accepted) (act : Activity) → session_of cards c ≡ Some a → DevicesPowered o.found w cards (arranged c U X Z) →
+    ClosesCard Closed (Some a) act X Y → IsOwnValid (card_image o.recording c) → (y : List ℕ) → Y.may_leave y → session_time (sizes_in o c) y ≡ 0
+closed-none o w cards c U X Z Y origin found whole size a act has p closes valid y left =
+    let there : IsOwnValid (found_of o.found c).image = valid-found o origin c valid in
+    let one : CardLit o.found w.book (w.standing c) (w.hands c) (w.firsts c) (w.brought c) (Some a) c U X = subst (λ (q : Option Accepted). CardLit o.found w.book (w.standing c) (w.hands c) (w.firsts c) (w.brought c) q c U X) has ((parts-of o.found w cards c U X Z p).mine there) in
+    let on : SessionIsOnCard (found_of o.found c) (w.hands c) one.goes.has (w.standing c) a.session X = one.goes.goes.0 in
+    let sizes : a.session.application ≡ own_sizes (card_image o.recording c) = on.sizes ∙ ap own_sizes (origin.image c) in
+    let fits = largest_image a.session.application (subst IsApplication (sym on.sizes) (found.sizes c there)) in
+    let was = closes y left in
+    let long = whole.sized was.0 was.1 in
+    subst (λ (app : Application). session_time app y ≡ 0) sizes
+    (closed_session a.session act was.0 y (omega (arith, fits, size, long)) (was.2 (at_image (IsSession a.session) was.1 on.session)))
+
 pub closing-stays : {C : Type 0} (state : C → State) (o : Origin) (spans : List SpanFrom) (done : List TraceSecond) (s : TraceSecond) (at : Phase) (waits : List Visit) (rest : List Minute) (run : Run) (out : Outcome) (c : Card) (U V Z : State) (x y : C) → RunWithin o done s at waits rest run out (arranged c U (state x) Z) →
     IsCoherent (state x) → LARGEST_IMAGE ≤ (state x).size → IfSome (session_of run.keeper.cabin.cards c) (λ s. (act : Activity) × LeavesOnly (state x) (state y) (λ i n. IsSession s.session i → IsCardClosing s.session act i n)) →
     (session_of run.keeper.cabin.cards c ≡ None → y ≡ x) → CardsStay o spans (arranged c U (state x) Z) (arranged c V (state y) Z)
 closing-stays state o spans done s at waits rest run out c U V Z x y w whole size left still =
-    record { places = closing-stay state o done s at waits rest run out c U V Z x y w whole size left still; vehicles = closing-go state o spans done s at waits rest run out c U V Z x y w whole size left still }
+    record {
+      places = closing-stay state o done s at waits rest run out c U V Z x y w whole size left still;
+      vehicles = closing-go state o spans done s at waits rest run out c U V Z x y w whole size left still;
+      sessions = closing-session state o done s at waits rest run out c U V Z x y w whole size left still;
+    }
 
 -- ---- AN EVENT IS NOTED
 
 -- no call
 pub places-self : (session : Option Accepted) (X : State) → LeavesPlaces session X X
 places-self None X = λ c left. left
-places-self (Some a) X = λ c left. (c, left, refl, refl)
+places-self (Some a) X = λ c left. (c, left, refl, refl, refl)
 
 -- by the session that a card has
 pub event-leaves : (c : Card) (cards : Cards) (app : Application) (event : CardEvent) (chip : CardState) (X Y : State) → IsCoherent X → CardMayBeCalled (known_of cards c) chip X → (known_of cards c).sizes ≡ Ok app → is_some (session_of cards c) ≡ true → LeavesOnly X Y (IsNotingEvent app event) → LeavesPlaces (session_of cards c) X Y
@@ -191,12 +259,13 @@ event-leaves c cards app event chip X Y whole ready told some run = by c some re
   where
     one : (a : Accepted) → app ≡ a.session.application → LeavesPlaces (Some a) X Y
     one a same y left = ⊎_elim
-        (λ was. (y, was, refl, refl))
+        (λ was. (y, was, refl, refl, refl))
         (λ here. (
           here.0,
           whole.is_left here.0 here.1,
           subst (λ (p : Application). file_bytes p 0x0506 y ≡ file_bytes p 0x0506 here.0) same (event-places app here.0 y event here.2),
           subst (λ (p : Application). HaveSameVehicles p here.0 y) same (event-vehicles app here.0 y event here.2),
+          subst (λ (p : Application). current_use p y ≡ current_use p here.0) same (note-use app here.0 y (inl (event, here.2))),
         ))
         (run.now y left)
 
@@ -231,6 +300,7 @@ leaves-then (Some a) (Some b) X Y Z goes first next = λ c left.
       one.1,
       subst (λ (p : Application). file_bytes p 0x0506 c ≡ file_bytes p 0x0506 two.0) sizes two.2 ∙ one.2,
       subst (λ (p : Application). HaveSameVehicles p two.0 c) sizes two.3 ∙ one.3,
+      subst (λ (p : Application). current_use p c ≡ current_use p two.0) sizes two.4 ∙ one.4,
     )
   where
     alike : Some b ≡ Some a → b.session.application ≡ a.session.application
@@ -259,8 +329,18 @@ leave-go o spans done s at waits rest run out d e w leaves c valid = by (session
         let was = h y left in
         (was.0, was.1, bytes-go (sizes_in o c) (IsReading spans) sound was.0 y (subst (λ (app : Application). HaveSameVehicles app was.0 y) (session-sizes o done s at waits rest run out d w c valid a is) was.3))
 
+-- and their sessions
+leave-sessions : (o : Origin) (done : List TraceSecond) (s : TraceSecond) (at : Phase) (waits : List Visit) (rest : List Minute) (run : Run) (out : Outcome) (d e : Devices) → RunWithin o done s at waits rest run out d → LeavePlaces run.keeper.cabin.cards d e → SessionsGo o NoOtherComes d e
+leave-sessions o done s at waits rest run out d e w leaves c valid = by (session_of run.keeper.cabin.cards c) refl (leaves c)
+  where
+    by : (q : Option Accepted) → session_of run.keeper.cabin.cards c ≡ q → LeavesPlaces q (card_of d c) (card_of e c) → SessionGo (card_image o.recording c) c (card_of d c) (card_of e c)
+    by None is h = λ y left. (y, h y left, session-itself (sizes_in o c) (NoOtherComes c) y)
+    by (Some a) is h = λ y left.
+        let was = h y left in
+        (was.0, was.1, session-same (sizes_in o c) (NoOtherComes c) was.0 y (subst (λ (app : Application). current_use app y ≡ current_use app was.0) (session-sizes o done s at waits rest run out d w c valid a is) was.4))
+
 pub leave-stays : (o : Origin) (spans : List SpanFrom) (done : List TraceSecond) (s : TraceSecond) (at : Phase) (waits : List Visit) (rest : List Minute) (run : Run) (out : Outcome) (d e : Devices) → RunWithin o done s at waits rest run out d → LeavePlaces run.keeper.cabin.cards d e → CardsStay o spans d e
-leave-stays o spans done s at waits rest run out d e w leaves = record { places = leave-stay o done s at waits rest run out d e w leaves; vehicles = leave-go o spans done s at waits rest run out d e w leaves }
+leave-stays o spans done s at waits rest run out d e w leaves = record { places = leave-stay o done s at waits rest run out d e w leaves; vehicles = leave-go o spans done s at waits rest run out d e w leaves; sessions = leave-sessions o done s at waits rest run out d e w leaves }
 
 -- ---- A PLACE IS NOTED
 
@@ -304,6 +384,32 @@ place-go o spans done s at waits rest run out d e w card entry some call others 
               bytes-go (sizes_in o card) (IsReading spans) sound was.0 y
                   (subst (λ (app : Application). HaveSameVehicles app was.0 y) (session-sizes o done s at waits rest run out d w card there a is) (place-same a.session.application entry was.0 y was.2)),
             )
+
+-- and their sessions are the same
+place-use : (app : Application) (entry : PlaceEntry) (x y : List ℕ) → (y ≡ x) ⊎ IsNotingPlace app entry x y → current_use app y ≡ current_use app x
+place-use app entry x y moment = ⊎_elim (λ same. ap (λ (l : List ℕ). current_use app l) same) (λ noting. note-use app x y (inr (entry, noting))) moment
+
+pub place-sessions : (o : Origin) (done : List TraceSecond) (s : TraceSecond) (at : Phase) (waits : List Visit) (rest : List Minute) (run : Run) (out : Outcome) (d e : Devices) → RunWithin o done s at waits rest run out d → (card : Card) (entry : PlaceEntry) → is_some (session_of run.keeper.cabin.cards card) ≡ true →
+    ((a : Accepted) → session_of run.keeper.cabin.cards card ≡ Some a → MayHavePlace a.session.application entry (card_of d card) (card_of e card)) → ((c : Card) → same_card card c ≡ false → (y : List ℕ) → (card_of e c).may_leave y → (card_of d c).may_leave y) → SessionsGo o NoOtherComes d e
+place-sessions o done s at waits rest run out d e w card entry some call others c valid = ⊎_elim
+    (λ same. subst (λ (q : Card). IsOwnValid (card_image o.recording q) → SessionGo (card_image o.recording q) q (card_of d q) (card_of e q)) (alike card c same) own valid)
+    (λ apart_. λ y left. (y, others c apart_ y left, session-itself (sizes_in o c) (NoOtherComes c) y))
+    (this-or card c)
+  where
+    alike : (x y : Card) → same_card x y ≡ true → x ≡ y
+    alike A A is = refl
+    alike B B is = refl
+    alike A B is = absurd (let wrong : false ≡ true = is in cc)
+    alike B A is = absurd (let wrong : false ≡ true = is in cc)
+
+    own : IsOwnValid (card_image o.recording card) → SessionGo (card_image o.recording card) card (card_of d card) (card_of e card)
+    own there = by (session_of run.keeper.cabin.cards card) refl some
+      where
+        by : (q : Option Accepted) → session_of run.keeper.cabin.cards card ≡ q → is_some q ≡ true → SessionGo (card_image o.recording card) card (card_of d card) (card_of e card)
+        by None is none = absurd (let wrong : false ≡ true = none in cc)
+        by (Some a) is has = λ y left.
+            let was = call a is y left in
+            (was.0, was.1, session-same (sizes_in o card) (NoOtherComes card) was.0 y (subst (λ (app : Application). current_use app y ≡ current_use app was.0) (session-sizes o done s at waits rest run out d w card there a is) (place-use a.session.application entry was.0 y was.2)))
 
 -- how wide its entry is
 pub entry-wide : (v : PlaceEntry) → length (place_bytes v) ≡ place_width

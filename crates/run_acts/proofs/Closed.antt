@@ -6,7 +6,7 @@ use Rattle.activity_codec.specs.declared.values.Slot.{Slot}
 use Rattle.trace_model.specs.declared.Card.{Card}
 use Rattle.trace_model.specs.Trace.{TraceSecond}
 use Rattle.run_model.specs.declared.Device.TheVariants.{Unit as Recorder}
-use Rattle.tach_media.specs.Medium.{State, IsCoherent, LeavesOnly, HasCause, HasBroken}
+use Rattle.tach_media.specs.Medium.{State, IsCoherent, LeavesOnly, HasCause, HasBroken, last_count}
 use Rattle.tach_media.proofs.Runs.{if_told, at_image, weaken}
 use Rattle.card_layout.specs.declared.files.Application.{Application}
 use Rattle.card_layout.specs.declared.files.TheConstants.{LARGEST_IMAGE}
@@ -20,8 +20,8 @@ use Rattle.device_calls.proofs.TimedCalls.{closing-timed}
 use Rattle.minute_model.specs.Span.{Span, end_of}
 use Rattle.minute_rules.specs.Kept.{CountsSpan}
 use Rattle.log_model.specs.declared.lines.Break.{Break}
-use Rattle.log_model.specs.Log.{In}
-use Rattle.log_model.specs.Causes.{RoseBy}
+use Rattle.log_model.specs.Log.{RunLog, In}
+use Rattle.log_model.specs.Causes.{RoseBy, device_of}
 use Rattle.log_model.specs.Course.{went}
 use Rattle.unit_notes.specs.Journal.{LeavesJournal}
 use Rattle.unit_model.specs.Image.{odometer_at}
@@ -84,19 +84,23 @@ use Rattle.run_acts.proofs.Rising.{card-more, card-fell}
 use Rattle.run_minutes.specs.CardDeeds.{ClosesOn}
 use Rattle.run_minutes.proofs.CardDeeds.{does-close}
 use Rattle.note_model.specs.Noted.{Note}
-use Rattle.run_promise.specs.Whole.{NothingFailed}
 use Rattle.run_acts.specs.Closings.{spells_of, with_last_shut, last_slot, notes_within}
 use Rattle.device_rule.specs.Views.{other}
 use Rattle.run_acts.specs.Truths.{past_of, IsWordIn, truths_within, marked}
-use Rattle.run_acts.specs.Stays.{Shut, Stay, spells, sits_in, as_noted, ClosesOnCard, HasStays, AreTrue, AreStays, start_shown, acceptances_told, judged_told}
+use Rattle.run_acts.specs.Stays.{Shut, Stay, spells, sits_in, as_noted, ClosesOnCard, HasStays, Whose, covers, AreKnown, owed_by, AreTrue, AreStays, AllStay, start_shown, acceptances_told, judged_told, judged_in}
 use Rattle.run_acts.specs.Comings.{TellMore}
 use Rattle.run_acts.proofs.Stays.{on_last, on-last-comings, on-last-none, on-last-true, last-spelled, last-shut-slot, with_end, stays-close, on-last-owes, on-last-judged, on-last-verdicts}
-use Rattle.run_acts.proofs.AllStay.{turns-so, placed-bare, all-one, no-tear, mine-left, others-left}
-use Rattle.run_acts.proofs.SeatsThen.{sits-nowhere}
+use Rattle.run_acts.proofs.AllStay.{turns-so, placed-bare, all-one, mine-left, others-left, other-apart, known-still, stood-calm, stood-broken}
+use Rattle.run_acts.proofs.SeatsThen.{sits-nowhere, torn-other, torn-slot}
+use Rattle.run_acts.proofs.RingedLines.{TellsBeside, phase_at, tears-beside}
+use Rattle.run_acts.proofs.KeptSeats.{floor-in}
+use Rattle.run_acts.proofs.FallenStays.{all-fell}
+use Rattle.run_acts.proofs.TornNotes.{spells-unhurt}
 use Rattle.run_acts.proofs.Words.{closed-now}
 use Rattle.run_acts.proofs.MinuteEnds.{followed-lit}
 use Rattle.run_acts.proofs.Since.{HasSat}
-use Rattle.run_acts.proofs.LastLine.{IsSince, since-line, only-second, acceptances-merged, lines-own, found_of_all, last-found}
+use Rattle.run_acts.proofs.LastLine.{IsSince, since-line, only-second, found_of_all, last-found}
+use Rattle.run_acts.proofs.ToldLines.{OfOne, told-of, accepted-of}
 
 -- when a card was last used, behind the closing of its session
 closed-timed : (f : Found) (w : RunLedger) (cards : Cards) (c : Card) (U X Y Z : State) → AreFoundCards f cards → IsCoherent X → LARGEST_IMAGE ≤ X.size → (a : Accepted) (act : Activity) → session_of cards c ≡ Some a → DevicesPowered f w cards (arranged c U X Z) →
@@ -179,47 +183,53 @@ module _ {C : Type 0} (state : C → State) (c : Card) (slot : Slot) (at : Momen
         stays-close s.number (found_of o.found c) run.keeper.memory.registration (spells_of c so-far) (sits_in run.keeper.cabin.slots.seats c) (sits_in run.keeper.cabin.slots.seats c) ss shut.0 a (state x) (state y)
         (subst (λ (p : Application). ClosesOn p shut.0 (state x) (state y)) on.sizes (does-close a.session shut.0 (state x) (state y) sound whole (omega (arith, most, size)) on.session shut.2)) gone h
 
-    abbrev Held : Type 0
-    Held = AreStays o (marked told.marks.items (truths_within o w.within.b.run.log done s)) s.number so-far (acceptances_told (log_of told)) (judged_told (log_of told)) run.keeper.memory.registration run.keeper.cabin d
+    abbrev Held : Whose → Type 0
+    Held whose = AreStays whose o (marked told.marks.items (truths_within o w.within.b.run.log done s)) s.number so-far (acceptances_told (log_of told)) (judged_told (log_of told)) run.keeper.memory.registration run.keeper.cabin d
 
     -- what was true of its stays is so: the word is that of the slot, in which the last of them began
-    stays-hold : (shut : ClosesOnCard slot run.minutes (Some a) (state x) (state y)) → (NothingFailed (log_of told) → IsOwnValid (found_of o.found c).image → last_slot (spells_of c so-far) ≡ Some slot) → SatHere → NothingFailed (log_of told) → (h : Held) →
+    stays-hold : (whose : Whose) → covers whose c ≡ true → (shut : ClosesOnCard slot run.minutes (Some a) (state x) (state y)) → (IsOwnValid (found_of o.found c).image → last_slot (spells_of c so-far) ≡ Some slot) → SatHere → (h : Held whose) →
         (h.stays c ≡ []) ⊎ IsOwnValid (found_of o.found c).image → (IsOwnValid (found_of o.found c).image → HasStays s.number (found_of o.found c) run.keeper.memory.registration (spells_of c so-far) (sits_in run.keeper.cabin.slots.seats c) (h.stays c) (Some a) (state x)) →
-        AreTrue (marked told.marks.items (truths_within o w.within.b.run.log done s)) c run.keeper.memory.registration (found_of o.found c).image (h.stays c) →
-        AreTrue (marked told.marks.items (truths_within o w.within.b.run.log done s)) c run.keeper.memory.registration (found_of o.found c).image (on_last (with_end (shut-by shut.0)) (h.stays c))
-    stays-hold shut placed sat none h only shown all = (
+        AreTrue whose (marked told.marks.items (truths_within o w.within.b.run.log done s)) c run.keeper.memory.registration (found_of o.found c).image (h.stays c) →
+        AreTrue whose (marked told.marks.items (truths_within o w.within.b.run.log done s)) c run.keeper.memory.registration (found_of o.found c).image (on_last (with_end (shut-by shut.0)) (h.stays c))
+    stays-hold whose in_ shut placed sat h only shown all = (
       on-last-true (marked told.marks.items (truths_within o w.within.b.run.log done s)) (with_end (shut-by shut.0)) (h.stays c) (λ x front are is. (is.0, is.1, by x front are only)) all.0,
-      on-last-owes ((marked told.marks.items (truths_within o w.within.b.run.log done s)).owed c) (with_end (shut-by shut.0)) (λ x. refl) (λ x. refl) run.keeper.memory.registration (own_sizes (found_of o.found c).image).activity (h.stays c) (start_shown (found_of o.found c).image) all.1,
+      on-last-owes (owed_by whose (marked told.marks.items (truths_within o w.within.b.run.log done s)) c) (with_end (shut-by shut.0)) (λ x. refl) (λ x. refl) run.keeper.memory.registration (own_sizes (found_of o.found c).image).activity (h.stays c) (start_shown (found_of o.found c).image) all.1,
     )
       where
         last-of : (x : Stay) (front : List Stay) → h.stays c ≡ front ++ x ∷ [] → last_slot (spells (h.stays c)) ≡ Some x.found.slot
         last-of x front are = ap (λ (l : List Stay). last_slot (spells l)) are ∙ last-spelled front x
 
         -- no action has withdrawn from the slot since that
-        since : (x : Stay) (front : List Stay) → h.stays c ≡ front ++ x ∷ [] → x.found.slot ≡ slot → (actions rest : List Action) → s.actions ≡ actions ++ Withdraw slot ∷ rest → n ≡ suc (length actions) → IsSince s.number x.found actions
-        since x front are there actions rest is count =
+        since : (x : Stay) (front : List Stay) → IsOwnValid (found_of o.found c).image → h.stays c ≡ front ++ x ∷ [] → x.found.slot ≡ slot → (actions rest : List Action) → s.actions ≡ actions ++ Withdraw slot ∷ rest → n ≡ suc (length actions) → IsSince s.number x.found actions
+        since x front valid are there actions rest is count =
             let order = followed-lit o done s (In n) [] None [] v d w.within in
-            since-line (done ++ s ∷ []) s (log_of told).finds actions rest slot c is (only-second o.from done s order.order (w.within.moment.number ∙ order.next)) (sat actions rest is count) (found_of_all (h.stays c)) (found_of_all (h.stays (other c)))
-            (acceptances-merged run.keeper.memory.registration (λ (k : Card). (own_sizes (found_of o.found k).image).activity) (λ (k : Card). start_shown (found_of o.found k).image) h.stays h.befores.comings (acceptances_told (log_of told)) h.befores.lines h.befores.merged c)
-            (lines-own ((marked told.marks.items (truths_within o w.within.b.run.log done s)).entered (other c)) (h.stays (other c)) (h.since (other c)) (h.entered (other c))) (found_of_all front) x.found (last-found front x (h.stays c) are) there
+            let of : OfOne (marked told.marks.items (truths_within o w.within.b.run.log done s)) c (acceptances_told (log_of told)) (found_of_all (h.stays c)) =
+            accepted-of (marked told.marks.items (truths_within o w.within.b.run.log done s)) c (log_of told) run.keeper.memory.registration (own_sizes (found_of o.found c).image).activity (h.stays c) (h.since c) (start_shown (found_of o.found c).image) (h.verdicts c in_ valid)
+            (told-of whose (marked told.marks.items (truths_within o w.within.b.run.log done s)) c (judged_told (log_of told)) (λ (k : Card). judged_in (h.stays k) (h.since k)) h.entered in_ h.judged) in
+            since-line (done ++ s ∷ []) s (log_of told).finds actions rest slot c is (only-second o.from done s order.order (w.within.moment.number ∙ order.next)) (sat actions rest is count) (found_of_all (h.stays c)) of.others of.merged of.theirs
+            (found_of_all front) x.found (last-found front x (h.stays c) are) there
 
         by : (x : Stay) (front : List Stay) → h.stays c ≡ front ++ x ∷ [] → (h.stays c ≡ []) ⊎ IsOwnValid (found_of o.found c).image → IsWordIn (rule_of o) (past_of w.within.b.run.log (done ++ s ∷ [])) x.found s.number shut.0
         by x front are (inl empty) = absurd (let wrong : None ≡ Some x.found.slot = sym (ap (λ (l : List Stay). last_slot (spells l)) empty) ∙ last-of x front are in cc)
         by x front are (inr valid) =
             let shut_then : with_last_shut s.number (spells (h.stays c)) ≡ spells_of c so-far = sym (ap (λ (b : Bool). as_noted s.number (Some a) b (spells (h.stays c))) gone) ∙ (shown valid).spell in
-            let slots : Some slot ≡ Some x.found.slot = sym (placed none valid) ∙ ap last_slot (sym shut_then) ∙ last-shut-slot s.number (spells (h.stays c)) ∙ last-of x front are in
+            let slots : Some slot ≡ Some x.found.slot = sym (placed valid) ∙ ap last_slot (sym shut_then) ∙ last-shut-slot s.number (spells (h.stays c)) ∙ last-of x front are in
             let same : slot ≡ x.found.slot = cc in
-            closed-now o done s n [] [] v d w.within slot (record { phase = In n; slot = slot; card = c }) (leaving (ap is_some has)).leaves shut.0 (shut.1 w.within.sp w.within.minutes) x.found (sym same) (since x front are (sym same))
+            closed-now o done s n [] [] v d w.within slot (record { phase = In n; slot = slot; card = c }) (leaving (ap is_some has)).leaves shut.0 (shut.1 w.within.sp w.within.minutes) x.found (sym same) (since x front valid are (sym same))
 
     called : IsCalledLeaving o done s (In n) v d e w.within slot c
     called = record { low = s.number / 60; leaving = leaving (ap is_some has); is_now = from; goes = goes; travels = travels }
 
+    -- what is known behind it was known before, where the card has not broken down
+    before-closed : (state y).breakdowns ≡ (state x).breakdowns → (whose : Whose) → AreKnown whose o (log_of told) e → AreKnown whose o (log_of told) d
+    before-closed calm whose known = known-still whose o (log_of told) d e (stood-calm o d e (card-more c U V (state x) (state y) Z cause.breakdowns calm)) known
+
     -- it is closed, and the card has not broken down
-    closed : (state y).breakdowns ≡ (state x).breakdowns → (NothingFailed (log_of told) → IsOwnValid (found_of o.found c).image → last_slot (spells_of c so-far) ≡ Some slot) → (NothingFailed (log_of told) → SatHere) → (failed ≡ false → TellMore [] U V) → ClosesOnCard slot run.minutes (Some a) (state x) (state y) → (b : Bool) → failed ≡ b → IsPoweredOrOff b o.found (carried_closed Closed c carries) (with_session c None run.keeper.cabin.cards) e → GoesOnOrFails b o done s (In n) [] (with_cabin (with_session_of c None run.keeper.cabin) run) told e w.within.b
+    closed : (state y).breakdowns ≡ (state x).breakdowns → ((whose : Whose) → AreKnown whose o (log_of told) d → covers whose c ≡ true → IsOwnValid (found_of o.found c).image → last_slot (spells_of c so-far) ≡ Some slot) → SatHere → (failed ≡ false → TellMore [] U V) → ClosesOnCard slot run.minutes (Some a) (state x) (state y) → (b : Bool) → failed ≡ b → IsPoweredOrOff b o.found (carried_closed Closed c carries) (with_session c None run.keeper.cabin.cards) e → GoesOnOrFails b o done s (In n) [] (with_cabin (with_session_of c None run.keeper.cabin) run) told e w.within.b
     closed calm placed sat go shut false is powered = goes-as o done s (In n) (In n) [] [] [] run (with_cabin (with_session_of c None run.keeper.cabin) run) told told d e w.within.from w refl refl refl (session-closed d e o done s (In n) v w.within slot c called (card-more c U V (state x) (state y) Z cause.breakdowns calm) powered)
-        (all-one o (marked told.marks.items (truths_within o w.within.b.run.log done s)) s.number c (log_of told) (log_of told) so-far so-far run.keeper.memory.registration run.keeper.cabin (with_session_of c None run.keeper.cabin) U V (state x) (state y) Z (λ none. none) (others-left c run.keeper.cabin.cards) refl (λ at_ there. there)
-        (λ none. refl) (λ none was. placed-bare so-far (with_session_of c None run.keeper.cabin) c (mine-left c run.keeper.cabin.cards))
-        (λ none h. turns-so (marked told.marks.items (truths_within o w.within.b.run.log done s)) c s.number (found_of o.found c) (log_of told) run.keeper.memory.registration (spells_of c so-far) (sits_in run.keeper.cabin.slots.seats c) (session_of run.keeper.cabin.cards c) (session_of (with_session c None run.keeper.cabin.cards) c) U V (state x) (state y) (on_last (with_end (shut-by shut.0)))
+        (all-one o (marked told.marks.items (truths_within o w.within.b.run.log done s)) s.number c (log_of told) (log_of told) so-far so-far run.keeper.memory.registration run.keeper.cabin (with_session_of c None run.keeper.cabin) U V (state x) (state y) Z (λ whose known. before-closed calm whose known) (others-left c run.keeper.cabin.cards) refl (λ at_ there. there)
+        (λ whose known in_. refl) (λ whose known in_ was. placed-bare so-far (with_session_of c None run.keeper.cabin) c (mine-left c run.keeper.cabin.cards))
+        (λ whose known in_ h. turns-so whose (marked told.marks.items (truths_within o w.within.b.run.log done s)) c s.number (found_of o.found c) (log_of told) run.keeper.memory.registration (spells_of c so-far) (sits_in run.keeper.cabin.slots.seats c) (session_of run.keeper.cabin.cards c) (session_of (with_session c None run.keeper.cabin.cards) c) U V (state x) (state y) (on_last (with_end (shut-by shut.0)))
         (on-last-none (with_end (shut-by shut.0)))
         (on-last-comings run.keeper.memory.registration (found_of o.found c).image (with_end (shut-by shut.0)) (λ s. refl)) (go is)
         (λ all lines. on-last-judged (with_end (shut-by shut.0)) (λ s. refl) (λ s. refl) all lines)
@@ -227,7 +237,7 @@ module _ {C : Type 0} (state : C → State) (c : Card) (slot : Slot) (at : Momen
         (λ valid some. absurd (let wrong : false ≡ true = sym (ap (λ (q : Option Accepted). is_some q) (mine-left c run.keeper.cabin.cards)) ∙ some in cc)) (h.stays c) (h.since c)
         (λ valid own. subst (λ (q : Option Accepted). HasStays s.number (found_of o.found c) run.keeper.memory.registration (spells_of c so-far) (sits_in run.keeper.cabin.slots.seats c) (on_last (with_end (shut-by shut.0)) (h.stays c)) q (state y)) (sym (mine-left c run.keeper.cabin.cards))
         (stays-closed shut valid (h.stays c) (subst (λ (q : Option Accepted). HasStays s.number (found_of o.found c) run.keeper.memory.registration (spells_of c so-far) (sits_in run.keeper.cabin.slots.seats c) (h.stays c) q (state x)) has own)))
-        (λ only shown all. stays-hold shut placed (sat none) none h only (λ valid. subst (λ (q : Option Accepted). HasStays s.number (found_of o.found c) run.keeper.memory.registration (spells_of c so-far) (sits_in run.keeper.cabin.slots.seats c) (h.stays c) q (state x)) has (shown valid)) all)) w.stay)
+        (λ only shown all. stays-hold whose in_ shut (placed whose (before-closed calm whose known) in_) sat h only (λ valid. subst (λ (q : Option Accepted). HasStays s.number (found_of o.found c) run.keeper.memory.registration (spells_of c so-far) (sits_in run.keeper.cabin.slots.seats c) (h.stays c) q (state x)) has (shown valid)) all)) (λ whose known out_. inl refl) w.stay)
     closed calm placed sat go shut true is powerless = record {
       waits = [];
       cabin = with_session_of c None run.keeper.cabin;
@@ -249,12 +259,29 @@ module _ {C : Type 0} (state : C → State) (c : Card) (slot : Slot) (at : Momen
       λ late. absurd (cc),
     )
 
+    -- the stays of the other card are as they were
+    abbrev fell_log : RunLog
+    fell_log = log_of (record told { breaks = with_lines (tear_of slot at ∷ []) told.breaks })
+
+    beside-fell : TellsBeside (log_of told) fell_log s.number (In n)
+    beside-fell = subst (λ (m : Moment). TellsBeside (log_of told) fell_log m.second (phase_at m)) moment (tears-beside at (tear_of slot at ∷ []) (log_of told) fell_log refl ((slot, refl), tt))
+
+    fell-stay : HasBroken (state x) (state y) 1 → SecondGoesOn o done s (In n) [] None [] (fallen_values (tear_of slot at) c at.second v) e w.within.b w.within.from →
+        AllStay o (marked told.marks.items (truths_within o w.within.b.run.log done s)) s.number fell_log (notes_within w.within.b done s (In n) fell_log) run.keeper.memory.registration (torn_out c at.second (with_session_of c None run.keeper.cabin)) e
+    fell-stay broken g =
+        let floor = λ (k : Card) (low : o.breakdowns (device_of k) < last_count). floor-in o done s (In n) [] None [] v d w.within k low in
+        all-fell o (marked told.marks.items (truths_within o w.within.b.run.log done s)) s.number c (log_of told) fell_log slot at refl so-far (notes_within w.within.b done s (In n) fell_log) run.keeper.memory.registration run.keeper.cabin (torn_out c at.second (with_session_of c None run.keeper.cabin)) U V (state x) (state y) Z floor broken
+        (others-left c (with_session c None run.keeper.cabin.cards) ∙ others-left c run.keeper.cabin.cards) (torn-other c (other c) at.second (with_session_of c None run.keeper.cabin) (other-apart c)) (λ sl there. torn-slot c (other c) at.second (with_session_of c None run.keeper.cabin) sl there)
+        (λ k mine known. spells-unhurt o done s n [] [] [] [] v (fallen_values (tear_of slot at) c at.second v) d e w.within g.within g.began w.within.moment.is w.within.moment.up_to.uncut beside-fell (stood-broken o 1 c U V (state x) (state y) Z floor broken) k (other c) mine known)
+        (inl refl) w.stay
+
     fell : HasBroken (state x) (state y) 1 → (b : Bool) → failed ≡ b → IsPoweredOrOff b o.found (carried_closed Fell c carries) (with_session c None (with_session c None run.keeper.cabin.cards)) e →
         GoesOnOrFails b o done s (In n) [] (with_cabin (torn_out c at.second (with_session_of c None run.keeper.cabin)) run) (record told { breaks = with_lines (tear_of slot at ∷ []) told.breaks }) e w.within.b
-    fell broken false is powered = goes-as o done s (In n) (In n) [] [] [] run (with_cabin (torn_out c at.second (with_session_of c None run.keeper.cabin)) run) told (record told { breaks = with_lines (tear_of slot at ∷ []) told.breaks }) d e w.within.from w refl refl refl
-        (subst (λ (u : ℕ). SecondGoesOn o done s (In n) [] None [] (fallen_values (tear_of slot at) c u v) e w.within.b w.within.from) (sym second)
-        (leaving-torn d e o done s (In n) v w.within slot c called (tear_of slot at) tear-here (card-fell c U V (state x) (state y) Z cause.breakdowns (rose-by (state x).breakdowns (state y).breakdowns broken.breakdowns)) powered))
-        (λ none. no-tear (log_of told) slot at none)
+    fell broken false is powered =
+        let g : SecondGoesOn o done s (In n) [] None [] (fallen_values (tear_of slot at) c at.second v) e w.within.b w.within.from =
+        subst (λ (u : ℕ). SecondGoesOn o done s (In n) [] None [] (fallen_values (tear_of slot at) c u v) e w.within.b w.within.from) (sym second)
+        (leaving-torn d e o done s (In n) v w.within slot c called (tear_of slot at) tear-here (card-fell c U V (state x) (state y) Z cause.breakdowns (rose-by (state x).breakdowns (state y).breakdowns broken.breakdowns)) powered) in
+        goes-as o done s (In n) (In n) [] [] [] run (with_cabin (torn_out c at.second (with_session_of c None run.keeper.cabin)) run) told (record told { breaks = with_lines (tear_of slot at ∷ []) told.breaks }) d e w.within.from w refl refl refl g (fell-stay broken g)
     fell broken true is powerless = record {
       waits = [];
       cabin = torn_out c at.second (with_session_of c None run.keeper.cabin);
@@ -273,7 +300,7 @@ module _ {C : Type 0} (state : C → State) (c : Card) (slot : Slot) (at : Momen
       (none-told told.breaks.items after.items (closed_breaks closing slot at) (ap (λ (l : Listed Break). l.items) is) (ap (λ (k : Closing). failed_tears (closed_breaks k slot at)) shut))
 
   -- SO IT IS RECORDED, whatever became of it
-  pub closed-recorded : (is_some (session_of run.keeper.cabin.cards c) ≡ true → NothingFailed (log_of told) → IsOwnValid (found_of o.found c).image → last_slot (spells_of c (notes_within w.within.b done s (In n) (log_of told))) ≡ Some slot) → (is_some (session_of run.keeper.cabin.cards c) ≡ true → NothingFailed (log_of told) → SatHere) → (failed ≡ false → TellMore [] U V) → (new : Run) (after : Listed Break) (closing : Closing) → (closing ≡ Closed → ClosesOnCard slot run.minutes (session_of run.keeper.cabin.cards c) (state x) (state y)) → IsClosed c slot at run new told.breaks after closing →
+  pub closed-recorded : (is_some (session_of run.keeper.cabin.cards c) ≡ true → (whose : Whose) → AreKnown whose o (log_of told) (arranged c U (state x) Z) → covers whose c ≡ true → IsOwnValid (found_of o.found c).image → last_slot (spells_of c (notes_within w.within.b done s (In n) (log_of told))) ≡ Some slot) → (is_some (session_of run.keeper.cabin.cards c) ≡ true → SatHere) → (failed ≡ false → TellMore [] U V) → (new : Run) (after : Listed Break) (closing : Closing) → (closing ≡ Closed → ClosesOnCard slot run.minutes (session_of run.keeper.cabin.cards c) (state x) (state y)) → IsClosed c slot at run new told.breaks after closing →
       IsCalm told.breaks.items after.items (state x) (state y) → HasBroken (state x) (state y) (closed_falls closing) → GoesOnOrFails failed o done s (In n) [] new (record told { breaks = after }) (arranged c V (state y) Z) w.within.b
   closed-recorded placed sat go new after closing shut is calm broken =
       subst (λ (r : Run). GoesOnOrFails failed o done s (In n) [] r (record told { breaks = after }) e w.within.b) (sym is.run)

@@ -1,39 +1,34 @@
 -- The faults of a keeping, and what has ended with a second, noted on the unit: what each image shows.
 use Rattle.std.proofs.Common.{◌≡◌, ◌∙◌, ◌⊎◌, inl, inr, ⊎_elim, ℕ, ◌+◌, Bool, true, false, Option, Some, None, List, [], ◌∷◌, ◌++◌, length, refl, sym, subst, arith}
-use Rattle.std.specs.Prelude.{option_to_list}
 use Rattle.trace_model.specs.declared.Card.{Card}
 use Rattle.tach_media.specs.Medium.{State, IsCoherent}
-use Rattle.log_model.specs.Log.{RunLog}
 use Rattle.unit_model.specs.Image.{IsUnit}
-use Rattle.event_model.specs.declared.kinds.TheConstants.{DRIVING_WITHOUT_CARD, OVER_SPEEDING, CARD_FAULT}
+use Rattle.event_model.specs.declared.kinds.TheConstants.{CARD_FAULT}
 use Rattle.event_model.specs.Events.{Event, Seen}
 use Rattle.tacho_types.specs.declared.card_number.FullCardNumber.{FullCardNumber}
-use Rattle.unit_events.specs.Noted.{are_sure}
 use Rattle.unit_notes.specs.declared.unit_event.UnitEvent.{UnitEvent}
 use Rattle.unit_notes.specs.Entries.{fault_bytes}
-use Rattle.unit_notes.specs.Noting.{IsEventNoted}
+use Rattle.unit_notes.specs.Noting.{IsEventNoted, IsNotingEvent}
 use Rattle.run_promise.specs.Between.{devices}
 use Rattle.run_crew.specs.declared.cabin.Cabin.{Cabin}
-use Rattle.run_events.specs.Shown.{by_kind, none, ShowsMore, AreNumbers, SaysNothing, SaysNothingBut}
-use Rattle.run_events.proofs.Shows.{more-then, nothing-more, nothing-but}
+use Rattle.run_events.specs.Shown.{by_kind, none_sure, all_sure, ShowsEvents, AreNumbers}
+use Rattle.run_events.proofs.Shows.{more-then, moment-first, moment-then, nothing-more, nothing-of}
 use Rattle.run_events.specs.Seconds.{bares_by, overs_by}
-use Rattle.run_events.proofs.Frames.{event-more}
+use Rattle.run_events.proofs.Frames.{event-more, event-coming}
 use Rattle.run_promise.specs.Origin.{Origin}
 use Rattle.run_note_record.specs.Evented.{number_in}
 use Rattle.run_events.specs.declared.watch.Ended.{Ended}
-use Rattle.run_events.specs.Watching.{BareWith, OverWith, bare_ended, over_ended}
 use Rattle.run_events.specs.Noting.{AreNoted, AreBeingNoted}
-use Rattle.run_events.specs.Watched.{number_bytes, ArePairs, IsBareOf, IsFastOf}
+use Rattle.run_events.specs.Watched.{number_bytes}
 use Rattle.run_events.specs.Turned.{AreEnded, AreLow}
-use Rattle.run_events.proofs.Turned.{turn-shown, turn-moment}
+use Rattle.run_events.proofs.Turned.{says-same, turn-shown, turn-coming}
 use Rattle.card_slots.specs.declared.seats.Present.{Present}
 use Rattle.run_minutes.specs.declared.keeper.Keeper.{Keeper}
 use Rattle.run_minutes.specs.declared.keeper.Moment.{Moment}
 use Rattle.run_minutes.specs.Keeping.{Fate, Still, Has, Fell, cabin_by}
 use Rattle.run_minutes.specs.Minutes.{Round, KeepingState, Done, Reach, Whole, Short, cabin_after, told_after, told_by, present_at}
-use Rattle.run_minutes.specs.Faults.{faults_by, round_faults, last_faults, faults_of, faults_to, TellsFaults, NotesFaults}
-use Rattle.run_acts.specs.NotedEvents.{AreUnsure, AreTold, NotesSo, NotesEvents}
-use Rattle.run_acts.proofs.NotedEvents.{unsure-front, unsure-back, unsure-shown}
+use Rattle.run_minutes.specs.Faults.{faults_by, round_faults, last_faults, faults_of, faults_to, TellsFaults, TellsFirst, NotesFaults}
+use Rattle.run_acts.specs.NotedEvents.{NoteTellsEvent, AreTold, NotesSo, NotesEvents}
 use Rattle.run_acts.specs.KeptEvents.{AreFaults, AreNumbered}
 
 -- ---- what a keeping notes are faults
@@ -72,40 +67,46 @@ faults-are k at (Short xs m round) t =
 pub as-long : (U : State) → IsCoherent U → IsUnit U → (x : List ℕ) → U.may_leave x → length x ≡ 2485808
 as-long U whole unit x at = let all = whole.left_sized x at in let size = unit.sized in let none_behind = unit.behind in omega (arith, all, size, none_behind)
 
-same-events : (x y : List ℕ) → y ≡ x → SaysNothing x y
-same-events x y is = subst (λ (c : List ℕ). SaysNothing x c) (sym is) (record { tables = λ kind there. refl; first_over = refl; over_count = refl })
-
 -- ---- faults
 
-module _ (number : Card → List ℕ) (long : AreNumbers number) (log : RunLog) (now : ℕ → List Event) where
-  faults-shown : (vs : List UnitEvent) (es : List Event) (x c : List ℕ) → length x ≡ 2485808 → AreFaults vs → AreTold number vs es → TellsFaults vs x c → ShowsMore number log now (by_kind es) x c
-  faults-shown [] [] x c sized are told h = nothing-more number log now x c h.0
+module _ (number : Card → List ℕ) (long : AreNumbers number) where
+  one-fault : (v : UnitEvent) (e : Event) → v.kind ≡ CARD_FAULT → NoteTellsEvent number e v → (y z : List ℕ) → length y ≡ 2485808 → IsEventNoted CARD_FAULT (fault_bytes v) y z → ShowsEvents number all_sure y (by_kind (e ∷ [])) z
+  one-fault v e is told y z sized noted =
+      event-more number long e told.there y z sized v told.other told.begin told.end told.is (subst (λ (k : ℕ). IsEventNoted k (fault_bytes v) y z) (sym is ∙ told.is.kind) noted)
+
+  faults-shown : (vs : List UnitEvent) (es : List Event) (x c : List ℕ) → length x ≡ 2485808 → AreFaults vs → AreTold number vs es → TellsFaults vs x c → ShowsEvents number all_sure x (by_kind es) c
+  faults-shown [] [] x c sized are told h = nothing-more number all_sure x c h.0
   faults-shown [] (e ∷ es) x c sized are told h = absurd told
   faults-shown (v ∷ vs) [] x c sized are told h = absurd told
   faults-shown (v ∷ vs) (e ∷ es) x c sized are told h =
-      let first = told.0 in
       let y : List ℕ = h.0 in
       let z : List ℕ = h.1 in
-      let kind : CARD_FAULT ≡ e.kind = sym are.0 ∙ first.is.kind in
       let y_long : length y ≡ 2485808 = h.2.1 ∙ sized in
-      more-then number log now [] (e ∷ es) x y c (nothing-more number log now x y h.2.0)
-      (more-then number log now (e ∷ []) es y z c (event-more number long log now e first.there y z y_long v first.other first.begin first.end first.is (subst (λ (k : ℕ). IsEventNoted k (fault_bytes v) y z) kind h.3))
+      more-then number all_sure [] (e ∷ es) x y c (nothing-more number all_sure x y h.2.0)
+      (more-then number all_sure (e ∷ []) es y z c (one-fault v e are.0 told.0 y z y_long h.3)
       (faults-shown vs es z c (h.3.outside.same_length ∙ y_long) are.1 told.1 h.4))
 
-  faults-unsure : (vs : List UnitEvent) (es : List Event) (x c : List ℕ) → AreFaults vs → AreTold number vs es → AreUnsure log now es → (vs ≡ [] → SaysNothing x c) → SaysNothingBut CARD_FAULT x c → ShowsMore number log now none x c
-  faults-unsure [] es x c are told unsure same but = nothing-more number log now x c (same refl)
-  faults-unsure (v ∷ vs) [] x c are told unsure same but = absurd told
-  faults-unsure (v ∷ vs) (e ∷ es) x c are told unsure same but =
-      let kind : CARD_FAULT ≡ e.kind = sym are.0 ∙ told.0.is.kind in
-      nothing-but number log now e.kind x c (subst (λ (k : ℕ). SaysNothingBut k x c) kind but) unsure.0
+  -- the first of them, where the unit failed
+  faults-coming : (vs : List UnitEvent) (es : List Event) (x c : List ℕ) → length x ≡ 2485808 → AreFaults vs → AreTold number vs es → TellsFirst vs x c → ShowsEvents number none_sure x (by_kind es) c
+  faults-coming [] es x c sized are told h = nothing-of number (by_kind es) x c h.0
+  faults-coming (v ∷ vs) [] x c sized are told h = absurd told
+  faults-coming (v ∷ vs) (e ∷ es) x c sized are told (inl same) = nothing-of number (by_kind (e ∷ es)) x c same.0
+  faults-coming (v ∷ vs) (e ∷ es) x c sized are told (inr (y, same, inl moment)) =
+      moment-then number [] (e ∷ es) x y c (nothing-more number all_sure x y same.0)
+      (moment-first number (e ∷ []) es y c
+      (event-coming number long e told.0.there y c (same.1 ∙ sized) v told.0.other told.0.begin told.0.end told.0.is (subst (λ (k : ℕ). IsNotingEvent k (fault_bytes v) y c) (sym are.0 ∙ told.0.is.kind) moment)))
+  faults-coming (v ∷ vs) (e ∷ es) x c sized are told (inr (y, same, inr (z, noted, rest))) =
+      moment-then number [] (e ∷ es) x y c (nothing-more number all_sure x y same.0)
+      (moment-then number (e ∷ []) es y z c (one-fault v e are.0 told.0 y z (same.1 ∙ sized) noted)
+      (faults-coming vs es z c (noted.outside.same_length ∙ same.1 ∙ sized) are.1 told.1 rest))
 
 pub faults-noted : (vs : List UnitEvent) (failed : Bool) (U V A B C D : State) → IsCoherent U → IsUnit U → AreFaults vs → NotesFaults failed vs U V → NotesEvents vs failed (devices U A B) (devices V C D)
 faults-noted vs false U V A B C D whole unit are h o long es told = λ c at.
     let x = h c at in
-    (x.0, x.1, λ log now. faults-shown (number_in o) long log now vs es x.0 c (as-long U whole unit x.0 x.1) are told x.2)
-faults-noted vs true U V A B C D whole unit are h o long es told = λ log now unsure c at.
+    (x.0, x.1, faults-shown (number_in o) long vs es x.0 c (as-long U whole unit x.0 x.1) are told x.2)
+faults-noted vs true U V A B C D whole unit are h o long es told = λ c at.
     let x = h c at in
-    (x.0, x.1, faults-unsure (number_in o) long log now vs es x.0 c are told unsure x.2.0 x.2.1)
+    (x.0, x.1, faults-coming (number_in o) long vs es x.0 c (as-long U whole unit x.0 x.1) are told x.2)
 
 -- ---- what has ended
 
@@ -113,7 +114,7 @@ faults-noted vs true U V A B C D whole unit are h o long es told = λ log now un
 fun-same : {X : Type 0} (f g : Card → X) → ((c : Card) → f c ≡ g c) → f ≡ g
 fun-same f g h = λ i. λ c. h c i
 
-module _ (o : Origin) (long : AreNumbers (number_in o)) (number : Card → FullCardNumber) (named : AreNumbered o number) (log : RunLog) (now : ℕ → List Event) (limit : ℕ) (span new : List Seen) (ended : Ended) (are : AreEnded number limit span new ended) (low : AreLow span)
+module _ (o : Origin) (long : AreNumbers (number_in o)) (number : Card → FullCardNumber) (named : AreNumbered o number) (limit : ℕ) (span new : List Seen) (ended : Ended) (are : AreEnded number limit span new ended) (low : AreLow span)
     (lows : AreLow new) where
   abbrev es : List Event
   es = bares_by span new ++ overs_by limit span new
@@ -124,24 +125,11 @@ module _ (o : Origin) (long : AreNumbers (number_in o)) (number : Card → FullC
   as-many : AreNumbers (number_bytes number)
   as-many = subst AreNumbers same-numbers long
 
-  ended-shown : (x c : List ℕ) → length x ≡ 2485808 → AreNoted ended x c → ShowsMore (number_in o) log now (by_kind es) x c
-  ended-shown x c sized noted = subst (λ (f : Card → List ℕ). ShowsMore f log now (by_kind es) x c) (sym same-numbers) (turn-shown number as-many log now limit span new ended are low lows x c sized noted)
+  ended-shown : (x c : List ℕ) → length x ≡ 2485808 → AreNoted ended x c → ShowsEvents (number_in o) all_sure x (by_kind es) c
+  ended-shown x c sized noted = subst (λ (f : Card → List ℕ). ShowsEvents f all_sure x (by_kind es) c) (sym same-numbers) (turn-shown number as-many limit span new ended are low lows x c sized noted)
 
-  bares-unsure : (bares : List Event) (q : Option BareWith) → ArePairs (IsBareOf number) bares (option_to_list q) → AreUnsure log now bares → (bares ≡ []) ⊎ (are_sure log (now DRIVING_WITHOUT_CARD) ≡ true → ⊥)
-  bares-unsure [] q pairs un = inl refl
-  bares-unsure (e ∷ bares) None pairs un = absurd pairs
-  bares-unsure (e ∷ bares) (Some b) pairs un = inr (subst (λ (k : ℕ). are_sure log (now k) ≡ true → ⊥) (sym pairs.0.kind) un.0)
-
-  overs-unsure : (overs : List Event) (q : Option OverWith) → ArePairs (IsFastOf number) overs (option_to_list q) → AreUnsure log now overs → (overs ≡ []) ⊎ (are_sure log (now OVER_SPEEDING) ≡ true → ⊥)
-  overs-unsure [] q pairs un = inl refl
-  overs-unsure (e ∷ overs) None pairs un = absurd pairs
-  overs-unsure (e ∷ overs) (Some f) pairs un = inr (subst (λ (k : ℕ). are_sure log (now k) ≡ true → ⊥) pairs.0.kind un.0)
-
-  ended-moment : (x c : List ℕ) → length x ≡ 2485808 → AreUnsure log now es → AreBeingNoted ended x c → ShowsMore (number_in o) log now none x c
-  ended-moment x c sized unsure moment =
-      let bares = bares-unsure (bares_by span new) (bare_ended ended) are.bares (unsure-front log now (bares_by span new) (overs_by limit span new) unsure) in
-      let overs = overs-unsure (overs_by limit span new) (over_ended ended) are.overs (unsure-back log now (bares_by span new) (overs_by limit span new) unsure) in
-      subst (λ (f : Card → List ℕ). ShowsMore f log now none x c) (sym same-numbers) (turn-moment number as-many log now limit span new ended are low lows x c sized (bares, overs) moment)
+  ended-coming : (x c : List ℕ) → length x ≡ 2485808 → AreBeingNoted ended x c → ShowsEvents (number_in o) none_sure x (by_kind es) c
+  ended-coming x c sized moment = subst (λ (f : Card → List ℕ). ShowsEvents f none_sure x (by_kind es) c) (sym same-numbers) (turn-coming number as-many limit span new ended are low lows x c sized moment)
 
 -- ---- the faults of a turn's keeping, and then what has ended
 
@@ -160,20 +148,19 @@ module _ (vs : List UnitEvent) (ended : Ended) (U V A B C D : State) (whole : Is
       let sized : length h.0 ≡ 2485808 = as-long U whole unit h.0 h.1 in (
         h.0,
         h.1,
-        λ log now. more-then (number_in o) log now faults brought h.0 h.2 c (faults-shown (number_in o) long log now vs faults h.0 h.2 sized are told h.3)
-            (ended-shown o long number named log now limit span new ended ends low lows h.2 c (tells-long vs h.0 h.2 h.3 sized) h.4),
+        more-then (number_in o) all_sure faults brought h.0 h.2 c (faults-shown (number_in o) long vs faults h.0 h.2 sized are told h.3)
+            (ended-shown o long number named limit span new ended ends low lows h.2 c (tells-long vs h.0 h.2 h.3 sized) h.4),
       )
 
   pub turn-cut : ((c : List ℕ) → V.may_leave c → (x : List ℕ) × U.may_leave x × (y : List ℕ) × TellsFaults vs x y × ((c ≡ y) ⊎ AreBeingNoted ended y c)) → NotesSo true o (faults ++ brought) (devices U A B) (devices V C D)
-  turn-cut noted = λ log now unsure c at.
+  turn-cut noted = λ c at.
       let h = noted c at in
       let sized : length h.0 ≡ 2485808 = as-long U whole unit h.0 h.1 in (
         h.0,
         h.1,
-        more-then (number_in o) log now [] [] h.0 h.2 c
-            (unsure-shown (number_in o) log now faults h.0 h.2 (unsure-front log now faults brought unsure) (faults-shown (number_in o) long log now vs faults h.0 h.2 sized are told h.3))
+        moment-then (number_in o) faults brought h.0 h.2 c (faults-shown (number_in o) long vs faults h.0 h.2 sized are told h.3)
             (⊎_elim
-            (λ same. nothing-more (number_in o) log now h.2 c (same-events h.2 c same))
-            (λ moment. ended-moment o long number named log now limit span new ended ends low lows h.2 c (tells-long vs h.0 h.2 h.3 sized) (unsure-back log now faults brought unsure) moment)
+            (λ same. nothing-of (number_in o) (by_kind brought) h.2 c (says-same h.2 c same))
+            (λ moment. ended-coming o long number named limit span new ended ends low lows h.2 c (tells-long vs h.0 h.2 h.3 sized) moment)
             h.4),
       )

@@ -17,7 +17,6 @@ use Rattle.log_model.specs.Log.{In, is_accepting}
 use Rattle.log_model.specs.Course.{Visit, went}
 use Rattle.log_model.specs.Spans.{AreInOrder}
 use Rattle.device_rule.specs.Views.{other}
-use Rattle.tacho_types.specs.declared.texts.Registration.{Registration}
 use Rattle.safety_model.specs.Safe.{Devices}
 use Rattle.run_minutes.specs.declared.keeper.Moment.{Moment}
 use Rattle.run_insertion.specs.declared.lines.Entering.{Entering}
@@ -30,18 +29,13 @@ use Rattle.run_course.proofs.Logs.{all-before}
 use Rattle.run_note_record.proofs.Stored.{AtEnd, nothing, push, at-end}
 use Rattle.run_acts.specs.Words.{withdraws, begun_in}
 use Rattle.run_acts.specs.Truths.{PutsIn, IsLineOf}
-use Rattle.run_acts.specs.Stays.{Stay, Shown, Coming, comings_of, lines_of, after_stay, AreMerged, judged_in}
+use Rattle.run_acts.specs.Stays.{Stay, AreMerged}
 use Rattle.run_acts.proofs.NotesThen.{get-at}
 use Rattle.run_acts.proofs.Since.{IsToldLast, IsPutAndTold, HasSat, slot-itself, nat-itself, line-own}
 
 -- ---- lines that are merged
 
-merged-map : {X Y : Type 0} (f : X → Y) (lines one other : List X) → AreMerged lines one other → AreMerged (map f lines) (map f one) (map f other)
-merged-map f [] one other h = (ap (map f) h.0, ap (map f) h.1)
-merged-map f (x ∷ lines) one other (inl h) = inl (map f h.0, ap (map f) h.1, merged-map f lines h.0 other h.2)
-merged-map f (x ∷ lines) one other (inr h) = inr (map f h.0, ap (map f) h.1, merged-map f lines one h.0 h.2)
-
-merged-swap : {X : Type 0} (lines one other : List X) → AreMerged lines one other → AreMerged lines other one
+pub merged-swap : {X : Type 0} (lines one other : List X) → AreMerged lines one other → AreMerged lines other one
 merged-swap [] one other h = (h.1, h.0)
 merged-swap (x ∷ lines) one other (inl h) = inr (h.0, h.1, merged-swap lines h.0 other h.2)
 merged-swap (x ∷ lines) one other (inr h) = inl (h.0, h.1, merged-swap lines one h.0 h.2)
@@ -73,7 +67,7 @@ merged-at {X} P (y ∷ front) x rest one other all (inr h) = ⊎_elim
 
 -- ---- lists
 
-all-passed : {X : Type 0} (P : X → Type 0) (p : X → Bool) (xs : List X) → AllByRecursion P xs → AllByRecursion P (filter p xs)
+pub all-passed : {X : Type 0} (P : X → Type 0) (p : X → Bool) (xs : List X) → AllByRecursion P xs → AllByRecursion P (filter p xs)
 all-passed P p [] all = tt
 all-passed {X} P p (x ∷ xs) all = by (p x) (all-passed P p xs all.1)
   where
@@ -113,26 +107,6 @@ same-place front before a b rest behind are long =
 
 abbrev pub found_of_all : List Stay → List Find
 found_of_all ss = map (λ (s : Stay). s.found) ss
-
-comings-found : (vehicle : Registration) (size : ℕ) (ss : List Stay) (p : Shown) → lines_of (comings_of vehicle size ss p) ≡ found_of_all ss
-comings-found vehicle size [] p = refl
-comings-found vehicle size (s ∷ ss) p = ap (λ (fs : List Find). s.found ∷ fs) (comings-found vehicle size ss (after_stay vehicle size s p))
-
--- the acceptances are those of the card's stays and of the other's
-pub acceptances-merged : (vehicle : Registration) (size : Card → ℕ) (start : Card → Shown) (stays : Card → List Stay) (comings : List Coming) (acceptances : List Find) → lines_of comings ≡ acceptances →
-    AreMerged comings (comings_of vehicle (size A) (stays A) (start A)) (comings_of vehicle (size B) (stays B) (start B)) → (c : Card) → AreMerged acceptances (found_of_all (stays c)) (found_of_all (stays (other c)))
-acceptances-merged vehicle size start stays comings acceptances lines merged = by
-  where
-    both : AreMerged acceptances (found_of_all (stays A)) (found_of_all (stays B))
-    both =
-        subst (λ (fs : List Find). AreMerged fs (found_of_all (stays A)) (found_of_all (stays B))) lines
-        (subst (λ (fs : List Find). AreMerged (lines_of comings) fs (found_of_all (stays B))) (comings-found vehicle (size A) (stays A) (start A))
-        (subst (λ (fs : List Find). AreMerged (lines_of comings) (lines_of (comings_of vehicle (size A) (stays A) (start A))) fs) (comings-found vehicle (size B) (stays B) (start B))
-        (merged-map (λ (k : Coming). k.found) comings (comings_of vehicle (size A) (stays A) (start A)) (comings_of vehicle (size B) (stays B) (start B)) merged)))
-
-    by : (c : Card) → AreMerged acceptances (found_of_all (stays c)) (found_of_all (stays (other c)))
-    by A = both
-    by B = merged-swap acceptances (found_of_all (stays A)) (found_of_all (stays B)) both
 
 found-more : (front : List Stay) (s : Stay) → found_of_all (front ++ s ∷ []) ≡ found_of_all front ++ s.found ∷ []
 found-more [] s = refl
@@ -254,15 +228,6 @@ module _ (seconds : List TraceSecond) (s : TraceSecond) (finds : List Find) (act
 -- of the last of its stays
 pub last-found : (front : List Stay) (x : Stay) (ss : List Stay) → ss ≡ front ++ x ∷ [] → found_of_all ss ≡ found_of_all front ++ x.found ∷ []
 last-found front x ss are = ap found_of_all are ∙ found-more front x
-
--- what holds of each line by which a card was judged holds of those of its stays
-lines-behind : (P : Find → Type 0) (fs rest : List Find) → AllByRecursion P (fs ++ rest) → AllByRecursion P rest
-lines-behind P [] rest all = all
-lines-behind P (f ∷ fs) rest all = lines-behind P fs rest all.1
-
-pub lines-own : (P : Find → Type 0) (ss : List Stay) (since : List Find) → AllByRecursion P (judged_in ss since) → AllByRecursion P (found_of_all ss)
-lines-own P [] since all = tt
-lines-own P (s ∷ ss) since all = let own = lines-behind P s.turned (s.found ∷ judged_in ss since) all in (own.0, lines-own P ss since own.1)
 
 -- ---- ONE SECOND alone has a number
 pub only-second : (from : ℕ) (done : List TraceSecond) (s : TraceSecond) → AreInOrder from done → s.number ≡ from + length done → (x : TraceSecond) → Contains (done ++ s ∷ []) x → x.number ≡ s.number → x ≡ s

@@ -54,7 +54,10 @@ pub mod FallEvented
 pub mod Stays
 pub mod AllStay
 pub mod SeatsThen
+pub mod KeptSeats
+pub mod FallenStays
 pub mod NotesThen
+pub mod TornNotes
 pub mod Truths
 pub mod MinuteEnds
 pub mod WholeLegs
@@ -62,6 +65,7 @@ pub mod TruthsThen
 mod TruthRows
 mod Since
 pub mod LastLine
+pub mod ToldLines
 pub mod Words
 pub mod EnteredStays
 pub mod NoteRecorded
@@ -101,6 +105,7 @@ pub mod CardEnds
 pub mod CardWaking
 pub mod CardStays
 pub mod CardPlaces
+pub mod SessionsClosed
 pub mod CardTurn
 pub mod CardActs
 pub mod CardWrites

@@ -10,7 +10,7 @@ use Rattle.trace_model.specs.declared.Action.TheVariants.{Place}
 use Rattle.trace_model.specs.Trace.{TraceSecond}
 use Rattle.run_model.specs.declared.Device.TheVariants.{Unit as Recorder}
 use Rattle.activity_codec.specs.declared.values.Slot.{Slot}
-use Rattle.tach_media.specs.Medium.{State, IsCoherent, LeavesOnly, HasCause, HasBroken, Rose}
+use Rattle.tach_media.specs.Medium.{State, IsCoherent, LeavesOnly, HasCause, HasBroken, Rose, last_count}
 use Rattle.card_layout.specs.declared.files.TheConstants.{LARGEST_IMAGE}
 use Rattle.card_session.specs.Sessions.{IsValue}
 use Rattle.card_image.specs.Own.{IsOwnValid}
@@ -22,7 +22,7 @@ use Rattle.minute_rules.specs.Kept.{Kept, CountsSpan}
 use Rattle.log_model.specs.declared.lines.Break.{Break}
 use Rattle.log_model.specs.declared.lines.Break.TheVariants.{Tear}
 use Rattle.log_model.specs.Log.{Phase, In, phase_of, RunLog}
-use Rattle.log_model.specs.Causes.{RoseBy, second_of}
+use Rattle.log_model.specs.Causes.{RoseBy, device_of, second_of}
 use Rattle.log_model.specs.Course.{Visit, Went, went}
 use Rattle.unit_notes.specs.Journal.{LeavesJournal}
 use Rattle.unit_model.specs.Image.{odometer_at}
@@ -79,7 +79,13 @@ use Rattle.run_acts.specs.Truths.{truths_within, marked}
 use Rattle.run_acts.specs.Stays.{sits_in, AllStay}
 use Rattle.note_model.specs.Noted.{Note}
 use Rattle.run_acts.proofs.Stays.{stays-still}
-use Rattle.run_acts.proofs.AllStay.{turns-so, all-unit, all-one, all-noted, log-self, no-tear}
+use Rattle.run_acts.proofs.AllStay.{turns-so, all-unit, all-one, all-noted, log-self, known-still, stood-calm, stood-broken, others-left, other-apart}
+use Rattle.run_acts.proofs.SeatsThen.{torn-other, torn-slot}
+use Rattle.run_acts.proofs.RingedLines.{TellsBeside, phase_at, tears-beside}
+use Rattle.run_acts.proofs.KeptSeats.{floor-in}
+use Rattle.run_acts.proofs.FallenStays.{all-fell}
+use Rattle.run_acts.proofs.TornNotes.{spells-unhurt}
+use Rattle.device_rule.specs.Views.{other}
 use Rattle.run_acts.proofs.NotesThen.{place-now}
 use Rattle.run_acts.proofs.NotedOn.{noted-books, noted-timed, noted-does}
 use Rattle.run_course.proofs.Telling.{card-torn}
@@ -395,9 +401,9 @@ module _ (c : Card) (slot : Slot) (at : Moment) (run : Run) (breaks : Listed Bre
     still : (failed ≡ false → TellMore [] U V) → HasCause X Y false → (b : Bool) → failed ≡ b → IsPoweredOrOff b o.found carries run.keeper.cabin.cards e → GoesOnOrFails b o done s (In at.begun) [] run (record out { breaks = breaks }) e w.within.b
     still go on_card false is powered = goes-as o done s (In at.begun) (In at.begun) [] [] [] run run (record out { breaks = breaks }) (record out { breaks = breaks }) d e w.within.from w refl refl refl
         (call-recorded d e o done s (In at.begun) [] None [] v w.within (record { goes = goes; breakdowns = calm on_card; powered = powered; travels = travels }))
-        (all-one o (marked out.marks.items (truths_within o w.within.b.run.log done s)) s.number c (log_of (record out { breaks = breaks })) (log_of (record out { breaks = breaks })) here-notes here-notes run.keeper.memory.registration run.keeper.cabin run.keeper.cabin U V X Y Z (λ none. none) refl refl (λ slot there. there) (λ none. refl) (λ none was. was)
-        (λ none held. turns-so (marked out.marks.items (truths_within o w.within.b.run.log done s)) c s.number (found_of o.found c) (log_of (record out { breaks = breaks })) run.keeper.memory.registration (spells_of c here-notes) (sits_in run.keeper.cabin.slots.seats c) (session_of run.keeper.cabin.cards c) (session_of run.keeper.cabin.cards c) U V X Y (λ all. all) (λ all is. is) (λ all. refl) (go is) (λ all lines. refl) (λ all lines waits was. was) (λ valid some. some) (held.stays c) (held.since c)
-        (λ valid h. stays-still s.number (found_of o.found c) run.keeper.memory.registration (spells_of c here-notes) (sits_in run.keeper.cabin.slots.seats c) (held.stays c) (session_of run.keeper.cabin.cards c) X Y (noted-does o.found carries run.keeper.cabin.cards run.keeper.cabin.cards c U X Y Z w.within.found unit_whole whole later size a value has w.within.powered card valid) h) (λ only shown all. all)) w.stay)
+        (all-one o (marked out.marks.items (truths_within o w.within.b.run.log done s)) s.number c (log_of (record out { breaks = breaks })) (log_of (record out { breaks = breaks })) here-notes here-notes run.keeper.memory.registration run.keeper.cabin run.keeper.cabin U V X Y Z (λ whose known. known-still whose o (log_of (record out { breaks = breaks })) d e (stood-calm o d e (calm on_card)) known) refl refl (λ slot there. there) (λ whose known in_. refl) (λ whose known in_ was. was)
+        (λ whose known in_ held. turns-so whose (marked out.marks.items (truths_within o w.within.b.run.log done s)) c s.number (found_of o.found c) (log_of (record out { breaks = breaks })) run.keeper.memory.registration (spells_of c here-notes) (sits_in run.keeper.cabin.slots.seats c) (session_of run.keeper.cabin.cards c) (session_of run.keeper.cabin.cards c) U V X Y (λ all. all) (λ all is. is) (λ all. refl) (go is) (λ all lines. refl) (λ all lines waits was. was) (λ valid some. some) (held.stays c) (held.since c)
+        (λ valid h. stays-still s.number (found_of o.found c) run.keeper.memory.registration (spells_of c here-notes) (sits_in run.keeper.cabin.slots.seats c) (held.stays c) (session_of run.keeper.cabin.cards c) X Y (noted-does o.found carries run.keeper.cabin.cards run.keeper.cabin.cards c U X Y Z w.within.found unit_whole whole later size a value has w.within.powered card valid) h) (λ only shown all. all)) (λ whose known out_. inl refl) w.stay)
     still go on_card true is powerless = record {
       waits = [];
       cabin = run.keeper.cabin;
@@ -438,12 +444,31 @@ module _ (c : Card) (slot : Slot) (at : Moment) (run : Run) (breaks : Listed Bre
       travels = travels;
     }
 
+    -- the stays of the other card are as they were
+    abbrev fell_log : RunLog
+    fell_log = log_of (record out { breaks = with_lines (tear_of slot at ∷ []) breaks })
+
+    beside-fell : TellsBeside (log_of (record out { breaks = breaks })) fell_log s.number (In at.begun)
+    beside-fell =
+        subst (λ (p : Phase). TellsBeside (log_of (record out { breaks = breaks })) fell_log s.number p) (ap (λ (l : Bool). phase_of at.begun l) late)
+        (subst (λ (u : ℕ). TellsBeside (log_of (record out { breaks = breaks })) fell_log u (phase_at at)) here (tears-beside at (tear_of slot at ∷ []) (log_of (record out { breaks = breaks })) fell_log refl ((slot, refl), tt)))
+
+    fell-stay : HasBroken X Y 1 → SecondGoesOn o done s (In at.begun) [] None [] (torn_values (tear_of slot at) (torn_out c at.second run.keeper.cabin) v) e w.within.b w.within.from →
+        AllStay o (marked out.marks.items (truths_within o w.within.b.run.log done s)) s.number fell_log (notes_within w.within.b done s (In at.begun) fell_log) run.keeper.memory.registration (torn_out c at.second run.keeper.cabin) e
+    fell-stay broken g =
+        let floor = λ (k : Card) (low_ : o.breakdowns (device_of k) < last_count). floor-in o done s (In at.begun) [] None [] v d w.within k low_ in
+        all-fell o (marked out.marks.items (truths_within o w.within.b.run.log done s)) s.number c (log_of (record out { breaks = breaks })) fell_log slot at refl here-notes (notes_within w.within.b done s (In at.begun) fell_log) run.keeper.memory.registration run.keeper.cabin (torn_out c at.second run.keeper.cabin) U V X Y Z floor broken
+        (others-left c run.keeper.cabin.cards) (torn-other c (other c) at.second run.keeper.cabin (other-apart c)) (λ sl there. torn-slot c (other c) at.second run.keeper.cabin sl there)
+        (λ k mine known. spells-unhurt o done s at.begun [] [] [] [] v (torn_values (tear_of slot at) (torn_out c at.second run.keeper.cabin) v) d e w.within g.within g.began w.within.moment.is w.within.moment.up_to.uncut beside-fell (stood-broken o 1 c U V X Y Z floor broken) k (other c) mine known)
+        (inl refl) w.stay
+
     fell : HasCause X Y true → HasBroken X Y 1 → (b : Bool) → failed ≡ b → IsPoweredOrOff b o.found (with_standing c (fallen w.within.from (w.within.standing c)) carries) (with_session c None run.keeper.cabin.cards) e
         → GoesOnOrFails b o done s (In at.begun) [] (with_cabin (torn_out c at.second run.keeper.cabin) run) (record out { breaks = with_lines (tear_of slot at ∷ []) breaks }) e w.within.b
-    fell on_card broken false is powered = goes-as o done s (In at.begun) (In at.begun) [] [] [] run (with_cabin (torn_out c at.second run.keeper.cabin) run) (record out { breaks = breaks }) (record out { breaks = with_lines (tear_of slot at ∷ []) breaks }) d e w.within.from w refl refl refl
-        (subst (λ (n : ℕ). SecondGoesOn o done s (In at.begun) [] None [] (torn_values (tear_of slot at) (torn_out c n run.keeper.cabin) v) e w.within.b w.within.from) (sym here)
-        (seated-torn d e o done s (In at.begun) v w.within slot c (tear_of slot at) (called on_card broken) powered))
-        (λ none. no-tear (log_of (record out { breaks = breaks })) slot at none)
+    fell on_card broken false is powered =
+        let g : SecondGoesOn o done s (In at.begun) [] None [] (torn_values (tear_of slot at) (torn_out c at.second run.keeper.cabin) v) e w.within.b w.within.from =
+        subst (λ (n : ℕ). SecondGoesOn o done s (In at.begun) [] None [] (torn_values (tear_of slot at) (torn_out c n run.keeper.cabin) v) e w.within.b w.within.from) (sym here)
+        (seated-torn d e o done s (In at.begun) v w.within slot c (tear_of slot at) (called on_card broken) powered) in
+        goes-as o done s (In at.begun) (In at.begun) [] [] [] run (with_cabin (torn_out c at.second run.keeper.cabin) run) (record out { breaks = breaks }) (record out { breaks = with_lines (tear_of slot at ∷ []) breaks }) d e w.within.from w refl refl refl g (fell-stay broken g)
     fell on_card broken true is powerless = record {
       waits = [];
       cabin = torn_out c at.second run.keeper.cabin;
@@ -611,8 +636,8 @@ place-told o done s slot ending country region begun speed run out d now front r
     (goes-as o done s (In (length front)) (In (suc (length front))) [] [] [] run run out out d d w.within.from w refl refl refl
     (place-recorded d o done s (values_of run out) front slot ending country region rest are w.within
     (allowed-in o done s (In (length front)) [] None [] (values_of run out) d w.within speed (Place slot ending country region) now.speed_is allowed))
-    (all-noted o (marked out.marks.items (truths_within o w.within.b.run.log done s)) s.number (log_of out) (log_of out) (notes_within w.within.b done s (In (length front)) (log_of out)) (notes_within w.within.b done s (In (suc (length front))) (log_of out)) run.keeper.memory.registration run.keeper.cabin d (log-self (log_of out))
-    (λ none c. place-now o done s front rest slot ending country region are (values_of run out) d w.within
+    (all-noted o (marked out.marks.items (truths_within o w.within.b.run.log done s)) s.number (log_of out) (log_of out) (notes_within w.within.b done s (In (length front)) (log_of out)) (notes_within w.within.b done s (In (suc (length front))) (log_of out)) run.keeper.memory.registration run.keeper.cabin d (log-self o (log_of out) d)
+    (λ whose known c in_. place-now o done s front rest slot ending country region are (values_of run out) d w.within
     (allowed-in o done s (In (length front)) [] None [] (values_of run out) d w.within speed (Place slot ending country region) now.speed_is allowed) c) w.stay))
 
 -- a note on the unit, whichever card a call is about

@@ -1,28 +1,21 @@
 -- What calls note on the unit, one call after another.
-use Rattle.std.proofs.Common.{◌≡◌, ◌∙◌, ◌⊎◌, ⊎_elim, ℕ, ◌+◌, Bool, true, false, cond, not, nat_eq, Option, Some, None, IfSome, is_some, List, [], ◌∷◌, ◌++◌, length, refl, ap, sym, subst, arith}
-use Rattle.std.proofs.lemmas.Bool.Decides.{nat_tests}
+use Rattle.std.proofs.Common.{◌≡◌, ◌∙◌, ◌⊎◌, ⊎_elim, ℕ, ◌+◌, Bool, true, false, not, Option, Some, None, IfSome, is_some, List, [], ◌∷◌, ◌++◌, length, refl, ap, sym, subst, arith}
 use Rattle.trace_model.specs.declared.Card.{Card}
 use Rattle.tach_media.specs.Medium.{State, IsCoherent, LeavesOnly}
-use Rattle.log_model.specs.Log.{RunLog}
-use Rattle.event_model.specs.declared.kinds.TheConstants.{OVER_SPEEDING}
 use Rattle.event_model.specs.Events.{Event}
-use Rattle.unit_events.specs.Noted.{are_sure}
-use Rattle.unit_events.specs.Shown.{first_on, count_on}
-use Rattle.note_model.specs.Tables.{table_in, AreNoted}
-use Rattle.unit_model.specs.declared.layout.TheConstants.{FIRST_OVER, OVER_COUNT}
-use Rattle.unit_model.specs.Image.{IsUnit, number_of}
+use Rattle.unit_model.specs.Image.{IsUnit}
 use Rattle.unit_notes.specs.declared.unit_event.UnitEvent.{UnitEvent}
 use Rattle.safety_model.specs.Safe.{Devices}
 use Rattle.run_promise.specs.Between.{devices}
-use Rattle.run_events.specs.Shown.{by_kind, none, ShowsMore, SaysNothing}
-use Rattle.run_events.proofs.Shows.{more-then, nothing-more, nothing-but}
-use Rattle.run_events.proofs.Frames.{event-more, event-but}
+use Rattle.run_events.specs.Shown.{by_kind, all_sure, SaysNothing}
+use Rattle.run_events.proofs.Shows.{more-then, moment-then, nothing-more, nothing-of}
+use Rattle.run_events.proofs.Frames.{event-more, event-coming}
 use Rattle.unit_notes.specs.Entries.{fault_bytes}
 use Rattle.unit_notes.specs.Noting.{IsEventNoted, IsNotingEvent}
 use Rattle.run_promise.specs.Origin.{Origin}
 use Rattle.run_note_record.specs.Evented.{number_in}
 use Rattle.run_note_record.specs.Noting.{NotesThese}
-use Rattle.run_acts.specs.NotedEvents.{AreUnsure, AreTold, IsSplit, NotesSo, NotesEvents}
+use Rattle.run_acts.specs.NotedEvents.{AreTold, IsSplit, NotesSo, NotesEvents}
 
 -- ---- lists of events
 
@@ -33,37 +26,11 @@ split number (v ∷ vs) ws (e ∷ es) h =
     let rest = split number vs ws es h.1 in
     record { first = e ∷ rest.first; later = rest.later; are = ap (λ (xs : List Event). e ∷ xs) rest.are; first_told = (h.0, rest.first_told); later_told = rest.later_told }
 
-pub unsure-front : (log : RunLog) (now : ℕ → List Event) (xs ys : List Event) → AreUnsure log now (xs ++ ys) → AreUnsure log now xs
-unsure-front log now [] ys h = tt
-unsure-front log now (x ∷ xs) ys h = (h.0, unsure-front log now xs ys h.1)
-
-pub unsure-back : (log : RunLog) (now : ℕ → List Event) (xs ys : List Event) → AreUnsure log now (xs ++ ys) → AreUnsure log now ys
-unsure-back log now [] ys h = h
-unsure-back log now (x ∷ xs) ys h = unsure-back log now xs ys h.1
-
--- of a type that is sure there is none among them
-sure-none : (log : RunLog) (now : ℕ → List Event) (kind : ℕ) → are_sure log (now kind) ≡ true → (es : List Event) → AreUnsure log now es → by_kind es kind ≡ []
-sure-none log now kind sure [] h = refl
-sure-none log now kind sure (e ∷ es) h = by (nat_eq e.kind kind) refl (sure-none log now kind sure es h.1)
-  where
-    by : (b : Bool) → nat_eq e.kind kind ≡ b → by_kind es kind ≡ [] → by_kind (e ∷ es) kind ≡ []
-    by true is rest = let same : e.kind ≡ kind = grind (arith, nat_tests) in absurd (h.0 (subst (λ (k : ℕ). are_sure log (now k) ≡ true) (sym same) sure))
-    by false is rest = ap (λ (b : Bool). cond b (e ∷ by_kind es kind) (by_kind es kind)) is ∙ rest
-
--- so nothing more is shown
-pub unsure-shown : (number : Card → List ℕ) (log : RunLog) (now : ℕ → List Event) (es : List Event) (x c : List ℕ) → AreUnsure log now es → ShowsMore number log now (by_kind es) x c → ShowsMore number log now none x c
-unsure-shown number log now es x c unsure h = record {
-  tables = λ kind there sure. subst (λ (more : List Event). AreNoted number (table_in kind x) more (table_in kind c)) (sure-none log now kind sure es unsure) (h.tables kind there sure);
-  first_over = λ sure. h.first_over sure ∙ ap (λ (more : List Event). first_on (number_of x FIRST_OVER) more) (sure-none log now OVER_SPEEDING sure es unsure);
-  over_count = λ sure few. h.over_count sure few ∙ ap (λ (more : List Event). count_on (number_of x OVER_COUNT) more) (sure-none log now OVER_SPEEDING sure es unsure);
-  begins = tt;
-}
-
 -- ---- calls
 
 -- nothing is noted where the images say the same
 pub quiet-noted : (U V A B C D : State) → ((c : List ℕ) → V.may_leave c → (x : List ℕ) × U.may_leave x × SaysNothing x c) → NotesEvents [] false (devices U A B) (devices V C D)
-quiet-noted U V A B C D same o long [] told c there = let one = same c there in (one.0, one.1, λ log now. nothing-more (number_in o) log now one.0 c one.2)
+quiet-noted U V A B C D same o long [] told c there = let one = same c there in (one.0, one.1, nothing-more (number_in o) all_sure one.0 c one.2)
 quiet-noted U V A B C D same o long (e ∷ es) told c there = absurd told
 
 -- some events, and then others
@@ -71,14 +38,11 @@ pub so-then : (o : Origin) (failed : Bool) (xs ys : List Event) (d e f : Devices
 so-then o false xs ys d e f one two = λ c there.
     let mid = two c there in
     let start = one mid.0 mid.1 in
-    (start.0, start.1, λ log now. more-then (number_in o) log now xs ys start.0 mid.0 c (start.2 log now) (mid.2 log now))
-so-then o true xs ys d e f one two = λ log now unsure c there.
-    let mid = two log now (unsure-back log now xs ys unsure) c there in
-    let start = one mid.0 mid.1 in (
-      start.0,
-      start.1,
-      more-then (number_in o) log now [] [] start.0 mid.0 c (unsure-shown (number_in o) log now xs start.0 mid.0 (unsure-front log now xs ys unsure) (start.2 log now)) mid.2,
-    )
+    (start.0, start.1, more-then (number_in o) all_sure xs ys start.0 mid.0 c start.2 mid.2)
+so-then o true xs ys d e f one two = λ c there.
+    let mid = two c there in
+    let start = one mid.0 mid.1 in
+    (start.0, start.1, moment-then (number_in o) xs ys start.0 mid.0 c start.2 mid.2)
 
 -- one call after another
 pub then-noted : (vs ws : List UnitEvent) (failed : Bool) (d e f : Devices) → NotesEvents vs false d e → NotesEvents ws failed e f → NotesEvents (vs ++ ws) failed d f
@@ -91,8 +55,8 @@ pub noted-any : (vs : List UnitEvent) (failed : Bool) (d e f g : Devices) → d.
 noted-any vs false d e f g first later h o long es told = λ c there.
     let one = h o long es told c (subst (λ (U : State). U.may_leave c) (sym later) there) in
     (one.0, subst (λ (U : State). U.may_leave one.0) first one.1, one.2)
-noted-any vs true d e f g first later h o long es told = λ log now unsure c there.
-    let one = h o long es told log now unsure c (subst (λ (U : State). U.may_leave c) (sym later) there) in
+noted-any vs true d e f g first later h o long es told = λ c there.
+    let one = h o long es told c (subst (λ (U : State). U.may_leave c) (sym later) there) in
     (one.0, subst (λ (U : State). U.may_leave one.0) first one.1, one.2)
 
 -- nothing was called
@@ -123,11 +87,15 @@ module _ (U V A B C D : State) (whole : IsCoherent U) (behind : IsCoherent V) (u
       let done = subst (λ (q : Option (List ℕ)). IfSome q (λ y. IsEventNoted v.kind (fault_bytes v) was.0 y)) is (subst (λ (q : Option (List ℕ)). IfSome q (λ x. IfSome V.image (IsEventNoted v.kind (fault_bytes v) x))) was.1 (noted refl)) in (
         was.0,
         whole.is_left was.0 was.1,
-        λ log now. event-more (number_in o) long log now e first.there was.0 c (sized-so was.0 was.1) v first.other first.begin first.end first.is (subst (λ (k : ℕ). IsEventNoted k (fault_bytes v) was.0 c) first.is.kind done),
+        event-more (number_in o) long e first.there was.0 c (sized-so was.0 was.1) v first.other first.begin first.end first.is (subst (λ (k : ℕ). IsEventNoted k (fault_bytes v) was.0 c) first.is.kind done),
       )
-  one-noted true noted moments works o long (e ∷ []) told = λ log now unsure c there.
+  one-noted true noted moments works o long (e ∷ []) told = λ c there.
       let first = told.0 in
       ⊎_elim
-      (λ was. (c, was, nothing-more (number_in o) log now c c (same-says c)))
-      (λ moment. (moment.0, whole.is_left moment.0 moment.1, nothing-but (number_in o) log now e.kind moment.0 c (event-but e.kind first.there (fault_bytes v) moment.0 c (subst (λ (k : ℕ). IsNotingEvent k (fault_bytes v) moment.0 c) first.is.kind moment.2)) unsure.0))
+      (λ was. (c, was, nothing-of (number_in o) (by_kind (e ∷ [])) c c (same-says c)))
+      (λ moment. (
+        moment.0,
+        whole.is_left moment.0 moment.1,
+        event-coming (number_in o) long e first.there moment.0 c (sized-so moment.0 moment.1) v first.other first.begin first.end first.is (subst (λ (k : ℕ). IsNotingEvent k (fault_bytes v) moment.0 c) first.is.kind moment.2),
+      ))
       (moments.now c there)

@@ -19,7 +19,7 @@ use Rattle.log_model.specs.declared.lines.Refused.{Refused}
 use Rattle.log_model.specs.declared.lines.SlotFault.{SlotFault}
 use Rattle.log_model.specs.declared.lines.SlotFault.TheVariants.{Moving, Empty, NoCard}
 use Rattle.log_model.specs.declared.lines.Verdict.{Verdict}
-use Rattle.log_model.specs.Log.{RunLog, Phase, In, Keeping, same_phase, cut_in, tears_here, is_torn_in, found_in, is_accepting}
+use Rattle.log_model.specs.Log.{RunLog, Phase, In, Keeping, same_phase, phase_of, cut_of, cut_in, tears_here, is_torn_in, found_in, is_accepting}
 use Rattle.log_model.specs.Same.{SameAt}
 use Rattle.log_model.proofs.Growth.{went-more, went-same}
 use Rattle.log_model.specs.Slots.{Sitting, same_card, in_slot, is_accepted, refusal}
@@ -39,7 +39,8 @@ use Rattle.run_course.proofs.Lookups.{break-more, find-more, refusal-more}
 use Rattle.run_course.proofs.Moments.{later-lines as same-course-by}
 use Rattle.run_course.proofs.Told.{lit-power, lost-dark, dark-told, next-dark}
 use Rattle.run_course.specs.Telling.{WaitBut}
-use Rattle.run_course.specs.Reached.{IsFindAt, course_at, course_with, moved_at, moved_with}
+use Rattle.run_course.specs.Reached.{IsBehind, IsUpTo, IsTearAt, IsFindAt, course_at, course_with, moved_at, moved_with}
+use Rattle.run_course.proofs.Lines.{tear-seen, who-sits}
 use Rattle.run_course.proofs.Telling.{card-judged}
 use Rattle.run_rings.specs.Notes.{accepted_in, noted_if, accepts_by, sits_accepted, notes_to, TellSameTo, NotesMore, course_behind}
 use Rattle.run_rings.proofs.Notes.{Finding, is_at, accepted-append, action-notes, later-lines, second-noted}
@@ -510,6 +511,80 @@ module _ (log : RunLog) (was : Before) (s : TraceSecond) (front rest : List Acti
       ∙ ap (λ (k : ℕ). accepted_in s.number (In k) c1.found) more
       ∙ ap (λ (k : Course). accepted_in s.number (In (suc n)) k.found) acted-at)
 
+module _ (o : Origin) (done : List TraceSecond) (s : TraceSecond) (n : ℕ) (waits fewer : List Visit) (v : Values) (d : Devices) (w : RecordInSecond o done s (In n) waits None [] v d) (slot : Slot) (card : Card) (next : IsNext o done s (In n) waits fewer v d w slot card)
+    (later : RunLog) (uncut-later : cut_in later s.number ≡ None)
+    (earlier : (k m : ℕ) (x : Slot) → n ≡ suc m → k ≤ m → (is_torn_in later s.number (In k) x ≡ is_torn_in v.log s.number (In k) x) × (found_in later s.number (In k) x ≡ found_in v.log s.number (In k) x)) (accepts : List Note)
+    (noted-more : accepted_in s.number (In n) (course_at later (went w.b.run.log done).before s (In n)).found ≡ accepted_in s.number (In n) (course_at v.log (went w.b.run.log done).before s (In n)).found ++ accepts) where
+  abbrev began_ : Before
+  began_ = (went w.b.run.log done).before
+
+  -- at a power-on
+  at-once : n ≡ 0 → notes_within w.b done s (In n) later ≡ notes_within w.b done s (In n) v.log ++ accepts
+  at-once is =
+      let first : (log : RunLog) → notes_within w.b done s (In n) log ≡ notes_in w.b.run.log done ++ accepted_in s.number (In n) (course_at log began_ s (In n)).found =
+      λ log.
+      ap (λ (k : ℕ). notes_within w.b done s (In k) log) is
+      ∙ ap (λ (as_ : List Action). notes_so_far w.b.run.log done log s as_) (actions-at [] s.actions s.actions refl)
+      ∙ ap (λ (l : List Note). notes_in w.b.run.log done ++ l) (append-nil (accepted_in s.number (In 0) (course_powered log began_ s).found))
+      ∙ ap (λ (k : ℕ). notes_in w.b.run.log done ++ accepted_in s.number (In k) (course_at log began_ s (In k)).found) (sym is) in
+      first later ∙ ap (λ (l : List Note). notes_in w.b.run.log done ++ l) noted-more
+      ∙ sym (append_assoc (notes_in w.b.run.log done) (accepted_in s.number (In n) (course_at v.log began_ s (In n)).found) accepts) ∙ ap (λ (l : List Note). l ++ accepts) (sym (first v.log))
+
+  -- in an action
+  module _ (m : ℕ) (is : n ≡ suc m) (p : Parts s.actions m) where
+    same-to : TellSameTo v.log later s.number (length p.front)
+    same-to = record {
+      begun = λ k lt. ap (λ (q : Option ℕ). begins q k) w.moment.up_to.uncut;
+      begun_later = λ k lt. ap (λ (q : Option ℕ). begins q k) uncut-later;
+      torn = λ k x le. (earlier k m x is (let c = p.count in omega (arith, c, le))).0;
+      found = λ k x le. (earlier k m x is (let c = p.count in omega (arith, c, le))).1;
+    }
+
+    alike : course_behind later began_ s p.front ≡ course_behind v.log began_ s p.front
+    alike =
+        ap (λ (as_ : List Action). all_acted later s 0 as_ (course_powered later began_ s)) (sym (actions-at p.front (p.a ∷ p.rest) s.actions p.are))
+        ∙ same-course-by v.log later began_ s (length p.front) (record { none = w.moment.up_to.uncut; behind = inl uncut-later; torn = same-to.torn; found = same-to.found })
+        ∙ ap (λ (as_ : List Action). all_acted v.log s 0 as_ (course_powered v.log began_ s)) (actions-at p.front (p.a ∷ p.rest) s.actions p.are)
+
+    n-is : n ≡ suc (length p.front)
+    n-is = let c = p.count in omega (arith, c, is)
+
+    puts : PutsOne p.a (refusal (course_behind v.log began_ s p.front).slots s.speed p.a)
+    puts =
+        let got : slice_get s.actions (length p.front) ≡ Some p.a = ap (λ (as_ : List Action). slice_get as_ (length p.front)) p.are ∙ get-at p.front p.a p.rest in
+        puts-one (length p.front) p.a (refusal (course_behind v.log began_ s p.front).slots s.speed p.a) (course_behind v.log began_ s p.front) slot
+        (sym (ap (λ (q : Option Action). (moved_with (length p.front) q s.speed (course_behind v.log began_ s p.front)).enters slot) got)
+        ∙ sym (ap (λ (as_ : List Action). (moved_with (length p.front) (slice_get s.actions (length p.front)) s.speed (all_acted v.log s 0 as_ (course_powered v.log began_ s))).enters slot) (actions-at p.front (p.a ∷ p.rest) s.actions p.are))
+        ∙ ap (λ (k : ℕ). (moved_at v.log began_ s (In k)).enters slot) (sym n-is) ∙ next.enters)
+
+    are-put : s.actions ≡ p.front ++ Insert puts.slot puts.card ∷ p.rest
+    are-put = p.are ∙ ap (λ (x : Action). p.front ++ x ∷ p.rest) puts.is
+
+    fine-then : refusal (course_behind v.log began_ s p.front).slots s.speed (Insert puts.slot puts.card) ≡ None
+    fine-then = ap (λ (x : Action). refusal (course_behind v.log began_ s p.front).slots s.speed x) (sym puts.is) ∙ puts.fine
+
+    in-action : notes_within w.b done s (In n) later ≡ notes_within w.b done s (In n) v.log ++ accepts
+    in-action =
+        let l : ℕ = length p.front in
+        let by_log : (log : RunLog) → NotesMore log began_ s p.front (Insert puts.slot puts.card) (accepted_in s.number (In (suc l)) (course_at log began_ s (In (suc l))).found) →
+        notes_within w.b done s (In n) log ≡ notes_within w.b done s (In l) log ++ accepted_in s.number (In n) (course_at log began_ s (In n)).found =
+        λ log more.
+        ap (λ (k : ℕ). notes_within w.b done s (In k) log) n-is
+        ∙ notes-then w.b done s p.front p.rest (Insert puts.slot puts.card) log (accepted_in s.number (In (suc l)) (course_at log began_ s (In (suc l))).found) are-put more
+        ∙ ap (λ (k : ℕ). notes_within w.b done s (In l) log ++ accepted_in s.number (In k) (course_at log began_ s (In k)).found) (sym n-is) in
+        let first = by_log v.log (put-notes v.log began_ s p.front p.rest puts.slot puts.card are-put w.moment.up_to.uncut fine-then) in
+        let now = by_log later (put-notes later began_ s p.front p.rest puts.slot puts.card are-put uncut-later (ap (λ (k : Course). refusal k.slots s.speed (Insert puts.slot puts.card)) alike ∙ fine-then)) in
+        now ∙ (λ i. notes-later w.b done s p.front (p.a ∷ p.rest) v.log later p.are same-to i ++ noted-more i)
+        ∙ sym (append_assoc (notes_within w.b done s (In l) v.log) (accepted_in s.number (In n) (course_at v.log began_ s (In n)).found) accepts) ∙ ap (λ (q : List Note). q ++ accepts) (sym first)
+
+  -- SO MUCH IS NOTED of it
+  pub noted-then : notes_within w.b done s (In n) later ≡ notes_within w.b done s (In n) v.log ++ accepts
+  noted-then = by n refl
+    where
+      by : (k : ℕ) → n ≡ k → notes_within w.b done s (In n) later ≡ notes_within w.b done s (In n) v.log ++ accepts
+      by zero is = at-once is
+      by (suc m) is = in-action m is (split s.actions m (let few : n ≤ length s.actions = w.moment.is in omega (arith, few, is)))
+
 module _ (o : Origin) (done : List TraceSecond) (s : TraceSecond) (n : ℕ) (waits fewer : List Visit) (v : Values) (d : Devices) (w : RecordInSecond o done s (In n) waits None [] v d) (slot : Slot) (card : Card) (next : IsNext o done s (In n) waits fewer v d w slot card) (none : found_in v.log s.number (In n) slot ≡ [])
     (order : slot ≡ Driver → ((moved_at v.log (went w.b.run.log done).before s (In n)).enters CoDriver ≡ false) ⊎ (found_in v.log s.number (In n) CoDriver ≡ [])) (f : Find) (here : IsFindAt s (In n) f) (slot_is : f.slot ≡ slot) where
   abbrev before_ : Before
@@ -552,74 +627,12 @@ module _ (o : Origin) (done : List TraceSecond) (s : TraceSecond) (n : ℕ) (wai
       seen.found (In k) x ∙ ap (λ (b : Bool). found_in v.log s.number (In k) x ++ cond b (f.verdict ∷ []) []) (neither (nat_eq f.second s.number) (same_phase (In f.begun) (In k)) (same_slot f.slot x) other)
       ∙ append-nil (found_in v.log s.number (In k) x)
 
-  -- at a power-on
-  at-once : n ≡ 0 → notes_within w.b done s (In n) later ≡ notes_within w.b done s (In n) v.log ++ accepts
-  at-once is =
-      let first : (log : RunLog) → notes_within w.b done s (In n) log ≡ notes_in w.b.run.log done ++ accepted_in s.number (In n) (course_at log before_ s (In n)).found =
-      λ log.
-      ap (λ (k : ℕ). notes_within w.b done s (In k) log) is
-      ∙ ap (λ (as_ : List Action). notes_so_far w.b.run.log done log s as_) (actions-at [] s.actions s.actions refl)
-      ∙ ap (λ (l : List Note). notes_in w.b.run.log done ++ l) (append-nil (accepted_in s.number (In 0) (course_powered log before_ s).found))
-      ∙ ap (λ (k : ℕ). notes_in w.b.run.log done ++ accepted_in s.number (In k) (course_at log before_ s (In k)).found) (sym is) in
-      first later ∙ ap (λ (l : List Note). notes_in w.b.run.log done ++ l) noted-more
-      ∙ sym (append_assoc (notes_in w.b.run.log done) (accepted_in s.number (In n) (course_at v.log before_ s (In n)).found) accepts) ∙ ap (λ (l : List Note). l ++ accepts) (sym (first v.log))
-
-  -- in an action
-  module _ (m : ℕ) (is : n ≡ suc m) (p : Parts s.actions m) where
-    same-to : TellSameTo v.log later s.number (length p.front)
-    same-to =
-        let seen = find-more v.log f s.number in
-        record {
-          begun = λ k lt. ap (λ (q : Option ℕ). begins q k) w.moment.up_to.uncut;
-          begun_later = λ k lt. ap (λ (q : Option ℕ). begins q k) uncut-later;
-          torn = λ k x le. seen.torn (In k) x;
-          found = λ k x le. not-found k m x is (let c = p.count in omega (arith, c, le));
-        }
-
-    alike : course_behind later before_ s p.front ≡ course_behind v.log before_ s p.front
-    alike =
-        ap (λ (as_ : List Action). all_acted later s 0 as_ (course_powered later before_ s)) (sym (actions-at p.front (p.a ∷ p.rest) s.actions p.are))
-        ∙ same-course-by v.log later before_ s (length p.front) (record { none = w.moment.up_to.uncut; behind = inl uncut-later; torn = same-to.torn; found = same-to.found })
-        ∙ ap (λ (as_ : List Action). all_acted v.log s 0 as_ (course_powered v.log before_ s)) (actions-at p.front (p.a ∷ p.rest) s.actions p.are)
-
-    n-is : n ≡ suc (length p.front)
-    n-is = let c = p.count in omega (arith, c, is)
-
-    puts : PutsOne p.a (refusal (course_behind v.log before_ s p.front).slots s.speed p.a)
-    puts =
-        let got : slice_get s.actions (length p.front) ≡ Some p.a = ap (λ (as_ : List Action). slice_get as_ (length p.front)) p.are ∙ get-at p.front p.a p.rest in
-        puts-one (length p.front) p.a (refusal (course_behind v.log before_ s p.front).slots s.speed p.a) (course_behind v.log before_ s p.front) slot
-        (sym (ap (λ (q : Option Action). (moved_with (length p.front) q s.speed (course_behind v.log before_ s p.front)).enters slot) got)
-        ∙ sym (ap (λ (as_ : List Action). (moved_with (length p.front) (slice_get s.actions (length p.front)) s.speed (all_acted v.log s 0 as_ (course_powered v.log before_ s))).enters slot) (actions-at p.front (p.a ∷ p.rest) s.actions p.are))
-        ∙ ap (λ (k : ℕ). (moved_at v.log before_ s (In k)).enters slot) (sym n-is) ∙ next.enters)
-
-    are-put : s.actions ≡ p.front ++ Insert puts.slot puts.card ∷ p.rest
-    are-put = p.are ∙ ap (λ (x : Action). p.front ++ x ∷ p.rest) puts.is
-
-    fine-then : refusal (course_behind v.log before_ s p.front).slots s.speed (Insert puts.slot puts.card) ≡ None
-    fine-then = ap (λ (x : Action). refusal (course_behind v.log before_ s p.front).slots s.speed x) (sym puts.is) ∙ puts.fine
-
-    in-action : notes_within w.b done s (In n) later ≡ notes_within w.b done s (In n) v.log ++ accepts
-    in-action =
-        let l : ℕ = length p.front in
-        let by_log : (log : RunLog) → NotesMore log before_ s p.front (Insert puts.slot puts.card) (accepted_in s.number (In (suc l)) (course_at log before_ s (In (suc l))).found) →
-        notes_within w.b done s (In n) log ≡ notes_within w.b done s (In l) log ++ accepted_in s.number (In n) (course_at log before_ s (In n)).found =
-        λ log more.
-        ap (λ (k : ℕ). notes_within w.b done s (In k) log) n-is
-        ∙ notes-then w.b done s p.front p.rest (Insert puts.slot puts.card) log (accepted_in s.number (In (suc l)) (course_at log before_ s (In (suc l))).found) are-put more
-        ∙ ap (λ (k : ℕ). notes_within w.b done s (In l) log ++ accepted_in s.number (In k) (course_at log before_ s (In k)).found) (sym n-is) in
-        let first = by_log v.log (put-notes v.log before_ s p.front p.rest puts.slot puts.card are-put w.moment.up_to.uncut fine-then) in
-        let now = by_log later (put-notes later before_ s p.front p.rest puts.slot puts.card are-put uncut-later (ap (λ (k : Course). refusal k.slots s.speed (Insert puts.slot puts.card)) alike ∙ fine-then)) in
-        now ∙ (λ i. notes-later w.b done s p.front (p.a ∷ p.rest) v.log later p.are same-to i ++ noted-more i)
-        ∙ sym (append_assoc (notes_within w.b done s (In l) v.log) (accepted_in s.number (In n) (course_at v.log before_ s (In n)).found) accepts) ∙ ap (λ (q : List Note). q ++ accepts) (sym first)
+  earlier-found : (k m : ℕ) (x : Slot) → n ≡ suc m → k ≤ m → (is_torn_in later s.number (In k) x ≡ is_torn_in v.log s.number (In k) x) × (found_in later s.number (In k) x ≡ found_in v.log s.number (In k) x)
+  earlier-found k m x is le = ((find-more v.log f s.number).torn (In k) x, not-found k m x is le)
 
   -- IT IS NOTED where it is accepted
   pub judged-notes : notes_within w.b done s (In n) later ≡ notes_within w.b done s (In n) v.log ++ accepts
-  judged-notes = by n refl
-    where
-      by : (k : ℕ) → n ≡ k → notes_within w.b done s (In n) later ≡ notes_within w.b done s (In n) v.log ++ accepts
-      by zero is = at-once is
-      by (suc m) is = in-action m is (split s.actions m (let few : n ≤ length s.actions = w.moment.is in omega (arith, few, is)))
+  judged-notes = noted-then o done s n waits fewer v d w slot card next later uncut-later earlier-found accepts noted-more
 
   -- so another spell of it begins, and none of another card
   pub accepted-now : is_accepting f.verdict ≡ true → spells_of card (notes_within w.b done s (In n) later) ≡ spells_of card (notes_within w.b done s (In n) v.log) ++ record { second = s.number; slot = slot; withdrawn = None } ∷ []
@@ -640,3 +653,74 @@ module _ (o : Origin) (done : List TraceSecond) (s : TraceSecond) (n : ℕ) (wai
       by true is =
           ap (λ (l : List Note). spells_of c l) (judged-notes ∙ ap (λ (b : Bool). notes_within w.b done s (In n) v.log ++ map (λ (x : Verdict). Accepts (record { second = s.number; slot = slot; card = card })) (cond b (f.verdict ∷ []) [])) is)
           ∙ accepts-others c (notes_within w.b done s (In n) v.log) (record { second = s.number; slot = slot; card = card }) other
+
+-- ---- A CARD FALLS as it is judged
+
+behind-other : (n : ℕ) (p : Phase) → IsBehind (In n) p → same_phase (In n) p ≡ false
+behind-other n (In k) lt = grind (arith, nat_tests)
+behind-other n Keeping lt = refl
+
+-- a tear of its slot is told at the moment
+module _ (o : Origin) (done : List TraceSecond) (s : TraceSecond) (n : ℕ) (waits fewer : List Visit) (v : Values) (d : Devices) (w : RecordInSecond o done s (In n) waits None [] v d) (slot : Slot) (card : Card) (next : IsNext o done s (In n) waits fewer v d w slot card) (b : Break) (here : IsTearAt s (In n) slot true b) where
+  abbrev was_ : Before
+  was_ = (went w.b.run.log done).before
+
+  untorn : is_torn_in v.log s.number (In n) slot ≡ false
+  untorn = who-sits v.log was_ s (In n) slot (record { card = card; accepted = None }) next.sits_
+
+  -- of the moments before it tells nothing
+  earlier-torn : (log : RunLog) (k m : ℕ) (x : Slot) → n ≡ suc m → k ≤ m → is_torn_in (and_break log b) s.number (In k) x ≡ is_torn_in log s.number (In k) x
+  earlier-torn log k m x is le =
+      let seen = break-more log b s.number in
+      let away : tears_here s.number (In k) x b ≡ false =
+      ap (λ (c : Break). tears_here s.number (In k) x c) here.2
+      ∙ neither (nat_eq s.number s.number) (same_phase (phase_of here.0 here.1) (In k)) (same_slot slot x) (ap (λ (p : Phase). same_phase p (In k)) (here.3 ∙ ap (λ (j : ℕ). In j) is) ∙ other-moment m k le) in
+      seen.torn (In k) x ∙ or-nothing (is_torn_in log s.number (In k) x) (tears_here s.number (In k) x b) away
+
+  uncut-torn : (log : RunLog) → cut_in log s.number ≡ None → cut_in (and_break log b) s.number ≡ None
+  uncut-torn log uncut =
+      (break-more log b s.number).cut ∙ ap (λ (q : Option ℕ). cond (is_some q) q (cut_of s.number b)) uncut ∙ ap (λ (c : Break). cut_of s.number c) here.2
+
+  -- alone: nothing is noted
+  pub fallen-now : (c : Card) → spells_of c (notes_within w.b done s (In n) (and_break v.log b)) ≡ spells_of c (notes_within w.b done s (In n) v.log)
+  fallen-now c =
+      let torn = tear-seen v.log was_ s (In n) slot true b here w.moment.up_to untorn in
+      ap (λ (l : List Note). spells_of c l)
+      (noted-then o done s n waits fewer v d w slot card next (and_break v.log b) (uncut-torn v.log w.moment.up_to.uncut) (λ k m x is le. (earlier-torn v.log k m x is le, (break-more v.log b s.number).found (In k) x)) []
+      (ap (λ (l : List Finding). accepted_in s.number (In n) l) torn.is.found ∙ sym (append-nil (accepted_in s.number (In n) (course_at v.log was_ s (In n)).found)))
+      ∙ append-nil (notes_within w.b done s (In n) v.log))
+
+  -- behind what was found of it: of another card nothing is
+  module _ (none : found_in v.log s.number (In n) slot ≡ [])
+      (order : slot ≡ Driver → ((moved_at v.log (went w.b.run.log done).before s (In n)).enters CoDriver ≡ false) ⊎ (found_in v.log s.number (In n) CoDriver ≡ [])) (f : Find) (found_here : IsFindAt s (In n) f) (slot_is : f.slot ≡ slot) where
+    abbrev with_find : RunLog
+    with_find = and_find v.log f
+
+    found-up : IsUpTo with_find s.number (In n)
+    found-up =
+        let seen = find-more v.log f s.number in
+        record {
+          uncut = seen.cut ∙ w.moment.up_to.uncut;
+          torn = λ p x behind. seen.torn p x ∙ w.moment.up_to.torn p x behind;
+          found = λ p x behind.
+              seen.found p x
+              ∙ ap (λ (t : Bool). found_in v.log s.number p x ++ cond t (f.verdict ∷ []) []) (neither (nat_eq f.second s.number) (same_phase (In f.begun) p) (same_slot f.slot x) (ap (λ (q : Phase). same_phase q p) found_here.begun ∙ behind-other n p behind))
+              ∙ append-nil (found_in v.log s.number p x) ∙ w.moment.up_to.found p x behind;
+        }
+
+    noted-lost : accepted_in s.number (In n) (course_at (and_break with_find b) was_ s (In n)).found ≡ accepted_in s.number (In n) (course_at v.log was_ s (In n)).found ++ accepts_by s.number slot card (f.verdict ∷ [])
+    noted-lost =
+        let torn = tear-seen with_find was_ s (In n) slot true b here found-up ((find-more v.log f s.number).torn (In n) slot ∙ untorn) in
+        ap (λ (l : List Finding). accepted_in s.number (In n) l) torn.is.found ∙ noted-more o done s n waits fewer v d w slot card next none order f found_here slot_is
+
+    lost-notes : notes_within w.b done s (In n) (and_break with_find b) ≡ notes_within w.b done s (In n) v.log ++ accepts_by s.number slot card (f.verdict ∷ [])
+    lost-notes =
+        noted-then o done s n waits fewer v d w slot card next (and_break with_find b) (uncut-torn with_find ((find-more v.log f s.number).cut ∙ w.moment.up_to.uncut))
+        (λ k m x is le. (earlier-torn with_find k m x is le ∙ (find-more v.log f s.number).torn (In k) x, (break-more with_find b s.number).found (In k) x ∙ not-found o done s n waits fewer v d w slot card next none order f found_here slot_is k m x is le)) (accepts_by s.number slot card (f.verdict ∷ [])) noted-lost
+
+    pub lost-elsewhere : (c : Card) → same_card c card ≡ false → spells_of c (notes_within w.b done s (In n) (and_break with_find b)) ≡ spells_of c (notes_within w.b done s (In n) v.log)
+    lost-elsewhere c other = ap (λ (l : List Note). spells_of c l) lost-notes ∙ by (is_accepting f.verdict)
+      where
+        by : (t : Bool) → spells_of c (notes_within w.b done s (In n) v.log ++ map (λ (x : Verdict). Accepts (record { second = s.number; slot = slot; card = card })) (cond t (f.verdict ∷ []) [])) ≡ spells_of c (notes_within w.b done s (In n) v.log)
+        by false = ap (λ (l : List Note). spells_of c l) (append-nil (notes_within w.b done s (In n) v.log))
+        by true = accepts-others c (notes_within w.b done s (In n) v.log) (record { second = s.number; slot = slot; card = card }) other

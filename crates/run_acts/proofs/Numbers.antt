@@ -1,5 +1,5 @@
 -- The numbers by which events are noted: of valid cards, which alone are named in events.
-use Rattle.std.proofs.Common.{◌≡◌, ◌∙◌, ℕ, Bool, true, false, cond, nat_eq, Option, Some, None, IfSome, List, [], ◌∷◌, length, drop, map, refl, ap, sym, arith, ◌+◌, ◌≤◌}
+use Rattle.std.proofs.Common.{◌≡◌, ◌∙◌, inl, inr, ℕ, Bool, true, false, cond, nat_eq, Option, Some, None, IfSome, List, [], ◌∷◌, length, drop, map, refl, ap, sym, arith, ◌+◌, ◌≤◌}
 use Rattle.std.proofs.lemmas.List.{length-take-le, length-drop, length-append}
 use Rattle.std.specs.List.{AllByRecursion}
 use Rattle.trace_model.specs.declared.Card.{Card}
@@ -14,13 +14,13 @@ use Rattle.card_image.specs.Own.{own_sizes, own_number, own_bad_file, IsOwnValid
 use Rattle.event_model.specs.declared.kinds.TheConstants.{OVER_SPEEDING}
 use Rattle.unit_model.specs.declared.layout.TheConstants.{IMAGE_SIZE, REGISTRATION}
 use Rattle.event_model.specs.Events.{Event, Crew}
-use Rattle.log_model.specs.Log.{RunLog}
 use Rattle.event_model.specs.Places.{day_place, place_of, similar_after}
-use Rattle.note_model.specs.Tables.{number_or_none, HasRest, IsEntry, similar_field, similar_at, held_of, held_in, table_in, IsNotedAt, AreNoted}
+use Rattle.note_model.specs.Tables.{number_or_none, HasRest, IsEntry, similar_field, similar_at, held_of, held_in, table_in, IsNotedAt}
+use Rattle.note_model.specs.Unsure.{IsNotedSo, AreNotedBut}
 use Rattle.unit_notes.specs.declared.unit_event.UnitEvent.{UnitEvent}
 use Rattle.safety_model.specs.Recording.{card_image}
 use Rattle.safety_model.specs.Safe.{Devices}
-use Rattle.run_events.specs.Shown.{by_kind, none, ShowsMore, AreNumbers}
+use Rattle.run_events.specs.Shown.{by_kind, none_sure, all_sure, ShowsEvents, AreNumbers}
 use Rattle.run_promise.specs.Origin.{Origin}
 use Rattle.run_note_record.specs.Evented.{number_in}
 use Rattle.run_note_record.specs.Uses.{vehicle_of}
@@ -78,10 +78,6 @@ module _ (f g : Card → List ℕ) where
   place-as old e None (Some i) new begin end h = h
   place-as old e None None new begin end h = h
 
-  noted-as : (old : List (List ℕ)) (es : List Event) (new : List (List ℕ)) → AgreeOnAll f g es → AreNoted f old es new → AreNoted g old es new
-  noted-as old [] new agree h = h
-  noted-as old (e ∷ es) new agree h = (h.0, place-as old e (place_of e.kind (map (held_in e.kind) old) (held_of e)) (day_place e.kind (map (held_in e.kind) old) (held_of e)) h.0 agree.0.0 agree.0.1 h.1, noted-as h.0 es new agree.1 h.2)
-
   one-kind : (b : Bool) (e : Event) (rest : List Event) → AgreeOn f g e.at_begin × AgreeOn f g e.at_end → AgreeOnAll f g rest → AgreeOnAll f g (cond b (e ∷ rest) rest)
   one-kind true e rest one all_ = (one, all_)
   one-kind false e rest one all_ = all_
@@ -90,16 +86,17 @@ module _ (f g : Card → List ℕ) where
   of-kind [] kind agree = tt
   of-kind (e ∷ es) kind agree = one-kind (nat_eq e.kind kind) e (by_kind es kind) agree.0 (of-kind es kind agree.1)
 
-  shown-as : (log : RunLog) (now : ℕ → List Event) (es : List Event) (x c : List ℕ) → AgreeOnAll f g es → ShowsMore f log now (by_kind es) x c → ShowsMore g log now (by_kind es) x c
-  shown-as log now es x c agree h = record {
-    tables = λ kind there sure. noted-as (table_in kind x) (by_kind es kind) (table_in kind c) (of-kind es kind agree) (h.tables kind there sure);
-    first_over = h.first_over;
-    over_count = h.over_count;
-    begins = h.begins;
-  }
+  one-as : (b : Bool) (old : List (List ℕ)) (e : Event) (new : List (List ℕ)) → AgreeOn f g e.at_begin → AgreeOn f g e.at_end → IsNotedSo f b old e new → IsNotedSo g b old e new
+  one-as true old e new begin end h = place-as old e (place_of e.kind (map (held_in e.kind) old) (held_of e)) (day_place e.kind (map (held_in e.kind) old) (held_of e)) new begin end h
+  one-as false old e new begin end (inl h) = inl (place-as old e (place_of e.kind (map (held_in e.kind) old) (held_of e)) (day_place e.kind (map (held_in e.kind) old) (held_of e)) new begin end h)
+  one-as false old e new begin end (inr other) = inr other
 
-  none-as : (log : RunLog) (now : ℕ → List Event) (x c : List ℕ) → ShowsMore f log now none x c → ShowsMore g log now none x c
-  none-as log now x c h = record { tables = h.tables; first_over = h.first_over; over_count = h.over_count; begins = h.begins }
+  but-as : (sure : Event → Bool) (old : List (List ℕ)) (es : List Event) (new : List (List ℕ)) → AgreeOnAll f g es → AreNotedBut f sure old es new → AreNotedBut g sure old es new
+  but-as sure old [] new agree h = h
+  but-as sure old (e ∷ es) new agree h = (h.0, one-as (sure e) old e h.0 agree.0.0 agree.0.1 h.1, but-as sure h.0 es new agree.1 h.2)
+
+  shown-as : (sure : Event → Bool) (es : List Event) (x c : List ℕ) → AgreeOnAll f g es → ShowsEvents f sure x (by_kind es) c → ShowsEvents g sure x (by_kind es) c
+  shown-as sure es x c agree h = record { tables = λ kind there. but-as sure (table_in kind x) (by_kind es kind) (table_in kind c) (of-kind es kind agree) (h.tables kind there); first = h.first; count = h.count }
 
   told-as : (vs : List UnitEvent) (es : List Event) → AgreeOnAll g f es → AreTold f vs es → AreTold g vs es
   told-as [] [] agree h = tt
@@ -169,10 +166,10 @@ told-named o vs es valid told = told-as (number_in o) (number_in (named_as o)) v
 pub so-as : (o : Origin) (failed : Bool) (es : List Event) (d e : Devices) → NamesValid o es → NotesSo failed (named_as o) es d e → NotesSo failed o es d e
 so-as o false es d e valid h = λ c there.
     let one = h c there in
-    (one.0, one.1, λ log now. shown-as (number_in (named_as o)) (number_in o) log now es one.0 c (agree-all o es valid) (one.2 log now))
-so-as o true es d e valid h = λ log now unsure c there.
-    let one = h log now unsure c there in
-    (one.0, one.1, none-as (number_in (named_as o)) (number_in o) log now one.0 c one.2)
+    (one.0, one.1, shown-as (number_in (named_as o)) (number_in o) all_sure es one.0 c (agree-all o es valid) one.2)
+so-as o true es d e valid h = λ c there.
+    let one = h c there in
+    (one.0, one.1, shown-as (number_in (named_as o)) (number_in o) none_sure es one.0 c (agree-all o es valid) one.2)
 
 -- WHAT A CALL NOTES, where valid cards alone are named
 pub notes-at : (vs : List UnitEvent) (failed : Bool) (d e : Devices) → NotesEvents vs failed d e → (o : Origin) → AreLong o → (es : List Event) → AreTold (number_in o) vs es → NamesValid o es → NotesSo failed o es d e

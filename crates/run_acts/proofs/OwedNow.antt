@@ -162,8 +162,8 @@ module _ (o : Origin) (done : List TraceSecond) (s : TraceSecond) (n : ℕ) (wai
   sure-is : w.b.run.book.sure ≡ minutes_after (start_at o) told_so_far [] (decided_before ++ decided_of (rule_of o) w.b.span)
   sure-is =
       let closed : closed_history (rule_of o) (start_at o) w.b.run.log told_so_far ended_so_far ≡ minutes_after (start_at o) told_so_far [] decided_before =
-      history-whole (rule_of o) (start_at o) w.b.run.log told_so_far [] ended_so_far (whole-before o done s (In n) waits None [] (values_with k out unfound next_ begun minutes) (arranged e.which U X Z) w none) in
-      sym (book-is o done s (In n) waits None [] (values_with k out unfound next_ begun minutes) (arranged e.which U X Z) w none)
+      history-whole (rule_of o) (start_at o) w.b.run.log told_so_far [] ended_so_far (whole-before o done s (In n) waits None [] (values_with k out unfound next_ begun minutes) (arranged e.which U X Z) w none.0) in
+      sym (book-is o done s (In n) waits None [] (values_with k out unfound next_ begun minutes) (arranged e.which U X Z) w none.0)
       ∙ (λ i. closed i ++ span_minutes (rule_of o) (start_at o) told_so_far (closed i) w.b.span)
       ∙ sym (minutes-parts (rule_of o) (start_at o) told_so_far [] decided_before (decided_of (rule_of o) w.b.span))
 

@@ -27,7 +27,7 @@ use Rattle.run_crew.specs.Cards.{session_of, with_session}
 use Rattle.run_acts.specs.Closings.{Spell, spells_of, last_slot, notes_within}
 use Rattle.run_acts.specs.Truths.{truths_within, marked}
 use Rattle.run_acts.specs.Stays.{sits_in, IsPlaced}
-use Rattle.run_acts.proofs.AllStay.{Moves, moves-gone, moves-same, placed-same, placed-bare, all-moved, lines-on, mine-left, left-same}
+use Rattle.run_acts.proofs.AllStay.{Moves, moves-gone, moves-same, placed-same, placed-bare, all-moved, lines-on, stood-self, mine-left, left-same}
 use Rattle.run_acts.proofs.SeatsThen.{same-as, sits-there, torn-other, torn-slot}
 use Rattle.run_acts.proofs.NotesThen.{pull-now}
 
@@ -66,11 +66,11 @@ module _ (d : Devices) (slot : Slot) (begun speed : ℕ) (run : Run) (out : Outc
       (all-moved o (marked out.marks.items (truths_within o w.within.b.run.log done s)) s.number (log_of out) (log_of (record out { breaks = with_lines (Tear s.number slot false (suc (length front)) false ∷ []) out.breaks }))
       (notes_within w.within.b done s (In (length front)) (log_of out)) (notes_within w.within.b done s (In (suc (length front))) (log_of (record out { breaks = with_lines (Tear s.number slot false (suc (length front)) false ∷ []) out.breaks })))
       run.keeper.memory.registration run.keeper.cabin (torn_out card s.number run.keeper.cabin) d
-      (λ none. lines-on (log_of out) (out.breaks.items ++ Tear s.number slot false (suc (length front)) false ∷ []) (Tear s.number slot false (suc (length front)) false ∷ []) refl none)
-      (λ none c. gone-so card is s.number (spells_of c (notes_within w.within.b done s (In (length front)) (log_of out)))
+      (lines-on o (log_of out) (out.breaks.items ++ Tear s.number slot false (suc (length front)) false ∷ []) (Tear s.number slot false (suc (length front)) false ∷ []) d d refl (stood-self o d))
+      (λ whose known c in_. gone-so card is s.number (spells_of c (notes_within w.within.b done s (In (length front)) (log_of out)))
       (spells_of c (notes_within w.within.b done s (In (suc (length front))) (log_of (record out { breaks = with_lines (Tear s.number slot false (suc (length front)) false ∷ []) out.breaks })))) c
       (pull-now o done s front rest slot are (values_of run out) d w.within c))
-      (λ none c was.
+      (λ whose known c in_ was.
       placed-so card s.number (notes_within w.within.b done s (In (length front)) (log_of out)) (notes_within w.within.b done s (In (suc (length front))) (log_of (record out { breaks = with_lines (Tear s.number slot false (suc (length front)) false ∷ []) out.breaks }))) c
       (pull-now o done s front rest slot are (values_of run out) d w.within c) was)
       w.stay)))

@@ -34,6 +34,7 @@ use Rattle.run_promise.specs.Origin.{Origin}
 use Rattle.run_promise.specs.Beside.{HaveLeftMore}
 use Rattle.run_rings.specs.Spans.{with_second}
 use Rattle.run_note_record.specs.OnCards.{CardsStay}
+use Rattle.run_note_record.specs.Sessions.{Shuts}
 use Rattle.run_note_record.specs.Ringed.{Seating, LeavesRings}
 use Rattle.run_note_record.specs.RingsSoFar.{RingedBehind, AreFewer}
 use Rattle.run_note_record.specs.Steps.{nobody, spans_cut}
@@ -166,7 +167,8 @@ module _ (o : Origin) (done : List TraceSecond) (s : TraceSecond) (front rest : 
     -- whether a tear of its slot was told, by its session before and behind the minutes
     module _ (stands_ : CountsSpan between.minutes (settled w.within.sp))
         (untorn : is_some (session_of run.keeper.cabin.cards c) ≡ true → is_some (session_of between.keeper.cabin.cards c) ≡ true → is_torn_in (log_of told) s.number (In (suc (length front))) slot ≡ false)
-        (torn : is_some (session_of run.keeper.cabin.cards c) ≡ true → session_of between.keeper.cabin.cards c ≡ None → is_torn_in (log_of told) s.number (In (suc (length front))) slot ≡ true) where
+        (torn : is_some (session_of run.keeper.cabin.cards c) ≡ true → session_of between.keeper.cabin.cards c ≡ None → is_torn_in (log_of told) s.number (In (suc (length front))) slot ≡ true)
+        (shuts : closing ≡ Closed → Shuts o later (record { second = s.number; card = c }) e) where
       broken : (k : Closing) → closing ≡ k → (q : Option Accepted) → session_of between.keeper.cabin.cards c ≡ q → ClosesRings k q at true between d.unit e.unit →
           RingedBehind o (done ++ s ∷ []) (with_cut later s (front ++ a ∷ [])) (suc s.number) (spans_cut spans run.keeper.odometer (with_cut later s (front ++ a ∷ [])) done s) nobody e
       broken Bare k q is h = cut-leaves o done s front rest slot are run before d e w lines later later-is tears left spans t places rings c seat low stands speed now allowed small entries h
@@ -206,7 +208,7 @@ module _ (o : Origin) (done : List TraceSecond) (s : TraceSecond) (front rest : 
           withdrawn o done s front rest slot are run before d e w lines later later-is tears left spans t places rings c seat low stands speed now allowed small went.was went.is
           (subst (λ (q : Option Accepted). IfSome q (λ r. r.entry < insertion_ring.count)) went.is entries) new fewer gone new-odometer new-noted
           (subst (λ (l : RunLog). is_torn_in l s.number (In (suc (length front))) slot ≡ false) (same-log (ap (λ (j : Closing). closed_breaks j slot at) k)) (untorn (ap (λ (q : Option Accepted). is_some q) went.is) (ap (λ (q : Option Accepted). is_some q) is)))
-          (same-writes false x went (h (settled w.within.sp) stands_))
+          (same-writes false x went (h (settled w.within.sp) stands_)) (shuts k)
 
       pub closing-ringed : (fails : Bool) → ClosesRings closing (session_of between.keeper.cabin.cards c) at fails between d.unit e.unit → RingsGoOn fails o done s w.within.b (front ++ a ∷ []) new later spans t e
       closing-ringed false h = noted closing refl (session_of between.keeper.cabin.cards c) refl closed.is h

@@ -27,6 +27,8 @@ use Rattle.run_note_record.specs.Ringed.{Ringed, LeavesRings, notes_in, since_in
 use Rattle.run_note_record.specs.RingsSoFar.{RingedBehind, RingedIn, AreFewer, HasMoreBreaks, GoesBehind, notes_so_far}
 use Rattle.run_note_record.specs.Steps.{nobody, spans_cut}
 use Rattle.run_note_record.specs.OnCards.{CardsStay}
+use Rattle.run_note_record.specs.Sessions.{IsBrokenSince}
+use Rattle.run_note_record.proofs.Sessions.{stay-may}
 use Rattle.run_acts.specs.CardNotes.{LeavePlaces}
 use Rattle.run_acts.proofs.CardPlaces.{leave-stays}
 use Rattle.run_note_record.proofs.OnCards.{call-failed-more}
@@ -150,7 +152,7 @@ module _ (o : Origin) (done : List TraceSecond) (s : TraceSecond) (old new : Run
   ringed-by y more found =
       let now : List SpanFrom = with_second spans old.keeper.odometer t in
       let notes : List Note = notes_so_far w.within.b.run.log done log s [] in
-      let stays : Ringed (since_in o w.within.b.run.log done s) y now notes (seats_of old) e = rings-stay d e (since_in o w.within.b.run.log done s) log y now now notes (seats_of old) rings.ringed.ringed leaves left places (goes-alike log y now now notes (failed-more log y more) (call-failed-more log y more) (λ u. refl) (λ k is. is)) in
+      let stays : Ringed (since_in o w.within.b.run.log done s) y now notes (seats_of old) e = rings-stay d e (since_in o w.within.b.run.log done s) log y now now notes (seats_of old) rings.ringed.ringed leaves left (stay-may o now (λ c t. IsBrokenSince y c notes t) d e places) (goes-alike log y now now notes (failed-more log y more) (call-failed-more log y more) (λ u. refl) (λ k is. is)) in
       record {
         spans_are = rings.ringed.spans_are;
         before = rings.ringed.before;

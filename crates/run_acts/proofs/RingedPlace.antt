@@ -44,7 +44,7 @@ use Rattle.run_promise.specs.Beside.{HaveLeftMore}
 use Rattle.run_note_record.specs.Ringed.{IsPlaceIn, holder_in}
 use Rattle.run_note_record.specs.RingsSoFar.{RingedBehind, RingedIn, AreFewer}
 use Rattle.run_note_record.specs.Steps.{nobody, spans_cut}
-use Rattle.run_note_record.specs.OnCards.{has_call_failed_in, IsPlaceOn, VehiclesGo, PlaceIsTaken}
+use Rattle.run_note_record.specs.OnCards.{has_call_failed_in, IsPlaceOn, VehiclesGo, SessionsGo, NoOtherComes, PlaceIsTaken}
 use Rattle.run_note_record.proofs.OnCards.{call-failed, call-failed-more}
 use Rattle.run_note_record.proofs.Bytes.{IsPlaceTold, place-is}
 use Rattle.run_note_record.proofs.RingSteps.{place-entered, place-is-cut}
@@ -64,7 +64,7 @@ use Rattle.run_acts.specs.Ringing.{IsPlaceNow, WritesPlace}
 use Rattle.run_acts.proofs.Cabins.{session-known, noted-sessions}
 use Rattle.run_unit_course.specs.Lines.{cut_at}
 use Rattle.run_acts.proofs.CardStays.{session-sizes}
-use Rattle.run_acts.proofs.CardPlaces.{PlaceCall, entry-wide, place-taken, place-go, tear-failed}
+use Rattle.run_acts.proofs.CardPlaces.{PlaceCall, entry-wide, place-taken, place-go, place-sessions, tear-failed}
 use Rattle.run_acts.proofs.FallEvented.{known}
 use Rattle.run_acts.proofs.RingedLines.{AreTears, seats-go}
 use Rattle.run_acts.proofs.WithdrawnRecorded.{moment-is}
@@ -220,16 +220,16 @@ module _ (o : Origin) (done : List TraceSecond) (s : TraceSecond) (front rest : 
 
   pub place-ringed : (failed : Bool) (new : Run) → AreFewer (seats_of run) (seats_of new) → new.keeper.odometer ≡ run.keeper.odometer → new.noted ≡ run.noted → WritesPlace (Some number) entry failed d.unit e.unit →
       ((log : RunLog) → (has_call_failed_in later s.number ≡ true → has_call_failed_in log s.number ≡ true) → (failed ≡ true → has_call_failed_in log s.number ≡ true) → PlaceIsTaken o log note (place_bytes entry) d e) →
-      VehiclesGo o now_spans d e → RingsGoOn failed o done s w.within.b (front ++ a ∷ []) new later spans t e
-  place-ringed false new fewer same noted writes takes goes = record {
+      VehiclesGo o now_spans d e → SessionsGo o NoOtherComes d e → RingsGoOn failed o done s w.within.b (front ++ a ∷ []) new later spans t e
+  place-ringed false new fewer same noted writes takes goes sessions = record {
     base = subst (λ (b : ℕ). IsLastFrom b (with_second spans b t)) (sym same) rings.base;
     counted = counted-on new noted;
     ringed = subst (λ (b : ℕ). RingedIn o done s w.within.b.run.log (front ++ a ∷ []) later spans b t (seats_of new) e) (sym same)
         (place-entered d e o done s w.within.b.run.log (log_of before) later front spans run.keeper.odometer t (seats_of run) (seats_of new) rings.ringed
         (goes-to o done s front rest a are v d w.within lines later is tears) slot ending country region x (sits-then o done s front rest a are v d w.within lines later is tears slot x sitting.1) refl
-        (unit_place_bytes number entry) writes long (stands-for later) left (place_bytes entry) (entry-wide entry) stands-on (takes later (λ h. h) (λ apart_. absurd (let wrong : false ≡ true = apart_ in cc))) goes fewer);
+        (unit_place_bytes number entry) writes long (stands-for later) left (place_bytes entry) (entry-wide entry) stands-on (takes later (λ h. h) (λ apart_. absurd (let wrong : false ≡ true = apart_ in cc))) goes sessions fewer);
   }
-  place-ringed true new fewer same noted writes takes goes = record {
+  place-ringed true new fewer same noted writes takes goes sessions = record {
     counted = counted-on new noted;
     lines = since-begun o done s (In (length front)) [] None [] v d w.within later (lines, ap (λ (l : RunLog). l.breaks) is);
     behind = (is-cut o done s front rest a are v d w.within lines later is tears).behind;
@@ -238,7 +238,7 @@ module _ (o : Origin) (done : List TraceSecond) (s : TraceSecond) (front rest : 
         (place-is-cut d e o done s w.within.b.run.log (log_of before) (with_cut later s (front ++ a ∷ [])) front rest spans run.keeper.odometer t (seats_of run) rings.ringed slot ending country region
         (is-cut o done s front rest a are v d w.within lines later is tears) x (sits-cut o done s front rest a are v d w.within lines later is tears slot x sitting.1) refl
         (unit_place_bytes number entry) writes long (stands-for (with_cut later s (front ++ a ∷ []))) left (place_bytes entry) (entry-wide entry) stands-on
-        (takes log_cut (call-failed-more later log_cut (cut_at s.number true (length (front ++ a ∷ [])) ∷ [], refl) s.number) (λ _. call-failed log_cut s.number (is-cut o done s front rest a are v d w.within lines later is tears).failed)) goes);
+        (takes log_cut (call-failed-more later log_cut (cut_at s.number true (length (front ++ a ∷ [])) ∷ [], refl) s.number) (λ _. call-failed log_cut s.number (is-cut o done s front rest a are v d w.within lines later is tears).failed)) goes sessions);
   }
 
 -- ---- AS THE CALL SAYS IT
@@ -262,6 +262,7 @@ place-goes slot entry at failed old new breaks after d e card number fell seat n
     (log_of (record before { breaks = after })) (ap (λ (l : Listed Break). record (log_of before) { breaks = l.items }) (noted.told ∙ ap (λ (l : Listed Break). with_lines lines l) (sym is))))) cut
     (λ valid. sized (sizes_in o card) (session_of old.keeper.cabin.cards card) refl some (λ a at_. session-sizes o done s (In (length front)) [] [] old before d w card valid a at_)) others)
     (place-go o (with_second spans old.keeper.odometer t) done s (In (length front)) [] [] old before d e w card entry some (λ a at_. (call a at_).1) others)
+    (place-sessions o done s (In (length front)) [] [] old before d e w card entry some (λ a at_. (call a at_).1) others)
   where
     sized : (app : Application) (q : Option Accepted) → session_of old.keeper.cabin.cards card ≡ q → is_some q ≡ true → ((a : Accepted) → session_of old.keeper.cabin.cards card ≡ Some a → a.session.application ≡ app) → PlaceCall fell failed app entry (card_of d card) (card_of e card)
     sized app None is none sizes = absurd (let wrong : false ≡ true = none in cc)

@@ -36,6 +36,8 @@ use Rattle.run_note_record.specs.Ringed.{Seating, LeavesRings, WritesRing, MayBe
 use Rattle.run_note_record.specs.RingsSoFar.{RingedBehind, RingedIn, AreFewer}
 use Rattle.run_note_record.specs.Steps.{GoesOnTo, IsCutIn, nobody, spans_cut}
 use Rattle.run_note_record.specs.OnCards.{CardsStay}
+use Rattle.run_note_record.specs.Sessions.{FailsIn, Shuts}
+use Rattle.run_note_record.proofs.Sessions.{stay-may}
 use Rattle.run_note_record.proofs.RingSteps.{passes, action-cut, card-withdrawn, withdrawal-is-cut}
 use Rattle.run_record.specs.Recorded.{Values}
 use Rattle.run_record.specs.Within.{told_before, course_in}
@@ -149,7 +151,7 @@ module _ (o : Origin) (done : List TraceSecond) (s : TraceSecond) (front rest : 
     base = subst (λ (b : ℕ). IsLastFrom b (with_second spans b t)) (sym same) rings.base;
     counted = counted-on new noted;
     ringed = subst (λ (b : ℕ). RingedIn o done s w.within.b.run.log (front ++ a ∷ []) later spans b t (seats_of new) e) (sym same)
-        (passes d e o done s w.within.b.run.log (log_of before) later front a spans run.keeper.odometer t (seats_of run) (seats_of new) rings.ringed goes none leaves left places fewer);
+        (passes d e o done s w.within.b.run.log (log_of before) later front a spans run.keeper.odometer t (seats_of run) (seats_of new) rings.ringed goes none leaves left (stay-may o (with_second spans run.keeper.odometer t) (FailsIn later s.number) d e places) fewer);
   }
 
   pub quiet-torn : (new : Run) → AreFewer (seats_of run) (seats_of new) → new.keeper.odometer ≡ run.keeper.odometer → new.noted ≡ run.noted → LeavesRings d.unit e.unit → is_some (session_of run.keeper.cabin.cards card) ≡ true →
@@ -200,13 +202,13 @@ module _ (o : Origin) (done : List TraceSecond) (s : TraceSecond) (front rest : 
     x = record { card = card; accepted = Some (sits-some some-session).0 }
 
     pub withdrawn : (new : Run) → AreFewer (seats_of run) (seats_of new) → seats_of new card ≡ None → new.keeper.odometer ≡ run.keeper.odometer → new.noted ≡ run.noted → is_torn_in later s.number (In (suc (length front))) slot ≡ false →
-        Withdraws false (seating_of run.noted session) s.number odometer d.unit e.unit → RingsWithin o done s w.within.b.run.log (front ++ a ∷ []) new later spans t e
-    withdrawn new fewer gone same noted untorn writes = record {
+        Withdraws false (seating_of run.noted session) s.number odometer d.unit e.unit → Shuts o later (record { second = s.number; card = card }) e → RingsWithin o done s w.within.b.run.log (front ++ a ∷ []) new later spans t e
+    withdrawn new fewer gone same noted untorn writes shuts = record {
       base = subst (λ (b : ℕ). IsLastFrom b (with_second spans b t)) (sym same) rings.base;
       counted = counted-on new noted;
       ringed = subst (λ (b : ℕ). RingedIn o done s w.within.b.run.log (front ++ a ∷ []) later spans b t (seats_of new) e) (sym same)
           (card-withdrawn d e o done s w.within.b.run.log (log_of before) later front spans run.keeper.odometer t (seats_of run) (seats-then run) (seats_of new) rings.ringed goes slot x (then_ x (sits-some some-session).1) still
-          (ap (λ (n : ℕ). is_torn_in later s.number (In n) slot) longer ∙ untorn) refl (seating_of run.noted session) seat-is entry time odometer refl odometer-is small few-kilometres writes others-stay left places (then-fewer new fewer gone));
+          (ap (λ (n : ℕ). is_torn_in later s.number (In n) slot) longer ∙ untorn) refl (seating_of run.noted session) seat-is entry time odometer refl odometer-is small few-kilometres writes others-stay left places shuts (then-fewer new fewer gone));
     }
 
     -- or the unit failed in it: it stands, or does not
@@ -218,7 +220,7 @@ module _ (o : Origin) (done : List TraceSecond) (s : TraceSecond) (front rest : 
 
   -- THE UNIT FAILED, and no withdrawal is written, or this one may be
   cut-quiet : LeavesRings d.unit e.unit → NotesMore log_cut was s front a [] → RingedBehind o (done ++ s ∷ []) log_cut (suc s.number) (spans_cut spans run.keeper.odometer log_cut done s) nobody e
-  cut-quiet leaves none = action-cut d e o done s w.within.b.run.log (log_of before) log_cut front a rest spans run.keeper.odometer t (seats_of run) rings.ringed cuts none leaves left places
+  cut-quiet leaves none = action-cut d e o done s w.within.b.run.log (log_of before) log_cut front a rest spans run.keeper.odometer t (seats_of run) rings.ringed cuts none leaves left (stay-may o (with_second spans run.keeper.odometer t) (FailsIn log_cut s.number) d e places)
 
   pub cut-leaves : IfSome (session_of run.keeper.cabin.cards card) (λ q. q.entry < insertion_ring.count) → LeavesRings d.unit e.unit →
       RingedBehind o (done ++ s ∷ []) log_cut (suc s.number) (spans_cut spans run.keeper.odometer log_cut done s) nobody e

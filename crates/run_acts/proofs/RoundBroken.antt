@@ -27,7 +27,7 @@ gone-one : (a b : Option Accepted) → GoesOnFrom a b → a ≡ None → b ≡ N
 gone-one a None h is = refl
 gone-one a (Some y) h is = absurd (subst (λ (q : Option Accepted). GoesOnFrom q (Some y)) is h)
 
-gone : (x y : Cards) (card : Card) → SessionsGoOn x y → session_of x card ≡ None → session_of y card ≡ None
+pub gone : (x y : Cards) (card : Card) → SessionsGoOn x y → session_of x card ≡ None → session_of y card ≡ None
 gone x y A h is = gone-one x.a.accepted y.a.accepted h.a is
 gone x y B h is = gone-one x.b.accepted y.b.accepted h.b is
 
@@ -36,7 +36,7 @@ had-one (Some x) b h is = refl
 had-one None None h is = is
 had-one None (Some y) h is = absurd h
 
-had : (x y : Cards) (card : Card) → SessionsGoOn x y → is_some (session_of y card) ≡ true → is_some (session_of x card) ≡ true
+pub had : (x y : Cards) (card : Card) → SessionsGoOn x y → is_some (session_of y card) ≡ true → is_some (session_of x card) ≡ true
 had x y A h is = had-one x.a.accepted y.a.accepted h.a is
 had x y B h is = had-one x.b.accepted y.b.accepted h.b is
 
@@ -56,12 +56,12 @@ fell-had cards card kept is = by (session_of cards card) refl is
     by None none h = absurd h
     by (Some a) some h = ap (λ (o : Option Accepted). is_some o) some
 
-fell-asked : (fate : Fate) (cards : Cards) (present : Option Card) (card : Card) (kept : Kept) → (fate ≡ Still) ⊎ IsFateOf (session_at cards present) kept fate → fate ≡ Fell → present ≡ Some card → is_some (session_of cards card) ≡ true
+pub fell-asked : (fate : Fate) (cards : Cards) (present : Option Card) (card : Card) (kept : Kept) → (fate ≡ Still) ⊎ IsFateOf (session_at cards present) kept fate → fate ≡ Fell → present ≡ Some card → is_some (session_of cards card) ≡ true
 fell-asked fate cards present card kept (inl still) fell is = let clash : Still ≡ Fell = sym still ∙ fell in absurd (cc)
 fell-asked fate cards present card kept (inr asked) fell is =
     fell-had cards card kept (subst (λ (o : Option Card). IsFateOf (session_at cards o) kept Fell) is (subst (IsFateOf (session_at cards present) kept) fell asked))
 
-fell-gone : (fate : Fate) (present : Option Card) (card : Card) (second : ℕ) (cabin : Cabin) → fate ≡ Fell → present ≡ Some card → session_of (cabin_by fate present second cabin).cards card ≡ None
+pub fell-gone : (fate : Fate) (present : Option Card) (card : Card) (second : ℕ) (cabin : Cabin) → fate ≡ Fell → present ≡ Some card → session_of (cabin_by fate present second cabin).cards card ≡ None
 fell-gone fate present card second cabin fell is =
     ap (λ (f : Fate). session_of (cabin_by f present second cabin).cards card) fell ∙ ap (λ (o : Option Card). session_of (cabin_by Fell o second cabin).cards card) is ∙ session_set card None cabin.cards
 
@@ -81,13 +81,13 @@ module _ (k : Keeper) (at : Moment) (m : Minute) (round : Round) (failed : Bool)
   abbrev u : KeepingState
   u = told_after p m.minute at round t
 
-  second-is : (round.codriver ≡ Still) ⊎ IsFateOf (session_at cabin1.cards p.codriver) (kept_in (minute_of m k) CoDriver) round.codriver
+  pub second-is : (round.codriver ≡ Still) ⊎ IsFateOf (session_at cabin1.cards p.codriver) (kept_in (minute_of m k) CoDriver) round.codriver
   second-is = ⊎_elim (λ off. inl off.not_asked) (λ f. inr f) is.codriver
 
-  first-on : SessionsGoOn t.keeper.cabin.cards cabin1.cards
+  pub first-on : SessionsGoOn t.keeper.cabin.cards cabin1.cards
   first-on = fate-on round.driver p.driver (kept_in (minute_of m k) Driver) at.second k t.keeper.cabin (inr is.driver)
 
-  second-on : SessionsGoOn cabin1.cards u.keeper.cabin.cards
+  pub second-on : SessionsGoOn cabin1.cards u.keeper.cabin.cards
   second-on = fate-on round.codriver p.codriver (kept_in (minute_of m k) CoDriver) at.second k cabin1 second-is
 
   pub round-on : SessionsGoOn t.keeper.cabin.cards u.keeper.cabin.cards

@@ -1,9 +1,9 @@
 -- The minutes that a settling decides are kept within a second that has power: what is recorded behind it.
-use Rattle.std.proofs.Common.{◌≡◌, ℕ, ◌+◌, ◌-◌, ◌/◌, ◌<◌, ◌≤◌, Bool, true, false, nat_eq, Option, None, List, [], ◌∷◌, ◌++◌, All, length, refl, ap, sym, subst, ◌∙◌, arith}
+use Rattle.std.proofs.Common.{◌≡◌, ℕ, ◌+◌, ◌-◌, ◌/◌, ◌<◌, ◌≤◌, Bool, true, false, nat_eq, Option, None, List, [], ◌∷◌, ◌++◌, All, length, is_some, refl, ap, sym, subst, ◌∙◌, arith}
 use Rattle.std.proofs.lemmas.List.Elements.{All-head, All-tail}
 use Rattle.trace_model.specs.declared.Card.{Card}
 use Rattle.trace_model.specs.Trace.{TraceSecond}
-use Rattle.tach_media.specs.Medium.{State}
+use Rattle.tach_media.specs.Medium.{State, last_count}
 use Rattle.card_layout.specs.declared.command.CardState.{CardState}
 use Rattle.minute_model.specs.declared.Minute.{Minute}
 use Rattle.minute_model.specs.Span.{Span, end_of, settled, decided_in, ungiven_of}
@@ -15,7 +15,8 @@ use Rattle.log_model.specs.Log.{In}
 use Rattle.log_model.specs.Course.{Visit, went}
 use Rattle.card_slots.specs.declared.seats.Ended.{Ended}
 use Rattle.card_slots.specs.Calls.{present_in}
-use Rattle.safety_model.specs.Safe.{Devices}
+use Rattle.safety_model.specs.Safe.{Devices, breakdowns_of}
+use Rattle.log_model.specs.Causes.{device_of}
 use Rattle.run_unit_course.specs.Legs.{all_travelled}
 use Rattle.run_unit_course.proofs.Legs.{travelled-earlier}
 use Rattle.unit_model.specs.Image.{odometer_at}
@@ -48,13 +49,16 @@ use Rattle.run_acts.proofs.GoesOn.{goes-on, unit-rose}
 use Rattle.run_acts.proofs.Settled.{settled-ungiven, settled-decides}
 use Rattle.run_acts.specs.Closings.{spells_of, notes_within}
 use Rattle.run_acts.specs.Comings.{TellMore}
-use Rattle.run_promise.specs.Whole.{NothingFailed}
 use Rattle.run_acts.specs.Truths.{truths_within, marked}
-use Rattle.run_acts.specs.Stays.{AllStay}
-use Rattle.run_acts.proofs.AllStay.{all-of, all-kept, all-true, lines-on, reach-told, reach-memory}
+use Rattle.run_crew.specs.Cards.{session_of}
+use Rattle.run_acts.specs.Stays.{Whose, Both, Only, covers, AreKnown, AllStay}
+use Rattle.run_acts.proofs.AllStay.{StoodBefore, Reached, all-of, all-kept, all-true, known-uncut, lines-on, reach-told, reach-memory}
+use Rattle.run_acts.proofs.RingedLines.{TellsBeside, phase_at, tears-beside}
+use Rattle.run_acts.proofs.KeptSeats.{floor-in, stood-kept, session-stays, reach-seats}
+use Rattle.run_acts.proofs.TornNotes.{spells-unhurt}
 use Rattle.run_acts.proofs.Truths.{grow-self, marked-grow}
 use Rattle.run_acts.proofs.WholeLegs.{kepts-now}
-use Rattle.run_acts.proofs.TruthsThen.{began-none}
+use Rattle.run_acts.proofs.TruthsThen.{began-uncut}
 
 -- ---- two spans for which the same minutes stand
 pub same-ungiven : (minutes : Kept) (a b : Span) → CountsSpan minutes a → CountsSpan minutes b → ungiven_of a ≡ ungiven_of b
@@ -148,32 +152,46 @@ module _ {U A0 B0 : State} {chip_a chip_b : CardState} (old : Run) (before : Out
         (unit-rose o (carried_at o done s q decided (told_of old before) v d w) failed old.keeper.cabin.cards keeper.cabin.cards d e w.powered w.there devices (odometers_of old.keeper decided) booked.1)
         booked.0
 
+    -- what is known behind it was known before
+    floor : (c : Card) → o.breakdowns (device_of c) < last_count → o.breakdowns (device_of c) ≤ breakdowns_of d (device_of c)
+    floor c low = floor-in o done s (In n) waits None decided v d w c low
+
+    stood : StoodBefore o d e
+    stood = stood-kept o failed old.keeper.cabin.cards keeper.cabin.cards d e devices floor
+
+    reached : failed ≡ false → Reached at (told_of old before) (told_of new after)
+    reached well = reach-told decided at (told_of old before) (told_of new after) reach (subst (λ (b : Bool). IsReach decided at b (told_of old before) (told_of new after) reach) well is)
+
+    -- what is noted of a card, its session and its seat
+    settled-spells : failed ≡ false → (x : RecordInSecond o done s (In n) waits None [] (values_of new after) e) → x.b ≡ w.b → (whose : Whose) → AreKnown whose o (log_of after) e → (c : Card) → covers whose c ≡ true →
+        spells_of c (notes_within w.b done s (In n) (log_of after)) ≡ spells_of c (notes_within w.b done s (In n) (log_of before))
+    settled-spells well x began Both none c in_ = ap (λ (bs : List Break). spells_of c (notes_within w.b done s (In n) (record (log_of before) { breaks = bs }))) ((reached well).same none.1)
+    settled-spells well x began (Only k) known c in_ =
+        spells-unhurt o done s n waits waits decided [] v (values_of new after) d e w x began w.moment.is w.moment.up_to.uncut
+        (subst (λ (m : Moment). TellsBeside (log_of before) (log_of after) m.second (phase_at m)) here
+        (tears-beside at (reached well).more (log_of before) (log_of after) (ap (λ (bs : List Break). record (log_of before) { breaks = bs }) (reached well).lines) (reached well).tears))
+        stood k c in_ known
+
+    settled-has : failed ≡ false → (whose : Whose) → AreKnown whose o (log_of after) e → (c : Card) → covers whose c ≡ true → is_some (session_of old.keeper.cabin.cards c) ≡ true → is_some (session_of keeper.cabin.cards c) ≡ true
+    settled-has well whose known c in_ = session-stays whose o (log_of after) failed old.keeper.cabin.cards keeper.cabin.cards d e c devices (floor c) (λ none some_. (reached well).stay c none.1 some_) in_ known
+
     -- what is made of the cards
-    settled-stay : TellMore [] d.unit e.unit → failed ≡ false → AllStay o (marked after.marks.items (truths_within o w.b.run.log done s)) s.number (log_of after) (notes_within w.b done s (In n) (log_of after)) keeper.memory.registration keeper.cabin e
-    settled-stay go well =
+    settled-stay : TellMore [] d.unit e.unit → failed ≡ false → (x : RecordInSecond o done s (In n) waits None [] (values_of new after) e) → x.b ≡ w.b → AllStay o (marked after.marks.items (truths_within o w.b.run.log done s)) s.number (log_of after) (notes_within w.b done s (In n) (log_of after)) keeper.memory.registration keeper.cabin e
+    settled-stay go well x began =
         let all = subst (λ (b : Bool). IsReach decided at b (told_of old before) (told_of new after) reach) well is in
-        let how = reach-told decided at (told_of old before) (told_of new after) reach all in
+        let how = reached well in
         all-of o (marked after.marks.items (truths_within o w.b.run.log done s)) s.number (log_of after) (notes_within w.b done s (In n) (log_of after)) old.keeper.memory.registration keeper.memory.registration keeper.cabin e how.registered
         (all-kept o (marked after.marks.items (truths_within o w.b.run.log done s)) s.number (log_of before) (log_of after) (notes_within w.b done s (In n) (log_of before)) (notes_within w.b done s (In n) (log_of after)) old.keeper.memory.registration (kepts_on old.keeper decided) old.keeper.cabin keeper.cabin d e go
-        (λ none. lines-on (log_of before) breaks.items how.more how.lines none)
-        (λ none c. ap (λ (bs : List Break). spells_of c (notes_within w.b done s (In n) (record (log_of before) { breaks = bs }))) (how.same none.1).0)
-        (λ none. (how.same none.1).1) (λ none c some_. how.stay c none.1 some_) (booked.2 well)
-        (λ none c. kepts-now o done s (In n) waits None decided v d w (began-none o done s (In n) waits None decided v d w (lines-on (log_of before) breaks.items how.more how.lines none).none) old.keeper refl c)
+        (lines-on o (log_of before) breaks.items how.more d e how.lines stood)
+        (settled-spells well x began)
+        (λ whose known c in_. reach-seats decided at (told_of old before) (told_of new after) reach all c (settled-has well whose known c in_)) (settled-has well) (booked.2 well)
+        (λ whose known c. kepts-now o done s (In n) waits None decided v d w (began-uncut o done s (In n) waits None decided v d w (known-uncut whose o (log_of before) d (lines-on o (log_of before) breaks.items how.more d e how.lines stood whose known).known)) old.keeper refl c)
         (all-true o (marked before.marks.items (truths_within o w.b.run.log done s)) (marked after.marks.items (truths_within o w.b.run.log done s)) s.number (log_of before) (notes_within w.b done s (In n) (log_of before)) old.keeper.memory.registration old.keeper.cabin d
-        (λ none. marked-grow before.marks.items after.marks.items (truths_within o w.b.run.log done s) (truths_within o w.b.run.log done s) how.marks (grow-self (truths_within o w.b.run.log done s))) r.stay))
+        (λ whose known. marked-grow before.marks.items after.marks.items (truths_within o w.b.run.log done s) (truths_within o w.b.run.log done s) how.marks (grow-self (truths_within o w.b.run.log done s))) r.stay))
 
-    -- nothing is noted of them
-    quiet-so : failed ≡ false → NothingFailed (log_of after) → NothingFailed (log_of before) × ((c : Card) → spells_of c (notes_within w.b done s (In n) (log_of after)) ≡ spells_of c (notes_within w.b done s (In n) (log_of before))) × ((log_of after).finds ≡ (log_of before).finds)
-    quiet-so well none =
-        let how = reach-told decided at (told_of old before) (told_of new after) reach (subst (λ (b : Bool). IsReach decided at b (told_of old before) (told_of new after) reach) well is) in (
-          (lines-on (log_of before) breaks.items how.more how.lines none).none,
-          λ c. ap (λ (bs : List Break). spells_of c (notes_within w.b done s (In n) (record (log_of before) { breaks = bs }))) (how.same none.1).0,
-          refl,
-        )
-
-    so : TellMore [] d.unit e.unit → (f : Bool) → failed ≡ f → IsKeptTo f o done s q decided (told_of old before) (told_of new after) v d e w → SettlesTo f o done s (In n) waits w.b w.from (w.from + length decided) old new before after e
+    so : TellMore [] d.unit e.unit → (f : Bool) → failed ≡ f → IsKeptTo f o done s q decided (told_of old before) (told_of new after) v d e w → SettlesTo f o done s (In n) waits w.b w.from (w.from + length decided) old new before after d e
     so go false well k =
-        subst (λ (m : ℕ). (x : RecordInSecond o done s (In n) waits None [] (record (values_of new after) { odometer = m }) e) → x.b ≡ w.b → x.from ≡ w.from + length decided → SettlesTo false o done s (In n) waits w.b w.from (w.from + length decided) old new before after e) odometer
+        subst (λ (m : ℕ). (x : RecordInSecond o done s (In n) waits None [] (record (values_of new after) { odometer = m }) e) → x.b ≡ w.b → x.from ≡ w.from + length decided → SettlesTo false o done s (In n) waits w.b w.from (w.from + length decided) old new before after d e) odometer
         (λ (x : RecordInSecond o done s (In n) waits None [] (values_of new after) e) (began : x.b ≡ w.b) (from : x.from ≡ w.from + length decided). record {
           goes = record {
             origin = r.origin;
@@ -181,14 +199,16 @@ module _ {U A0 B0 : State} {chip_a chip_b : CardState} (old : Run) (before : Out
             lit = r.lit;
             within = x;
             odometer = odometer ∙ r.odometer ∙ ap (λ (b : Beginning). odometer_after (odometer_at o.recording.unit) b.travel.before) (sym began);
-            stay = subst (λ (b : Beginning). AllStay o (marked after.marks.items (truths_within o b.run.log done s)) s.number (log_of after) (notes_within b done s (In n) (log_of after)) keeper.memory.registration keeper.cabin e) (sym began) (settled-stay go well);
+            stay = subst (λ (b : Beginning). AllStay o (marked after.marks.items (truths_within o b.run.log done s)) s.number (log_of after) (notes_within b done s (In n) (log_of after)) keeper.memory.registration keeper.cabin e) (sym began) (settled-stay go well x began);
           };
           began = began;
           from = from ∙ end;
-          quiet = quiet-so well;
+          known = λ whose known. (lines-on o (log_of before) breaks.items (reached well).more d e (reached well).lines stood whose known).known;
+          quiet = settled-spells well x began;
+          finds = refl;
           leave = λ slot card l some. leaving-later (log_of after) (went w.b.run.log done).before s (In n) w.from (w.from + length decided) (s.number / 60) (s.number / 60) keeper.cabin slot card (let to = end in omega (arith, to)) (sym end) (k.1 slot card l some);
         }) k.0.within k.0.began k.0.from
     so go true bad k = subst (λ (m : ℕ). RecordAtFailure o done s (In n) waits None (record (values_of new after) { odometer = m }) e) (sym odometer) k
 
-    pub settling-so : TellMore [] d.unit e.unit → SettlesTo failed o done s (In n) waits w.b w.from (w.from + length decided) old new before after e
+    pub settling-so : TellMore [] d.unit e.unit → SettlesTo failed o done s (In n) waits w.b w.from (w.from + length decided) old new before after d e
     settling-so go = so go failed refl kept

@@ -22,7 +22,7 @@ use Rattle.run_acts.specs.Closings.{Spell, spell_of, spells_of}
 use Rattle.run_acts.specs.Recording.{IsOrigin}
 use Rattle.run_acts.specs.RunCards.{sizes_in}
 use Rattle.run_acts.specs.Truths.{Truths}
-use Rattle.run_acts.specs.Stays.{Shut, Stay, Shown, open_from, after_stay, after_stays, start_shown, acceptances_told, spells, sits_in, as_noted, ShowsStays, AreStays, AllStay, judged_told}
+use Rattle.run_acts.specs.Stays.{Shut, Stay, Shown, open_from, after_stay, after_stays, start_shown, acceptances_told, spells, sits_in, as_noted, ShowsStays, Both, AreStays, AllStay, judged_told}
 
 -- what a spell leaves, and some
 abbrev spell_use : Registration → Spell → CurrentUse
@@ -64,9 +64,9 @@ shown-use vehicle image ss is card same shows x left =
 pub use-now : (o : Origin) → IsOrigin o → (t : Truths) (u : ℕ) (log : RunLog) (notes : List Note) (vehicle : Registration) (cabin : Cabin) (d : Devices) → AllStay o t u log notes vehicle cabin d → NothingFailed log → (c : Card) → IsOwnValid (card_image o.recording c) → session_of cabin.cards c ≡ None →
     (x : List ℕ) → (card_of d c).may_leave x → current_use (sizes_in o c) x ≡ use_now o c notes
 use-now o origin t u log notes vehicle cabin d all none c valid bare x left =
-    let are : AreStays o t u notes (acceptances_told log) (judged_told log) vehicle cabin d = all none in
+    let are : AreStays Both o t u notes (acceptances_told log) (judged_told log) vehicle cabin d = all Both none in
     let image : (found_of o.found c).image ≡ card_image o.recording c = origin.image c in
-    let h = are.each c (subst IsOwnValid (sym image) valid) in
+    let h = are.each c refl (subst IsOwnValid (sym image) valid) in
     let same : spells (are.stays c) ≡ spells_of c notes = sym (ap (λ (q : Option Accepted). as_noted u q (sits_in cabin.slots.seats c) (spells (are.stays c))) bare) ∙ h.spell in
     let own : vehicle ≡ vehicle_in o = λ i. record { 0 = are.says i } in
     sym (ap (λ (y : List ℕ). current_use (own_sizes y) x) image)

@@ -154,7 +154,7 @@ spans-alike told t x alike =
 -- ---- truths that stay
 
 pub grow-self : (t : Truths) → Grow t t
-grow-self t = record { accepted = λ f odometer h. h; kept = λ k h. h; closed = λ f second word h. h; owed = λ c f mark es h. h; entered = λ c f h. h }
+grow-self t = record { accepted = λ f odometer h. h; kept = λ k h. h; closed = λ f second word h. h; owed = λ c f mark es h. h; got = λ c es h. h; entered = λ c f h. h }
 
 pub grow-on : (t u v : Truths) → Grow t u → Grow u v → Grow t v
 grow-on t u v first next = record {
@@ -162,6 +162,7 @@ grow-on t u v first next = record {
   kept = λ k h. next.kept k (first.kept k h);
   closed = λ f second word h. next.closed f second word (first.closed f second word h);
   owed = λ c f mark es h. next.owed c f mark es (first.owed c f mark es h);
+  got = λ c es h. next.got c es (first.got c es h);
   entered = λ c f h. next.entered c f (first.entered c f h);
 }
 
@@ -172,6 +173,7 @@ marked-grow marks now t u stay on = record {
   kept = on.kept;
   closed = on.closed;
   owed = λ c f mark es h. (on.owed c f mark es h.0, marked-on marks now stay c es h.1);
+  got = λ c es h. marked-on marks now stay c es h;
   entered = on.entered;
 }
 
@@ -211,5 +213,6 @@ past-grows rule start p q owed now on goes = record {
         is = h.is;
       };
   owed = goes;
+  got = λ c es h. h;
   entered = λ c f h. record { s = h.s; among = on.seconds h.s h.among; number = h.number; puts = h.puts };
 }

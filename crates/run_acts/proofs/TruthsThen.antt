@@ -7,6 +7,7 @@ use Rattle.log_model.specs.declared.lines.Break.{Break}
 use Rattle.log_model.specs.Log.{RunLog, Phase}
 use Rattle.log_model.specs.Course.{ToldSecond, Visit, Before, Went, has_power, went, second_told}
 use Rattle.log_model.specs.Spans.{spans_of}
+use Rattle.log_model.specs.Causes.{cuts}
 use Rattle.log_model.proofs.Growth.{went-more}
 use Rattle.unit_model.specs.Image.{odometer_at}
 use Rattle.run_rings.specs.Spans.{AreAlike}
@@ -17,7 +18,7 @@ use Rattle.run_record.specs.Recorded.{Values}
 use Rattle.run_record.specs.Within.{RecordInSecond}
 use Rattle.run_record.specs.Turning.{last_of, before_last}
 use Rattle.run_acts.specs.Truths.{Grow, past_of, truths_of, truths_within, SpansGoOn, PastGoesOn}
-use Rattle.run_acts.proofs.AllStay.{fewer-none}
+use Rattle.run_acts.proofs.AllStay.{fewer-none, fewer-uncut}
 use Rattle.run_acts.proofs.Truths.{spans-more, spans-alike, spans-on, spans-same, past-grows, grow-on}
 use Rattle.safety_model.specs.Recording.{brought}
 use Rattle.run_acts.specs.Owed.{IsOwed}
@@ -73,6 +74,10 @@ past-later log later done s same =
 pub began-none : (o : Origin) (done : List TraceSecond) (s : TraceSecond) (at : Phase) (waits : List Visit) (speed : Option ℕ) (rest : List Minute) (v : Values) (d : Devices) (w : RecordInSecond o done s at waits speed rest v d) → NothingFailed v.log → NothingFailed w.b.run.log
 began-none o done s at waits speed rest v d w none =
     fewer-none w.b.run.log w.moment.breaks (subst (λ (bs : List Break). NothingFailed (record w.b.run.log { breaks = bs })) w.moment.breaks_are none)
+
+pub began-uncut : (o : Origin) (done : List TraceSecond) (s : TraceSecond) (at : Phase) (waits : List Visit) (speed : Option ℕ) (rest : List Minute) (v : Values) (d : Devices) (w : RecordInSecond o done s at waits speed rest v d) → cuts true v.log ≡ [] → cuts true w.b.run.log ≡ []
+began-uncut o done s at waits speed rest v d w none =
+    fewer-uncut w.b.run.log w.moment.breaks (subst (λ (bs : List Break). cuts true (record w.b.run.log { breaks = bs }) ≡ []) w.moment.breaks_are none)
 
 -- ---- WHAT IS TRUE
 

@@ -20,6 +20,7 @@ use Rattle.run_unit_course.specs.Followed.{UnitPower, Lit as IsLit, Lost as IsLo
 use Rattle.run_unit_course.specs.Turn.{begins_with, span_at}
 use Rattle.event_model.specs.Events.{Event, Seen, course_by, seen_of, seen_spans, number_of, is_bare, accepted_card, seen_on}
 use Rattle.event_model.specs.Events as events
+use Rattle.run_events.specs.Shown.{all_sure}
 use Rattle.run_events.specs.Watched.{watched, named}
 use Rattle.run_events.specs.Turned.{AreLow, IsLow}
 use Rattle.run_events.proofs.CrewsFed.{one-fed, still-seen, still-quiet, still-fed}
@@ -196,7 +197,7 @@ no-event [] ys is = is
 no-event (x ∷ xs) ys is = absurd (cc)
 
 nothing-noted : (o : Origin) (d : Devices) → NotesThese o [] d d
-nothing-noted o d c may = (c, may, λ log now. nothing-more (number_in o) log now c c (record { tables = λ kind there. refl; first_over = refl; over_count = refl }))
+nothing-noted o d c may = (c, may, nothing-more (number_in o) all_sure c c (record { tables = λ kind there. refl; first_over = refl; over_count = refl }))
 
 left-same : (o : Origin) (d : Devices) → HaveLeftMore o d d
 left-same o d = record { unit = λ x h. h; card = λ c x h. h }

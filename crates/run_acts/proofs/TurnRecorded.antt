@@ -1,8 +1,9 @@
 -- The minutes that seconds of one minute decide are kept behind them, and what has ended is noted: what is recorded of it.
-use Rattle.std.proofs.Common.{◌≡◌, ℕ, zero, suc, ◌+◌, ◌-◌, ◌/◌, ◌%◌, ◌<◌, ◌≤◌, Bool, true, false, Some, None, List, [], ◌∷◌, ◌++◌, length, refl, ap, sym, subst, ◌∙◌, arith, append-nil, append_assoc}
+use Rattle.std.proofs.Common.{◌≡◌, ℕ, zero, suc, ◌+◌, ◌-◌, ◌/◌, ◌%◌, ◌<◌, ◌≤◌, Bool, true, false, Some, None, List, [], ◌∷◌, ◌++◌, length, is_some, refl, ap, sym, subst, ◌∙◌, arith, append-nil, append_assoc}
 use Rattle.trace_model.specs.declared.Action.{Action}
+use Rattle.trace_model.specs.declared.Card.{Card}
 use Rattle.trace_model.specs.Trace.{TraceSecond, driven}
-use Rattle.tach_media.specs.Medium.{State}
+use Rattle.tach_media.specs.Medium.{State, last_count}
 use Rattle.card_layout.specs.declared.command.CardState.{CardState}
 use Rattle.run_model.specs.declared.Device.TheVariants.{Unit as Recorder}
 use Rattle.minute_model.specs.declared.Minute.{Minute}
@@ -12,7 +13,7 @@ use Rattle.log_model.specs.declared.lines.Break.{Break}
 use Rattle.log_model.specs.declared.lines.Mark.{Mark}
 use Rattle.log_model.specs.declared.lines.Refused.{Refused}
 use Rattle.log_model.specs.Log.{In, Keeping}
-use Rattle.log_model.specs.Causes.{RoseBy}
+use Rattle.log_model.specs.Causes.{RoseBy, device_of}
 use Rattle.log_model.specs.Course.{ToldSecond as Second}
 use Rattle.log_model.specs.ByHand.{by_slots}
 use Rattle.safety_model.specs.Safe.{Devices, breakdowns_of}
@@ -61,17 +62,21 @@ use Rattle.run_acts.proofs.Turned.{turn-decides, turn-most}
 use Rattle.note_model.specs.Noted.{Note}
 use Rattle.run_note_record.specs.Ringed.{notes_in}
 use Rattle.run_note_record.specs.RingsSoFar.{GoesBehind, notes_so_far}
-use Rattle.run_acts.specs.Closings.{spells_of, notes_within}
+use Rattle.run_acts.specs.Closings.{notes_within}
 use Rattle.run_acts.specs.Comings.{TellMore}
 use Rattle.run_acts.specs.Truths.{truths_of, truths_within, marked}
-use Rattle.run_acts.specs.Stays.{AllStay}
+use Rattle.run_crew.specs.Cards.{session_of}
+use Rattle.run_acts.specs.Stays.{Whose, covers, AreKnown, AllStay}
 use Rattle.run_acts.proofs.RingedSecond.{goes-behind, power-here}
 use Rattle.run_acts.proofs.NotesThen.{actions-all, notes-end, notes-last, behind-goes}
-use Rattle.run_acts.proofs.AllStay.{all-of, all-kept, all-true, all-second, lines-on, no-cut, reach-told, turn-memory}
+use Rattle.run_acts.proofs.AllStay.{StoodBefore, Reached, all-of, all-kept, all-true, all-second, known-uncut, lines-on, no-cut, reach-told, turn-memory}
+use Rattle.run_acts.proofs.RingedLines.{TellsBeside, tears-beside}
+use Rattle.run_acts.proofs.KeptSeats.{floor-in, stood-kept, session-stays, reach-seats}
+use Rattle.run_acts.proofs.TornNotes.{spells-kept}
 use Rattle.run_acts.proofs.SeatsThen.{stands-seated}
 use Rattle.run_acts.proofs.WholeLegs.{kepts-now}
 use Rattle.run_acts.proofs.Truths.{grow-self, marked-grow, marked-still}
-use Rattle.run_acts.proofs.TruthsThen.{began-none, truths-end, truths-last}
+use Rattle.run_acts.proofs.TruthsThen.{began-uncut, truths-end, truths-last}
 
 -- a span that goes on has a second
 pub record IsPushed (xs : List Second) (x : Second) : Type 0 where
@@ -148,6 +153,20 @@ module _ (old : Run) (before : Outcome) (minutes : Kept) (keeper : Keeper) (watc
     abbrev U : Values
     U = told_values u v
 
+    -- what is known behind it was known before
+    floor : (c : Card) → o.breakdowns (device_of c) < last_count → o.breakdowns (device_of c) ≤ breakdowns_of d (device_of c)
+    floor c low_ = floor-in o done s Keeping [] (Some s.speed) decided v d w c low_
+
+    stood : StoodBefore o d e
+    stood = stood-kept o failed old.keeper.cabin.cards keeper.cabin.cards d e devices floor
+
+    -- what is noted of a card, its session and its seat
+    beside-kept : Reached (moment_of s q) t u → TellsBeside (log_of before) (log_of told) s.number Keeping
+    beside-kept how = tears-beside (moment_of s q) how.more (log_of before) (log_of told) (ap (λ (bs : List Break). record (log_of before) { breaks = bs }) how.lines) how.tears
+
+    turned-has : Reached (moment_of s q) t u → (whose : Whose) → AreKnown whose o (log_of told) e → (c : Card) → covers whose c ≡ true → is_some (session_of old.keeper.cabin.cards c) ≡ true → is_some (session_of keeper.cabin.cards c) ≡ true
+    turned-has how whose known c in_ = session-stays whose o (log_of told) failed old.keeper.cabin.cards keeper.cabin.cards d e c devices (floor c) (λ none some_. how.stay c none.1 some_) in_ known
+
     -- what is made of the cards
     turned-stay : TellMore [] d.unit e.unit → AllStay o (marked before.marks.items (truths_within o w.b.run.log done s)) 0 (log_of before) (notes_within w.b done s Keeping (log_of before)) old.keeper.memory.registration old.keeper.cabin d → failed ≡ false → (r : Reach) → IsReach decided (moment_of s q) false t u r →
         AllStay o (marked told.marks.items (truths_within o w.b.run.log done s)) 0 (log_of told) (notes_within w.b done s Keeping (log_of told)) keeper.memory.registration keeper.cabin e
@@ -155,12 +174,12 @@ module _ (old : Run) (before : Outcome) (minutes : Kept) (keeper : Keeper) (watc
         let how = reach-told decided (moment_of s q) t u r is_ in
         all-of o (marked told.marks.items (truths_within o w.b.run.log done s)) 0 (log_of told) (notes_within w.b done s Keeping (log_of told)) old.keeper.memory.registration keeper.memory.registration keeper.cabin e how.registered
         (all-kept o (marked told.marks.items (truths_within o w.b.run.log done s)) 0 (log_of before) (log_of told) (notes_within w.b done s Keeping (log_of before)) (notes_within w.b done s Keeping (log_of told)) old.keeper.memory.registration (kepts_on old.keeper decided) old.keeper.cabin keeper.cabin d e go
-        (λ none. lines-on (log_of before) breaks.items how.more how.lines none)
-        (λ none c. ap (λ (bs : List Break). spells_of c (notes_within w.b done s Keeping (record (log_of before) { breaks = bs }))) (how.same none.1).0)
-        (λ none. (how.same none.1).1) (λ none c some_. how.stay c none.1 some_) (booked.2 well)
-        (λ none c. kepts-now o done s Keeping [] (Some s.speed) decided v d w (began-none o done s Keeping [] (Some s.speed) decided v d w (lines-on (log_of before) breaks.items how.more how.lines none).none) old.keeper refl c)
+        (lines-on o (log_of before) breaks.items how.more d e how.lines stood)
+        (λ whose known c in_. spells-kept w.b done s (log_of before) (log_of told) c w.moment.up_to.uncut (beside-kept how))
+        (λ whose known c in_. reach-seats decided (moment_of s q) t u r is_ c (turned-has how whose known c in_)) (turned-has how) (booked.2 well)
+        (λ whose known c. kepts-now o done s Keeping [] (Some s.speed) decided v d w (began-uncut o done s Keeping [] (Some s.speed) decided v d w (known-uncut whose o (log_of before) d (lines-on o (log_of before) breaks.items how.more d e how.lines stood whose known).known)) old.keeper refl c)
         (all-true o (marked before.marks.items (truths_within o w.b.run.log done s)) (marked told.marks.items (truths_within o w.b.run.log done s)) 0 (log_of before) (notes_within w.b done s Keeping (log_of before)) old.keeper.memory.registration old.keeper.cabin d
-        (λ none. marked-grow before.marks.items told.marks.items (truths_within o w.b.run.log done s) (truths_within o w.b.run.log done s) how.marks (grow-self (truths_within o w.b.run.log done s))) stay))
+        (λ whose known. marked-grow before.marks.items told.marks.items (truths_within o w.b.run.log done s) (truths_within o w.b.run.log done s) how.marks (grow-self (truths_within o w.b.run.log done s))) stay))
 
     -- the seconds before went as they did
     behind-now : (x : RecordInSecond o done s Keeping [] (Some s.speed) [] U e) → GoesBehind x.b.run.log (log_of told) done
@@ -197,7 +216,7 @@ module _ (old : Run) (before : Outcome) (minutes : Kept) (keeper : Keeper) (watc
           odometer = λ on. odometer ∙ stored ∙ ap (odometer_after (odometer_at o.recording.unit)) (ap (λ (b : Beginning). b.travel.before) (sym same) ∙ sym so.travelled_before);
           stay = subst (λ (ns : List Note). AllStay o (marked told.marks.items (truths_of o (log_of told) (done ++ s ∷ []))) 0 (log_of told) ns keeper.memory.registration keeper.cabin e) (sym (all-notes x))
               (all-true o (marked told.marks.items (truths_within o x.b.run.log done s)) (marked told.marks.items (truths_of o (log_of told) (done ++ s ∷ []))) 0 (log_of told) (notes_within x.b done s Keeping (log_of told)) keeper.memory.registration keeper.cabin e
-              (λ none. marked-still told.marks.items (truths_within o x.b.run.log done s) (truths_of o (log_of told) (done ++ s ∷ [])) (truths-end o x.b.run.log (log_of told) done s (behind-now x).went_is))
+              (λ whose known. marked-still told.marks.items (truths_within o x.b.run.log done s) (truths_of o (log_of told) (done ++ s ∷ [])) (truths-end o x.b.run.log (log_of told) done s (behind-now x).went_is))
               (subst (λ (b : Beginning). AllStay o (marked told.marks.items (truths_within o b.run.log done s)) 0 (log_of told) (notes_within b done s Keeping (log_of told)) keeper.memory.registration keeper.cabin e) (sym same) stays));
         }
 
@@ -216,7 +235,7 @@ module _ (old : Run) (before : Outcome) (minutes : Kept) (keeper : Keeper) (watc
               (subst (λ (b : ℕ). R (V (old.next + n - 1) b (suc next))) actions
               (subst (λ (m : ℕ). R (V m (length s.actions) (suc next))) number (cut-recorded o done s Keeping [] (Some s.speed) U e x [] refl))));
           odometer = λ on. absurd (cc);
-          stay = λ none. no-cut (log_of told) (old.next + n - 1) begun none;
+          stay = λ whose known. no-cut (log_of told) (old.next + n - 1) begun (known-uncut whose o (log_of (cut_breaks true (old.next + n - 1) begun told)) e known);
         }
 
     by : old.keeper.memory.registration ≡ vehicle_in o → TellMore [] d.unit e.unit → AllStay o (marked before.marks.items (truths_within o w.b.run.log done s)) 0 (log_of before) (notes_within w.b done s Keeping (log_of before)) old.keeper.memory.registration old.keeper.cabin d → (f : Bool) (r : Reach) → failed ≡ f → IsTurnReach decided (moment_of s q) f t u r → IsTurnBooked o.found (odometer_at o.recording.unit) (carried_at o done s q decided t v d w) old.keeper f r (all_travelled w.ds w.b.travel) u e →
@@ -369,7 +388,7 @@ module _ {U A0 B0 : State} {chip_a chip_b : CardState} (n speed begun : ℕ) (ol
         (sym (notes-last r.within.b.run.log (log_of before) done s c behind-first (power-here o done s (In (length s.actions)) [] None [] (values_of old before) d r.within)
         (behind-goes o done s (values_of old before) d (x.behind (omega arith)) now.number) x.fed.b (x.goes_on (omega arith)).0))
         (all-true o (marked before.marks.items (truths_within o r.within.b.run.log done s)) (marked before.marks.items (truths_within o x.fed.b.run.log (before_last (suc c) s done) (last_of (suc c) s))) 0 (log_of before) (notes_within r.within.b done s Keeping (log_of before)) old.keeper.memory.registration
-        old.keeper.cabin d (λ none_.
+        old.keeper.cabin d (λ whose known.
         marked-still before.marks.items (truths_within o r.within.b.run.log done s) (truths_within o x.fed.b.run.log (before_last (suc c) s done) (last_of (suc c) s))
         (truths-last o r.within.b.run.log (log_of before) done s c behind-first.went_is x.fed.b.run.log (x.goes_on (omega arith)).0)) stay-first))
 
@@ -392,7 +411,7 @@ module _ (n speed begun : ℕ) (old : Run) (before : Outcome) (d : Devices) (som
     powers = subst (λ (pw : Power). Supplies pw IsLost) (sym r.lost) tt;
     recorded = subst (λ (m : ℕ). RecordBetweenSeconds o done_ IsLost (V m begun) d) is (subst (λ (b : ℕ). RecordBetweenSeconds o done_ IsLost (V next b) d) at rec);
     odometer = λ on. absurd (let clash : Lost ≡ Lit = sym r.lost ∙ on in cc);
-    stay = λ none. absurd (r.failed none);
+    stay = λ whose known. absurd (r.failed (known-uncut whose o (log_of before) d known));
   }
 
   by-more : (c : ℕ) → c ≡ n - 1 → RunRecorded o (done ++ s ∷ driven c (s.number + 1) speed []) (passed n begun old) before d

@@ -33,7 +33,7 @@ pub cut-broke : (before between after : List Break) (second begun : ℕ) (old ne
     → after ≡ between ++ cut_at second true begun ∷ [] → BreaksDown before after old new
 cut-broke before between after second begun old new failed works cause failing same is =
     broke-then (broke-same {before = before} {after = between} {old = old} {new = old} same refl)
-    (broke-once {before = between} {after = after} second begun {old = old} {new = new} is (cause.breaks works failing))
+    (broke-once {before = between} {after = after} second begun {old = old} {new = new} is (cause.breaks works failing) cause.once)
 
 -- ---- minutes that are kept
 

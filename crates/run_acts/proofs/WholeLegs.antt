@@ -18,6 +18,7 @@ use Rattle.log_model.specs.declared.lines.Break.{Break}
 use Rattle.log_model.specs.Log.{RunLog, Phase, kept_after}
 use Rattle.log_model.specs.Course.{ToldSecond, Visit, went}
 use Rattle.log_model.specs.Spans.{spans_of, first_in, end_in, AreApart}
+use Rattle.log_model.specs.Causes.{cuts}
 use Rattle.log_model.proofs.Spanning.{spanned}
 use Rattle.history_model.specs.Minutes.{HistoryMinute, up_to}
 use Rattle.history_model.specs.Presence.{Start}
@@ -50,7 +51,6 @@ use Rattle.run_promise.proofs.Going.{sure-kept}
 use Rattle.run_course.proofs.Telling.{each-of}
 use Rattle.run_promise.proofs.Entries.{all-by}
 use Rattle.run_promise.specs.Origin.{Origin, rule_of, start_at, first_of}
-use Rattle.run_promise.specs.Whole.{NothingFailed}
 use Rattle.run_minutes.specs.declared.keeper.Keeper.{Keeper}
 use Rattle.run_minutes.specs.Keeping.{is_this, kept_in}
 use Rattle.run_minutes.specs.Minutes.{minute_of, present_at}
@@ -177,7 +177,7 @@ pub one-leg : (start : ℕ) (xs : List ℕ) (leg : ℕ) → odometer_after start
 one-leg start xs leg = fold-append odometer_by start xs (leg ∷ [])
 
 -- ---- WITHIN A SECOND
-module _ (o : Origin) (done : List TraceSecond) (s : TraceSecond) (at : Phase) (waits : List Visit) (speed : Option ℕ) (rest : List Minute) (v : Values) (d : Devices) (w : RecordInSecond o done s at waits speed rest v d) (none : NothingFailed w.b.run.log) where
+module _ (o : Origin) (done : List TraceSecond) (s : TraceSecond) (at : Phase) (waits : List Visit) (speed : Option ℕ) (rest : List Minute) (v : Values) (d : Devices) (w : RecordInSecond o done s at waits speed rest v d) (none : cuts true w.b.run.log ≡ []) where
   abbrev told_so_far : List ToldSecond
   told_so_far = (went w.b.run.log done).told
 
@@ -208,7 +208,7 @@ module _ (o : Origin) (done : List TraceSecond) (s : TraceSecond) (at : Phase) (
   held-ended : (e : List ToldSecond) (m : Minute) → Contains ended_so_far e → Contains (decided_of (rule_of o) e) m → (i : HistoryMinute) × Contains (w.b.run.book.sure ++ w.new) i × (i.minute ≡ m.minute)
   held-ended e m among in_ =
       held-minute m.minute
-      (⊎_elim (λ marked. marked) (λ failed. absurd (no-failure w.b.run.log none.0 (deciding_of (rule_of o) (settlings_of e) m.minute) failed))
+      (⊎_elim (λ marked. marked) (λ failed. absurd (no-failure w.b.run.log none (deciding_of (rule_of o) (settlings_of e) m.minute) failed))
       (w.began.complete.unit e m (subst (λ (ss : List (List ToldSecond)). Contains ss e) (sym (followed-lit o done s at waits speed rest v d w).spans) (Contains-append_left ended_so_far (as_spans w.b.span) e among)) in_))
 
   new-late : (i : HistoryMinute) → Contains w.new i → (span_at (rule_of o) w.b.run.next w.b.span).first / 60 ≤ i.minute
@@ -294,7 +294,7 @@ module _ (o : Origin) (done : List TraceSecond) (s : TraceSecond) (at : Phase) (
           (on m (goes m (Contains-append_left (m ∷ []) ms m (Contains-push [] m))) (present_at k.cabin m.minute)) (some ms (λ x there. goes x (Contains-append_right (m ∷ []) ms x there)))
 
 -- AN ACCEPTANCE TELLS THE ODOMETER of its second, before that is fed
-pub accepted-now : (o : Origin) (done : List TraceSecond) (s : TraceSecond) (at : Phase) (waits : List Visit) (rest : List Minute) (v : Values) (d : Devices) (w : RecordInSecond o done s at waits None rest v d) → NothingFailed w.b.run.log → (odometer : ℕ) →
+pub accepted-now : (o : Origin) (done : List TraceSecond) (s : TraceSecond) (at : Phase) (waits : List Visit) (rest : List Minute) (v : Values) (d : Devices) (w : RecordInSecond o done s at waits None rest v d) → cuts true w.b.run.log ≡ [] → (odometer : ℕ) →
     odometer ≡ odometer_by v.odometer (travelled_of w.sp) → IsOdometerBefore (rule_of o) (odometer_at o.recording.unit) (past_of w.b.run.log (done ++ s ∷ [])).spans s.number odometer
 accepted-now o done s at waits rest v d w none odometer is = record {
   at = record {

@@ -66,15 +66,17 @@ use Rattle.note_model.specs.Odometer.{SpanFrom}
 use Rattle.run_rings.specs.Spans.{with_second}
 use Rattle.run_note_record.specs.OnCards.{CardsStay}
 use Rattle.run_acts.specs.RunRinged.{AreSpansNow}
+use Rattle.run_note_record.specs.Sessions.{Shuts}
+use Rattle.run_acts.specs.CardWrites.{ClosesCard}
 use Rattle.run_acts.proofs.CardPlaces.{closing-stays}
+use Rattle.run_acts.proofs.SessionsClosed.{closing-shuts}
 use Rattle.note_model.specs.Noted.{Note}
 use Rattle.card_image.specs.Own.{IsOwnValid}
 use Rattle.run_promise.specs.Found.{found_of}
-use Rattle.run_promise.specs.Whole.{NothingFailed}
 use Rattle.run_acts.specs.Closings.{spells_of, last_slot, notes_within}
 use Rattle.run_acts.specs.Comings.{TellMore}
 use Rattle.run_acts.specs.Truths.{truths_within, marked}
-use Rattle.run_acts.specs.Stays.{sits_in, IsPlaced, AllStay, ClosesOnCard}
+use Rattle.run_acts.specs.Stays.{sits_in, IsPlaced, Whose, covers, AreKnown, AllStay, ClosesOnCard}
 use Rattle.run_acts.proofs.Stays.{last-shut-slot}
 use Rattle.run_acts.proofs.Closings.{same-turned}
 use Rattle.run_acts.proofs.AllStay.{Moves, moves-same, moves-bare, moves-leaves, placed-same, placed-bare, placed-nowhere, all-moved, log-self}
@@ -159,9 +161,9 @@ module _ (o : Origin) (done : List TraceSecond) (s : TraceSecond) (front rest : 
           (λ at there. emptied-slot run.keeper.cabin.slots.seats slot at k there) (λ some. some) was
 
   -- the slot of its last spell, where it has a session
-  slot-left : NothingFailed (log_of before) → IsOwnValid (found_of o.found c).image → is_some (session_of run.keeper.cabin.cards c) ≡ true → last_slot (spells_of c notes-left) ≡ Some slot
-  slot-left none valid some =
-      ap last_slot (withdrawn-now o done s front rest slot are speed now c v d w.within seat allowed from_ seated some) ∙ last-shut-slot s.number (spells_of c notes-before) ∙ (w.stay none).placed c valid slot some seat
+  slot-left : (whose : Whose) → AreKnown whose o (log_of before) d → covers whose c ≡ true → IsOwnValid (found_of o.found c).image → is_some (session_of run.keeper.cabin.cards c) ≡ true → last_slot (spells_of c notes-left) ≡ Some slot
+  slot-left whose known in_ valid some =
+      ap last_slot (withdrawn-now o done s front rest slot are speed now c v d w.within seat allowed from_ seated some) ∙ last-shut-slot s.number (spells_of c notes-before) ∙ (w.stay whose known).placed c in_ valid slot some seat
 
   -- it has sat in its slot since it was accepted
   sat-left : is_some (session_of run.keeper.cabin.cards c) ≡ true → (actions behind : List Action) → s.actions ≡ actions ++ Withdraw slot ∷ behind → length front ≡ length actions → HasSat slot c s.number actions (log_of before).finds
@@ -178,7 +180,7 @@ module _ (o : Origin) (done : List TraceSecond) (s : TraceSecond) (front rest : 
 
   stays-left : AllStay o (marked before.marks.items (truths_within o w.within.b.run.log done s)) s.number (log_of before) notes-left run.keeper.memory.registration (with_slot_left slot s.number run.keeper.cabin) d
   stays-left =
-      all-moved o (marked before.marks.items (truths_within o w.within.b.run.log done s)) s.number (log_of before) (log_of before) notes-before notes-left run.keeper.memory.registration run.keeper.cabin (with_slot_left slot s.number run.keeper.cabin) d (log-self (log_of before)) (λ none k. each-leaves k) (λ none k. places-left k) w.stay
+      all-moved o (marked before.marks.items (truths_within o w.within.b.run.log done s)) s.number (log_of before) (log_of before) notes-before notes-left run.keeper.memory.registration run.keeper.cabin (with_slot_left slot s.number run.keeper.cabin) d (log-self o (log_of before) d) (λ whose known k in_. each-leaves k) (λ whose known k in_. places-left k) w.stay
 
   abbrev gone : RunWithin o done s (In (suc (length front))) [] decided (settled_run between.minutes (left_run slot s.number run)) before d
   gone = record {
@@ -204,19 +206,18 @@ module _ (o : Origin) (done : List TraceSecond) (s : TraceSecond) (front rest : 
       IsCalm told.breaks.items after.items (state x) (state y) → HasBroken (state x) (state y) (closed_falls closing) →
       GoesOnOrFails failed o done s (In (suc (length front))) [] new (record told { breaks = after }) (arranged c V (state y) Z) w.within.b
   closing-recorded state U V Z x y unit_whole whole size closes still unit failed cause span stands_ ends records time at ms t kept same go new after closing shut is calm broken =
-      let kept_all : IsSettledIn o done s (In (suc (length front))) [] gone.within.b gone.within.from (gone.within.from + length decided) (left_run slot s.number run) between before told (arranged c U (state x) Z) =
+      let kept_all : IsSettledIn o done s (In (suc (length front))) [] gone.within.b gone.within.from (gone.within.from + length decided) (left_run slot s.number run) between before told d (arranged c U (state x) Z) =
       records o done s (suc (length front)) [] (omega arith) refl gone time in
       subst (λ (b : Beginning). GoesOnOrFails failed o done s (In (suc (length front))) [] new (record told { breaks = after }) (arranged c V (state y) Z) b) (kept_all.began ∙ left.goes.began)
       (closed-recorded state c slot (acting_at s.number (suc (length front))) between told U V Z x y unit_whole whole size closes still unit failed cause span stands_ ends o done s (suc (length front)) refl kept_all.goes kept_all.from
       (λ some. subst (λ (b : Beginning). IsLeaving (log_of told) (went b.run.log done).before s (In (suc (length front))) (s.number / 60) (s.number / 60) between.keeper.cabin slot c) (sym kept_all.began)
       (kept_all.leave slot c (left.leaving (had (session_of run.keeper.cabin.cards c) refl some)) some))
-      (λ some none valid.
-      let noted = kept_all.quiet none in
+      (λ some whose known in_ valid.
       ap last_slot
-      (ap (λ (b : Beginning). spells_of c (notes_within b done s (In (suc (length front))) (log_of told))) kept_all.began ∙ noted.1 c
+      (ap (λ (b : Beginning). spells_of c (notes_within b done s (In (suc (length front))) (log_of told))) kept_all.began ∙ kept_all.quiet whose known c in_
       ∙ ap (λ (b : Beginning). spells_of c (notes_within b done s (In (suc (length front))) (log_of before))) left.goes.began)
-      ∙ slot-left noted.0 valid (had (session_of run.keeper.cabin.cards c) refl some))
-      (λ some none actions behind is count. subst (λ (fs : List Find). HasSat slot c s.number actions fs) (sym (kept_all.quiet none).2) (sat-left (had (session_of run.keeper.cabin.cards c) refl some) actions behind is (omega (arith, count)))) go new after closing shut is calm broken)
+      ∙ slot-left whose (kept_all.known whose known) in_ valid (had (session_of run.keeper.cabin.cards c) refl some))
+      (λ some actions behind is count. subst (λ (fs : List Find). HasSat slot c s.number actions fs) (sym kept_all.finds) (sat-left (had (session_of run.keeper.cabin.cards c) refl some) actions behind is (omega (arith, count)))) go new after closing shut is calm broken)
     where
       had : (q : Option Accepted) → session_of run.keeper.cabin.cards c ≡ q → is_some (session_of between.keeper.cabin.cards c) ≡ true → is_some (session_of run.keeper.cabin.cards c) ≡ true
       had None is some = absurd (not-both (session_of between.keeper.cabin.cards c) some (none-comes c at ms t (told_of between told) kept (same ∙ is)))
@@ -271,7 +272,7 @@ module _ (o : Origin) (done : List TraceSecond) (s : TraceSecond) (front rest : 
       RecordsSettling decided (acting_at s.number (suc (length front))) false (left_run slot s.number run) between before told d (arranged c U (state x) Z) → HaveTime (arranged c U (state x) Z) →
       (spans : List SpanFrom) → CardsStay o spans (arranged c U (state x) Z) (arranged c V (state y) Z)
   closed-places state U V Z x y whole size closes still records time spans =
-      let kept_all : IsSettledIn o done s (In (suc (length front))) [] gone.within.b gone.within.from (gone.within.from + length decided) (left_run slot s.number run) between before told (arranged c U (state x) Z) =
+      let kept_all : IsSettledIn o done s (In (suc (length front))) [] gone.within.b gone.within.from (gone.within.from + length decided) (left_run slot s.number run) between before told d (arranged c U (state x) Z) =
       records o done s (suc (length front)) [] (omega arith) refl gone time in
       closing-stays state o spans done s (In (suc (length front))) [] [] between told c U V Z x y kept_all.goes whole size closes still
 
@@ -281,9 +282,18 @@ module _ (o : Origin) (done : List TraceSecond) (s : TraceSecond) (front rest : 
       RecordsSettling decided (acting_at s.number (suc (length front))) false (left_run slot s.number run) between before told d (arranged c U (state x) Z) → HaveTime (arranged c U (state x) Z) →
       StillShow o (arranged c U (state x) Z) (arranged c V (state y) Z)
   closed-still state U V Z x y whole size closes still records time =
-      let kept_all : IsSettledIn o done s (In (suc (length front))) [] gone.within.b gone.within.from (gone.within.from + length decided) (left_run slot s.number run) between before told (arranged c U (state x) Z) =
+      let kept_all : IsSettledIn o done s (In (suc (length front))) [] gone.within.b gone.within.from (gone.within.from + length decided) (left_run slot s.number run) between before told d (arranged c U (state x) Z) =
       records o done s (suc (length front)) [] (omega arith) refl gone time in
       closing-still state o done s (In (suc (length front))) [] [] between told c U V Z x y kept_all.goes whole size closes still
+
+  -- and it tells of no session, where it was closed
+  pub closed-shuts : {C : Type 0} (state : C → State) (U V Z : State) (x y : C) → IsCoherent (state x) → LARGEST_IMAGE ≤ (state x).size → (act : Activity) → ClosesCard Closed (session_of between.keeper.cabin.cards c) act (state x) (state y) →
+      RecordsSettling decided (acting_at s.number (suc (length front))) false (left_run slot s.number run) between before told d (arranged c U (state x) Z) → HaveTime (arranged c U (state x) Z) →
+      (log : RunLog) → Shuts o log (record { second = s.number; card = c }) (arranged c V (state y) Z)
+  closed-shuts state U V Z x y whole size act closes records time log =
+      let kept_all : IsSettledIn o done s (In (suc (length front))) [] gone.within.b gone.within.from (gone.within.from + length decided) (left_run slot s.number run) between before told d (arranged c U (state x) Z) =
+      records o done s (suc (length front)) [] (omega arith) refl gone time in
+      closing-shuts state o done s (In (suc (length front))) [] [] between told c U V Z x y kept_all.goes whole size act closes log s.number
 
   -- and its session is closed
   pub closing-evented : {C : Type 0} (state : C → State) (U V Z : State) (x y : C) → IsCoherent U → IsCoherent (state x) → LARGEST_IMAGE ≤ (state x).size →
@@ -296,7 +306,7 @@ module _ (o : Origin) (done : List TraceSecond) (s : TraceSecond) (front rest : 
       IsCalm told.breaks.items after.items (state x) (state y) → HasBroken (state x) (state y) (closed_falls closing) →
       NotesEvents (closed_events closing s.number new) failed (arranged c U (state x) Z) (arranged c V (state y) Z) → EventsGoOn failed o done s w.within.b.run (In (suc (length front))) Acting (log_of (record told { breaks = after })) (arranged c V (state y) Z)
   closing-evented state U V Z x y unit_whole whole size closes still unit failed cause span stands_ ends records time at ms t kept same small finds low sits_ events new after closing is calm broken notes =
-      let kept_all : IsSettledIn o done s (In (suc (length front))) [] gone.within.b gone.within.from (gone.within.from + length decided) (left_run slot s.number run) between before told (arranged c U (state x) Z) =
+      let kept_all : IsSettledIn o done s (In (suc (length front))) [] gone.within.b gone.within.from (gone.within.from + length decided) (left_run slot s.number run) between before told d (arranged c U (state x) Z) =
       records o done s (suc (length front)) [] (omega arith) refl gone time in
       let began = kept_all.began ∙ left.goes.began in
       subst (λ (b : Beginning). EventsGoOn failed o done s b.run (In (suc (length front))) Acting (log_of (record told { breaks = after })) (arranged c V (state y) Z)) began

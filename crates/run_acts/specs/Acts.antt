@@ -1,6 +1,6 @@
 -- What the actions of a second and its turn leave of a run and of its devices, each in a few records (profile).
-use Rattle.std.specs.Prelude.{ℕ, ◌++◌, ◌+◌, ◌/◌, ◌∷◌, ◌≡◌, ◌≤◌, Bool, IfSome, List, OnOk, Option, Result, Some, []}
-use Rattle.std.specs.Prelude.{false, is_err, is_some, length, not, true}
+use Rattle.std.specs.Prelude.{ℕ, ◌++◌, ◌+◌, ◌/◌, ◌∷◌, ◌≡◌, ◌≤◌, Bool, IfSome, List, None, OnOk, Option, Result, Some}
+use Rattle.std.specs.Prelude.{[], false, is_err, is_some, length, not, true}
 use Rattle.activity_codec.specs.declared.values.Activity.{Activity}
 use Rattle.activity_codec.specs.declared.values.Slot.{Slot}
 use Rattle.card_layout.specs.declared.command.CardState.{CardState}
@@ -14,7 +14,7 @@ use Rattle.log_model.specs.declared.lines.Break.{Break}
 use Rattle.minute_model.specs.Span.{Span, decided_in, settled}
 use Rattle.minute_model.specs.declared.Minute.{Minute}
 use Rattle.minute_rules.specs.Kept.{CountsSpan}
-use Rattle.run_crew.specs.Cabin.{number_of_seat}
+use Rattle.run_crew.specs.Cabin.{CabinIsSound, number_of_seat}
 use Rattle.run_crew.specs.Cards.{known_of, session_of}
 use Rattle.run_crew.specs.declared.cards.Accepted.{Accepted}
 use Rattle.run_events.specs.Entries.{card_entry}
@@ -31,7 +31,7 @@ use Rattle.run_promise.specs.Between.{devices}
 use Rattle.run_rings.specs.Same.{LeavesRings}
 use Rattle.run_speeds.specs.Speeds.{LeavesSpeeds}
 use Rattle.safety_model.specs.Safe.{Devices, card_of}
-use Rattle.tach_media.specs.Medium.{HasCause, LeavesOnly, State}
+use Rattle.tach_media.specs.Medium.{HasBroken, HasCause, LeavesOnly, State}
 use Rattle.tach_media.specs.declared.fault.Failed.{Failed}
 use Rattle.tacho_types.specs.declared.places.PlaceEntry.{PlaceEntry}
 use Rattle.trace_model.specs.declared.Action.TheVariants.{Withdraw}
@@ -39,7 +39,8 @@ use Rattle.trace_model.specs.declared.Card.{Card}
 use Rattle.unit_model.specs.Image.{IsUnit}
 use Rattle.unit_notes.specs.Journal.{LeavesJournal}
 use Rattle.unit_notes.specs.declared.unit_event.UnitEvent.{UnitEvent}
-use Rattle.run_acts.specs.Acting.{Closing, IsNotedIn, IsNotedOn, IsPlaced, IsWithdrawn, left_run, now_moment, told_of}
+use Rattle.run_acts.specs.Acting.{Closed, Closing, IsClosed, IsNotedIn, IsNotedOn, IsPlaced, IsWithdrawn, closed_falls}
+use Rattle.run_acts.specs.Acting.{falls_by, left_run, now_moment, told_of}
 use Rattle.run_acts.specs.ActsEvented.{EventsPlace, EventsWithdrawal, NoteLeaves}
 use Rattle.run_acts.specs.Behind.{BooksWithdrawn}
 use Rattle.run_acts.specs.Booked.{IsBookedTurn}
@@ -58,6 +59,7 @@ use Rattle.run_acts.specs.Room.{falls_of}
 use Rattle.run_acts.specs.RunCards.{CardsPlace, CardsTurn, CardsWithdrawal}
 use Rattle.run_acts.specs.RunRinged.{RingsGap, RingsPlace, RingsTurn, RingsWithdrawal}
 use Rattle.run_acts.specs.Speeds.{BringsBlock, SpeedsTurn}
+use Rattle.run_acts.specs.Stays.{ClosesOnCard}
 use Rattle.run_acts.specs.Turning.{IsLitTurn, IsTurnOf}
 use Rattle.run_acts.specs.declared.run.Run.{Run}
 
@@ -287,6 +289,50 @@ pub record ShowsClosing (which : Card) (slot : Slot) (at : Moment) (failed : Boo
 pub record CardGoesOn (before after : List Break) (x y : State) : Type 0 where
   pub later : IsLater x y
   pub calm : IsCalm before after x y
+
+-- THE NOTE OF AN INTERRUPTION ON A CARD: whether it fell, what is left of unit and card, and how they stand; and so
+-- many writes at most were begun
+pub record NotesGapOn (which : Card) (slot : Slot) (event : UnitEvent) (result : Result (Unit {0}) Failed)
+    (old new : Run) (before after : Listed Break) (U V x y : State) (chip : CardState) : Type 0 where
+  pub noted : (fell : Bool) × IsNotedOn which slot (now_moment old) old new before after fell
+      × HasBroken x y (falls_by fell) × HasCause x y fell × (is_err result ≡ true → fell ≡ true)
+  pub shows : ShowsGapOn which slot event (is_err result) old new before after U V x y
+  pub writes : UnitWrites U V
+  pub known : NotesInSession (session_of old.keeper.cabin.cards which) x y
+  pub behind : StandsBehind which result old new U V x y chip
+  pub stands : (from : ℕ) (leaving : Option Card) → CabinIsSound from leaving old.keeper.cabin
+      → CabinIsSound from leaving new.keeper.cabin
+  pub clock_card : x.clock ≤ y.clock
+  pub most : (V.clock ≤ U.clock + 4) × (y.clock ≤ x.clock + 4)
+
+-- so it is of the note of a place
+pub record NotesPlaceOn (which : Card) (slot : Slot) (entry : PlaceEntry) (at : Moment)
+    (result : Result (Unit {0}) Failed) (old new : Run) (before after : Listed Break) (U V x y : State)
+    (chip : CardState) : Type 0 where
+  pub noted : (fell : Bool) × IsNotedOn which slot at old new before after fell
+      × HasBroken x y (falls_by fell) × HasCause x y fell
+  pub shows : ShowsPlaceOn which slot entry at (is_err result) old new before after U V x y
+  pub writes : UnitWrites U V
+  pub known : NotesInSession (session_of old.keeper.cabin.cards which) x y
+  pub behind : StandsBehind which result old new U V x y chip
+  pub stands : (from : ℕ) (leaving : Option Card) → CabinIsSound from leaving old.keeper.cabin
+      → CabinIsSound from leaving new.keeper.cabin
+  pub clock_card : x.clock ≤ y.clock
+  pub most : (V.clock ≤ U.clock + 4) × (y.clock ≤ x.clock + 5)
+
+-- THE CLOSING OF A SESSION: how it was closed, what is left of unit and card, and how they stand; and so many writes at
+-- most were begun
+pub record ClosesSession (which : Card) (slot : Slot) (at : Moment) (result : Result (Unit {0}) Failed) (old new : Run)
+    (before after : Listed Break) (U V x y : State) (chip : CardState) : Type 0 where
+  pub closed : (closing : Closing) × IsClosed which slot at old new before after closing
+      × HasBroken x y (closed_falls closing)
+      × (closing ≡ Closed → ClosesOnCard slot old.minutes (session_of old.keeper.cabin.cards which) x y)
+  pub shows : ShowsClosing which slot at (is_err result) old new before after U V x y
+  pub writes : UnitWrites U V
+  pub behind : StandsBehind which result old new U V x y chip
+  pub stands : (from : ℕ) → CabinIsSound from (Some which) old.keeper.cabin → CabinIsSound from None new.keeper.cabin
+  pub most : (V.clock ≤ U.clock + 4) × (y.clock ≤ x.clock + 8)
+  pub goes : CardGoesOn before.items after.items x y
 
 -- THE KEEPING GOES ON as a second settles: all goes on over what is kept, the detailed speed stays, and so many writes
 -- at most were begun

@@ -7,7 +7,6 @@ use Rattle.activity_codec.specs.Activity.{activity_of}
 use Rattle.trace_model.specs.declared.Card.{Card}
 use Rattle.hand_model.specs.Holding.{stopped_by}
 use Rattle.log_model.specs.declared.lines.SlotFault.{SlotFault}
-use Rattle.log_model.specs.declared.lines.SlotFault.TheVariants.{Begun, NotFree, Full}
 use Rattle.log_model.specs.ByHand.{minute_on}
 use Rattle.log_model.specs.Slots.{refusal}
 use Rattle.trace_model.specs.declared.Action.{Action}

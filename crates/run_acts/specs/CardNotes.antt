@@ -4,7 +4,7 @@ use Rattle.trace_model.specs.declared.Card.{Card}
 use Rattle.tach_media.specs.Medium.{State}
 use Rattle.tacho_types.specs.declared.texts.Registration.{Registration}
 use Rattle.card_image.specs.Beside.{HaveSameVehicles}
-use Rattle.card_image.specs.Fields.{file_bytes}
+use Rattle.card_image.specs.Fields.{file_bytes, current_use}
 use Rattle.card_files.specs.declared.card_event.CardEvent.{CardEvent}
 use Rattle.event_model.specs.declared.entries.Span.{Span}
 use Rattle.event_model.specs.declared.kinds.TheConstants.{POWER_INTERRUPTION}
@@ -46,14 +46,15 @@ gap_on (Some span) registration = record {
 
 -- ---- the places
 
--- CALLS LEAVE THE PLACES of a card, and its vehicle entries: without a session it may leave no image that it might not
--- have left before; else each has those of one before
+-- CALLS LEAVE THE PLACES of a card, its vehicle entries and its current use: without a session it may leave no image
+-- that it might not have left before; else each has those of one before
 abbrev pub LeavesPlaces : (session : Option Accepted) → (card card_after : State) → Type 0
 LeavesPlaces None card card_after = (c : List ℕ) → card_after.may_leave c → card.may_leave c
 LeavesPlaces (Some a) card card_after = (c : List ℕ) → card_after.may_leave c
     → (x : List ℕ) × card.may_leave x
     × (file_bytes a.session.application 0x0506 c ≡ file_bytes a.session.application 0x0506 x)
     × HaveSameVehicles a.session.application x c
+    × (current_use a.session.application c ≡ current_use a.session.application x)
 
 -- so they do of each card
 abbrev pub LeavePlaces : Cards → (d e : Devices) → Type 0

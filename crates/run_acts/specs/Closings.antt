@@ -1,11 +1,10 @@
 -- When and where a card sat in the vehicle by what a run notes, and whether it was withdrawn in order (profile); and
 -- the notes so far.
-use Rattle.std.specs.Prelude.{ℕ, Option, Some, None, List, [], ◌∷◌, map, filter, take}
+use Rattle.std.specs.Prelude.{ℕ, Option, Some, None, List, [], ◌∷◌, map, filter}
 use Rattle.activity_codec.specs.declared.values.Slot.{Slot}
-use Rattle.trace_model.specs.declared.Action.{Action}
 use Rattle.trace_model.specs.declared.Card.{Card}
 use Rattle.trace_model.specs.Trace.{TraceSecond}
-use Rattle.log_model.specs.Log.{RunLog, Phase, In, Keeping}
+use Rattle.log_model.specs.Log.{RunLog, Phase}
 use Rattle.log_model.specs.Slots.{same_card}
 use Rattle.note_model.specs.Noted.{InsertionNote, Note, insertions_of}
 use Rattle.run_note_record.specs.RingsSoFar.{notes_so_far}

@@ -1,17 +1,14 @@
 -- What calls note on the unit: as events of the code, and as events of a run (Annex IB, section III.12; the moments:
 -- profile).
 use Rattle.std.specs.Prelude.{◌≡◌, ◌≢◌, ℕ, ◌^◌, ◌<◌, Bool, true, false, List, [], ◌∷◌, ◌++◌, Contains}
-use Rattle.std.specs.List.{AllByRecursion}
 use Rattle.trace_model.specs.declared.Card.{Card}
-use Rattle.log_model.specs.Log.{RunLog}
 use Rattle.event_model.specs.declared.kinds.TheConstants.{OVER_SPEEDING}
 use Rattle.event_model.specs.Events.{Event}
-use Rattle.unit_events.specs.Noted.{are_sure}
 use Rattle.unit_events.specs.Shown.{all_kinds}
 use Rattle.unit_notes.specs.declared.unit_event.UnitEvent.{UnitEvent}
 use Rattle.unit_notes.specs.Fields.{IsEventOf}
 use Rattle.safety_model.specs.Safe.{Devices}
-use Rattle.run_events.specs.Shown.{none, AreNumbers}
+use Rattle.run_events.specs.Shown.{by_kind, none_sure, AreNumbers}
 use Rattle.run_promise.specs.Origin.{Origin}
 use Rattle.run_note_record.specs.Evented.{number_in, NotesMore}
 use Rattle.run_note_record.specs.Noting.{NotesThese}
@@ -23,10 +20,6 @@ pub record NoteTellsEvent (number : Card → List ℕ) (e : Event) (v : UnitEven
   pub other : e.kind ≢ OVER_SPEEDING
   pub begin : e.begin < 2 ^ 32
   pub end : e.end < 2 ^ 32
-
--- of no one of these types any event is sure
-abbrev pub AreUnsure : RunLog → (ℕ → List Event) → List Event → Type 0
-AreUnsure log now events = AllByRecursion (λ e. are_sure log (now e.kind) ≡ true → ⊥) events
 
 -- these events of the code are those of a run, one after another
 abbrev pub AreTold : (Card → List ℕ) → List UnitEvent → List Event → Type 0
@@ -43,10 +36,10 @@ pub record IsSplit (number : Card → List ℕ) (vs ws : List UnitEvent) (es : L
   pub first_told : AreTold number vs first
   pub later_told : AreTold number ws later
 
--- these are noted; or the unit has failed, and where of no one of their types any event is sure nothing more is shown
+-- these are noted; or the unit has failed, and of none of them it is sure that it was
 abbrev pub NotesSo : (failed : Bool) → Origin → List Event → (d e : Devices) → Type 0
 NotesSo false o es d e = NotesThese o es d e
-NotesSo true o es d e = (log : RunLog) (now : ℕ → List Event) → AreUnsure log now es → NotesMore o log now none d e
+NotesSo true o es d e = NotesMore o none_sure (by_kind es) d e
 
 -- WHAT A CALL NOTES, whichever events of a run these are
 abbrev pub NotesEvents : List UnitEvent → (failed : Bool) → (d e : Devices) → Type 0

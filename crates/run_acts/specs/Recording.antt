@@ -6,6 +6,7 @@ use Rattle.trace_model.specs.Trace.{TraceSecond, driven}
 use Rattle.minute_model.specs.declared.Minute.{Minute}
 use Rattle.log_model.specs.ByHand.{by_slots, stops}
 use Rattle.log_model.specs.Log.{RunLog, Phase, In}
+use Rattle.log_model.specs.Causes.{cuts}
 use Rattle.log_model.specs.Course.{Visit, went}
 use Rattle.log_model.specs.Slots.{refusal}
 use Rattle.card_slots.specs.Calls.{logged}
@@ -23,7 +24,6 @@ use Rattle.run_crew.specs.declared.cabin.Cabin.{Cabin}
 use Rattle.run_crew.specs.Cabin.{with_power_lost}
 use Rattle.run_outcome.specs.declared.outcome.Outcome.{Outcome}
 use Rattle.run_promise.specs.Origin.{Origin}
-use Rattle.run_promise.specs.Whole.{NothingFailed}
 use Rattle.run_note_record.specs.Ringed.{notes_in}
 use Rattle.run_note_record.specs.Uses.{vehicle_in}
 use Rattle.run_minutes.specs.Books.{HaveTime}
@@ -120,7 +120,7 @@ pub record RunCut (o : Origin) (done : List TraceSecond) (s : TraceSecond) (run 
   pub vehicle : run.keeper.memory.registration ≡ vehicle_in o
   pub lost : run.power ≡ Lost
   pub recorded : RecordBetweenSeconds o (done ++ s ∷ []) IsLost (passed_values s (values_of run out)) d
-  pub failed : NothingFailed (log_of out) → ⊥
+  pub failed : cuts true (log_of out) ≡ [] → ⊥
 
 -- IN A SECOND to which the trace gives power, behind so many of its actions: it goes on, or power was cut in it
 abbrev pub InSecondBy : (lit : Bool) → Origin → List TraceSecond → TraceSecond → (n : ℕ) → Run → Outcome → Devices

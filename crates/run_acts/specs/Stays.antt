@@ -1,6 +1,7 @@
--- What a card shows of its stays in a run in which no call failed (profile): its days, with their words and distances,
--- its vehicle entries and its current use, exactly; one stay for each acceptance that the log tells, closed where the
--- run notes its withdrawal, and nowhere else; and what its unit tells of the vehicle before, at each of them.
+-- What a card shows of its stays in a run in which no call failed on it, nor on the unit (profile): its days, with
+-- their words and distances, its vehicle entries and its current use, exactly; one stay for each acceptance that the
+-- log tells, closed where the run notes its withdrawal, and nowhere else; and, where none failed on the other card
+-- either, what the unit tells of the vehicle before, at each of them.
 use Rattle.std.specs.Prelude.{◌≡◌, ◌⊎◌, ◌≤◌, ◌<◌, ℕ, ◌++◌, Bool, true, false, ◌||◌, Option, Some, None, IfSome}
 use Rattle.std.specs.Prelude.{option_map, List, [], ◌∷◌, is_some, length, map, filter}
 use Rattle.std.specs.List.{AllByRecursion}
@@ -12,11 +13,13 @@ use Rattle.trace_model.specs.declared.Card.{Card}
 use Rattle.trace_model.specs.declared.Card.TheVariants.{A, B}
 use Rattle.minute_model.specs.Span.{Span, activity_next}
 use Rattle.minute_rules.specs.Kept.{Kept as Minutes, CountsSpan}
-use Rattle.tach_media.specs.Medium.{State, bytes_at}
+use Rattle.tach_media.specs.Medium.{State, bytes_at, last_count}
 use Rattle.tacho_types.specs.declared.texts.Registration.{Registration}
 use Rattle.unit_model.specs.declared.layout.TheConstants.{REGISTRATION}
 use Rattle.message_model.specs.Records.{insertion_ring}
 use Rattle.log_model.specs.Log.{RunLog, is_accepting}
+use Rattle.log_model.specs.Causes.{cuts, device_of}
+use Rattle.log_model.specs.Slots.{same_card}
 use Rattle.log_model.specs.declared.lines.Find.{Find}
 use Rattle.log_model.specs.declared.lines.Verdict.{Verdict}
 use Rattle.log_model.specs.declared.lines.Verdict.TheVariants.{Accepted as AcceptedWith, NotValid, TimeOverlap}
@@ -32,7 +35,8 @@ use Rattle.card_session.specs.Cards.{IsCardClosed}
 use Rattle.card_session.specs.Inserting.{lacked}
 use Rattle.card_string.specs.Deeds.{Deed, Close}
 use Rattle.note_model.specs.Noted.{Note}
-use Rattle.safety_model.specs.Safe.{Devices, card_of}
+use Rattle.safety_model.specs.Safe.{Devices, card_of, breakdowns_of}
+use Rattle.device_rule.specs.Views.{other}
 use Rattle.card_slots.specs.Calls.{Seats, is_card, seat_in, card_in}
 use Rattle.run_crew.specs.declared.cards.Accepted.{Accepted}
 use Rattle.run_crew.specs.declared.cabin.Cabin.{Cabin}
@@ -41,7 +45,6 @@ use Rattle.run_promise.specs.Found.{CardFound, found_of}
 use Rattle.run_promise.specs.Origin.{Origin}
 use Rattle.run_promise.specs.Whole.{NothingFailed}
 use Rattle.run_minutes.specs.CardDeeds.{made_by, is_open_in, ShowsBook, keeps, holds_after, last_odometer, opens}
-use Rattle.run_note_record.specs.OnCards.{HasRing}
 use Rattle.gated_ring.specs.Ring.{PointsInside}
 use Rattle.run_acts.specs.Closings.{Spell, spells_of, with_last_shut, last_slot}
 use Rattle.run_acts.specs.Comings.{VehicleTold, told_of, TellsMore}
@@ -192,6 +195,30 @@ abbrev pub IsPlaced : List Note → Cabin → Card → Type 0
 IsPlaced notes cabin c = (slot : Slot) → is_some (session_of cabin.cards c) ≡ true
     → card_in (seat_in cabin.slots.seats slot) ≡ Some c → last_slot (spells_of c notes) ≡ Some slot
 
+-- ---- whose
+
+-- WHOSE STAYS: those of both cards, or of one, whatever the other did
+pub data Whose : Type 0 where
+  Both : Whose
+  Only : Card → Whose
+
+-- a card is one of them
+abbrev pub covers : Whose → Card → Bool
+covers Both c = true
+covers (Only k) c = same_card k c
+
+-- NO CALL HAS FAILED ON A CARD, nor on the unit: the log tells of no failed cut, and the card's count of breakdowns
+-- stands as it began, below its last value.
+pub record IsUnhurt (o : Origin) (log : RunLog) (c : Card) (d : Devices) : Type 0 where
+  pub uncut : cuts true log ≡ []
+  pub low : o.breakdowns (device_of c) < last_count
+  pub stands : breakdowns_of d (device_of c) ≡ o.breakdowns (device_of c)
+
+-- THEIR STAYS ARE KNOWN: of both cards where no call has failed, and of one where none has on it.
+abbrev pub AreKnown : Whose → Origin → RunLog → Devices → Type 0
+AreKnown Both o log d = NothingFailed log
+AreKnown (Only c) o log d = IsUnhurt o log c d
+
 -- ---- what is true of them
 
 -- A STAY IS TRUE: its acceptance told the odometer of then, each of its minutes that of its end, and it was closed with
@@ -200,10 +227,15 @@ abbrev pub IsTrueOf : Truths → Stay → Type 0
 IsTrueOf t s = t.accepted s.found s.odometer × AllByRecursion t.kept s.kepts
     × IfSome s.closed (λ x. t.closed s.found x.second x.word)
 
+-- what was owed is said where no call has failed on either card; of one card alone what it got
+abbrev pub owed_by : Whose → Truths → Card → Find → (mark : ℕ) → List Entry → Type 0
+owed_by Both t c f mark es = t.owed c f mark es
+owed_by (Only k) t c f mark es = t.got c es
+
 -- SO IS EACH of these, of a card with this image at the start; and what was owed at it was owed so
-abbrev pub AreTrue : Truths → Card → Registration → (image : List ℕ) → List Stay → Type 0
-AreTrue t c vehicle image ss = AllByRecursion (IsTrueOf t) ss
-    × AreOwed (t.owed c) vehicle (own_sizes image).activity ss (start_shown image)
+abbrev pub AreTrue : Whose → Truths → Card → Registration → (image : List ℕ) → List Stay → Type 0
+AreTrue whose t c vehicle image ss = AllByRecursion (IsTrueOf t) ss
+    × AreOwed (owed_by whose t c) vehicle (own_sizes image).activity ss (start_shown image)
 
 -- ---- the vehicle before
 
@@ -274,41 +306,56 @@ ShowsStays vehicle image stays card = ShowsBook (own_sizes image)
     (after_stays vehicle (own_sizes image).activity stays (start_shown image)).book
     (after_stays vehicle (own_sizes image).activity stays (start_shown image)).held card
 
--- ---- both cards
+-- ---- the lines of the log
 
--- THE STAYS OF BOTH CARDS in the vehicle of the run, by these notes so far, by these lines that tell of an acceptance,
--- and these with those that tell of a later time: each of these is, in its order, the next of the one card's stays or
--- of the other's; only a card that was valid has some, each of them true, and it shows exactly them, as they are noted
--- in this second; and it sits in the slot of the last of them. The unit tells the vehicle before each.
-pub record AreStays (o : Origin) (t : Truths) (second : ℕ) (notes : List Note) (acceptances lines : List Find)
-    (vehicle : Registration) (cabin : Cabin) (d : Devices) : Type 0 where
+-- EACH LINE by which a card was judged is, in its order, the next of the one card's or of the other's; or, of one card
+-- alone, of its own or of those that are of the other's entering.
+abbrev pub AreTold : Whose → Truths → (lines : List Find) → (own : Card → List Find) → Type 0
+AreTold Both t lines own = AreMerged lines (own A) (own B)
+AreTold (Only c) t lines own = (others : List Find) × AreMerged lines (own c) others
+    × AllByRecursion (t.entered (other c)) others
+
+-- THE UNIT TELLS THE VEHICLE BEFORE each of them, where they are those of both cards.
+abbrev pub AreToldBefore : Whose → (unit : List ℕ) → (acceptances : List Find) → Registration
+    → (image : Card → List ℕ) → (stays : Card → List Stay) → (now : State) → Type 0
+AreToldBefore Both unit acceptances vehicle image stays now = TellsBefores unit acceptances vehicle image stays now
+AreToldBefore (Only c) unit acceptances vehicle image stays now = Unit {0}
+
+-- ---- the cards
+
+-- THE STAYS OF THESE CARDS in the vehicle of the run, by these notes so far, by these lines that tell of an acceptance,
+-- and these with those that tell of a later time: each of these is, in its order, the next of the one card's or of the
+-- other's; only a card that was valid has some, each of them true, and it shows exactly them, as they are noted in this
+-- second; and it sits in the slot of the last of them. The unit tells the vehicle before each.
+pub record AreStays (whose : Whose) (o : Origin) (t : Truths) (second : ℕ) (notes : List Note)
+    (acceptances lines : List Find) (vehicle : Registration) (cabin : Cabin) (d : Devices) : Type 0 where
   pub says : vehicle.0 ≡ registration_in o.recording.unit
   pub stays : Card → List Stay
-  pub only : (c : Card) → (stays c ≡ []) ⊎ IsOwnValid (found_of o.found c).image
-  pub each : (c : Card) → IsOwnValid (found_of o.found c).image →
+  pub only : (c : Card) → covers whose c ≡ true → (stays c ≡ []) ⊎ IsOwnValid (found_of o.found c).image
+  pub each : (c : Card) → covers whose c ≡ true → IsOwnValid (found_of o.found c).image →
       HasStays second (found_of o.found c) vehicle (spells_of c notes) (sits_in cabin.slots.seats c) (stays c)
       (session_of cabin.cards c) (card_of d c)
-  pub hold : (c : Card) → AreTrue t c vehicle (found_of o.found c).image (stays c)
-  pub placed : (c : Card) → IsOwnValid (found_of o.found c).image → IsPlaced notes cabin c
+  pub hold : (c : Card) → covers whose c ≡ true → AreTrue whose t c vehicle (found_of o.found c).image (stays c)
+  pub placed : (c : Card) → covers whose c ≡ true → IsOwnValid (found_of o.found c).image → IsPlaced notes cabin c
   -- by which lines each was turned away since its last stay; none, while it has a session; only a card that was valid
   -- was
   pub since : Card → List Find
-  pub lone : (c : Card) → (since c ≡ []) ⊎ IsOwnValid (found_of o.found c).image
-  pub judged : AreMerged lines (judged_in (stays A) (since A)) (judged_in (stays B) (since B))
+  pub lone : (c : Card) → covers whose c ≡ true → (since c ≡ []) ⊎ IsOwnValid (found_of o.found c).image
+  pub judged : AreTold whose t lines (λ (c : Card). judged_in (stays c) (since c))
   -- each of these lines is of the card's own entering
-  pub entered : (c : Card) → AllByRecursion (t.entered c) (judged_in (stays c) (since c))
-  pub verdicts : (c : Card) → IsOwnValid (found_of o.found c).image
+  pub entered : (c : Card) → covers whose c ≡ true → AllByRecursion (t.entered c) (judged_in (stays c) (since c))
+  pub verdicts : (c : Card) → covers whose c ≡ true → IsOwnValid (found_of o.found c).image
       → AreJudged vehicle (own_sizes (found_of o.found c).image).activity (stays c) (since c)
       (start_shown (found_of o.found c).image)
-  pub waits : (c : Card) → IsOwnValid (found_of o.found c).image → is_some (session_of cabin.cards c) ≡ true
-      → since c ≡ []
-  pub befores : TellsBefores o.recording.unit acceptances vehicle
+  pub waits : (c : Card) → covers whose c ≡ true → IsOwnValid (found_of o.found c).image
+      → is_some (session_of cabin.cards c) ≡ true → since c ≡ []
+  pub befores : AreToldBefore whose o.recording.unit acceptances vehicle
       (λ (c : Card). (found_of o.found c).image) stays d.unit
 
--- so it is where no call has failed
+-- so they are where they are known: those of both cards, and of each by itself
 abbrev pub AllStay : Origin → Truths → (second : ℕ) → RunLog → List Note → Registration → Cabin → Devices → Type 0
-AllStay o t second log notes vehicle cabin d = NothingFailed log
-    → AreStays o t second notes (acceptances_told log) (judged_told log) vehicle cabin d
+AllStay o t second log notes vehicle cabin d = (whose : Whose) → AreKnown whose o log d
+    → AreStays whose o t second notes (acceptances_told log) (judged_told log) vehicle cabin d
 
 -- A CARD IS CLOSED where its session was, with the activity that its slot has by these minutes: each image that it may
 -- leave is its image before, closed

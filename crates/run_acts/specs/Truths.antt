@@ -27,13 +27,14 @@ use Rattle.safety_model.specs.Recording.{brought}
 use Rattle.run_acts.specs.Owed.{IsOwed}
 
 -- WHAT IS TRUE of an acceptance (the odometer then), of a minute kept, of a closing (the line of the acceptance, the
--- second and the word), of what was owed to a card (the line, its end mark then, and the entries), and of the line by
--- which a card was judged
+-- second and the word), of what was owed to a card (the line, its end mark then, and the entries), of the entries that
+-- it got at an acceptance, and of the line by which a card was judged
 pub record Truths : Type 1 where
   pub accepted : Find → (odometer : ℕ) → Type 0
   pub kept : Kept → Type 0
   pub closed : Find → (second : ℕ) → Activity → Type 0
   pub owed : Card → Find → (mark : ℕ) → List Entry → Type 0
+  pub got : Card → List Entry → Type 0
   pub entered : Card → Find → Type 0
 
 -- what is true stays so
@@ -42,6 +43,7 @@ pub record Grow (t u : Truths) : Type 0 where
   pub kept : (k : Kept) → t.kept k → u.kept k
   pub closed : (f : Find) (second : ℕ) (word : Activity) → t.closed f second word → u.closed f second word
   pub owed : (c : Card) (f : Find) (mark : ℕ) (es : List Entry) → t.owed c f mark es → u.owed c f mark es
+  pub got : (c : Card) (es : List Entry) → t.got c es → u.got c es
   pub entered : (c : Card) (f : Find) → t.entered c f → u.entered c f
 
 -- WITH THESE MARKS each entry that was owed to a card has one of the card's
@@ -49,6 +51,7 @@ abbrev pub marked : List Mark → Truths → Truths
 marked marks t = record t {
   owed = λ c f mark es. t.owed c f mark es
       × All (λ (e : Entry). IsMarked marks (device_of c) e.minute) es;
+  got = λ c es. All (λ (e : Entry). IsMarked marks (device_of c) e.minute) es;
 }
 
 -- ---- a run so far
@@ -120,6 +123,7 @@ truths_by rule start p owed = record {
   kept = λ k. IsOdometerBehind rule start p.spans (60 * k.entry.minute + 59) k.odometer.0;
   closed = λ f second word. IsWordIn rule p f second word;
   owed = owed;
+  got = λ c es. Unit {0};
   entered = λ c f. IsLineOf p.seconds c f;
 }
 

@@ -1,21 +1,17 @@
 //! The interruption of power that ends now is noted.
-ghost use Rattle.std.specs.Prelude.{◌≡◌, ◌≢◌, ℕ, ◌+◌, ◌/◌, ◌<◌, ◌≤◌, Bool, true, Option, OnOk};
+ghost use Rattle.std.specs.Prelude.{◌≡◌, ◌≢◌, ◌+◌, ◌/◌, ◌<◌, ◌≤◌, true, OnOk};
 ghost use Rattle.std.specs.Prelude.{length, is_err, is_some};
-ghost use Rattle.trace_model.specs.declared.Card.{Card};
-ghost use Rattle.tach_media.specs.Medium.{HasCause, HasBroken};
 ghost use Rattle.event_model.specs.declared.kinds.TheConstants.{POWER_INTERRUPTION};
 ghost use Rattle.log_model.specs.Log.{In};
 ghost use Rattle.run_promise.specs.Between.{devices};
 ghost use Rattle.run_crew.specs.Cards.{known_of, session_of};
-ghost use Rattle.run_crew.specs.Cabin.{CabinIsSound};
 ghost use Rattle.run_minutes.specs.Keeping.{UnitMayBeCalled, CardMayBeCalled};
 ghost use Rattle.run_acts.specs.declared.run.Power.TheVariants.{Lit};
 ghost use Rattle.run_acts.specs.Going.{first_second, CanBeCut, RunHasPowerAllSeated, IsActing};
 ghost use Rattle.run_acts.specs.Room.{falls_of};
-ghost use Rattle.run_acts.specs.Acting.{IsNotedOn, falls_by, now_moment};
 ghost use Rattle.run_acts.specs.Noting.{IsNoteRecorded};
-ghost use Rattle.run_acts.specs.Acts.{AllGoOn, IsHeldBehind, LeavesGap, LeavesIn, NotesGap, NotesIn, NotesInSession};
-ghost use Rattle.run_acts.specs.Acts.{PromisesGap, ShowsGapOn, StandsBehind, UnitWrites};
+ghost use Rattle.run_acts.specs.Acts.{AllGoOn, IsHeldBehind, LeavesGap, LeavesIn, NotesGap, NotesIn};
+ghost use Rattle.run_acts.specs.Acts.{NotesGapOn, PromisesGap};
 
 use crate::run::Run;
 use activity_codec::Slot;
@@ -27,6 +23,13 @@ use run_outcome::Lines;
 use tach_media::{Chip, Failed, Medium};
 use trace_model::Card;
 use unit_notes::{UnitEvent, UnitNotes};
+
+// An interruption that is noted on the card of a slot.
+#[derive(Clone, Copy)]
+struct SlotEvent {
+    slot: Slot,
+    event: UnitEvent,
+}
 
 /// The interruption of power that ends with the next second, where this was the last-kept minute, is noted on the unit,
 /// and then on the accepted cards. A card whose call fails is torn out.
@@ -69,15 +72,22 @@ pub fn note_gap<M: Medium, C: Chip, D: Chip>(
     };
     let event = card_gap(span, run.keeper.cabin.crew());
     run.keeper.memory.note_event(unit, &event)?;
-    note_in(run, Slot::Driver, &event, unit, card_a, card_b, breaks)?;
-    note_in(run, Slot::CoDriver, &event, unit, card_a, card_b, breaks)
+    let driver = SlotEvent {
+        slot: Slot::Driver,
+        event,
+    };
+    let codriver = SlotEvent {
+        slot: Slot::CoDriver,
+        event,
+    };
+    note_in(run, driver, unit, card_a, card_b, breaks)?;
+    note_in(run, codriver, unit, card_a, card_b, breaks)
 }
 
 // An interruption is noted on the card of a slot, where it is accepted.
 fn note_in<M: Medium, C: Chip, D: Chip>(
     run: &mut Run,
-    slot: Slot,
-    event: &UnitEvent,
+    gap: SlotEvent,
     unit: &mut M,
     card_a: &mut C,
     card_b: &mut D,
@@ -89,14 +99,14 @@ fn note_in<M: Medium, C: Chip, D: Chip>(
         (C.state card_a.old) (D.state card_b.old) }
     requires going { RunHasPowerAllSeated (run.old.next / 60) run.old (M.state unit.old) (C.card card_a.old)
         (D.card card_b.old) (C.state card_a.old) (D.state card_b.old) }
-    requires kind { event.now.kind ≡ POWER_INTERRUPTION }
-    requires begin { event.now.begin.0 ≢ 0 }
+    requires kind { gap.event.kind ≡ POWER_INTERRUPTION }
+    requires begin { gap.event.begin.0 ≢ 0 }
     requires breaks { length breaks.old.items + falls_of run.old.keeper.cabin ≤ breaks.old.room }
-    ensures noted { NotesIn slot (is_err result) run.old run.new breaks.old breaks.new }
+    ensures noted { NotesIn gap.slot (is_err result) run.old run.new breaks.old breaks.new }
     ensures recorded { IsNoteRecorded (In 0) (is_err result) run.old run.new breaks.old breaks.new
         (devices (M.state unit.old) (C.state card_a.old) (D.state card_b.old))
         (devices (M.state unit.new) (C.state card_a.new) (D.state card_b.new)) }
-    ensures leaves { LeavesIn slot event.now (is_err result) run.old run.new breaks.old breaks.new
+    ensures leaves { LeavesIn gap.slot gap.event (is_err result) run.old run.new breaks.old breaks.new
         (devices (M.state unit.old) (C.state card_a.old) (D.state card_b.old))
         (devices (M.state unit.new) (C.state card_a.new) (D.state card_b.new)) }
     ensures held { IsHeldBehind (is_err result) run.new
@@ -109,15 +119,15 @@ fn note_in<M: Medium, C: Chip, D: Chip>(
         (devices (M.state unit.old) (C.state card_a.old) (D.state card_b.old))
         (devices (M.state unit.new) (C.state card_a.new) (D.state card_b.new)) }
 {
-    let Some(card) = run.keeper.cabin.slots.card(slot) else {
+    let Some(card) = run.keeper.cabin.slots.card(gap.slot) else {
         return Ok(());
     };
-    let Some(_) = run.keeper.cabin.number_in(slot) else {
+    let Some(_) = run.keeper.cabin.number_in(gap.slot) else {
         return Ok(());
     };
     match card {
-        Card::A => note_on(run, Card::A, slot, event, unit, card_a, breaks),
-        Card::B => note_on(run, Card::B, slot, event, unit, card_b, breaks),
+        Card::A => note_on(run, Card::A, gap, unit, card_a, breaks),
+        Card::B => note_on(run, Card::B, gap, unit, card_b, breaks),
     }
 }
 
@@ -125,8 +135,7 @@ fn note_in<M: Medium, C: Chip, D: Chip>(
 fn note_on<M: Medium, C: Chip>(
     run: &mut Run,
     which: Card,
-    slot: Slot,
-    event: &UnitEvent,
+    gap: SlotEvent,
     unit: &mut M,
     card: &mut C,
     breaks: &mut Lines<Break>,
@@ -136,26 +145,12 @@ fn note_on<M: Medium, C: Chip>(
     requires session { is_some (session_of run.old.keeper.cabin.cards which) ≡ true }
     requires minute { run.old.keeper.cabin.slots.minute ≤ run.old.next / 60 }
     requires second { run.old.next ≢ 0 }
-    requires kind { event.now.kind ≡ POWER_INTERRUPTION }
-    requires begin { event.now.begin.0 ≢ 0 }
+    requires kind { gap.event.kind ≡ POWER_INTERRUPTION }
+    requires begin { gap.event.begin.0 ≢ 0 }
     requires room { length breaks.old.items < breaks.old.room }
-    ensures noted { (fell : Bool) × IsNotedOn which slot (now_moment run.old) run.old run.new breaks.old breaks.new fell
-        × HasBroken (C.state card.old) (C.state card.new) (falls_by fell)
-        × HasCause (C.state card.old) (C.state card.new) fell × (is_err result ≡ true → fell ≡ true) }
-    ensures shows { ShowsGapOn which slot event.now (is_err result) run.old run.new breaks.old breaks.new
-        (M.state unit.old) (M.state unit.new)
-        (C.state card.old) (C.state card.new) }
-    ensures writes { UnitWrites (M.state unit.old) (M.state unit.new) }
-    ensures known { NotesInSession (session_of run.old.keeper.cabin.cards which)
-        (C.state card.old) (C.state card.new) }
-    ensures behind { StandsBehind which result run.old run.new
+    ensures { NotesGapOn which gap.slot gap.event result run.old run.new breaks.old breaks.new
         (M.state unit.old) (M.state unit.new)
         (C.state card.old) (C.state card.new) (C.card card.new) }
-    ensures stands { (from : ℕ) (leaving : Option Card) → CabinIsSound from leaving run.old.keeper.cabin
-        → CabinIsSound from leaving run.new.keeper.cabin }
-    ensures clock_card { (C.state card.old).clock ≤ (C.state card.new).clock }
-    ensures most { ((M.state unit.new).clock ≤ (M.state unit.old).clock + 4)
-        × ((C.state card.new).clock ≤ (C.state card.old).clock + 4) }
 {
     let Ok(app) = run.keeper.cabin.cards.of(which).sizes else {
         return Ok(());
@@ -164,9 +159,9 @@ fn note_on<M: Medium, C: Chip>(
         return Ok(());
     };
     let at = run.moment(0);
-    let noted = on_card(event, &run.keeper.memory.identity().registration);
+    let noted = on_card(&gap.event, &run.keeper.memory.identity().registration);
     if note_event_on(card, app, &noted).is_err() {
-        return run.keeper.tear(which, slot, at, unit, breaks);
+        return run.keeper.tear(which, gap.slot, at, unit, breaks);
     }
     run.keeper.cabin.cards.set_session(which, Some(accepted));
     Ok(())

@@ -28,12 +28,12 @@ pub use kept_events::{
 };
 pub use noted_events::what_two_calls_note_parts;
 pub use on_cards::a_second_is_shown_on_a_card;
-pub use placing::{note_place, place};
+pub use placing::{SlotPlace, note_place, place};
 pub use rounds::{
     the_keeping_fails, the_keeping_is_recorded, the_minutes_are_kept, the_minutes_are_over,
     the_minutes_may_be_booked, the_note_fails, they_leave_still,
 };
 pub use run::{Power, Run};
 pub use settling::settle;
-pub use turning::turn;
-pub use withdrawing::{pull, withdraw};
+pub use turning::{Stretch, turn};
+pub use withdrawing::{Withdrawal, pull, withdraw};

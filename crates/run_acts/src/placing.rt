@@ -1,21 +1,16 @@
 //! A place is noted.
-ghost use Rattle.std.specs.Prelude.{◌≡◌, ◌≢◌, ℕ, ◌+◌, ◌/◌, ◌<◌, ◌≤◌, ◌^◌, Bool, true, Option, OnOk};
+ghost use Rattle.std.specs.Prelude.{◌≡◌, ◌≢◌, ◌+◌, ◌/◌, ◌<◌, ◌≤◌, ◌^◌, true, OnOk};
 ghost use Rattle.std.specs.Prelude.{length, is_err, is_some, if◌then◌else◌};
-ghost use Rattle.trace_model.specs.declared.Card.{Card};
-ghost use Rattle.tach_media.specs.Medium.{HasCause, HasBroken};
 ghost use Rattle.minute_model.specs.Span.{Span, travelled_of};
 ghost use Rattle.minute_rules.specs.Kept.{CountsSpan};
 ghost use Rattle.unit_model.specs.declared.layout.TheConstants.{HIGHEST_ODOMETER};
 ghost use Rattle.run_crew.specs.Cards.{known_of, session_of};
-ghost use Rattle.run_crew.specs.Cabin.{CabinIsSound};
 ghost use Rattle.run_minutes.specs.Keeping.{UnitMayBeCalled, CardMayBeCalled};
 ghost use Rattle.run_minutes.specs.Minutes.{odometer_by};
 ghost use Rattle.run_promise.specs.Between.{devices};
 ghost use Rattle.run_acts.specs.Going.{RunHasPowerAllSeated, IsActing};
 ghost use Rattle.run_acts.specs.Room.{falls_of};
-ghost use Rattle.run_acts.specs.Acting.{IsNotedOn, falls_by};
-ghost use Rattle.run_acts.specs.Acts.{AllGoOn, IsHeldBehind, LeavesPlaced, NotesInSession, PlacesSo, PromisesPlace};
-ghost use Rattle.run_acts.specs.Acts.{ShowsPlaceOn, StandsBehind, UnitWrites};
+ghost use Rattle.run_acts.specs.Acts.{AllGoOn, IsHeldBehind, LeavesPlaced, NotesPlaceOn, PlacesSo, PromisesPlace};
 
 use crate::run::Run;
 use activity_codec::Slot;
@@ -47,6 +42,14 @@ pub fn place(run: &Run, ending: bool, country: u8, region: u8) -> PlaceEntry
     }
 }
 
+/// A place that is entered in a slot, with its moment.
+#[derive(Clone, Copy)]
+pub struct SlotPlace {
+    pub slot: Slot,
+    pub entry: PlaceEntry,
+    pub at: Moment,
+}
+
 /// A place is noted on the unit, and then on the accepted card of a slot.
 ///
 /// # Errors
@@ -54,9 +57,7 @@ pub fn place(run: &Run, ending: bool, country: u8, region: u8) -> PlaceEntry
 /// `Failed` where the unit failed.
 pub fn note_place<M: Medium, C: Chip, D: Chip>(
     run: &mut Run,
-    slot: Slot,
-    entry: &PlaceEntry,
-    at: Moment,
+    place: SlotPlace,
     unit: &mut M,
     card_a: &mut C,
     card_b: &mut D,
@@ -64,16 +65,17 @@ pub fn note_place<M: Medium, C: Chip, D: Chip>(
 ) -> Result<(), Failed>
     requires acting { IsActing run.old (M.state unit.old) (C.card card_a.old) (D.card card_b.old) (C.state card_a.old)
         (D.state card_b.old) }
-    requires at { at.second ≡ run.old.next }
-    requires time { entry.now.time.0 ≢ 0 }
-    requires odometer { entry.now.odometer.0 ≤ HIGHEST_ODOMETER }
+    requires at { place.at.second ≡ run.old.next }
+    requires time { place.entry.time.0 ≢ 0 }
+    requires odometer { place.entry.odometer.0 ≤ HIGHEST_ODOMETER }
     requires breaks { length breaks.old.items + falls_of run.old.keeper.cabin ≤ breaks.old.room }
-    ensures placed { PlacesSo slot at run.old run.new breaks.old breaks.new }
-    ensures leaves { LeavesPlaced slot entry.now at (is_err result) run.old run.new breaks.old breaks.new
+    ensures placed { PlacesSo place.slot place.at run.old run.new breaks.old breaks.new }
+    ensures leaves { LeavesPlaced place.slot place.entry place.at (is_err result) run.old run.new breaks.old breaks.new
         (devices (M.state unit.old) (C.state card_a.old) (D.state card_b.old))
         (devices (M.state unit.new) (C.state card_a.new) (D.state card_b.new)) }
     // What a run promises goes on with it.
-    ensures promises { PromisesPlace slot entry.now at (is_err result) run.old run.new breaks.old breaks.new
+    ensures promises { PromisesPlace place.slot place.entry place.at
+        (is_err result) run.old run.new breaks.old breaks.new
         (devices (M.state unit.old) (C.state card_a.old) (D.state card_b.old))
         (devices (M.state unit.new) (C.state card_a.new) (D.state card_b.new)) }
     ensures held { IsHeldBehind (is_err result) run.new
@@ -86,16 +88,16 @@ pub fn note_place<M: Medium, C: Chip, D: Chip>(
         (devices (M.state unit.old) (C.state card_a.old) (D.state card_b.old))
         (devices (M.state unit.new) (C.state card_a.new) (D.state card_b.new)) }
 {
-    let Some(card) = run.keeper.cabin.slots.card(slot) else {
+    let Some(card) = run.keeper.cabin.slots.card(place.slot) else {
         return Ok(());
     };
-    let Some(number) = run.keeper.cabin.number_in(slot) else {
+    let Some(number) = run.keeper.cabin.number_in(place.slot) else {
         return Ok(());
     };
-    run.keeper.memory.note_place(unit, &number, entry)?;
+    run.keeper.memory.note_place(unit, &number, &place.entry)?;
     match card {
-        Card::A => note_place_in(run, Card::A, slot, entry, at, unit, card_a, breaks),
-        Card::B => note_place_in(run, Card::B, slot, entry, at, unit, card_b, breaks),
+        Card::A => note_place_in(run, Card::A, place, unit, card_a, breaks),
+        Card::B => note_place_in(run, Card::B, place, unit, card_b, breaks),
     }
 }
 
@@ -103,9 +105,7 @@ pub fn note_place<M: Medium, C: Chip, D: Chip>(
 fn note_place_in<M: Medium, C: Chip>(
     run: &mut Run,
     which: Card,
-    slot: Slot,
-    entry: &PlaceEntry,
-    at: Moment,
+    place: SlotPlace,
     unit: &mut M,
     card: &mut C,
     breaks: &mut Lines<Break>,
@@ -113,28 +113,14 @@ fn note_place_in<M: Medium, C: Chip>(
     requires ready { UnitMayBeCalled run.old.keeper (M.state unit.old) }
     requires card { CardMayBeCalled (known_of run.old.keeper.cabin.cards which) (C.card card.old) (C.state card.old) }
     requires session { is_some (session_of run.old.keeper.cabin.cards which) ≡ true }
-    requires minute { run.old.keeper.cabin.slots.minute ≤ at.second / 60 }
-    requires second { at.second ≢ 0 }
-    requires time { entry.now.time.0 ≢ 0 }
-    requires odometer { entry.now.odometer.0 < 2 ^ 24 }
+    requires minute { run.old.keeper.cabin.slots.minute ≤ place.at.second / 60 }
+    requires second { place.at.second ≢ 0 }
+    requires time { place.entry.time.0 ≢ 0 }
+    requires odometer { place.entry.odometer.0 < 2 ^ 24 }
     requires room { length breaks.old.items < breaks.old.room }
-    ensures noted { (fell : Bool) × IsNotedOn which slot at run.old run.new breaks.old breaks.new fell
-        × HasBroken (C.state card.old) (C.state card.new) (falls_by fell)
-        × HasCause (C.state card.old) (C.state card.new) fell }
-    ensures shows { ShowsPlaceOn which slot entry.now at (is_err result) run.old run.new breaks.old breaks.new
-        (M.state unit.old) (M.state unit.new)
-        (C.state card.old) (C.state card.new) }
-    ensures writes { UnitWrites (M.state unit.old) (M.state unit.new) }
-    ensures known { NotesInSession (session_of run.old.keeper.cabin.cards which)
-        (C.state card.old) (C.state card.new) }
-    ensures behind { StandsBehind which result run.old run.new
+    ensures { NotesPlaceOn which place.slot place.entry place.at result run.old run.new breaks.old breaks.new
         (M.state unit.old) (M.state unit.new)
         (C.state card.old) (C.state card.new) (C.card card.new) }
-    ensures stands { (from : ℕ) (leaving : Option Card) → CabinIsSound from leaving run.old.keeper.cabin
-        → CabinIsSound from leaving run.new.keeper.cabin }
-    ensures clock_card { (C.state card.old).clock ≤ (C.state card.new).clock }
-    ensures most { ((M.state unit.new).clock ≤ (M.state unit.old).clock + 4)
-        × ((C.state card.new).clock ≤ (C.state card.old).clock + 5) }
 {
     let Ok(app) = run.keeper.cabin.cards.of(which).sizes else {
         return Ok(());
@@ -142,8 +128,8 @@ fn note_place_in<M: Medium, C: Chip>(
     let Some(accepted) = run.keeper.cabin.cards.take(which) else {
         return Ok(());
     };
-    if note_place_on(card, app, entry).is_err() {
-        return run.keeper.tear(which, slot, at, unit, breaks);
+    if note_place_on(card, app, &place.entry).is_err() {
+        return run.keeper.tear(which, place.slot, place.at, unit, breaks);
     }
     run.keeper.cabin.cards.set_session(which, Some(accepted));
     Ok(())

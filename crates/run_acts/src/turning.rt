@@ -16,16 +16,23 @@ ghost use Rattle.run_acts.specs.Acts.{LeavesLit, LeavesTurned, LitTurns, Promise
 use crate::feeding::feed;
 use crate::run::Run;
 use minute_rules::Minute;
+use run_events::Seconds;
 use run_minutes::Moment;
 use run_outcome::Outcome;
 use tach_media::{Chip, Failed, Medium};
 
+/// So many seconds of one minute at one speed in km/h, the last of which has so many actions.
+#[derive(Clone, Copy)]
+pub struct Stretch {
+    pub n: u32,
+    pub speed: u8,
+    pub begun: u32,
+}
+
 /// So many seconds of one minute, the last of which has so many actions, and the keeping of what they decide.
 pub fn turn<M: Medium, C: Chip, D: Chip>(
     run: &mut Run,
-    n: u32,
-    speed: u8,
-    begun: u32,
+    stretch: Stretch,
     unit: &mut M,
     card_a: &mut C,
     card_b: &mut D,
@@ -33,20 +40,20 @@ pub fn turn<M: Medium, C: Chip, D: Chip>(
 )
     requires going { IsInsideSecond run.old (M.state unit.old) (C.card card_a.old) (D.card card_b.old)
         (C.state card_a.old) (D.state card_b.old) }
-    requires some { 0 < n }
-    requires minute { run.old.next % 60 + n ≤ 60 }
-    requires small { run.old.next + n ≤ end_of_seconds }
-    requires room { HasRoomWithin run.old outcome.old n 0 0 0 }
-    ensures turned { Turns n speed begun run.old run.new outcome.old outcome.new }
-    ensures leaves { LeavesTurned n speed begun run.old run.new outcome.old outcome.new
+    requires some { 0 < stretch.n }
+    requires minute { run.old.next % 60 + stretch.n ≤ 60 }
+    requires small { run.old.next + stretch.n ≤ end_of_seconds }
+    requires room { HasRoomWithin run.old outcome.old stretch.n 0 0 0 }
+    ensures turned { Turns stretch.n stretch.speed stretch.begun run.old run.new outcome.old outcome.new }
+    ensures leaves { LeavesTurned stretch.n stretch.speed stretch.begun run.old run.new outcome.old outcome.new
         (devices (M.state unit.old) (C.state card_a.old) (D.state card_b.old))
         (devices (M.state unit.new) (C.state card_a.new) (D.state card_b.new)) }
     // And what the seconds bring of events is noted.
-    ensures evented { EventsTurn n speed begun run.old run.new outcome.old outcome.new
+    ensures evented { EventsTurn stretch.n stretch.speed stretch.begun run.old run.new outcome.old outcome.new
         (devices (M.state unit.old) (C.state card_a.old) (D.state card_b.old))
         (devices (M.state unit.new) (C.state card_a.new) (D.state card_b.new)) }
     // What a run promises goes on with them.
-    ensures promises { PromisesTurn n speed begun run.old run.new outcome.old outcome.new
+    ensures promises { PromisesTurn stretch.n stretch.speed stretch.begun run.old run.new outcome.old outcome.new
         (devices (M.state unit.old) (C.state card_a.old) (D.state card_b.old))
         (devices (M.state unit.new) (C.state card_a.new) (D.state card_b.new)) }
     ensures dark { is_lit run.old.power ≡ false
@@ -54,26 +61,24 @@ pub fn turn<M: Medium, C: Chip, D: Chip>(
     ensures going { IsBetweenSeconds run.new (M.state unit.new) (C.card card_a.new) (D.card card_b.new)
         (C.state card_a.new) (D.state card_b.new) }
     ensures room { (left offs insertions actions : ℕ)
-        → HasRoomWithin run.old outcome.old (n + left) offs insertions actions
+        → HasRoomWithin run.old outcome.old (stretch.n + left) offs insertions actions
         → HasRoom run.new outcome.new left offs insertions actions }
     ensures goes { TurnGoes 93 294 outcome.old.breaks.items outcome.new.breaks.items
         (devices (M.state unit.old) (C.state card_a.old) (D.state card_b.old))
         (devices (M.state unit.new) (C.state card_a.new) (D.state card_b.new)) }
 {
     if !run.is_lit() {
-        run.pass(n, begun);
+        run.pass(stretch.n, stretch.begun);
         return;
     }
-    lit_turn(run, n, speed, begun, unit, card_a, card_b, outcome);
-    run.pass(n, begun);
+    lit_turn(run, stretch, unit, card_a, card_b, outcome);
+    run.pass(stretch.n, stretch.begun);
 }
 
 // The same with power. Where the keeping fails, or a note, the power is lost in the last of the seconds.
 fn lit_turn<M: Medium, C: Chip, D: Chip>(
     run: &mut Run,
-    n: u32,
-    speed: u8,
-    begun: u32,
+    stretch: Stretch,
     unit: &mut M,
     card_a: &mut C,
     card_b: &mut D,
@@ -82,53 +87,54 @@ fn lit_turn<M: Medium, C: Chip, D: Chip>(
     requires lit { run.old.power ≡ Lit }
     requires going { IsInsideSecond run.old (M.state unit.old) (C.card card_a.old) (D.card card_b.old)
         (C.state card_a.old) (D.state card_b.old) }
-    requires some { 0 < n }
-    requires minute { run.old.next % 60 + n ≤ 60 }
-    requires small { run.old.next + n ≤ end_of_seconds }
-    requires room { HasRoomWithin run.old outcome.old n 0 0 0 }
-    ensures turned { LitTurns n speed begun run.old run.new outcome.old outcome.new }
-    ensures leaves { LeavesLit n speed begun run.old run.new outcome.old outcome.new
+    requires some { 0 < stretch.n }
+    requires minute { run.old.next % 60 + stretch.n ≤ 60 }
+    requires small { run.old.next + stretch.n ≤ end_of_seconds }
+    requires room { HasRoomWithin run.old outcome.old stretch.n 0 0 0 }
+    ensures turned { LitTurns stretch.n stretch.speed stretch.begun run.old run.new outcome.old outcome.new }
+    ensures leaves { LeavesLit stretch.n stretch.speed stretch.begun run.old run.new outcome.old outcome.new
         (devices (M.state unit.old) (C.state card_a.old) (D.state card_b.old))
         (devices (M.state unit.new) (C.state card_a.new) (D.state card_b.new)) }
-    ensures going { IsBetweenSeconds (passed n begun run.new) (M.state unit.new) (C.card card_a.new) (D.card card_b.new)
+    ensures going { IsBetweenSeconds (passed stretch.n stretch.begun run.new) (M.state unit.new) (C.card card_a.new)
+        (D.card card_b.new)
         (C.state card_a.new) (D.state card_b.new) }
     ensures room { (left offs insertions actions : ℕ)
-        → HasRoomWithin run.old outcome.old (n + left) offs insertions actions
-        → HasRoom (passed n begun run.new) outcome.new left offs insertions actions }
+        → HasRoomWithin run.old outcome.old (stretch.n + left) offs insertions actions
+        → HasRoom (passed stretch.n stretch.begun run.new) outcome.new left offs insertions actions }
     ensures goes { TurnGoes 93 294 outcome.old.breaks.items outcome.new.breaks.items
         (devices (M.state unit.old) (C.state card_a.old) (D.state card_b.old))
         (devices (M.state unit.new) (C.state card_a.new) (D.state card_b.new)) }
 {
-    let decided = feed(&mut run.minutes, n, speed);
+    let decided = feed(&mut run.minutes, stretch.n, stretch.speed);
     let at = Moment {
-        second: run.next + n - 1,
-        begun,
+        second: run.next + stretch.n - 1,
+        begun: stretch.begun,
         late: true,
     };
-    let kept = keep_turn(
-        run,
-        decided.as_slice(),
-        n,
-        speed,
+    let turned = StretchDecided {
+        decided: decided.as_slice(),
+        stretch,
         at,
-        unit,
-        card_a,
-        card_b,
-        outcome,
-    );
+    };
+    let kept = keep_turn(run, turned, unit, card_a, card_b, outcome);
     if kept.is_err() {
-        run.cut(at.second, true, begun, &mut outcome.breaks);
+        run.cut(at.second, true, stretch.begun, &mut outcome.breaks);
     }
+}
+
+// Minutes that a stretch of seconds has decided, and the moment of their keeping.
+#[derive(Clone, Copy)]
+struct StretchDecided<D> {
+    decided: D,
+    stretch: Stretch,
+    at: Moment,
 }
 
 // Keeps the minutes that so many seconds have decided, and then notes what has ended with the second before them:
 // nothing has unless they are one.
 fn keep_turn<M: Medium, C: Chip, D: Chip>(
     run: &mut Run,
-    decided: &[Minute],
-    n: u32,
-    speed: u8,
-    at: Moment,
+    turned: StretchDecided<&[Minute]>,
     unit: &mut M,
     card_a: &mut C,
     card_b: &mut D,
@@ -136,14 +142,15 @@ fn keep_turn<M: Medium, C: Chip, D: Chip>(
 ) -> Result<(), Failed>
     requires ready { DevicesMayBeCalled run.old.keeper (M.state unit.old) (C.card card_a.old) (D.card card_b.old)
         (C.state card_a.old) (D.state card_b.old) }
-    requires may { MayKeepAll decided.now at
+    requires may { MayKeepAll turned.decided.now turned.at
         (acting run.old outcome.old (M.state unit.old) (C.state card_a.old) (D.state card_b.old) (C.card card_a.old)
         (D.card card_b.old)) }
-    requires watch { MayWatch n run.old (M.state unit.old) }
-    ensures kept { KeepsTurn decided.now n speed at (is_err result) run.old run.new outcome.old outcome.new
+    requires watch { MayWatch turned.stretch.n run.old (M.state unit.old) }
+    ensures kept { KeepsTurn turned.entry.decided.now turned.entry.stretch.n turned.entry.stretch.speed turned.entry.at
+        (is_err result) run.old run.new outcome.old outcome.new
         (devices (M.state unit.old) (C.state card_a.old) (D.state card_b.old))
         (devices (M.state unit.new) (C.state card_a.new) (D.state card_b.new)) }
-    ensures stands { StandsAfter at (is_err result)
+    ensures stands { StandsAfter turned.entry.at (is_err result)
         (acting run.old outcome.old (M.state unit.old) (C.state card_a.old) (D.state card_b.old) (C.card card_a.old)
         (D.card card_b.old))
         (acting run.new outcome.new (M.state unit.new) (C.state card_a.new) (D.state card_b.new) (C.card card_a.new)
@@ -153,15 +160,16 @@ fn keep_turn<M: Medium, C: Chip, D: Chip>(
         (D.card card_b.old))
         (acting run.new outcome.new (M.state unit.new) (C.state card_a.new) (D.state card_b.new) (C.card card_a.new)
         (D.card card_b.new)) }
-    ensures most { WroteAtMost (26 * length decided.now + 15) (minute_most * length decided.now)
+    ensures most { WroteAtMost (26 * length turned.entry.decided.now + 15)
+        (minute_most * length turned.entry.decided.now)
         (devices (M.state unit.old) (C.state card_a.old) (D.state card_b.old))
         (devices (M.state unit.new) (C.state card_a.new) (D.state card_b.new)) }
     ensures bare { AreBare run.old.keeper.cabin.cards card_a.old card_a.new card_b.old card_b.new }
 {
     let crew = run.keeper.cabin.crew();
     run.keeper.keep_all(
-        decided,
-        at,
+        turned.decided,
+        turned.at,
         unit,
         card_a,
         card_b,
@@ -169,6 +177,10 @@ fn keep_turn<M: Medium, C: Chip, D: Chip>(
         &mut outcome.breaks,
     )?;
     let first = run.next;
-    run.watch
-        .turn(&run.keeper.memory, first, n, speed, crew, unit)
+    let seconds = Seconds {
+        first,
+        n: turned.stretch.n,
+        speed: turned.stretch.speed,
+    };
+    run.watch.turn(&run.keeper.memory, seconds, crew, unit)
 }

@@ -1,8 +1,8 @@
 //! A card leaves its slot by hand: it is withdrawn, or pulled out.
-ghost use Rattle.std.specs.Prelude.{◌≡◌, ◌≢◌, ℕ, ◌+◌, ◌-◌, ◌*◌, ◌/◌, ◌<◌, ◌≤◌, true, Option, Some, None, IfSome, OnOk};
+ghost use Rattle.std.specs.Prelude.{◌≡◌, ◌≢◌, ℕ, ◌+◌, ◌-◌, ◌*◌, ◌/◌, ◌<◌, ◌≤◌, true, Option, None, IfSome, OnOk};
 ghost use Rattle.std.specs.Prelude.{length, is_some, is_err};
 ghost use Rattle.trace_model.specs.declared.Card.{Card};
-ghost use Rattle.tach_media.specs.Medium.{LeavesOnly, HasCause, HasBroken};
+ghost use Rattle.tach_media.specs.Medium.{LeavesOnly, HasCause};
 ghost use Rattle.message_model.specs.Records.{insertion_ring};
 ghost use Rattle.unit_model.specs.declared.layout.TheConstants.{HIGHEST_ODOMETER};
 ghost use Rattle.unit_notes.specs.Journal.{LeavesJournal};
@@ -14,12 +14,11 @@ ghost use Rattle.run_minutes.specs.Keeping.{UnitMayBeCalled, CardMayBeCalled, te
 ghost use Rattle.run_acts.specs.Going.{RunHasPowerAllSeated, IsActing};
 ghost use Rattle.run_acts.specs.Room.{falls_of, Takes};
 ghost use Rattle.run_promise.specs.Between.{devices};
-ghost use Rattle.run_acts.specs.Stays.{ClosesOnCard};
-ghost use Rattle.run_acts.specs.Acting.{Closing, Closed, IsClosed, closed_falls, pulled_run, pulled_breaks};
+ghost use Rattle.run_acts.specs.Acting.{pulled_run, pulled_breaks};
 ghost use Rattle.run_acts.specs.Noting.{SaysNoMore};
 ghost use Rattle.run_acts.specs.Ringing.{WritesWithdrawal};
-ghost use Rattle.run_acts.specs.Acts.{AllGoOn, CardGoesOn, IsHeldBehind, LeavesWithdrawn, PromisesWithdrawal};
-ghost use Rattle.run_acts.specs.Acts.{ShowsClosing, StandsBehind, UnitWrites, Withdraws};
+ghost use Rattle.run_acts.specs.Acts.{AllGoOn, IsHeldBehind, LeavesWithdrawn, PromisesWithdrawal};
+ghost use Rattle.run_acts.specs.Acts.{ClosesSession, Withdraws};
 
 use crate::run::Run;
 use crate::settling::settle;
@@ -37,6 +36,13 @@ use unit_notes::UnitNotes;
 /// So many insertions are kept in the unit: behind as many more, the entry of one has made room for another.
 const INSERTIONS: u64 = INSERTION_SLOTS as u64;
 
+/// A card leaves a slot by hand, at a moment.
+#[derive(Clone, Copy)]
+pub struct Withdrawal {
+    pub slot: Slot,
+    pub at: Moment,
+}
+
 /// The card of a slot is withdrawn: what that settles is kept first, and then its session is closed.
 ///
 /// # Errors
@@ -44,8 +50,7 @@ const INSERTIONS: u64 = INSERTION_SLOTS as u64;
 /// `Failed` where the unit failed.
 pub fn withdraw<M: Medium, C: Chip, D: Chip>(
     run: &mut Run,
-    slot: Slot,
-    at: Moment,
+    withdrawal: Withdrawal,
     unit: &mut M,
     card_a: &mut C,
     card_b: &mut D,
@@ -53,15 +58,18 @@ pub fn withdraw<M: Medium, C: Chip, D: Chip>(
 ) -> Result<(), Failed>
     requires acting { IsActing run.old (M.state unit.old) (C.card card_a.old) (D.card card_b.old) (C.state card_a.old)
         (D.state card_b.old) }
-    requires at { at.second ≡ run.old.next }
+    requires at { withdrawal.at.second ≡ run.old.next }
     requires marks { length outcome.old.marks.items + 3 * run.old.minutes.owing ≤ outcome.old.marks.room }
     requires breaks { length outcome.old.breaks.items + falls_of run.old.keeper.cabin ≤ outcome.old.breaks.room }
-    ensures withdrawn { Withdraws slot at (is_err result) run.old run.new outcome.old outcome.new }
-    ensures leaves { LeavesWithdrawn slot at (is_err result) run.old run.new outcome.old outcome.new
+    ensures withdrawn { Withdraws withdrawal.slot withdrawal.at
+        (is_err result) run.old run.new outcome.old outcome.new }
+    ensures leaves { LeavesWithdrawn withdrawal.slot withdrawal.at
+        (is_err result) run.old run.new outcome.old outcome.new
         (devices (M.state unit.old) (C.state card_a.old) (D.state card_b.old))
         (devices (M.state unit.new) (C.state card_a.new) (D.state card_b.new)) }
     // What a run promises goes on with it.
-    ensures promises { PromisesWithdrawal slot at (is_err result) run.old run.new outcome.old outcome.new
+    ensures promises { PromisesWithdrawal withdrawal.slot withdrawal.at
+        (is_err result) run.old run.new outcome.old outcome.new
         (devices (M.state unit.old) (C.state card_a.old) (D.state card_b.old))
         (devices (M.state unit.new) (C.state card_a.new) (D.state card_b.new)) }
     ensures held { IsHeldBehind (is_err result) run.new
@@ -75,14 +83,16 @@ pub fn withdraw<M: Medium, C: Chip, D: Chip>(
         (devices (M.state unit.old) (C.state card_a.old) (D.state card_b.old))
         (devices (M.state unit.new) (C.state card_a.new) (D.state card_b.new)) }
 {
-    let Some(card) = run.keeper.cabin.slots.card(slot) else {
+    let Some(card) = run.keeper.cabin.slots.card(withdrawal.slot) else {
         return Ok(());
     };
-    run.keeper.cabin.leave(slot, at.second);
-    settle(run, at, unit, card_a, card_b, outcome)?;
+    run.keeper
+        .cabin
+        .leave(withdrawal.slot, withdrawal.at.second);
+    settle(run, withdrawal.at, unit, card_a, card_b, outcome)?;
     match card {
-        Card::A => close(run, Card::A, slot, at, unit, card_a, &mut outcome.breaks),
-        Card::B => close(run, Card::B, slot, at, unit, card_b, &mut outcome.breaks),
+        Card::A => close(run, Card::A, withdrawal, unit, card_a, &mut outcome.breaks),
+        Card::B => close(run, Card::B, withdrawal, unit, card_b, &mut outcome.breaks),
     }
 }
 
@@ -91,8 +101,7 @@ pub fn withdraw<M: Medium, C: Chip, D: Chip>(
 fn close<M: Medium, C: Chip>(
     run: &mut Run,
     which: Card,
-    slot: Slot,
-    at: Moment,
+    withdrawal: Withdrawal,
     unit: &mut M,
     card: &mut C,
     breaks: &mut Lines<Break>,
@@ -102,29 +111,15 @@ fn close<M: Medium, C: Chip>(
     requires entry { IfSome (session_of run.old.keeper.cabin.cards which)
         (λ s. (s.entry < insertion_ring.count) × (s.noted ≤ run.old.noted)) }
     requires odometer { run.old.keeper.odometer ≤ HIGHEST_ODOMETER }
-    requires minute { run.old.keeper.cabin.slots.minute ≤ at.second / 60 }
-    requires second { at.second ≢ 0 }
+    requires minute { run.old.keeper.cabin.slots.minute ≤ withdrawal.at.second / 60 }
+    requires second { withdrawal.at.second ≢ 0 }
     requires room { length breaks.old.items + tears_of (session_of run.old.keeper.cabin.cards which) ≤ breaks.old.room }
-    ensures closed { (closing : Closing) × IsClosed which slot at run.old run.new breaks.old breaks.new closing
-        × HasBroken (C.state card.old) (C.state card.new) (closed_falls closing)
-        × (closing ≡ Closed → ClosesOnCard slot run.old.minutes (session_of run.old.keeper.cabin.cards which)
-        (C.state card.old) (C.state card.new)) }
-    ensures shows { ShowsClosing which slot at (is_err result) run.old run.new breaks.old breaks.new
-        (M.state unit.old) (M.state unit.new)
-        (C.state card.old) (C.state card.new) }
-    ensures writes { UnitWrites (M.state unit.old) (M.state unit.new) }
-    ensures bare { session_of run.old.keeper.cabin.cards which ≡ None → card.new ≡ card.old }
-    ensures behind { StandsBehind which result run.old run.new
+    ensures closes { ClosesSession which withdrawal.slot withdrawal.at result run.old run.new breaks.old breaks.new
         (M.state unit.old) (M.state unit.new)
         (C.state card.old) (C.state card.new) (C.card card.new) }
-    ensures stands { (from : ℕ) → CabinIsSound from (Some which) run.old.keeper.cabin
-        → CabinIsSound from None run.new.keeper.cabin }
-    ensures most { ((M.state unit.new).clock ≤ (M.state unit.old).clock + 4)
-        × ((C.state card.new).clock ≤ (C.state card.old).clock + 8) }
-    ensures goes { CardGoesOn breaks.old.items breaks.new.items
-        (C.state card.old) (C.state card.new) }
+    ensures bare { session_of run.old.keeper.cabin.cards which ≡ None → card.new ≡ card.old }
 {
-    let selected = run.minutes.selected(slot);
+    let selected = run.minutes.selected(withdrawal.slot);
     let sizes = run.keeper.cabin.cards.of(which).sizes;
     let Some(accepted) = run.keeper.cabin.close(which) else {
         return Ok(());
@@ -133,8 +128,10 @@ fn close<M: Medium, C: Chip>(
         return Ok(());
     };
     match leave(unit, card, app, accepted.session, which, selected) {
-        Ok(()) => note_withdrawal(run, accepted.entry, accepted.noted, at, unit),
-        Err(_) => run.keeper.tear(which, slot, at, unit, breaks),
+        Ok(()) => note_withdrawal(run, accepted.entry, accepted.noted, withdrawal.at, unit),
+        Err(_) => run
+            .keeper
+            .tear(which, withdrawal.slot, withdrawal.at, unit, breaks),
     }
 }
 

@@ -48,6 +48,8 @@ held-later f hd c b y z X later h = record {
   now = λ x there. let was = h.now x there in let le = later x there in (was.0, later_holds (own_sizes f.image) f.image hd (brought_by c f.start b) (bound_of f y x) (bound_of f z x) x (omega (arith, le)) was.1);
   since = h.since;
   told = h.told;
+  behind = h.behind;
+  stay = h.stay;
   number = h.number;
   still = h.still;
   registered = h.registered;

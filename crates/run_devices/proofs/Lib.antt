@@ -9,6 +9,7 @@ pub mod Registered
 pub mod Measured
 pub mod CardUse
 pub mod Used
+pub mod Sessions
 pub mod Noted
 pub mod Begun
 pub mod Left

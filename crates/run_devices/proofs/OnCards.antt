@@ -17,7 +17,7 @@ use Rattle.card_retention.specs.Shown.{sizes}
 use Rattle.card_image.specs.Fields.{card_days, card_number, file_bytes}
 use Rattle.card_image.specs.Own.{own_view, own_sizes, own_number, own_bad_file, IsOwnValid}
 use Rattle.card_string.specs.Since.{HoldsSince}
-use Rattle.card_string.proofs.Images.{holds_part, holds_sure}
+use Rattle.card_string.proofs.Images.{holds_part, holds_all, holds_stay, holds_sure}
 use Rattle.card_string.proofs.Kept.{holds_kept}
 use Rattle.hand_model.specs.AtStart.{HasDayOf}
 use Rattle.hand_model.specs.ByHand.{by_hand_in}
@@ -155,6 +155,10 @@ module _ (f : CardFound) (hd : Hands) (c : Card) (b : Book) (sound : IsApplicati
         (λ one. let is = made one.0 n one.1 one.2 (h.now one.0 (whole.is_left one.0 one.1)) in (is.0, holds_kept (own_sizes f.image) sound f.image n refl is.0 hd (brought_by c f.start b) (bound_of f z n) is.1)) (run.since f.began n began left);
     told = λ n left. ⊎_elim (h.told n)
         (λ one. holds_part (own_sizes f.image) f.image hd (brought_by c f.start b) (bound_of f z n) n (made one.0 n one.1 one.2 (h.now one.0 (whole.is_left one.0 one.1))).1) (run.since f.began n began left);
+    behind = λ n left none. ⊎_elim (λ was. h.behind n was none)
+        (λ one. let is = made one.0 n one.1 one.2 (h.now one.0 (whole.is_left one.0 one.1)) in holds_all (own_sizes f.image) f.image hd (brought_by c f.start b) (bound_of f z n) n is.0 is.1 none) (run.since f.began n began left);
+    stay = λ n left. ⊎_elim (h.stay n)
+        (λ one. holds_stay (own_sizes f.image) f.image hd (brought_by c f.start b) (bound_of f z n) n (made one.0 n one.1 one.2 (h.now one.0 (whole.is_left one.0 one.1))).1) (run.since f.began n began left);
     number = λ n there. ⊎_elim (h.number n) (λ one. (same one.0 n one.1 one.2).number ∙ h.number one.0 (whole.is_left one.0 one.1)) (run.now n there);
     still = λ n left. ⊎_elim (h.still n) (λ one. then-holder f.image one.0 n (h.still one.0 (whole.counts_now f.began one.0 began (whole.is_left one.0 one.1))) (same one.0 n one.1 one.2)) (run.since f.began n began left);
     registered = λ n left. ⊎_elim (h.registered n)
@@ -199,6 +203,8 @@ held-read f hd c b z X Y began run h = record {
   now = λ n there. ⊎_elim (h.now n) (λ one. absurd one.2) (run.now n there);
   since = λ n left. ⊎_elim (h.since n) (λ one. absurd one.2) (run.since f.began n began left);
   told = λ n left. ⊎_elim (h.told n) (λ one. absurd one.2) (run.since f.began n began left);
+  behind = λ n left. ⊎_elim (h.behind n) (λ one. absurd one.2) (run.since f.began n began left);
+  stay = λ n left. ⊎_elim (h.stay n) (λ one. absurd one.2) (run.since f.began n began left);
   number = λ n there. ⊎_elim (h.number n) (λ one. absurd one.2) (run.now n there);
   still = λ n left. ⊎_elim (h.still n) (λ one. absurd one.2) (run.since f.began n began left);
   registered = λ n left. ⊎_elim (h.registered n) (λ one. absurd one.2) (run.since f.began n began left);

@@ -15,7 +15,7 @@ use Rattle.card_image.specs.View.{CardView, card_view}
 use Rattle.card_image.specs.Own.{own_view, own_sizes, own_number, IsOwnValid}
 use Rattle.card_session.specs.Inserting.{Follow}
 use Rattle.card_session.specs.Repairs.{first_minute}
-use Rattle.hand_model.specs.AtStart.{hands_at}
+use Rattle.hand_model.specs.AtStart.{all_at, hands_at, StaysTold}
 use Rattle.hand_model.specs.ByHand.{by_hand_in}
 use Rattle.hand_model.specs.Written.{IsPartOf, no_hands}
 use Rattle.card_string.specs.Since.{HoldsSince}
@@ -36,7 +36,7 @@ use Rattle.run_promise.specs.Found.{Found, found_of}
 use Rattle.run_promise.specs.Cards.{brought_by}
 use Rattle.run_promise.specs.Between.{LedgerStands}
 use Rattle.run_promise.specs.Opening.{BeginsAs, IsLookedAt, carried_first}
-use Rattle.run_promise.proofs.Opening.{own-told}
+use Rattle.run_promise.proofs.Opening.{own-told, own-all, own-stays}
 use Rattle.run_promise.proofs.OwedRises.{owed-rises}
 use Rattle.run_devices.specs.Registered.{TellsOfTwo}
 use Rattle.run_devices.proofs.Registered.{registered-first}
@@ -122,6 +122,9 @@ module _ (f : Found) (c : Card) (u x : List ℕ) (card : State) (whole : IsCoher
         (same-sizes, holds_kept (own_sizes (found_of f c).image) (subst (λ (i : List ℕ). IsApplication (own_sizes i)) (sym looked.image) sound) (found_of f c).image x refl same-sizes no_hands (brought_by c (found_of f c).start not_begun) (bound_of (found_of f c) Out x) found-starts);
     told = λ y left. subst (λ (k : List ℕ). IsPartOf (by_hand_in (own_sizes (found_of f c).image) k) (hands_at (found_of f c).image ++ [])) (sym (only y left))
         (subst (λ (i : List ℕ). IsPartOf (by_hand_in (own_sizes i) x) (hands_at i ++ [])) (sym looked.image) (own-told x));
+    behind = λ y left. subst (λ (k : List ℕ). (own_view k).session ≡ 0 → IsPartOf (all_at k) (hands_at (found_of f c).image ++ [])) (sym (only y left))
+        (subst (λ (i : List ℕ). (own_view x).session ≡ 0 → IsPartOf (all_at x) (hands_at i ++ [])) (sym looked.image) (own-all x));
+    stay = λ y left. subst (λ (k : List ℕ). StaysTold (found_of f c).image (own_sizes (found_of f c).image) k) (sym (only y left)) (subst (λ (i : List ℕ). StaysTold i (own_sizes i) x) (sym looked.image) (own-stays x));
     number = λ y there. ap own_number (only-now y there) ∙ sym number;
     still = λ y left. subst (HasSameHolder (found_of f c).image) (looked.image ∙ sym (only y left)) (same-holder (found_of f c).image);
     registered = λ y left. subst (TellsOfTwo (own_sizes (found_of f c).image) (found_of f c).vehicle (found_of f c).image) (looked.image ∙ sym (only y left)) (record { entries = registered-first (own_sizes (found_of f c).image) (found_of f c).vehicle (found_of f c).image; session = first-used (own_sizes (found_of f c).image) (found_of f c).vehicle (found_of f c).image });

@@ -95,6 +95,8 @@ held-more f hd c b d z X es same rise late comes h = record {
             (subst (λ (all : List Entry). KeepsOf f.image hd.given (all_since f.image all) (own_view x).held) (sym (counted-more (own_view x).mark (brought_by c f.start b) es (follow-later (own_view x).mark es (late x left)))) was.1),
       );
   told = h.told;
+  behind = h.behind;
+  stay = h.stay;
   number = h.number;
   still = h.still;
   registered = h.registered;

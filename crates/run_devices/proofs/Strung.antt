@@ -81,6 +81,8 @@ module _ (f : Found) (hd : Hands) (c : Card) (b : Book) (z : Standing) (unit car
     string = record {
       kept = λ x left. subst (λ (es : List Entry). KeepsOf g.image hd.given (es ++ counted_to (own_view x).mark lies) (own_view x).held) (sym s.entries) (s.held.since x left).1;
       told = s.held.told;
+      behind = s.held.behind;
+      stay = s.held.stay;
       valid = s.valid;
       sizes = λ x left. (s.held.since x left).0;
       number = λ x left. (s.held.still x left).number;
@@ -115,4 +117,4 @@ module _ (f : Found) (hd : Hands) (c : Card) (b : Book) (z : Standing) (unit car
     out-image x there (e ∷ rest) some = out-lacking e rest x (held u x on there) some
 
     pub held-out : CardHoldsString g hd c b Out card
-    held-out = record { tells = s.held.tells; now = λ x there. ((s.held.now x there).0, out-image x there (held u x on there).rest refl); since = s.held.since; told = s.held.told; number = s.held.number; still = s.held.still; registered = s.held.registered }
+    held-out = record { tells = s.held.tells; now = λ x there. ((s.held.now x there).0, out-image x there (held u x on there).rest refl); since = s.held.since; told = s.held.told; behind = s.held.behind; stay = s.held.stay; number = s.held.number; still = s.held.still; registered = s.held.registered }

@@ -8,7 +8,7 @@ use Rattle.card_layout.specs.Files.{place_of}
 use Rattle.card_retention.specs.Retains.{Rise}
 use Rattle.card_image.specs.Fields.{file, file_bytes}
 use Rattle.card_image.specs.Own.{own_view, own_sizes, own_number, IsOwnValid}
-use Rattle.hand_model.specs.AtStart.{hands_at}
+use Rattle.hand_model.specs.AtStart.{all_at, hands_at, StaysTold}
 use Rattle.hand_model.specs.ByHand.{by_hand_in}
 use Rattle.hand_model.specs.Written.{Hands, IsPartOf}
 use Rattle.card_string.specs.Since.{HoldsSince}
@@ -56,6 +56,9 @@ pub record CardHoldsString (f : CardFound) (h : Hands) (c : Card) (b : Book) (z 
       → (own_sizes x ≡ own_sizes f.image) × KeepsSince f.image h.given (brought_by c f.start b) x
   pub told : (x : List ℕ) → card.left_since f.began x
       → IsPartOf (by_hand_in (own_sizes f.image) x) (hands_at f.image ++ h.given)
+  pub behind : (x : List ℕ) → card.left_since f.began x → (own_view x).session ≡ 0
+      → IsPartOf (all_at x) (hands_at f.image ++ h.given)
+  pub stay : (x : List ℕ) → card.left_since f.began x → StaysTold f.image (own_sizes f.image) x
   pub number : (x : List ℕ) → card.may_leave x → own_number x ≡ f.number
   pub still : (x : List ℕ) → card.left_since f.began x → HasSameHolder f.image x
   pub registered : (x : List ℕ) → card.left_since f.began x → TellsOfTwo (own_sizes f.image) f.vehicle f.image x

@@ -16,12 +16,12 @@ ghost use Rattle.run_insertion.specs.Noted.{HasNoted, IsOnUnit, IsComing, notes_
 ghost use Rattle.run_insertion.specs.Entered.{IsJudgedSo, HasEntered};
 ghost use Rattle.run_insertion.specs.Calls.{CardGoesBy, EnteringGoes, MayBeJudged, StandsEntered};
 
-use crate::lines::{Entering, find, other_card};
+use crate::lines::{Beside, Entering, find, other_card};
 use crate::noting::{note_not_valid, note_overlap};
-use crate::seating::take_in;
+use crate::seating::{Found, take_in};
 use crate::waking::{UNTOLD, place_of_field, wake};
 use card_layout::{Application, Fid};
-use device_calls::{NotEntered, enter};
+use device_calls::{CardInsertion, NotEntered, enter};
 use log_model::Verdict;
 use run_minutes::Keeper;
 use run_outcome::Outcome;
@@ -89,60 +89,81 @@ fn defer<M: Medium>(
     note_overlap(keeper, now, stored, unit)
 }
 
+// A card that enters by these sizes beside the other one.
+#[derive(Clone, Copy)]
+struct BesideBy<O> {
+    entering: Entering,
+    app: Application,
+    others: O,
+}
+
 // A card that goes by these sizes is judged, and accepted or turned away.
 fn accept_by<M: Medium, C: Chip, D: Chip>(
     keeper: &mut Keeper,
     noted: &mut u64,
-    entering: Entering,
-    app: Application,
+    beside: BesideBy<&D>,
     unit: &mut M,
     card: &mut C,
-    others: &D,
     outcome: &mut Outcome,
 ) -> Result<(), Failed>
     requires ready { UnitMayBeCalled keeper.old (M.state unit.old) }
-    requires may { MayBeJudged entering keeper.old outcome.old }
-    requires card { CardGoesBy app (known_of keeper.old.cabin.cards entering.which) (C.card card.old)
+    requires may { MayBeJudged beside.entering keeper.old outcome.old }
+    requires card { CardGoesBy beside.app (known_of keeper.old.cabin.cards beside.entering.which) (C.card card.old)
         (C.state card.old) }
-    requires told { IfSome (C.state card.old).image (TellsSizes app) }
-    requires sized { IfSome (C.state card.old).image (λ x. own_sizes x ≡ app) }
+    requires told { IfSome (C.state card.old).image (TellsSizes beside.app) }
+    requires sized { IfSome (C.state card.old).image (λ x. own_sizes x ≡ beside.app) }
     ensures marks { (outcome.new.marks.room ≡ outcome.old.marks.room)
         × (length outcome.new.marks.items ≤ length outcome.old.marks.items + most_owed) }
     ensures ended { (ending : Ending)
-        × IsJudgedSo app entering (is_err result) keeper.old keeper.new noted.old noted.new outcome.old outcome.new
+        × IsJudgedSo beside.entry.app beside.entry.entering
+        (is_err result) keeper.old keeper.new noted.old noted.new outcome.old outcome.new
         (M.state unit.old) (M.state unit.new) (C.state card.old) (C.state card.new) ending
-        × BooksJudged ending entering (is_err result) keeper.old keeper.new (M.state unit.old) (M.state unit.new)
-        (C.state card.old) (C.state card.new) (D.state others.now) }
-    ensures behind { StandsEntered entering.which (entering.at.second / 60) result keeper.old keeper.new
+        × BooksJudged ending beside.entry.entering (is_err result) keeper.old keeper.new (M.state unit.old)
+        (M.state unit.new)
+        (C.state card.old) (C.state card.new) (D.state beside.entry.others.now) }
+    ensures behind { StandsEntered beside.entry.entering.which
+        (beside.entry.entering.at.second / 60) result keeper.old keeper.new
         (M.state unit.old) (M.state unit.new)
         (C.state card.old) (C.state card.new) (C.card card.new) }
-    ensures row { IfSome (session_of keeper.new.cabin.cards entering.which)
-        (λ a. OnOk result (HasItsRow keeper.new.cabin.cards (M.state unit.new) entering.which)) }
+    ensures row { IfSome (session_of keeper.new.cabin.cards beside.entry.entering.which)
+        (λ a. OnOk result (HasItsRow keeper.new.cabin.cards (M.state unit.new) beside.entry.entering.which)) }
     ensures clock { (M.state unit.old).clock ≤ (M.state unit.new).clock }
     ensures most { ((M.state unit.new).clock ≤ (M.state unit.old).clock + 24)
         × ((C.state card.new).clock ≤ (C.state card.old).clock + (DAYS_MOST + 88)) }
-    ensures in_time { IsEarly entering (C.state card.old) (C.state card.new) }
+    ensures in_time { IsEarly beside.entry.entering (C.state card.old) (C.state card.new) }
     ensures goes { EnteringGoes outcome.old.breaks.items outcome.new.breaks.items
         (C.state card.old) (C.state card.new) }
 {
+    let entering = beside.entering;
+    let app = beside.app;
+    let others = beside.others;
     let registration = keeper.memory.identity().registration;
     let now = TimeReal(entering.at.second);
     let spared = keeper.cabin.cards.of(other_card(entering.which)).number;
+    let insertion = CardInsertion {
+        app,
+        time: now,
+        registration,
+        odometer: entering.odometer,
+        spared,
+    };
     match enter(
         unit,
         &keeper.journal,
         card,
         others,
         entering.which,
-        app,
-        now,
-        &registration,
-        entering.odometer,
-        spared.as_ref(),
+        insertion,
     ) {
-        Ok(entered) => take_in(
-            keeper, noted, entering, app, entered, unit, card, others, outcome,
-        ),
+        Ok(entered) => {
+            let found = Found {
+                entering,
+                app,
+                entered,
+                others,
+            };
+            take_in(keeper, noted, found, unit, card, outcome)
+        }
         Err(NotEntered::UnitFailed) => Err(Failed),
         Err(NotEntered::CardFailed) => keeper.tear(
             entering.which,
@@ -170,33 +191,36 @@ fn accept_by<M: Medium, C: Chip, D: Chip>(
 pub fn accept<M: Medium, C: Chip, D: Chip>(
     keeper: &mut Keeper,
     noted: &mut u64,
-    entering: Entering,
+    beside: Beside<&D>,
     unit: &mut M,
     card: &mut C,
-    others: &D,
     outcome: &mut Outcome,
 ) -> Result<(), Failed>
     requires ready { UnitMayBeCalled keeper.old (M.state unit.old) }
-    requires may { MayBeJudged entering keeper.old outcome.old }
+    requires may { MayBeJudged beside.entering keeper.old outcome.old }
     requires size { LARGEST_IMAGE ≤ (C.state card.old).size }
     ensures marks { (outcome.new.marks.room ≡ outcome.old.marks.room)
         × (length outcome.new.marks.items ≤ length outcome.old.marks.items + most_owed) }
-    ensures entered { (way : Way) × HasEntered entering (is_err result) keeper.old keeper.new noted.old noted.new
+    ensures entered { (way : Way) × HasEntered beside.entry.entering
+        (is_err result) keeper.old keeper.new noted.old noted.new
         outcome.old outcome.new (M.state unit.old) (M.state unit.new) (C.state card.old) (C.state card.new) way
-        × BooksEntered way entering (is_err result) keeper.old keeper.new (M.state unit.old) (M.state unit.new)
-        (C.state card.old) (C.state card.new) (D.state others.now) }
-    ensures behind { StandsEntered entering.which (entering.at.second / 60) result keeper.old keeper.new
+        × BooksEntered way beside.entry.entering (is_err result) keeper.old keeper.new (M.state unit.old)
+        (M.state unit.new)
+        (C.state card.old) (C.state card.new) (D.state beside.entry.others.now) }
+    ensures behind { StandsEntered beside.entry.entering.which
+        (beside.entry.entering.at.second / 60) result keeper.old keeper.new
         (M.state unit.old) (M.state unit.new)
         (C.state card.old) (C.state card.new) (C.card card.new) }
-    ensures row { IfSome (session_of keeper.new.cabin.cards entering.which)
-        (λ a. OnOk result (HasItsRow keeper.new.cabin.cards (M.state unit.new) entering.which)) }
+    ensures row { IfSome (session_of keeper.new.cabin.cards beside.entry.entering.which)
+        (λ a. OnOk result (HasItsRow keeper.new.cabin.cards (M.state unit.new) beside.entry.entering.which)) }
     ensures clock { (M.state unit.old).clock ≤ (M.state unit.new).clock }
     ensures most { ((M.state unit.new).clock ≤ (M.state unit.old).clock + 24)
         × ((C.state card.new).clock ≤ (C.state card.old).clock + (DAYS_MOST + 88)) }
-    ensures in_time { WasInTime entering (C.state card.old) (C.state card.new) }
+    ensures in_time { WasInTime beside.entry.entering (C.state card.old) (C.state card.new) }
     ensures goes { EnteringGoes outcome.old.breaks.items outcome.new.breaks.items
         (C.state card.old) (C.state card.new) }
 {
+    let entering = beside.entering;
     let Ok(sizes) = wake(card) else {
         keeper.cabin.measure(entering.which, Err(UNTOLD));
         return keeper.tear(
@@ -209,7 +233,14 @@ pub fn accept<M: Medium, C: Chip, D: Chip>(
     };
     keeper.cabin.measure(entering.which, sizes);
     match sizes {
-        Ok(app) => accept_by(keeper, noted, entering, app, unit, card, others, outcome),
+        Ok(app) => {
+            let by = BesideBy {
+                entering,
+                app,
+                others: beside.others,
+            };
+            accept_by(keeper, noted, by, unit, card, outcome)
+        }
         Err(field) => {
             let place = place_of_field(field);
             refuse(keeper, entering, Fid::APPLICATION, place, unit, outcome)

@@ -11,4 +11,4 @@ mod waking;
 
 pub use entering::accept;
 pub use laws::{notes_on_a_card_go_on, the_events_of_a_card};
-pub use lines::Entering;
+pub use lines::{Beside, Entering};

@@ -25,6 +25,13 @@ pub struct Entering {
     pub odometer: Odometer,
 }
 
+/// A card that enters beside the other one.
+#[derive(Clone, Copy)]
+pub struct Beside<O> {
+    pub entering: Entering,
+    pub others: O,
+}
+
 // The other card.
 pub(crate) fn other_card(card: Card) -> Card
     ensures { result ≡ other card }

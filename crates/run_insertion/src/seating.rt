@@ -21,7 +21,7 @@ use crate::noting::{note_driving, note_unclosed};
 use card_layout::Application;
 use card_session::CardSession;
 use card_validity::CardLook;
-use device_calls::{Entered, begin, note_event_on};
+use device_calls::{Entered, NewRow, begin, note_event_on};
 use hand_model::Held;
 use log_model::{Break, Verdict};
 use run_crew::Accepted;
@@ -31,47 +31,68 @@ use run_outcome::{Lines, Outcome};
 use tach_media::{Chip, Failed, Medium};
 use unit_notes::UnitNotes;
 
+// A card that is to be seated: how it entered, what it told, its session, and which row of the unit is to be its.
+#[derive(Drop)]
+struct Seating {
+    entering: Entering,
+    look: CardLook,
+    session: CardSession,
+    row: u32,
+}
+
+// A card that was seated: how it entered, its sizes, and when the session began that it told unclosed, 0 for none.
+#[derive(Clone, Copy)]
+struct CardSeated {
+    entering: Entering,
+    app: Application,
+    unclosed: u32,
+}
+
 // The unit notes the insertion of a card, which is accepted in its slot, and its row, which was told before, begins.
 fn seat<M: Medium, C: Chip, D: Chip>(
     keeper: &mut Keeper,
     noted: &mut u64,
-    entering: Entering,
-    look: &CardLook,
-    session: CardSession,
-    row: u32,
+    seating: Seating,
     unit: &mut M,
     card: &C,
     others: &D,
 ) -> Result<(), Failed>
     requires ready { UnitMayBeCalled keeper.old (M.state unit.old) }
-    requires seat { seat_in keeper.old.cabin.slots.seats entering.slot
-        ≡ Some (record { card = entering.which; newest = None }) }
-    requires elsewhere { is_card (seat_in keeper.old.cabin.slots.seats (other_slot entering.slot)) entering.which
+    requires seat { seat_in keeper.old.cabin.slots.seats seating.entering.slot
+        ≡ Some (record { card = seating.entering.which; newest = None }) }
+    requires elsewhere { is_card
+        (seat_in keeper.old.cabin.slots.seats (other_slot seating.entering.slot)) seating.entering.which
         ≡ false }
-    requires sizes { (known_of keeper.old.cabin.cards entering.which).sizes ≡ Ok session.application }
-    requires second { entering.at.second ≢ 0 }
-    requires fits { entering.odometer.0 < 2 ^ 24 }
-    requires low { row < 8 }
+    requires sizes { (known_of keeper.old.cabin.cards seating.entering.which).sizes ≡ Ok seating.session.application }
+    requires second { seating.entering.at.second ≢ 0 }
+    requires fits { seating.entering.odometer.0 < 2 ^ 24 }
+    requires low { seating.row < 8 }
     requires row { IfSome (M.state unit.old).image
-        (IsRowFor row (card_number_bytes look.now.number)
-        (option_map (λ n. card_number_bytes n) (known_of keeper.old.cabin.cards (other entering.which)).number)) }
+        (IsRowFor seating.row (card_number_bytes seating.look.number)
+        (option_map (λ n. card_number_bytes n)
+        (known_of keeper.old.cabin.cards (other seating.entering.which)).number)) }
     ensures seated { (entry : Option ℕ)
-        × IsSeated look.now session row entering (is_err result) keeper.old keeper.new noted.old noted.new
+        × IsSeated seating.look seating.session seating.row seating.entering
+        (is_err result) keeper.old keeper.new noted.old noted.new
         (M.state unit.old) (M.state unit.new) entry }
-    ensures value { IsValue session }
-    ensures booked { BooksSeat look.now session entering (is_err result) keeper.old keeper.new (M.state unit.old)
+    ensures value { IsValue seating.session }
+    ensures booked { BooksSeat seating.look seating.session seating.entering (is_err result) keeper.old keeper.new
+        (M.state unit.old)
         (M.state unit.new) (C.state card.now) (D.state others.now) }
-    ensures behind { StandsSeated entering result keeper.old keeper.new (M.state unit.old) (M.state unit.new) }
+    ensures behind { StandsSeated seating.entering result keeper.old keeper.new (M.state unit.old) (M.state unit.new) }
     ensures most { (M.state unit.new).clock ≤ (M.state unit.old).clock + 12 }
 {
+    let entering = seating.entering;
+    let look = seating.look;
+    let row = seating.row;
     let begin_second = entering.at.second;
     let entry = keeper
         .memory
-        .note_insertion(unit, &insertion_of(look, entering))?;
+        .note_insertion(unit, &insertion_of(&look, entering))?;
     *noted = noted.saturating_add(1);
     let spared = keeper.cabin.cards.of(other_card(entering.which)).number;
     let accepted = Accepted {
-        session,
+        session: seating.session,
         held: Held::new(begin_second / 60),
         entry,
         noted: *noted,
@@ -79,46 +100,49 @@ fn seat<M: Medium, C: Chip, D: Chip>(
     keeper
         .cabin
         .accept(entering.slot, entering.which, look.number, row, accepted);
+    let new_row = NewRow {
+        number: look.number,
+        session: begin_second,
+        index: row,
+        spared,
+    };
     begin(
         unit,
         &mut keeper.journal,
         card,
         others,
         entering.which,
-        &look.number,
-        begin_second,
-        row,
-        spared.as_ref(),
+        new_row,
     )
 }
 
 // That the vehicle moved is noted on the unit and on the accepted card, which is torn out where it fails.
 fn note_moving<M: Medium, C: Chip, D: Chip>(
     keeper: &mut Keeper,
-    entering: Entering,
-    app: Application,
+    seated: CardSeated,
     unit: &mut M,
     card: &mut C,
     others: &D,
     breaks: &mut Lines<Break>,
 ) -> Result<(), Failed>
     requires ready { UnitMayBeCalled keeper.old (M.state unit.old) }
-    requires minute { keeper.old.cabin.slots.minute ≤ entering.at.second / 60 }
-    requires second { entering.at.second ≢ 0 }
-    requires card { CardMayBeCalled (known_of keeper.old.cabin.cards entering.which) (C.card card.old)
+    requires minute { keeper.old.cabin.slots.minute ≤ seated.entering.at.second / 60 }
+    requires second { seated.entering.at.second ≢ 0 }
+    requires card { CardMayBeCalled (known_of keeper.old.cabin.cards seated.entering.which) (C.card card.old)
         (C.state card.old) }
     requires works { (C.state card.old).works ≡ true }
-    requires sizes { (known_of keeper.old.cabin.cards entering.which).sizes ≡ Ok app }
+    requires sizes { (known_of keeper.old.cabin.cards seated.entering.which).sizes ≡ Ok seated.app }
     requires room { length breaks.old.items < breaks.old.room }
-    ensures noted { (fell : Bool) × IsMoved app entering (is_err result) keeper.old keeper.new breaks.old breaks.new
+    ensures noted { (fell : Bool) × IsMoved seated.app seated.entering
+        (is_err result) keeper.old keeper.new breaks.old breaks.new
         (M.state unit.old) (M.state unit.new) (C.state card.old) (C.state card.new) fell
-        × BooksNotes app entering (is_err result) keeper.old keeper.new fell
-        (arranged entering.which (M.state unit.old) (C.state card.old) (D.state others.now))
-        (arranged entering.which (M.state unit.new) (C.state card.new) (D.state others.now)) }
-    ensures timed { TimesNotes app entering keeper.old
-        (arranged entering.which (M.state unit.old) (C.state card.old) (D.state others.now)) (C.state card.old)
+        × BooksNotes seated.app seated.entering (is_err result) keeper.old keeper.new fell
+        (arranged seated.entering.which (M.state unit.old) (C.state card.old) (D.state others.now))
+        (arranged seated.entering.which (M.state unit.new) (C.state card.new) (D.state others.now)) }
+    ensures timed { TimesNotes seated.app seated.entering keeper.old
+        (arranged seated.entering.which (M.state unit.old) (C.state card.old) (D.state others.now)) (C.state card.old)
         (C.state card.new) }
-    ensures behind { StandsEntered entering.which keeper.old.cabin.slots.minute result keeper.old keeper.new
+    ensures behind { StandsEntered seated.entering.which keeper.old.cabin.slots.minute result keeper.old keeper.new
         (M.state unit.old) (M.state unit.new)
         (C.state card.old) (C.state card.new) (C.card card.new) }
     ensures most { ((M.state unit.new).clock ≤ (M.state unit.old).clock + 8)
@@ -126,13 +150,14 @@ fn note_moving<M: Medium, C: Chip, D: Chip>(
     ensures goes { EnteringGoes breaks.old.items breaks.new.items
         (C.state card.old) (C.state card.new) }
 {
+    let entering = seated.entering;
     let second = entering.at.second;
     note_driving(keeper, second, unit)?;
     let event = on_card(
         &card_driving(second, keeper.cabin.crew()),
         &keeper.memory.identity().registration,
     );
-    match note_event_on(card, app, &event) {
+    match note_event_on(card, seated.app, &event) {
         Ok(()) => Ok(()),
         Err(_) => keeper.tear(entering.which, entering.slot, entering.at, unit, breaks),
     }
@@ -141,31 +166,30 @@ fn note_moving<M: Medium, C: Chip, D: Chip>(
 // What comes with an accepted card is noted: that the vehicle moved, and that the card's last session was not closed.
 fn note_entered<M: Medium, C: Chip, D: Chip>(
     keeper: &mut Keeper,
-    entering: Entering,
-    app: Application,
-    session: u32,
+    seated: CardSeated,
     unit: &mut M,
     card: &mut C,
     others: &D,
     breaks: &mut Lines<Break>,
 ) -> Result<(), Failed>
     requires ready { UnitMayBeCalled keeper.old (M.state unit.old) }
-    requires minute { keeper.old.cabin.slots.minute ≤ entering.at.second / 60 }
-    requires second { entering.at.second ≢ 0 }
-    requires card { CardMayBeCalled (known_of keeper.old.cabin.cards entering.which) (C.card card.old)
+    requires minute { keeper.old.cabin.slots.minute ≤ seated.entering.at.second / 60 }
+    requires second { seated.entering.at.second ≢ 0 }
+    requires card { CardMayBeCalled (known_of keeper.old.cabin.cards seated.entering.which) (C.card card.old)
         (C.state card.old) }
     requires works { (C.state card.old).works ≡ true }
-    requires sizes { (known_of keeper.old.cabin.cards entering.which).sizes ≡ Ok app }
+    requires sizes { (known_of keeper.old.cabin.cards seated.entering.which).sizes ≡ Ok seated.app }
     requires room { length breaks.old.items < breaks.old.room }
-    ensures noted { (fell : Bool) × IsNotedOn app session entering (is_err result) keeper.old keeper.new breaks.old
+    ensures noted { (fell : Bool) × IsNotedOn seated.app seated.unclosed seated.entering
+        (is_err result) keeper.old keeper.new breaks.old
         breaks.new (M.state unit.old) (M.state unit.new) (C.state card.old) (C.state card.new) fell
-        × BooksNotes app entering (is_err result) keeper.old keeper.new fell
-        (arranged entering.which (M.state unit.old) (C.state card.old) (D.state others.now))
-        (arranged entering.which (M.state unit.new) (C.state card.new) (D.state others.now)) }
-    ensures timed { TimesNotes app entering keeper.old
-        (arranged entering.which (M.state unit.old) (C.state card.old) (D.state others.now)) (C.state card.old)
+        × BooksNotes seated.app seated.entering (is_err result) keeper.old keeper.new fell
+        (arranged seated.entering.which (M.state unit.old) (C.state card.old) (D.state others.now))
+        (arranged seated.entering.which (M.state unit.new) (C.state card.new) (D.state others.now)) }
+    ensures timed { TimesNotes seated.app seated.entering keeper.old
+        (arranged seated.entering.which (M.state unit.old) (C.state card.old) (D.state others.now)) (C.state card.old)
         (C.state card.new) }
-    ensures behind { StandsEntered entering.which keeper.old.cabin.slots.minute result keeper.old keeper.new
+    ensures behind { StandsEntered seated.entering.which keeper.old.cabin.slots.minute result keeper.old keeper.new
         (M.state unit.old) (M.state unit.new)
         (C.state card.old) (C.state card.new) (C.card card.new) }
     ensures most { ((M.state unit.new).clock ≤ (M.state unit.old).clock + 12)
@@ -173,9 +197,11 @@ fn note_entered<M: Medium, C: Chip, D: Chip>(
     ensures goes { EnteringGoes breaks.old.items breaks.new.items
         (C.state card.old) (C.state card.new) }
 {
+    let entering = seated.entering;
+    let session = seated.unclosed;
     let crew = keeper.cabin.crew();
     if entering.speed > 0 {
-        note_moving(keeper, entering, app, unit, card, others, breaks)?;
+        note_moving(keeper, seated, unit, card, others, breaks)?;
     }
     if session == 0 {
         return Ok(());
@@ -190,46 +216,61 @@ fn fills_its_fields(look: CardLook)
     let _ = look;
 }
 
+// A card that is found to be accepted, by these sizes, beside the other one.
+#[derive(Drop)]
+pub(crate) struct Found<O> {
+    pub entering: Entering,
+    pub app: Application,
+    pub entered: Entered,
+    pub others: O,
+}
+
 // A card that is found to be accepted: that is told, the entries that were owed to it are marked, and it is seated.
 pub(crate) fn take_in<M: Medium, C: Chip, D: Chip>(
     keeper: &mut Keeper,
     noted: &mut u64,
-    entering: Entering,
-    app: Application,
-    entered: Entered,
+    found: Found<&D>,
     unit: &mut M,
     card: &mut C,
-    others: &D,
     outcome: &mut Outcome,
 ) -> Result<(), Failed>
     requires ready { UnitMayBeCalled keeper.old (M.state unit.old) }
-    requires come { MayComeIn entering keeper.old outcome.old }
-    requires card { CardGoesBy app (known_of keeper.old.cabin.cards entering.which) (C.card card.old)
+    requires come { MayComeIn found.entering keeper.old outcome.old }
+    requires card { CardGoesBy found.app (known_of keeper.old.cabin.cards found.entering.which) (C.card card.old)
         (C.state card.old) }
-    requires session { entered.session.application ≡ app }
-    requires low { entered.row < 8 }
+    requires session { found.entered.session.application ≡ found.app }
+    requires low { found.entered.row < 8 }
     requires row { IfSome (M.state unit.old).image
-        (IsRowFor entered.row (card_number_bytes entered.look.number)
-        (option_map (λ n. card_number_bytes n) (known_of keeper.old.cabin.cards (other entering.which)).number)) }
+        (IsRowFor found.entered.row (card_number_bytes found.entered.look.number)
+        (option_map (λ n. card_number_bytes n) (known_of keeper.old.cabin.cards (other found.entering.which)).number)) }
     ensures marks { (outcome.new.marks.room ≡ outcome.old.marks.room)
         × (length outcome.new.marks.items ≤ length outcome.old.marks.items + most_owed) }
     ensures ended { (fell : Bool) × (entry : Option ℕ) × IsEntry entry (is_err result) (M.state unit.old).image
-        × IsTaken app entering (is_err result) keeper.old keeper.new noted.old noted.new outcome.old outcome.new
+        × IsTaken found.entry.app found.entry.entering
+        (is_err result) keeper.old keeper.new noted.old noted.new outcome.old outcome.new
         (M.state unit.old) (M.state unit.new) (C.state card.old) (C.state card.new)
-        (taken_as fell entered (C.state card.old).clock entry)
-        × BooksTaken entered (taken_as fell entered (C.state card.old).clock entry) entering (is_err result) keeper.old
-        keeper.new (M.state unit.old) (M.state unit.new) (C.state card.old) (C.state card.new) (D.state others.now) }
-    ensures behind { StandsEntered entering.which (entering.at.second / 60) result keeper.old keeper.new
+        (taken_as fell found.entry.entered (C.state card.old).clock entry)
+        × BooksTaken found.entry.entered
+        (taken_as fell found.entry.entered (C.state card.old).clock entry) found.entry.entering
+        (is_err result) keeper.old
+        keeper.new (M.state unit.old) (M.state unit.new) (C.state card.old) (C.state card.new)
+        (D.state found.entry.others.now) }
+    ensures behind { StandsEntered found.entry.entering.which
+        (found.entry.entering.at.second / 60) result keeper.old keeper.new
         (M.state unit.old) (M.state unit.new)
         (C.state card.old) (C.state card.new) (C.card card.new) }
-    ensures row { IfSome (session_of keeper.new.cabin.cards entering.which)
-        (λ a. OnOk result (HasItsRow keeper.new.cabin.cards (M.state unit.new) entering.which)) }
-    ensures judged { IsWithinBounds entered }
+    ensures row { IfSome (session_of keeper.new.cabin.cards found.entry.entering.which)
+        (λ a. OnOk result (HasItsRow keeper.new.cabin.cards (M.state unit.new) found.entry.entering.which)) }
+    ensures judged { IsWithinBounds found.entry.entered }
     ensures most { ((M.state unit.new).clock ≤ (M.state unit.old).clock + 24)
         × ((C.state card.new).clock ≤ (C.state card.old).clock + 4) }
     ensures goes { EnteringGoes outcome.old.breaks.items outcome.new.breaks.items
         (C.state card.old) (C.state card.new) }
 {
+    let entering = found.entering;
+    let app = found.app;
+    let others = found.others;
+    let entered = found.entered;
     let look = entered.look;
     fills_its_fields(look);
     let replayed = entered.replayed;
@@ -242,25 +283,17 @@ pub(crate) fn take_in<M: Medium, C: Chip, D: Chip>(
         clock,
         &mut outcome.marks,
     );
-    seat(
-        keeper,
-        noted,
+    let seating = Seating {
         entering,
-        &look,
-        entered.session,
-        entered.row,
-        unit,
-        card,
-        others,
-    )?;
-    note_entered(
-        keeper,
+        look,
+        session: entered.session,
+        row: entered.row,
+    };
+    seat(keeper, noted, seating, unit, card, others)?;
+    let seated = CardSeated {
         entering,
         app,
-        look.session,
-        unit,
-        card,
-        others,
-        &mut outcome.breaks,
-    )
+        unclosed: look.session,
+    };
+    note_entered(keeper, seated, unit, card, others, &mut outcome.breaks)
 }

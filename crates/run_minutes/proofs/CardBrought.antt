@@ -179,7 +179,7 @@ module _ (f : Found) (cards : Cards) (found : AreFoundCards f cards) (c : Card) 
   ready = ready-here g.image hd one.goes.has s by_hand e odometer g.start.word are few fresh X free come whole sound on.sizes on.session on.goes is
 
   each-before : EachHolds (own_sizes g.image) g.image hd (brought_by c g.start b) (suc (max g.start.word s.minute)) g.began X
-  each-before = record { now = held.now; since = held.since; told = held.told }
+  each-before = record { now = held.now; since = held.since; told = held.told; behind = held.behind; stay = held.stay }
 
   -- the string at each moment
   each-made : EachHolds (own_sizes g.image) g.image (and_given by_hand hd) (brought_by c g.start b) (suc e.minute) g.began Y
@@ -255,6 +255,8 @@ module _ (f : Found) (cards : Cards) (found : AreFoundCards f cards) (c : Card) 
         (was.0, subst (λ (n : ℕ). HoldsSince (own_sizes g.image) g.image he (brought_by c g.start b) n x) same was.1);
     since = each.since;
     told = each.told;
+    behind = each.behind;
+    stay = each.stay;
     number = number-now;
     still = holder-since;
     registered = registered-since;

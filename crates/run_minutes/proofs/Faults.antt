@@ -1,6 +1,5 @@
 -- The faults of cards that were torn out, one noted after another: what each image tells of them.
-use Rattle.std.proofs.Common.{◌≡◌, ◌⊎◌, inl, ⊎_elim, ℕ, Bool, true, false, not, Option, Some, None, IfSome, is_some, List, [], ◌∷◌, ◌++◌, ◌+◌, Contains, arith, refl, ap, sym, subst, ◌∙◌, append-nil, append_assoc}
-use Rattle.std.proofs.lemmas.List.Elements.{Contains-push}
+use Rattle.std.proofs.Common.{◌≡◌, ◌⊎◌, inl, inr, ⊎_elim, ℕ, Bool, true, false, not, Option, Some, None, IfSome, is_some, List, [], ◌∷◌, ◌++◌, ◌+◌, arith, refl, ap, sym, subst, ◌∙◌, append-nil, append_assoc}
 use Rattle.tach_media.specs.Medium.{State, IsCoherent, LeavesOnly, HasCause}
 use Rattle.unit_model.specs.declared.layout.TheConstants.{OWED}
 use Rattle.unit_model.specs.Days.{UnitMinute}
@@ -13,24 +12,22 @@ use Rattle.log_model.specs.declared.lines.Mark.{Mark}
 use Rattle.trace_model.specs.declared.Card.{Card}
 use Rattle.card_slots.specs.declared.seats.Present.{Present}
 use Rattle.run_outcome.specs.Lines.{Listed}
-use Rattle.event_model.specs.declared.kinds.TheConstants.{CARD_NOT_VALID, TIME_OVERLAP, DRIVING_WITHOUT_CARD, INSERTION_WHILE_DRIVING, SESSION_NOT_CLOSED, OVER_SPEEDING, POWER_INTERRUPTION, CARD_FAULT}
-use Rattle.unit_events.specs.Shown.{all_kinds}
+use Rattle.event_model.specs.declared.kinds.TheConstants.{CARD_FAULT}
 use Rattle.unit_events.proofs.EventFrames.{besides-keeps}
-use Rattle.unit_events.proofs.NoteFrames.{AreApart, others-same, numbers-same}
 use Rattle.unit_notes.specs.declared.unit_event.UnitEvent.{UnitEvent}
 use Rattle.unit_notes.specs.Entries.{fault_bytes}
 use Rattle.unit_notes.specs.Noting.{IsEventNoted}
 use Rattle.run_crew.specs.declared.cabin.Cabin.{Cabin}
 use Rattle.run_crew.specs.Cabin.{crew_of}
-use Rattle.run_events.specs.Shown.{SaysNothing, SaysNothingBut}
-use Rattle.run_events.proofs.Frames.{all-apart, event-but, between-nothing, keeps-nothing}
+use Rattle.run_events.specs.Shown.{SaysNothing}
+use Rattle.run_events.proofs.Frames.{between-nothing, keeps-nothing}
 use Rattle.run_rings.specs.Same.{HasSameRings, LeavesRings}
 use Rattle.run_rings.proofs.Same.{same-rings, then-same, outside-both, table-outside, behind-same}
 use Rattle.run_minutes.specs.declared.keeper.Keeper.{Keeper}
 use Rattle.run_minutes.specs.declared.keeper.Moment.{Moment}
 use Rattle.run_minutes.specs.Keeping.{Fate, Still, Has, Fell, has_fallen, cabin_by, IsBrought, IsNotingFault, IsFaultNoted}
 use Rattle.run_minutes.specs.Minutes.{Round, KeepingState, Done, told_after, told_by, present_at}
-use Rattle.run_minutes.specs.Faults.{SaysTheSame, faults_by, round_faults, last_faults, faults_of, TellsFaults, TellsTo, NotesFaults}
+use Rattle.run_minutes.specs.Faults.{SaysTheSame, faults_by, round_faults, last_faults, faults_of, TellsFaults, TellsFirst, TellsTo, NotesFaults}
 
 -- ---- nothing is said
 
@@ -46,26 +43,6 @@ the-same x = (same-events x, refl, same-rings x)
 same-then : (x y c : List ℕ) → SaysTheSame x y → SaysTheSame y c → SaysTheSame x c
 same-then x y c a b = (nothing-then x y c a.0 b.0, b.1 ∙ a.1, then-same x y c a.2 b.2)
 
-but-of : (kind : ℕ) (x c : List ℕ) → SaysNothing x c → SaysNothingBut kind x c
-but-of kind x c a = record { tables = λ other there ne. a.tables other there; first_over = λ ne. a.first_over; over_count = λ ne. a.over_count }
-
-but-then : (kind : ℕ) (x y c : List ℕ) → SaysNothingBut kind x y → SaysNothingBut kind y c → SaysNothingBut kind x c
-but-then kind x y c a b = record {
-  tables = λ other there ne. b.tables other there ne ∙ a.tables other there ne;
-  first_over = λ ne. b.first_over ne ∙ a.first_over ne;
-  over_count = λ ne. b.over_count ne ∙ a.over_count ne;
-}
-
--- the type of faults is one of them
-fault-kind : Contains all_kinds CARD_FAULT
-fault-kind = Contains-push (CARD_NOT_VALID ∷ TIME_OVERLAP ∷ DRIVING_WITHOUT_CARD ∷ INSERTION_WHILE_DRIVING ∷ SESSION_NOT_CLOSED ∷ OVER_SPEEDING ∷ POWER_INTERRUPTION ∷ []) CARD_FAULT
-
-noted-but : (front x c : List ℕ) → IsEventNoted CARD_FAULT front x c → SaysNothingBut CARD_FAULT x c
-noted-but front x c noted =
-    let apart : AreApart CARD_FAULT = all-apart CARD_FAULT fault-kind in
-    let numbers = numbers-same CARD_FAULT apart x c noted.outside in
-    record { tables = λ other at ne. others-same CARD_FAULT apart x c noted.outside other at ne; first_over = λ ne. numbers.0; over_count = λ ne. numbers.1 }
-
 -- ---- faults, one after another
 
 tells-first : (vs : List UnitEvent) (x y c : List ℕ) → SaysTheSame x y → TellsFaults vs y c → TellsFaults vs x c
@@ -76,10 +53,6 @@ pub tells-then : (vs ws : List UnitEvent) (x y c : List ℕ) → TellsFaults vs 
 tells-then [] ws x y c a h = tells-first ws x y c a h
 tells-then (v ∷ vs) ws x y c a h = (a.0, a.1, a.2, a.3, tells-then vs ws a.1 y c a.4 h)
 
-tells-but : (vs : List UnitEvent) (x c : List ℕ) → TellsFaults vs x c → SaysNothingBut CARD_FAULT x c
-tells-but [] x c h = but-of CARD_FAULT x c h.0
-tells-but (v ∷ vs) x c h = but-then CARD_FAULT x h.0 c (but-of CARD_FAULT x h.0 h.2.0) (but-then CARD_FAULT h.0 h.1 c (noted-but (fault_bytes v) h.0 h.1 h.3) (tells-but vs h.1 c h.4))
-
 fault-rings : (front x c : List ℕ) → IsEventNoted CARD_FAULT front x c → HasSameRings x c
 fault-rings front x c noted = table-outside CARD_FAULT x c noted.outside
 
@@ -87,9 +60,22 @@ pub tells-rings : (vs : List UnitEvent) (x c : List ℕ) → TellsFaults vs x c 
 tells-rings [] x c h = h.2
 tells-rings (v ∷ vs) x c h = then-same x h.0 c h.2.2 (then-same h.0 h.1 c (fault-rings (fault_bytes v) h.0 h.1 h.3) (tells-rings vs h.1 c h.4))
 
-both-none : (vs ws : List UnitEvent) → vs ++ ws ≡ [] → (vs ≡ []) × (ws ≡ [])
-both-none [] ws is = (refl, is)
-both-none (v ∷ vs) ws is = absurd (cc)
+-- ---- the first of them, where the unit failed
+
+first-before : (vs : List UnitEvent) (x y c : List ℕ) → SaysTheSame x y → TellsFirst vs y c → TellsFirst vs x c
+first-before [] x y c a h = same-then x y c a h
+first-before (v ∷ vs) x y c a (inl h) = inl (same-then x y c a h)
+first-before (v ∷ vs) x y c a (inr (z, b, h)) = inr (z, same-then x y z a b, h)
+
+first-then : (vs ws : List UnitEvent) (x y c : List ℕ) → TellsFaults vs x y → TellsFirst ws y c → TellsFirst (vs ++ ws) x c
+first-then [] ws x y c a h = first-before ws x y c a h
+first-then (v ∷ vs) ws x y c a h = inr (a.0, a.2, inr (a.1, a.3, first-then vs ws a.1 y c a.4 h))
+
+first-rings : (vs : List UnitEvent) (x c : List ℕ) → TellsFirst vs x c → HasSameRings x c
+first-rings [] x c h = h.2
+first-rings (v ∷ vs) x c (inl h) = h.2
+first-rings (v ∷ vs) x c (inr (y, a, inl moment)) = then-same x y c a.2 (table-outside CARD_FAULT y c moment.outside)
+first-rings (v ∷ vs) x c (inr (y, a, inr (z, done, h))) = then-same x y c a.2 (then-same y z c (fault-rings (fault_bytes v) y z done) (first-rings vs z c h))
 
 -- ONE CALL AFTER ANOTHER
 pub notes-then : (vs ws : List UnitEvent) (failed : Bool) (U V W : State) → NotesFaults false vs U V → NotesFaults failed ws V W → NotesFaults failed (vs ++ ws) U W
@@ -99,22 +85,13 @@ notes-then vs ws false U V W a b = λ c at.
     (x.0, x.1, tells-then vs ws x.0 y.0 c x.2 y.2)
 notes-then vs ws true U V W a b = λ c at.
     let y = b c at in
-    let x = a y.0 y.1 in (
-      x.0,
-      x.1,
-      (
-        (λ none.
-            let both = both-none vs ws none in
-            nothing-then x.0 y.0 c (subst (λ (us : List UnitEvent). TellsFaults us x.0 y.0) both.0 x.2).0 (y.2.0 both.1)),
-        but-then CARD_FAULT x.0 y.0 c (tells-but vs x.0 y.0 x.2) y.2.1,
-        then-same x.0 y.0 c (tells-rings vs x.0 y.0 x.2) y.2.2,
-      ),
-    )
+    let x = a y.0 y.1 in
+    (x.0, x.1, first-then vs ws x.0 y.0 c x.2 y.2)
 
 -- A CALL of which no event is told
 says-to : (failed : Bool) (x c : List ℕ) → SaysTheSame x c → TellsTo failed [] x c
 says-to false x c h = h
-says-to true x c h = ((λ none. h.0), but-of CARD_FAULT x c h.0, h.2)
+says-to true x c h = h
 
 pub notes-nothing : (failed : Bool) (U V : State) (R : List ℕ → List ℕ → Type 0) → IsCoherent U → IsCoherent V → LeavesOnly U V R → ((x c : List ℕ) → R x c → SaysNothing x c × HasSameRings x c) → NotesFaults failed [] U V
 notes-nothing failed U V R whole behind run none = λ c at. ⊎_elim
@@ -154,8 +131,8 @@ fate-notes Fell false second cabin U V u v run works only noted = λ c at.
     let is : IsFaultNoted Fell second (crew_of cabin) n.0 c = subst (λ (q : Option (List ℕ)). IfSome q (IsFaultNoted Fell second (crew_of cabin) n.0)) n.2 one in
     (n.0, u.is_left n.0 n.1, (n.0, c, the-same n.0, is, the-same c))
 fate-notes Fell true second cabin U V u v run works only noted = λ c at. ⊎_elim
-    (λ old. (c, old, ((λ none. absurd (cc)), but-of CARD_FAULT c c (same-events c), same-rings c)))
-    (λ new. (new.0, u.is_left new.0 new.1, ((λ none. absurd (cc)), event-but CARD_FAULT fault-kind _ new.0 c new.2, table-outside CARD_FAULT new.0 c new.2.outside)))
+    (λ old. (c, old, inl (the-same c)))
+    (λ new. (new.0, u.is_left new.0 new.1, inr (new.0, the-same new.0, inl new.2)))
     (run.now c at)
 
 -- AN ENTRY WAS BROUGHT, where these were the slots and the sessions before
@@ -215,4 +192,4 @@ last-noted k at xs minute round t u p U V W cards told a b =
 -- A KEEPING leaves both rings as they are
 pub faults-leave : (failed : Bool) (vs : List UnitEvent) (U V : State) → NotesFaults failed vs U V → LeavesRings U V
 faults-leave false vs U V h = λ c at. let x = h c at in (x.0, x.1, tells-rings vs x.0 c x.2)
-faults-leave true vs U V h = λ c at. let x = h c at in (x.0, x.1, x.2.2)
+faults-leave true vs U V h = λ c at. let x = h c at in (x.0, x.1, first-rings vs x.0 c x.2)

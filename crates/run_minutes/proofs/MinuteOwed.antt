@@ -62,6 +62,8 @@ string-same : (f : CardFound) (hd : Hands) (c : Card) (b d : Book) (X : State) �
 string-same f hd c b d X same s = record {
   kept = λ x left. subst (λ (es : List Entry). KeepsOf f.image hd.given (f.start.entries ++ counted_to (own_view x).mark es) (own_view x).held) same (s.kept x left);
   told = s.told;
+  behind = s.behind;
+  stay = s.stay;
   valid = s.valid;
   sizes = s.sizes;
   number = s.number;

@@ -29,6 +29,8 @@ each-later app image hd all n next began X le each = record {
   now = λ x left. ((each.now x left).0, later_holds app image hd all n next x le (each.now x left).1);
   since = each.since;
   told = each.told;
+  behind = each.behind;
+  stay = each.stay;
 }
 
 module _ (image : List ℕ) (hd : Hands) (has : List Entry) (s : Session) (hands : List Manual) (e : Entry) (odometer word : ℕ) (are : AreHandsOf s e.minute hands) (few : length hands ≤ 8) (fresh : word < e.minute) (X : State) (free : (hands ≡ []) ⊎ IfSome X.image (IsShutAt s.application)) (come : (x : List ℕ) → X.image ≡ Some x → ComeFrom (end_mark s.application x) (own_covered image) (suc (max word s.minute)) hands e) (whole : IsCoherent X)

@@ -1,15 +1,15 @@
 -- The faults that the keeping of minutes notes on the unit, of cards that were torn out (profile).
-use Rattle.std.specs.Prelude.{◌≡◌, ℕ, Bool, true, false, Option, Some, None, List, [], ◌∷◌, ◌++◌, length}
+use Rattle.std.specs.Prelude.{◌≡◌, ◌⊎◌, ℕ, Bool, true, false, Option, Some, None, List, [], ◌∷◌, ◌++◌, length}
 use Rattle.tach_media.specs.Medium.{State}
 use Rattle.event_model.specs.declared.kinds.TheConstants.{CARD_FAULT}
 use Rattle.unit_notes.specs.declared.unit_event.UnitEvent.{UnitEvent}
 use Rattle.unit_notes.specs.Entries.{fault_bytes}
-use Rattle.unit_notes.specs.Noting.{IsEventNoted}
+use Rattle.unit_notes.specs.Noting.{IsEventNoted, IsNotingEvent}
 use Rattle.run_crew.specs.declared.cabin.Cabin.{Cabin}
 use Rattle.run_crew.specs.declared.cards.Crew.{Crew}
 use Rattle.run_crew.specs.Cabin.{crew_of}
 use Rattle.run_events.specs.Entries.{entry_of}
-use Rattle.run_events.specs.Shown.{SaysNothing, SaysNothingBut}
+use Rattle.run_events.specs.Shown.{SaysNothing}
 use Rattle.run_rings.specs.Same.{HasSameRings}
 use Rattle.card_slots.specs.declared.seats.Present.{Present}
 use Rattle.run_minutes.specs.declared.keeper.Keeper.{Keeper}
@@ -61,11 +61,17 @@ TellsFaults [] x c = SaysTheSame x c
 TellsFaults (v ∷ vs) x c = (y : List ℕ) × (z : List ℕ) × SaysTheSame x y × IsEventNoted CARD_FAULT (fault_bytes v) y z
     × TellsFaults vs z c
 
--- or the unit failed, and a fault may be noted or not: without one the image says the same of events; the rings are the
--- same
+-- OR THE UNIT FAILED: it tells of the first of them, and behind these it says the same, or stands at a moment of the
+-- note of the next one.
+abbrev pub TellsFirst : List UnitEvent → (x c : List ℕ) → Type 0
+TellsFirst [] x c = SaysTheSame x c
+TellsFirst (v ∷ vs) x c = SaysTheSame x c
+    ⊎ ((y : List ℕ) × SaysTheSame x y × (IsNotingEvent CARD_FAULT (fault_bytes v) y c
+    ⊎ ((z : List ℕ) × IsEventNoted CARD_FAULT (fault_bytes v) y z × TellsFirst vs z c)))
+
 abbrev pub TellsTo : (failed : Bool) → List UnitEvent → (x c : List ℕ) → Type 0
 TellsTo false vs x c = TellsFaults vs x c
-TellsTo true vs x c = (vs ≡ [] → SaysNothing x c) × SaysNothingBut CARD_FAULT x c × HasSameRings x c
+TellsTo true vs x c = TellsFirst vs x c
 
 -- SO DOES EACH IMAGE that a stop may leave behind a call
 abbrev pub NotesFaults : (failed : Bool) → List UnitEvent → (old new : State) → Type 0

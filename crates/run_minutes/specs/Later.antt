@@ -1,6 +1,6 @@
 -- What holds of devices after any calls, whatever they tell (profile).
-use Rattle.std.specs.Prelude.{◌≡◌, ◌⊎◌, ◌≤◌, ◌&&◌, ℕ, not, Option, List, length, filter}
-use Rattle.tach_media.specs.Medium.{State, Rose}
+use Rattle.std.specs.Prelude.{◌≡◌, ◌⊎◌, ◌≤◌, ◌<◌, ◌+◌, ◌&&◌, ℕ, not, Option, List, length, filter}
+use Rattle.tach_media.specs.Medium.{State, Rose, last_count}
 use Rattle.log_model.specs.declared.lines.Break.{Break}
 use Rattle.log_model.specs.Causes.{is_cut, has_failed}
 use Rattle.safety_model.specs.Safe.{Devices}
@@ -34,15 +34,21 @@ abbrev pub failed_tears : List Break → ℕ
 failed_tears breaks = length (filter (λ b. not (is_cut b) && has_failed b) breaks)
 
 -- A CARD AFTER CALLS that told these breaks more: no such tear was told less, and where none was told more the card has
--- not broken down.
+-- not broken down. Nor has it more often than such tears were told more, as long as that count stands below its last
+-- value.
 pub record IsCalm (before after : List Break) (old new : State) : Type 0 where
   pub few : failed_tears before ≤ failed_tears after
   pub calm : failed_tears after ≡ failed_tears before → new.breakdowns ≡ old.breakdowns
+  pub grows : old.breakdowns ≤ new.breakdowns
+  pub most : new.breakdowns < last_count → new.breakdowns + failed_tears before ≤ old.breakdowns + failed_tears after
 
--- so it is of both
+-- so it is of both, and of the two together
 pub record AreCalm (before after : List Break) (d e : Devices) : Type 0 where
   pub card_a : IsCalm before after d.card_a e.card_a
   pub card_b : IsCalm before after d.card_b e.card_b
+  pub most : e.card_a.breakdowns < last_count → e.card_b.breakdowns < last_count
+      → (e.card_a.breakdowns + e.card_b.breakdowns) + failed_tears before
+      ≤ (d.card_a.breakdowns + d.card_b.breakdowns) + failed_tears after
 
 -- A CARD BY ITS SESSION before calls and behind them: where that goes on, or there was none, it has not broken down.
 abbrev pub RestsBy : (session after : Option Accepted) → (old new : State) → Type 0

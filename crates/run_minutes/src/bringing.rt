@@ -26,47 +26,60 @@ use run_outcome::Lines;
 use tach_media::{Chip, Failed, Medium};
 use trace_model::Card;
 
+// What a card is to keep of a minute: which card, its entry, and the moment, as a tear tells it.
+#[derive(Clone, Copy)]
+struct CardKeep {
+    which: Card,
+    kept: Kept,
+    at: Moment,
+}
+
 impl Keeper {
     // This card keeps an entry, unless it was torn out since: then it has no session.
     fn bring_to<M: Medium, C: Chip>(
         &mut self,
-        which: Card,
-        kept: &Kept,
-        at: Moment,
+        keep: CardKeep,
         unit: &mut M,
         card: &mut C,
         marks: &mut Lines<Mark>,
         breaks: &mut Lines<Break>,
     ) -> Result<(), Failed>
         requires ready { UnitMayBeCalled self.old (M.state unit.old) }
-        requires card { CardMayBeCalled (known_of self.old.cabin.cards which) (C.card card.old) (C.state card.old) }
-        requires behind { IsReadyFor self.old.cabin.cards kept.now.entry.minute (Some which) }
-        requires first { 1440 ≤ kept.now.entry.minute }
-        requires last { kept.now.entry.minute ≤ LATEST_MINUTE }
-        requires fits { kept.now.odometer.0 < 2 ^ 24 }
-        requires minute { self.old.cabin.slots.minute ≤ at.second / 60 }
-        requires second { at.second ≢ 0 }
+        requires card { CardMayBeCalled (known_of self.old.cabin.cards keep.which) (C.card card.old)
+            (C.state card.old) }
+        requires behind { IsReadyFor self.old.cabin.cards keep.kept.entry.minute (Some keep.which) }
+        requires first { 1440 ≤ keep.kept.entry.minute }
+        requires last { keep.kept.entry.minute ≤ LATEST_MINUTE }
+        requires fits { keep.kept.odometer.0 < 2 ^ 24 }
+        requires minute { self.old.cabin.slots.minute ≤ keep.at.second / 60 }
+        requires second { keep.at.second ≢ 0 }
         requires marks { length marks.old.items < marks.old.room }
-        requires breaks { length breaks.old.items + tears_of (session_of self.old.cabin.cards which) ≤ breaks.old.room }
+        requires breaks { length breaks.old.items + tears_of
+            (session_of self.old.cabin.cards keep.which) ≤ breaks.old.room }
         ensures brought { (fate : Fate)
-            × IsBrought (Some which) kept.now at (is_err result) self.old self.new marks.old marks.new breaks.old
+            × IsBrought (Some keep.which) keep.kept keep.at
+            (is_err result) self.old self.new marks.old marks.new breaks.old
             breaks.new fate (M.state unit.old) (M.state unit.new) (C.state card.old) (C.state card.new)
-            × LeavesOnly (M.state unit.old) (M.state unit.new) (IsNotingFault fate at.second (crew_of self.new.cabin))
-            × BooksCard which kept.now fate self.old.cabin.cards self.new.cabin.cards (M.state unit.old)
+            × LeavesOnly (M.state unit.old) (M.state unit.new)
+            (IsNotingFault fate keep.at.second (crew_of self.new.cabin))
+            × BooksCard keep.which keep.kept fate self.old.cabin.cards self.new.cabin.cards (M.state unit.old)
             (C.state card.old) (C.state card.new) }
         ensures journal { LeavesOnly (M.state unit.old) (M.state unit.new) LeavesJournal }
-        ensures behind { StandsBrought which result self.old self.new (M.state unit.old) (M.state unit.new)
+        ensures behind { StandsBrought keep.which result self.old self.new (M.state unit.old) (M.state unit.new)
             (C.state card.old) (C.state card.new) (C.card card.new) }
-        ensures goes { CardKeeps (tears_of (session_of self.old.cabin.cards which) - tears_of
-            (session_of self.new.cabin.cards which))
+        ensures goes { CardKeeps (tears_of (session_of self.old.cabin.cards keep.which) - tears_of
+            (session_of self.new.cabin.cards keep.which))
             (C.state card.old) (C.state card.new) }
-        ensures bare { session_of self.old.cabin.cards which ≡ None → card.new ≡ card.old }
-        ensures stands { (from : ℕ) (leaving : Option Card) → from ≤ kept.now.entry.minute + 1
+        ensures bare { session_of self.old.cabin.cards keep.which ≡ None → card.new ≡ card.old }
+        ensures stands { (from : ℕ) (leaving : Option Card) → from ≤ keep.kept.entry.minute + 1
             → CabinIsSound from leaving self.old.cabin
-            → CabinIsSound (kept.now.entry.minute + 1) leaving self.new.cabin }
+            → CabinIsSound (keep.kept.entry.minute + 1) leaving self.new.cabin }
         ensures most { ((M.state unit.new).clock ≤ (M.state unit.old).clock + 4)
             × ((C.state card.new).clock ≤ (C.state card.old).clock + keep_most) }
     {
+        let which = keep.which;
+        let kept = keep.kept;
+        let at = keep.at;
         let Ok(app) = self.cabin.cards.of(which).sizes else {
             return Ok(());
         };
@@ -79,8 +92,7 @@ impl Keeper {
             app,
             &mut accepted.session,
             &mut accepted.held,
-            which,
-            kept,
+            &kept,
         )
         .is_err()
         {
@@ -144,8 +156,22 @@ impl Keeper {
     {
         match present {
             None => Ok(()),
-            Some(Card::A) => self.bring_to(Card::A, kept, at, unit, card_a, marks, breaks),
-            Some(Card::B) => self.bring_to(Card::B, kept, at, unit, card_b, marks, breaks),
+            Some(Card::A) => {
+                let keep = CardKeep {
+                    which: Card::A,
+                    kept: *kept,
+                    at,
+                };
+                self.bring_to(keep, unit, card_a, marks, breaks)
+            }
+            Some(Card::B) => {
+                let keep = CardKeep {
+                    which: Card::B,
+                    kept: *kept,
+                    at,
+                };
+                self.bring_to(keep, unit, card_b, marks, breaks)
+            }
         }
     }
 }

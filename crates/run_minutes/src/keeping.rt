@@ -17,7 +17,7 @@ use crate::keeper::{Keeper, Moment};
 use activity_codec::{Entry, Slot};
 use card_session::Kept;
 use card_slots::Present;
-use device_calls::{commit, owe};
+use device_calls::{OwedEntry, commit, owe};
 use log_model::{Break, Mark};
 use run_events::number_or_zeros;
 use run_model::Device;
@@ -43,6 +43,13 @@ fn kept_in(minute: &KeptMinute, slot: Slot) -> Kept
         },
         odometer: minute.odometer,
     }
+}
+
+// A minute that is to be kept, with the cards that were present in it.
+#[derive(Clone, Copy)]
+struct MinuteSaid {
+    minute: KeptMinute,
+    present: Present,
 }
 
 impl Keeper {
@@ -72,68 +79,56 @@ impl Keeper {
         let known = self.cabin.cards.of(card);
         let number = number_or_zeros(known.number);
         let row = known.row;
+        let owed = OwedEntry {
+            number,
+            row,
+            entry: *entry,
+        };
         match card {
-            Card::A => owe(
-                unit,
-                &mut self.journal,
-                card_a,
-                card_b,
-                card,
-                &number,
-                row,
-                entry,
-            ),
-            Card::B => owe(
-                unit,
-                &mut self.journal,
-                card_b,
-                card_a,
-                card,
-                &number,
-                row,
-                entry,
-            ),
+            Card::A => owe(unit, &mut self.journal, card_a, card_b, card, owed),
+            Card::B => owe(unit, &mut self.journal, card_b, card_a, card, owed),
         }
     }
 
     // The unit keeps a minute, which is marked: before, the cards that were present are owed what it says on them.
     fn acknowledge<M: Medium, C: Chip, D: Chip>(
         &mut self,
-        minute: &KeptMinute,
-        present: Present,
+        said: MinuteSaid,
         unit: &mut M,
         card_a: &C,
         card_b: &D,
         marks: &mut Lines<Mark>,
     ) -> Result<(), Failed>
         requires ready { UnitMayBeCalled self.old (M.state unit.old) }
-        requires rows { HaveRows self.old.cabin.cards (M.state unit.old) present }
-        requires low { 1440 ≤ minute.now.minute }
-        requires later { self.old.journal.kept < minute.now.minute }
-        requires small { minute.now.minute ≤ LATEST_MINUTE }
-        requires odometer { minute.now.odometer.0 ≤ HIGHEST_ODOMETER }
+        requires rows { HaveRows self.old.cabin.cards (M.state unit.old) said.present }
+        requires low { 1440 ≤ said.minute.minute }
+        requires later { self.old.journal.kept < said.minute.minute }
+        requires small { said.minute.minute ≤ LATEST_MINUTE }
+        requires odometer { said.minute.odometer.0 ≤ HIGHEST_ODOMETER }
         requires room { length marks.old.items < marks.old.room }
-        requires apart { AreTwo present.driver present.codriver }
+        requires apart { AreTwo said.present.driver said.present.codriver }
         ensures keeper { self.new ≡ record self.old { journal = self.new.journal } }
-        ensures notes { OnOk result ((self.new.journal.kept ≡ minute.now.minute)
-            × (self.new.journal.odometer ≡ minute.now.odometer.0)) }
+        ensures notes { OnOk result ((self.new.journal.kept ≡ said.minute.minute)
+            × (self.new.journal.odometer ≡ said.minute.odometer.0)) }
         ensures marked { OnOk result (marks.new
-            ≡ with_lines (unit_mark minute.now.minute (M.state unit.new).clock ∷ []) marks.old) }
+            ≡ with_lines (unit_mark said.minute.minute (M.state unit.new).clock ∷ []) marks.old) }
         ensures same { OnErr result ((self.new.journal ≡ self.old.journal) × (marks.new ≡ marks.old)) }
         ensures stands { UnitStands (is_err result) self.old self.new (M.state unit.old) (M.state unit.new) }
         ensures goes { UnitGoes (is_err result) (M.state unit.old) (M.state unit.new) }
         ensures most { (M.state unit.new).clock ≤ (M.state unit.old).clock + 18 }
-        ensures booked { TellsPresent minute.now present → BooksOwed present minute.now (is_err result)
+        ensures booked { TellsPresent said.minute said.present → BooksOwed said.present said.minute (is_err result)
             (record { keeper = self.old; marks = marks.old; breaks = record { items = []; room = 0 } })
             (record { keeper = self.new; marks = marks.new; breaks = record { items = []; room = 0 } })
             (devices (M.state unit.old) (C.state card_a.now) (D.state card_b.now))
             (devices (M.state unit.new) (C.state card_a.now) (D.state card_b.now)) }
     {
-        let driver = kept_in(minute, Slot::Driver);
-        let codriver = kept_in(minute, Slot::CoDriver);
+        let minute = said.minute;
+        let present = said.present;
+        let driver = kept_in(&minute, Slot::Driver);
+        let codriver = kept_in(&minute, Slot::CoDriver);
         self.owe_to(present.driver, &driver.entry, unit, card_a, card_b)?;
         self.owe_to(present.codriver, &codriver.entry, unit, card_a, card_b)?;
-        commit(unit, &mut self.journal, card_a, card_b, minute)?;
+        commit(unit, &mut self.journal, card_a, card_b, &minute)?;
         marks.add(Mark {
             device: Device::Unit,
             minute: minute.minute,
@@ -186,7 +181,11 @@ impl Keeper {
     {
         let driver = kept_in(minute, Slot::Driver);
         let codriver = kept_in(minute, Slot::CoDriver);
-        self.acknowledge(minute, present, unit, card_a, card_b, marks)?;
+        let said = MinuteSaid {
+            minute: *minute,
+            present,
+        };
+        self.acknowledge(said, unit, card_a, card_b, marks)?;
         self.bring(
             present.driver,
             &driver,

@@ -23,7 +23,7 @@ use Rattle.device_rule.specs.Filling.{FillsDays}
 use Rattle.device_rule.specs.Rules.{CardDark, Meets, Had, Shows}
 use Rattle.device_rule.specs.Marked.{of_card}
 use Rattle.hand_model.specs.ByHand.{by_hand_in}
-use Rattle.hand_model.specs.AtStart.{hands_at, HasDayOf}
+use Rattle.hand_model.specs.AtStart.{all_at, hands_at, HasDayOf}
 use Rattle.hand_model.proofs.Written.{part_self, part_both, part_then}
 use Rattle.safety_model.specs.ByHand.{HandsSafe}
 use Rattle.safety_model.specs.Hands.{hands_done}
@@ -241,6 +241,10 @@ module _ (r : Recording) (f : Found) (w : RunLedger) (began now : Devices) (foun
   hands-part c = record {
     tells = λ valid x at.
         part_then (by_hand_in (own_sizes (card_image r c)) x) (hands_at (card_image r c) ++ (w.hands c).given) (hands_at (card_image r c) ++ hands_done r c) ((string c valid).told x at)
+        (part_both (hands_at (card_image r c)) (hands_at (card_image r c)) (w.hands c).given (hands_done r c) (part_self (hands_at (card_image r c))) (hands c valid).given);
+    stay = λ valid x at. (string c valid).stay x at;
+    behind = λ valid x at none.
+        part_then (all_at x) (hands_at (card_image r c) ++ (w.hands c).given) (hands_at (card_image r c) ++ hands_done r c) ((string c valid).behind x at none)
         (part_both (hands_at (card_image r c)) (hands_at (card_image r c)) (w.hands c).given (hands_done r c) (part_self (hands_at (card_image r c))) (hands c valid).given);
     keeps = λ valid s next m first e of_it day x left has.
         let k = (hands c valid).firsts s next m first in

@@ -16,7 +16,7 @@ use Rattle.card_retention.specs.Retains.{Rise, entries_from}
 use Rattle.device_rule.specs.Fields.{card_days}
 use Rattle.device_rule.specs.View.{card_view}
 use Rattle.device_rule.specs.Own.{own_view, own_sizes, own_number, own_covered, counted_view, expected_with, KeepsFrom, KeepsOf, IsOwnValid}
-use Rattle.hand_model.specs.AtStart.{marked_at, hands_at}
+use Rattle.hand_model.specs.AtStart.{marked_at, all_at, hands_at, StaysTold}
 use Rattle.hand_model.specs.ByHand.{by_hand_in}
 use Rattle.hand_model.specs.Written.{IsPartOf, no_hands}
 use Rattle.hand_model.proofs.Cuts.{part_first}
@@ -120,6 +120,15 @@ pub own-told : (x : List ℕ) → IsPartOf (by_hand_in (own_sizes x) x) (hands_a
 unfolding by_hand_in own_view card_view
 own-told x = part_wider (marked_at x) (hands_at x) [] (part_first x (marked_at x) (inl refl))
 
+-- and those behind it, where no session is open
+pub own-all : (x : List ℕ) → (own_view x).session ≡ 0 → IsPartOf (all_at x) (hands_at x ++ [])
+own-all x none = part_wider (all_at x) (hands_at x) [] (part_first x (all_at x) (inr (none, refl)))
+
+-- and so those of the start stay
+pub own-stays : (x : List ℕ) → StaysTold x (own_sizes x) x
+unfolding by_hand_in own_view card_view
+own-stays x e marked day = marked
+
 -- WHAT IT BRINGS
 own-newest : (x : List ℕ) (start : CardStart) → start.mark ≡ (own_view x).mark → AreDays 0 (card_days (own_sizes x) x) → (own_view x).newest ≡ trimmed_by start (own_view x).held.entries
 unfolding own_view
@@ -188,6 +197,9 @@ module _ (f : Found) (c : Card) (u x : List ℕ) (unit card : State) (unit_whole
     kept = λ y left. subst (λ (z : List ℕ). KeepsOf g.image [] (g.start.entries ++ counted_to (own_view z).mark (brought_by c g.start not_begun)) (own_view z).held) (sym (since y left)) (0, keeps);
     told = λ y left. subst (λ (z : List ℕ). IsPartOf (by_hand_in (own_sizes g.image) z) (hands_at g.image ++ [])) (sym (since y left))
         (subst (λ (image : List ℕ). IsPartOf (by_hand_in (own_sizes image) x) (hands_at image ++ [])) (sym looked.image) (own-told x));
+    behind = λ y left. subst (λ (z : List ℕ). (own_view z).session ≡ 0 → IsPartOf (all_at z) (hands_at g.image ++ [])) (sym (since y left))
+        (subst (λ (image : List ℕ). (own_view x).session ≡ 0 → IsPartOf (all_at x) (hands_at image ++ [])) (sym looked.image) (own-all x));
+    stay = λ y left. subst (λ (z : List ℕ). StaysTold g.image (own_sizes g.image) z) (sym (since y left)) (subst (λ (image : List ℕ). StaysTold image (own_sizes image) x) (sym looked.image) (own-stays x));
     valid = λ y left. subst IsOwnValid (sym (since y left)) valid;
     sizes = λ y left. ap own_sizes (since y left ∙ sym looked.image);
     number = λ y left. ap own_number (since y left ∙ sym looked.image);

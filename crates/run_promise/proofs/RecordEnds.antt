@@ -240,5 +240,5 @@ module _ (o : Origin) (done : List TraceSecond) (p : Progress) (g : Travel) (mar
           odometer = odometer;
           days = days;
           words = words;
-          whole = λ nothing. is-whole r marks began now o.from h.followed.order nothing all_safe all_caused unit_whole unit-later;
+          whole = λ uncut. is-whole r marks began now o.from h.followed.order uncut all_safe all_caused unit_whole unit-later;
         }

@@ -104,6 +104,8 @@ module _ (f : Found) (h : Hands) (c : Card) where
   string-of b d card same rises s = record {
     kept = λ x left. subst (λ (es : List Entry). KeepsOf g.image h.given (g.start.entries ++ es) (own_view x).held) (sym (same x left)) (s.kept x left);
     told = s.told;
+    behind = s.behind;
+    stay = s.stay;
     valid = s.valid;
     sizes = s.sizes;
     number = s.number;

@@ -1,13 +1,15 @@
--- Where no call failed, an accepted card has all of its entries, but those behind a `tear` line.
+-- Where no failed call has cut the power, an accepted card that none has torn out has all of its entries, but those
+-- behind a `tear` line.
 use Rattle.std.proofs.Common.{◌≡◌, ◌⊎◌, ⊎_elim, ℕ, ◌+◌, ◌<◌, ◌≤◌, Bool, true, false, cond, List, [], ◌∷◌, ◌++◌, All, Contains, refl, ap, sym, subst, ◌∙◌, arith}
-use Rattle.std.specs.Prelude.{flat_map}
+use Rattle.std.specs.Prelude.{flat_map, map, filter}
 use Rattle.std.proofs.lemmas.List.{append_cancel_left}
-use Rattle.std.proofs.lemmas.List.Elements.{All-contains, Contains-append_left, Contains-append_right, Contains-push_cases, Contains-append_cases}
+use Rattle.std.proofs.lemmas.List.Elements.{All-contains, filter-append, Contains-append_left, Contains-append_right, Contains-push_cases, Contains-append_cases}
 use Rattle.activity_codec.specs.declared.entries.Entry.{Entry}
 use Rattle.activity_codec.specs.declared.values.Slot.{Slot}
 use Rattle.activity_codec.specs.declared.values.Slot.TheVariants.{Driver, CoDriver}
 use Rattle.activity_codec.specs.Activity.{same_slot}
 use Rattle.trace_model.specs.declared.Card.{Card}
+use Rattle.trace_model.specs.declared.Card.TheVariants.{A, B}
 use Rattle.run_model.specs.declared.Device.TheVariants.{Unit as Recorder}
 use Rattle.tach_media.specs.Medium.{IsCoherent}
 use Rattle.unit_model.specs.Image.{recorded, last_kept}
@@ -17,7 +19,8 @@ use Rattle.log_model.specs.declared.lines.Mark.{Mark}
 use Rattle.log_model.specs.Log.{Phase}
 use Rattle.log_model.specs.Course.{ToldSecond, Visit}
 use Rattle.log_model.specs.Spans.{spans_of, AreInOrder}
-use Rattle.log_model.specs.Causes.{device_of, places, visit_places, in_the_slot, torn_of}
+use Rattle.log_model.specs.Slots.{same_card}
+use Rattle.log_model.specs.Causes.{device_of, cuts, tears, places, visit_places, in_the_slot, torn_of, cards_torn}
 use Rattle.history_model.specs.Minutes.{HistoryMinute, card_history, on_card}
 use Rattle.history_model.specs.Presence.{CardStart}
 use Rattle.history_model.specs.History.{settlings_of, decided_of}
@@ -35,7 +38,7 @@ use Rattle.run_promise.proofs.CardEnd.{started}
 use Rattle.run_promise.proofs.Entries.{all-by}
 use Rattle.run_promise.proofs.Behind.{owed-until}
 use Rattle.run_promise.proofs.Accounts.{last-of}
-use Rattle.run_promise.specs.Whole.{NothingFailed, IsPulledBehind, IsFull, IsWhole}
+use Rattle.run_promise.specs.Whole.{IsUntorn, IsPulledBehind, IsFull, IsWhole}
 
 -- an entry of a card's history stands on one of its minutes
 said-on : (c : Card) (past : List HistoryMinute) (e : Entry) → Contains (card_history c past) e → (i : HistoryMinute) × Contains past i × Contains (on_card c i) e
@@ -87,17 +90,58 @@ in-slot slot (x ∷ ps) p is at = ⊎_elim
     here same true e = Contains-append_left (x ∷ []) (in_the_slot slot ps) p (0, omega arith, same)
     here same false e = absurd (let clash : false ≡ true = sym e ∙ ap (λ (y : ℕ × Phase × Slot). same_slot y.2 slot) same ∙ is in cc)
 
-module _ (r : Recording) (marks : List Mark) (began now : Devices) (nothing : NothingFailed r.log) (safe : IsSafe r marks began now) (caused : IsCaused r marks began now) where
-  none-torn : (t : ToldSecond) (v : Visit) → Contains (told_of r) t → Contains t.course.torn v → ⊥
-  none-torn t v at torn =
+-- and in the list of those that were torn out
+card-itself : (c : Card) → same_card c c ≡ true
+card-itself A = refl
+card-itself B = refl
+
+one-less : (b : Bool) (y : Card) (ys : List Card) → cond b (y ∷ ys) ys ≡ [] → (b ≡ false) × (ys ≡ [])
+one-less true y ys is = absurd (let e : y ∷ ys ≡ [] = is in cc)
+one-less false y ys is = (refl, is)
+
+both-none : (xs ys : List Card) → xs ++ ys ≡ [] → (xs ≡ []) × (ys ≡ [])
+both-none [] ys is = (refl, is)
+both-none (x ∷ xs) ys is = absurd (let e : x ∷ (xs ++ ys) ≡ [] = is in cc)
+
+none-of : (c : Card) (vs : List Visit) (v : Visit) → Contains vs v → v.card ≡ c → filter (same_card c) (map (λ (w : Visit). w.card) vs) ≡ [] → ⊥
+none-of c [] v at is none = omega (arith, at.1)
+none-of c (x ∷ vs) v at is none =
+    let parts = one-less (same_card c x.card) x.card (filter (same_card c) (map (λ (w : Visit). w.card) vs)) none in
+    ⊎_elim
+    (λ here. ⊎_elim
+    (λ no. omega (arith, no.1))
+    (λ (same : x ≡ v). let clash : true ≡ false = sym (ap (λ (w : Visit). same_card c w.card) same ∙ ap (same_card c) is ∙ card-itself c) ∙ parts.0 in cc)
+    (Contains-push_cases [] x v here))
+    (λ there. none-of c vs v there is parts.1)
+    (Contains-append_cases (x ∷ []) vs v at)
+
+none-told : (c : Card) (told : List ToldSecond) (t : ToldSecond) (v : Visit) → Contains told t → Contains t.course.torn v → v.card ≡ c → filter (same_card c) (cards_torn told) ≡ [] → ⊥
+none-told c [] t v at torn is none = omega (arith, at.1)
+none-told c (x ∷ told) t v at torn is none =
+    let parts = both-none (filter (same_card c) (map (λ (w : Visit). w.card) x.course.torn)) (filter (same_card c) (cards_torn told)) (sym (filter-append (same_card c) (map (λ (w : Visit). w.card) x.course.torn) (cards_torn told)) ∙ none) in
+    ⊎_elim
+    (λ here. ⊎_elim
+    (λ no. omega (arith, no.1))
+    (λ (same : x ≡ t). none-of c x.course.torn v (subst (λ (y : ToldSecond). Contains y.course.torn v) (sym same) torn) is parts.0)
+    (Contains-push_cases [] x t here))
+    (λ there. none-told c told t v there torn is parts.1)
+    (Contains-append_cases (x ∷ []) told t at)
+
+module _ (r : Recording) (marks : List Mark) (began now : Devices) (uncut : cuts true r.log ≡ []) (safe : IsSafe r marks began now) (caused : IsCaused r marks began now) where
+  none-torn : tears true r.log ≡ [] → (t : ToldSecond) (v : Visit) → Contains (told_of r) t → Contains t.course.torn v → ⊥
+  none-torn nothing t v at torn =
       let there = in-slot v.slot (torn_of (told_of r)) (t.second.number, v.phase, v.slot) (slot-itself v.slot) (torn-told (told_of r) t v at torn) in
       let same = caused.causes.failed_tears v.slot in
       let none : Contains {X = ℕ × Phase × Slot} [] (t.second.number, v.phase, v.slot) =
-      subst (λ (bs : List Break). Contains (in_the_slot v.slot (flat_map places bs)) (t.second.number, v.phase, v.slot)) nothing.1
+      subst (λ (bs : List Break). Contains (in_the_slot v.slot (flat_map places bs)) (t.second.number, v.phase, v.slot)) nothing
       (subst (λ (ps : List (ℕ × Phase × Slot)). Contains ps (t.second.number, v.phase, v.slot)) (sym same) there) in
       omega (arith, none.1)
 
-  module _ (c : Card) (valid : IsOwnValid (card_image r c)) (u : ℕ) (accepted : Contains (acceptances r c) u) (x : List ℕ) (left : (card_of now c).may_leave x) where
+  -- a card that no failed call has torn out was not torn out
+  not-torn : (c : Card) → IsUntorn r c → (t : ToldSecond) (v : Visit) → Contains (told_of r) t → v.card ≡ c → Contains t.course.torn v → ⊥
+  not-torn c untorn t v at is torn = ⊎_elim (λ none. none-torn none t v at torn) (λ mine. none-told c (told_of r) t v at torn is mine) untorn
+
+  module _ (c : Card) (untorn : IsUntorn r c) (valid : IsOwnValid (card_image r c)) (u : ℕ) (accepted : Contains (acceptances r c) u) (x : List ℕ) (left : (card_of now c).may_leave x) where
     s : IsRepaired r c marks x
     s = (safe.card c).repaired valid x left
 
@@ -126,9 +170,9 @@ module _ (r : Recording) (marks : List Mark) (began now : Devices) (nothing : No
         let lt : m.0.minute < e.minute = All-contains (λ (d : Entry). m.0.minute < d.minute) rest e (acknowledged m.0 m.1) in_ in
         let same = m.2 in omega (arith, lt, same, minute)))
         (λ broken. ⊎_elim
-        (λ failed. absurd (no-failure r.log nothing.0 (deciding_of r.rule (settlings_of from_.span) i.0.minute) failed))
+        (λ failed. absurd (no-failure r.log uncut (deciding_of r.rule (settlings_of from_.span) i.0.minute) failed))
         (λ torn. ⊎_elim
-        (λ out. absurd (none-torn torn.0 torn.4.0 torn.1 out))
+        (λ out. absurd (not-torn c untorn torn.0 torn.4.0 torn.1 torn.4.1 out))
         (λ out. record { span = from_.span; among = from_.among; t = torn.0; there = torn.1; behind = torn.2; before = torn.3; pulled = (torn.4.0, torn.4.1, out) })
         torn.4.2)
         broken)
@@ -146,14 +190,14 @@ module _ (r : Recording) (marks : List Mark) (began now : Devices) (nothing : No
     }
 
 -- EVERY MINUTE IS THERE
-pub is-whole : (r : Recording) (marks : List Mark) (began now : Devices) (n : ℕ) → AreInOrder n r.trace → NothingFailed r.log → IsSafe r marks began now → IsCaused r marks began now → IsCoherent now.unit → began.unit.clock ≤ now.unit.clock →
+pub is-whole : (r : Recording) (marks : List Mark) (began now : Devices) (n : ℕ) → AreInOrder n r.trace → cuts true r.log ≡ [] → IsSafe r marks began now → IsCaused r marks began now → IsCoherent now.unit → began.unit.clock ≤ now.unit.clock →
     IsWhole r now
-is-whole r marks began now n order nothing safe caused coherent early =
+is-whole r marks began now n order uncut safe caused coherent early =
     record {
       decided = in-history r.rule (start_of r) r.log n r.trace order (recorded r.unit) marks began.unit.clock now.unit coherent early marked safe.unit;
       unit = unit-whole r.rule (start_of r) r.log n r.trace order (recorded r.unit) marks began.unit.clock now.unit coherent early marked safe.unit;
-      card = λ c u valid accepted x left. is-full r marks began now nothing safe caused c valid u accepted x left;
+      card = λ c u untorn valid accepted x left. is-full r marks began now uncut safe caused c untorn valid u accepted x left;
     }
   where
     marked : (span : List ToldSecond) (d : Minute) → Contains (spans_of (told_of r)) span → Contains (decided_of r.rule span) d → IsMarked marks Recorder d.minute
-    marked span d at in_ = ⊎_elim (λ m. m) (λ failed. absurd (no-failure r.log nothing.0 (deciding_of r.rule (settlings_of span) d.minute) failed)) (caused.complete.unit span d at in_)
+    marked span d at in_ = ⊎_elim (λ m. m) (λ failed. absurd (no-failure r.log uncut (deciding_of r.rule (settlings_of span) d.minute) failed)) (caused.complete.unit span d at in_)

@@ -9,7 +9,7 @@ use Rattle.log_model.specs.declared.lines.Mark.{Mark}
 use Rattle.log_model.specs.Causes.{device_of}
 use Rattle.card_retention.specs.Retains.{Rise}
 use Rattle.device_rule.specs.Own.{own_view, own_sizes, own_number, IsOwnValid, KeepsFrom, KeepsOf}
-use Rattle.hand_model.specs.AtStart.{hands_at, HasDayOf}
+use Rattle.hand_model.specs.AtStart.{all_at, hands_at, HasDayOf, StaysTold}
 use Rattle.hand_model.specs.ByHand.{by_hand_in}
 use Rattle.hand_model.specs.Holding.{AreOfDay}
 use Rattle.hand_model.specs.Written.{Hands, IsPartOf}
@@ -33,13 +33,16 @@ counted_to mark es = filter (λ e. nat_le e.minute mark) es
 
 -- THE STRING. Each image since the start keeps the card's entries and those of the run up to its end mark, but for the
 -- days that the stated overwriting took; of entries by hand it tells some of those at the start and of those given to
--- keeps, in their order; each is valid, and has the card's number; and these entries rise.
+-- keeps, in their order, and those of the start of each day that it has; each is valid, and has the card's number; and these entries rise.
 pub record StringHolds (f : CardFound) (h : Hands) (c : Card) (b : Book) (card : State) : Type 0 where
   pub kept : (x : List ℕ) → card.left_since f.began x →
       KeepsOf f.image h.given (f.start.entries ++ counted_to (own_view x).mark (brought_by c f.start b))
       (own_view x).held
   pub told : (x : List ℕ) → card.left_since f.began x
       → IsPartOf (by_hand_in (own_sizes f.image) x) (hands_at f.image ++ h.given)
+  pub behind : (x : List ℕ) → card.left_since f.began x → (own_view x).session ≡ 0
+      → IsPartOf (all_at x) (hands_at f.image ++ h.given)
+  pub stay : (x : List ℕ) → card.left_since f.began x → StaysTold f.image (own_sizes f.image) x
   pub valid : (x : List ℕ) → card.left_since f.began x → IsOwnValid x
   pub sizes : (x : List ℕ) → card.left_since f.began x → own_sizes x ≡ own_sizes f.image
   pub number : (x : List ℕ) → card.left_since f.began x → own_number x ≡ own_number f.image

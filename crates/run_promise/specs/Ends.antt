@@ -1,6 +1,6 @@
 -- What is carried beside the rules of unit and cards from second to second, and what a run promises at its end
 -- (profile).
-use Rattle.std.specs.Prelude.{◌≡◌, ◌⊎◌, ℕ, zero, suc, ◌<◌, List, [], ◌∷◌, All, Contains, filter, length}
+use Rattle.std.specs.Prelude.{◌≡◌, ◌⊎◌, ℕ, zero, suc, ◌<◌, true, List, [], ◌∷◌, All, Contains, filter, length}
 use Rattle.activity_codec.specs.declared.entries.Entry.{Entry}
 use Rattle.trace_model.specs.declared.Card.{Card}
 use Rattle.trace_model.specs.Trace.{TraceSecond}
@@ -8,7 +8,7 @@ use Rattle.log_model.specs.declared.lines.Break.{Break}
 use Rattle.log_model.specs.declared.lines.Mark.{Mark}
 use Rattle.log_model.specs.declared.lines.Verdict.{Verdict}
 use Rattle.log_model.specs.declared.lines.Verdict.TheVariants.{Accepted, NotValid, TimeOverlap}
-use Rattle.log_model.specs.Causes.{device_of, cards_torn}
+use Rattle.log_model.specs.Causes.{device_of, cuts, cards_torn}
 use Rattle.log_model.specs.Log.{RunLog}
 use Rattle.log_model.specs.Slots.{same_card}
 use Rattle.log_model.specs.Course.{ToldSecond, Visit}
@@ -32,7 +32,7 @@ use Rattle.run_course.specs.Followed.{Progress}
 use Rattle.run_promise.specs.Accounts.{so_far}
 use Rattle.run_promise.specs.Origin.{Origin}
 use Rattle.run_promise.specs.Days.{HasWords, IsBegunIn}
-use Rattle.run_promise.specs.Whole.{NothingFailed, IsWhole}
+use Rattle.run_promise.specs.Whole.{IsWhole}
 
 -- the recording of a run so far
 abbrev pub recording_by : Origin → List TraceSecond → RunLog → Recording
@@ -125,6 +125,6 @@ pub record EndsRun (r : Recording) (marks : List Mark) (began now : Devices) : T
   -- And the words of its days, up to its last-kept minute, are those of the start with just the new ones of the minutes
   -- that it has.
   pub words : (x : List ℕ) → now.unit.may_leave x → HasWords r x
-  -- Where no call failed every minute is there: each decided one stands in the history, the unit has all of it, and a
-  -- card that was accepted all of its entries.
-  pub whole : NothingFailed r.log → IsWhole r now
+  -- Where no failed call has cut the power every minute is there: each decided one stands in the history, the unit has
+  -- all of it, and a card that was accepted, and that no failed call has torn out, all of its entries.
+  pub whole : cuts true r.log ≡ [] → IsWhole r now

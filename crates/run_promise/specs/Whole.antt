@@ -1,10 +1,11 @@
--- What is there after a run in which no call failed: every minute (profile).
-use Rattle.std.specs.Prelude.{◌≡◌, ℕ, ◌+◌, ◌*◌, ◌≤◌, true, false, List, [], All, Contains}
+-- What is there after a run in which no failed call cut the power: every minute (profile).
+use Rattle.std.specs.Prelude.{◌≡◌, ◌⊎◌, ℕ, ◌+◌, ◌*◌, ◌≤◌, true, false, List, [], All, Contains, filter}
 use Rattle.trace_model.specs.declared.Card.{Card}
 use Rattle.log_model.specs.Log.{RunLog}
 use Rattle.log_model.specs.Course.{ToldSecond, Visit}
 use Rattle.log_model.specs.Spans.{spans_of}
-use Rattle.log_model.specs.Causes.{cuts, tears}
+use Rattle.log_model.specs.Slots.{same_card}
+use Rattle.log_model.specs.Causes.{cuts, tears, cards_torn}
 use Rattle.history_model.specs.History.{settlings_of}
 use Rattle.history_model.specs.Completeness.{deciding_of}
 use Rattle.unit_model.specs.Image.{recorded}
@@ -17,6 +18,10 @@ use Rattle.safety_model.specs.Safe.{Devices, card_of}
 -- no call failed, by the log: each cut is that of an `off` line, each tear that of a `tear` line
 abbrev pub NothingFailed : RunLog → Type 0
 NothingFailed log = (cuts true log ≡ []) × (tears true log ≡ [])
+
+-- no failed call has torn a card out, by the log: none has torn out any, or of those that it tells of none is this one
+abbrev pub IsUntorn : Recording → Card → Type 0
+IsUntorn r c = (tears true r.log ≡ []) ⊎ (filter (same_card c) (cards_torn (told_of r)) ≡ [])
 
 -- a `tear` line pulled the card out behind a minute's end, and no later than in the second that decided the minute
 pub record IsPulledBehind (r : Recording) (c : Card) (m : ℕ) : Type 0 where
@@ -36,9 +41,10 @@ pub record IsFull (r : Recording) (c : Card) (x : List ℕ) : Type 0 where
   pub brought : (u : ℕ) → Contains (acceptances r c) u → All (λ e. was_kept r c u e.minute ≡ false) shows.rest
 
 -- EVERY MINUTE IS THERE: each decided minute stands in the history; each image of the unit at the end has the whole
--- history; and each image of a card that was valid, and was accepted, all of its entries.
+-- history; and each image of a card that no failed call has torn out, that was valid and was accepted, all of its
+-- entries, whatever is told of the other card.
 pub record IsWhole (r : Recording) (now : Devices) : Type 0 where
   pub decided : HasEachDecided r.rule (told_of r) (history_of r)
   pub unit : (x : List ℕ) → now.unit.may_leave x → IsFilled (recorded r.unit) (history_of r) x
-  pub card : (c : Card) (u : ℕ) → IsOwnValid (card_image r c) → Contains (acceptances r c) u → (x : List ℕ)
-      → (card_of now c).may_leave x → IsFull r c x
+  pub card : (c : Card) (u : ℕ) → IsUntorn r c → IsOwnValid (card_image r c) → Contains (acceptances r c) u
+      → (x : List ℕ) → (card_of now c).may_leave x → IsFull r c x

@@ -34,7 +34,7 @@ module _ (g : Over) (c : After-accept_in g) where
   behind = devices (g.M.Medium.state c.accept_in.new.unit) (g.C.Chip.state c.accept_in.new.card_a) (g.D.Chip.state c.accept_in.new.card_b)
 
   abbrev seat : Option Seat
-  seat = seat_in c.args.run.now.keeper.cabin.slots.seats c.args.slot
+  seat = seat_in c.args.run.now.keeper.cabin.slots.seats c.args.anew.slot
 
   sits : card_in seat ≡ Some c.in-Some.card
   sits = sym c.card.ensures ∙ c.in-Some.is
@@ -57,8 +57,8 @@ returns-clause-takes g c =
 pub returns-in_default-clause-accepted : goal.returns-in_default-clause-accepted
 returns-in_default-clause-accepted g c = record {
   enters =
-      let none : card_in (seat_in c.args.run.now.keeper.cabin.slots.seats c.args.slot) ≡ None = search rules in
-      subst (λ (q : Option Card). IsAnew q c.args.slot c.args.at c.args.speed c.args.run.now c.args.run.now c.args.outcome.now c.args.outcome.now) (sym none) (refl, refl);
+      let none : card_in (seat_in c.args.run.now.keeper.cabin.slots.seats c.args.anew.slot) ≡ None = search rules in
+      subst (λ (q : Option Card). IsAnew q c.args.anew.slot c.args.anew.at c.args.anew.speed c.args.run.now c.args.run.now c.args.outcome.now c.args.outcome.now) (sym none) (refl, refl);
   run = refl;
   refused = refl;
   beside = refl;
@@ -68,37 +68,37 @@ pub returns-in_default-clause-promises : goal.returns-in_default-clause-promises
 returns-in_default-clause-promises g c = record {
   recorded =
       λ room.
-      let none : card_in (seat_in c.args.run.now.keeper.cabin.slots.seats c.args.slot) ≡ None = search rules in
+      let none : card_in (seat_in c.args.run.now.keeper.cabin.slots.seats c.args.anew.slot) ≡ None = search rules in
       let d : Devices = devices (g.M.Medium.state c.args.unit.now) (g.C.Chip.state c.args.card_a.now) (g.D.Chip.state c.args.card_b.now) in
-      subst (λ (q : Option Card). JudgesAnew q c.args.slot c.args.at false c.args.run.now c.args.run.now c.args.outcome.now c.args.outcome.now d d) (sym none) refl;
+      subst (λ (q : Option Card). JudgesAnew q c.args.anew.slot c.args.anew.at false c.args.run.now c.args.run.now c.args.outcome.now c.args.outcome.now d d) (sym none) refl;
   evented =
       λ room.
-      let none : card_in (seat_in c.args.run.now.keeper.cabin.slots.seats c.args.slot) ≡ None = search rules in
+      let none : card_in (seat_in c.args.run.now.keeper.cabin.slots.seats c.args.anew.slot) ≡ None = search rules in
       let d : Devices = devices (g.M.Medium.state c.args.unit.now) (g.C.Chip.state c.args.card_a.now) (g.D.Chip.state c.args.card_b.now) in
-      subst (λ (q : Option Card). EventsAnew q c.args.slot c.args.at c.args.speed false c.args.run.now c.args.run.now c.args.outcome.now c.args.outcome.now d d) (sym none) tt;
+      subst (λ (q : Option Card). EventsAnew q c.args.anew.slot c.args.anew.at c.args.anew.speed false c.args.run.now c.args.run.now c.args.outcome.now c.args.outcome.now d d) (sym none) tt;
   ringed =
       λ room.
-      let none : card_in (seat_in c.args.run.now.keeper.cabin.slots.seats c.args.slot) ≡ None = search rules in
+      let none : card_in (seat_in c.args.run.now.keeper.cabin.slots.seats c.args.anew.slot) ≡ None = search rules in
       let d : Devices = devices (g.M.Medium.state c.args.unit.now) (g.C.Chip.state c.args.card_a.now) (g.D.Chip.state c.args.card_b.now) in
-      subst (λ (q : Option Card). RingsJudgedAnew q c.args.slot c.args.at false c.args.run.now c.args.run.now c.args.outcome.now c.args.outcome.now d d) (sym none) tt;
+      subst (λ (q : Option Card). RingsJudgedAnew q c.args.anew.slot c.args.anew.at false c.args.run.now c.args.run.now c.args.outcome.now c.args.outcome.now d d) (sym none) tt;
   cards =
       λ room.
-      let none : card_in (seat_in c.args.run.now.keeper.cabin.slots.seats c.args.slot) ≡ None = search rules in
+      let none : card_in (seat_in c.args.run.now.keeper.cabin.slots.seats c.args.anew.slot) ≡ None = search rules in
       let d : Devices = devices (g.M.Medium.state c.args.unit.now) (g.C.Chip.state c.args.card_a.now) (g.D.Chip.state c.args.card_b.now) in
-      subst (λ (q : Option Card). CardsAnew q c.args.slot c.args.at c.args.speed false c.args.run.now c.args.outcome.now c.args.outcome.now d d) (sym none) tt;
+      subst (λ (q : Option Card). CardsAnew q c.args.anew.slot c.args.anew.at c.args.anew.speed false c.args.run.now c.args.outcome.now c.args.outcome.now d d) (sym none) tt;
 }
 
 pub returns-in_default-clause-leaves : goal.returns-in_default-clause-leaves
 returns-in_default-clause-leaves g c = record {
   rings =
-      let none : card_in (seat_in c.args.run.now.keeper.cabin.slots.seats c.args.slot) ≡ None = search rules in
+      let none : card_in (seat_in c.args.run.now.keeper.cabin.slots.seats c.args.anew.slot) ≡ None = search rules in
       let U = g.M.Medium.state c.args.unit.now in
-      subst (λ (q : Option Card). RingsAnew q c.args.slot c.args.at c.args.speed false c.args.run.now c.args.run.now c.args.outcome.now c.args.outcome.now U U) (sym none) (rings-left U);
+      subst (λ (q : Option Card). RingsAnew q c.args.anew.slot c.args.anew.at c.args.anew.speed false c.args.run.now c.args.run.now c.args.outcome.now c.args.outcome.now U U) (sym none) (rings-left U);
   noted =
-      let none : card_in (seat_in c.args.run.now.keeper.cabin.slots.seats c.args.slot) ≡ None = search rules in
+      let none : card_in (seat_in c.args.run.now.keeper.cabin.slots.seats c.args.anew.slot) ≡ None = search rules in
       let d : Devices = devices (g.M.Medium.state c.args.unit.now) (g.C.Chip.state c.args.card_a.now) (g.D.Chip.state c.args.card_b.now) in
-      subst (λ (q : Option Card). NotesAnew q c.args.slot c.args.at c.args.speed false c.args.run.now c.args.run.now c.args.outcome.now c.args.outcome.now d d) (sym none)
-      (none-noting c.args.slot c.args.at c.args.speed c.args.run.now c.args.outcome.now (g.M.Medium.state c.args.unit.now) (g.C.Chip.state c.args.card_a.now) (g.D.Chip.state c.args.card_b.now));
+      subst (λ (q : Option Card). NotesAnew q c.args.anew.slot c.args.anew.at c.args.anew.speed false c.args.run.now c.args.run.now c.args.outcome.now c.args.outcome.now d d) (sym none)
+      (none-noting c.args.anew.slot c.args.anew.at c.args.anew.speed c.args.run.now c.args.outcome.now (g.M.Medium.state c.args.unit.now) (g.C.Chip.state c.args.card_a.now) (g.D.Chip.state c.args.card_b.now));
 }
 
 pub returns-in_default-clause-held : goal.returns-in_default-clause-held
@@ -116,7 +116,7 @@ returns-in_default-clause-goes g c = record {
 
 pub returns-clause-accepted : goal.returns-clause-accepted
 returns-clause-accepted g c = record {
-  enters = subst (λ (q : Option Card). IsAnew q c.args.slot c.args.at c.args.speed c.args.run.now c.accept_in.new.run c.args.outcome.now c.accept_in.new.outcome) (sym (sits g c)) c.accept_in.ensures.accepted.enters;
+  enters = subst (λ (q : Option Card). IsAnew q c.args.anew.slot c.args.anew.at c.args.anew.speed c.args.run.now c.accept_in.new.run c.args.outcome.now c.accept_in.new.outcome) (sym (sits g c)) c.accept_in.ensures.accepted.enters;
   run = c.accept_in.ensures.accepted.run;
   refused = c.accept_in.ensures.accepted.refused;
   beside = c.accept_in.ensures.accepted.beside;
@@ -126,26 +126,26 @@ pub returns-clause-promises : goal.returns-clause-promises
 returns-clause-promises g c = record {
   recorded =
       λ room.
-      subst (λ (q : Option Card). JudgesAnew q c.args.slot c.args.at (is_err c.accept_in.result) c.args.run.now c.accept_in.new.run c.args.outcome.now c.accept_in.new.outcome (before g c) (behind g c)) (sym (sits g c))
+      subst (λ (q : Option Card). JudgesAnew q c.args.anew.slot c.args.anew.at (is_err c.accept_in.result) c.args.run.now c.accept_in.new.run c.args.outcome.now c.accept_in.new.outcome (before g c) (behind g c)) (sym (sits g c))
       (c.accept_in.ensures.promises.recorded (room-here g c room));
   evented =
       λ room.
-      subst (λ (q : Option Card). EventsAnew q c.args.slot c.args.at c.args.speed (is_err c.accept_in.result) c.args.run.now c.accept_in.new.run c.args.outcome.now c.accept_in.new.outcome (before g c) (behind g c)) (sym (sits g c))
+      subst (λ (q : Option Card). EventsAnew q c.args.anew.slot c.args.anew.at c.args.anew.speed (is_err c.accept_in.result) c.args.run.now c.accept_in.new.run c.args.outcome.now c.accept_in.new.outcome (before g c) (behind g c)) (sym (sits g c))
       (c.accept_in.ensures.promises.evented (room-here g c room));
   ringed =
       λ room.
-      subst (λ (q : Option Card). RingsJudgedAnew q c.args.slot c.args.at (is_err c.accept_in.result) c.args.run.now c.accept_in.new.run c.args.outcome.now c.accept_in.new.outcome (before g c) (behind g c)) (sym (sits g c))
+      subst (λ (q : Option Card). RingsJudgedAnew q c.args.anew.slot c.args.anew.at (is_err c.accept_in.result) c.args.run.now c.accept_in.new.run c.args.outcome.now c.accept_in.new.outcome (before g c) (behind g c)) (sym (sits g c))
       (c.accept_in.ensures.promises.ringed (room-here g c room));
   cards =
       λ room.
-      subst (λ (q : Option Card). CardsAnew q c.args.slot c.args.at c.args.speed (is_err c.accept_in.result) c.args.run.now c.args.outcome.now c.accept_in.new.outcome (before g c) (behind g c)) (sym (sits g c))
+      subst (λ (q : Option Card). CardsAnew q c.args.anew.slot c.args.anew.at c.args.anew.speed (is_err c.accept_in.result) c.args.run.now c.args.outcome.now c.accept_in.new.outcome (before g c) (behind g c)) (sym (sits g c))
       (c.accept_in.ensures.promises.cards (room-here g c room));
 }
 
 pub returns-clause-leaves : goal.returns-clause-leaves
 returns-clause-leaves g c = record {
-  rings = subst (λ (q : Option Card). RingsAnew q c.args.slot c.args.at c.args.speed (is_err c.accept_in.result) c.args.run.now c.accept_in.new.run c.args.outcome.now c.accept_in.new.outcome (g.M.Medium.state c.args.unit.now) (g.M.Medium.state c.accept_in.new.unit)) (sym (sits g c)) c.accept_in.ensures.leaves.rings;
-  noted = subst (λ (q : Option Card). NotesAnew q c.args.slot c.args.at c.args.speed (is_err c.accept_in.result) c.args.run.now c.accept_in.new.run c.args.outcome.now c.accept_in.new.outcome (before g c) (behind g c)) (sym (sits g c)) c.accept_in.ensures.leaves.noted;
+  rings = subst (λ (q : Option Card). RingsAnew q c.args.anew.slot c.args.anew.at c.args.anew.speed (is_err c.accept_in.result) c.args.run.now c.accept_in.new.run c.args.outcome.now c.accept_in.new.outcome (g.M.Medium.state c.args.unit.now) (g.M.Medium.state c.accept_in.new.unit)) (sym (sits g c)) c.accept_in.ensures.leaves.rings;
+  noted = subst (λ (q : Option Card). NotesAnew q c.args.anew.slot c.args.anew.at c.args.anew.speed (is_err c.accept_in.result) c.args.run.now c.accept_in.new.run c.args.outcome.now c.accept_in.new.outcome (before g c) (behind g c)) (sym (sits g c)) c.accept_in.ensures.leaves.noted;
 }
 
 pub returns-clause-held : goal.returns-clause-held

@@ -45,8 +45,9 @@ use Rattle.run_acts.specs.Closings.{notes_within}
 use Rattle.run_acts.specs.Truths.{past_of, IsOdometerBefore, truths_within, marked}
 use Rattle.run_acts.proofs.WholeLegs.{accepted-now}
 use Rattle.run_acts.proofs.LastLine.{entered-now}
-use Rattle.run_acts.proofs.TruthsThen.{began-none}
-use Rattle.run_acts.proofs.EnteredStays.{finds-noted, entered-stays}
+use Rattle.run_acts.proofs.TruthsThen.{began-uncut}
+use Rattle.run_acts.proofs.KeptSeats.{floor-in}
+use Rattle.run_acts.proofs.EnteredStays.{finds-noted, falls-noted, entered-stays}
 use Rattle.run_acts.proofs.EnteredLines.{marks-behind}
 use Rattle.run_acts.proofs.AllStay.{all-true}
 use Rattle.run_acts.proofs.Truths.{grow-self, marked-grow}
@@ -278,10 +279,13 @@ returns-clause-promises g c = record {
       (λ y at_ valid. subst IsOwnValid (sym (may.origin.image e.which)) (was-valid o done s n waits fewer e run.keeper c.args.outcome.now run.unfound run.next run.begun run.minutes U X Y next.goes.within may sound.card_before y at_ valid))
       (λ none_ verdict. (
         subst (λ (k : ℕ). IsOdometerBefore (rule_of o) (odometer_at o.recording.unit) (past_of next.goes.within.b.run.log (done ++ s ∷ [])).spans k e.odometer.0) (sym (ap (λ (m : Moment). m.second) at))
-            (accepted-now o done s (In n) waits [] (values_of run c.args.outcome.now) (arranged e.which U X Y) next.goes.within (began-none o done s (In n) waits None [] (values_of run c.args.outcome.now) (arranged e.which U X Y) next.goes.within none_)
+            (accepted-now o done s (In n) waits [] (values_of run c.args.outcome.now) (arranged e.which U X Y) next.goes.within (began-uncut o done s (In n) waits None [] (values_of run c.args.outcome.now) (arranged e.which U X Y) next.goes.within none_)
             e.odometer.0 (odometer next.goes.within.sp next.goes.within.minutes)),
         entered-now o done s n waits fewer (values_of run c.args.outcome.now) (arranged e.which U X Y) next.goes.within e at next.next verdict,
-      )) w.0 _ w.1
+      ))
+      (λ es marked_. marked_)
+      (λ k low_. floor-in o done s (In n) waits None [] (values_of run c.args.outcome.now) (arranged e.which U X Y) next.goes.within k low_)
+      (falls-noted o done s n waits fewer (values_of run c.args.outcome.now) (arranged e.which U X Y) next.goes.within e at next.next) w.0 _ w.1
       (known o done s n waits fewer e run.keeper c.args.outcome.now run.unfound run.next run.begun run.minutes U X Y next.goes.within may failed c.accept-answer.new.keeper run.noted c.accept-answer.new.noted c.accept-answer.new.outcome V Z w.0 gone sound)
       (λ none_ entered told marks.
       let x =
@@ -292,7 +296,7 @@ returns-clause-promises g c = record {
       (others-session e.which run.keeper.cabin.cards c.accept-answer.new.keeper.cabin.cards
       (comes g c).others)
       (all-true o (marked c.args.outcome.now.marks.items (truths_within o next.goes.within.b.run.log done s)) (marked c.accept-answer.new.outcome.marks.items (truths_within o next.goes.within.b.run.log done s)) s.number (log_of c.args.outcome.now) (notes_within next.goes.within.b done s (In n) (log_of c.args.outcome.now)) run.keeper.memory.registration run.keeper.cabin (arranged e.which U X Y)
-      (λ none_.
+      (λ whose known_.
       marked-grow c.args.outcome.now.marks.items c.accept-answer.new.outcome.marks.items (truths_within o next.goes.within.b.run.log done s) (truths_within o next.goes.within.b.run.log done s)
       (λ mark among. subst (λ (p : Outcome). Contains p.marks.items mark) (sym w.1.left.outcome) (marks-behind (ending_of w.0) e c.args.outcome.now mark among)) (grow-self (truths_within o next.goes.within.b.run.log done s)))
       next.goes.stay));

@@ -22,7 +22,7 @@ accept_here-requires-in-B-clause-acting g c = c.requires.acting
 
 pub returns-in-A-clause-accepted : goal.returns-in-A-clause-accepted
 returns-in-A-clause-accepted g c = record {
-  enters = (record { which = A; slot = c.args.slot; at = c.args.at; speed = c.args.speed; odometer = c.odometer_now-odometer.result }, record { which = sym c.in-A.is; slot_is = refl; moment = refl; speed_is = refl; odometer = c.odometer_now-odometer.ensures.value }, c.accept_here.ensures.accepted.enters);
+  enters = (record { which = A; slot = c.args.put.slot; at = c.args.put.at; speed = c.args.put.speed; odometer = c.odometer_now-odometer.result }, record { which = sym c.in-A.is; slot_is = refl; moment = refl; speed_is = refl; odometer = c.odometer_now-odometer.ensures.value }, c.accept_here.ensures.accepted.enters);
   run = c.accept_here.ensures.accepted.run;
   refused = c.accept_here.ensures.accepted.refused;
   beside = c.accept_here.ensures.accepted.beside;
@@ -34,17 +34,17 @@ returns-in-A-clause-promises g c = record {
       λ room.
       let d : Devices = devices (g.M.Medium.state c.args.unit.now) (g.C.Chip.state c.args.card_a.now) (g.D.Chip.state c.args.card_b.now) in
       let e : Devices = devices (g.M.Medium.state c.accept_here.new.unit) (g.C.Chip.state c.accept_here.new.card) (g.D.Chip.state c.args.card_b.now) in
-      subst (λ (card : Card). JudgesSo c.args.slot card c.args.at (is_err c.accept_here.result) c.args.run.now c.accept_here.new.run c.args.outcome.now c.accept_here.new.outcome d e) (sym c.in-A.is) (c.accept_here.ensures.promises.recorded room c.odometer_now-odometer.ensures.value);
+      subst (λ (card : Card). JudgesSo c.args.put.slot card c.args.put.at (is_err c.accept_here.result) c.args.run.now c.accept_here.new.run c.args.outcome.now c.accept_here.new.outcome d e) (sym c.in-A.is) (c.accept_here.ensures.promises.recorded room c.odometer_now-odometer.ensures.value);
   evented =
       λ room.
       let d : Devices = devices (g.M.Medium.state c.args.unit.now) (g.C.Chip.state c.args.card_a.now) (g.D.Chip.state c.args.card_b.now) in
       let e : Devices = devices (g.M.Medium.state c.accept_here.new.unit) (g.C.Chip.state c.accept_here.new.card) (g.D.Chip.state c.args.card_b.now) in
-      subst (λ (card : Card). EventsJudged c.args.slot card c.args.at c.args.speed (is_err c.accept_here.result) c.args.run.now c.accept_here.new.run c.args.outcome.now c.accept_here.new.outcome d e) (sym c.in-A.is) (c.accept_here.ensures.promises.evented room);
+      subst (λ (card : Card). EventsJudged c.args.put.slot card c.args.put.at c.args.put.speed (is_err c.accept_here.result) c.args.run.now c.accept_here.new.run c.args.outcome.now c.accept_here.new.outcome d e) (sym c.in-A.is) (c.accept_here.ensures.promises.evented room);
   ringed =
       λ room.
       let d : Devices = devices (g.M.Medium.state c.args.unit.now) (g.C.Chip.state c.args.card_a.now) (g.D.Chip.state c.args.card_b.now) in
       let e : Devices = devices (g.M.Medium.state c.accept_here.new.unit) (g.C.Chip.state c.accept_here.new.card) (g.D.Chip.state c.args.card_b.now) in
-      subst (λ (card : Card). RingsJudged c.args.slot card c.args.at (is_err c.accept_here.result) c.args.run.now c.accept_here.new.run c.args.outcome.now c.accept_here.new.outcome d e) (sym c.in-A.is)
+      subst (λ (card : Card). RingsJudged c.args.put.slot card c.args.put.at (is_err c.accept_here.result) c.args.run.now c.accept_here.new.run c.args.outcome.now c.accept_here.new.outcome d e) (sym c.in-A.is)
       (λ o done s n waits fewer at next spans now counted time.
       let same = c.odometer_now-odometer.ensures.value next.goes.within.sp next.goes.within.minutes in
       c.accept_here.ensures.promises.ringed room o done s n waits fewer at next spans (record { at = same ∙ now.at; reads = subst (λ (k : ℕ). IsReading spans k) (sym same) now.reads }) counted time);
@@ -52,13 +52,13 @@ returns-in-A-clause-promises g c = record {
       λ room.
       let d : Devices = devices (g.M.Medium.state c.args.unit.now) (g.C.Chip.state c.args.card_a.now) (g.D.Chip.state c.args.card_b.now) in
       let e : Devices = devices (g.M.Medium.state c.accept_here.new.unit) (g.C.Chip.state c.accept_here.new.card) (g.D.Chip.state c.args.card_b.now) in
-      subst (λ (card : Card). CardsJudged c.args.slot card c.args.at c.args.speed (is_err c.accept_here.result) c.args.run.now c.args.outcome.now c.accept_here.new.outcome d e) (sym c.in-A.is) (c.accept_here.ensures.promises.cards room);
+      subst (λ (card : Card). CardsJudged c.args.put.slot card c.args.put.at c.args.put.speed (is_err c.accept_here.result) c.args.run.now c.args.outcome.now c.accept_here.new.outcome d e) (sym c.in-A.is) (c.accept_here.ensures.promises.cards room);
 }
 
 pub returns-in-A-clause-leaves : goal.returns-in-A-clause-leaves
 returns-in-A-clause-leaves g c = record {
-  rings = (record { which = A; slot = c.args.slot; at = c.args.at; speed = c.args.speed; odometer = c.odometer_now-odometer.result }, record { which = sym c.in-A.is; slot_is = refl; moment = refl; speed_is = refl; odometer = c.odometer_now-odometer.ensures.value }, c.accept_here.ensures.leaves.rings);
-  noted = (record { which = A; slot = c.args.slot; at = c.args.at; speed = c.args.speed; odometer = c.odometer_now-odometer.result }, record { which = sym c.in-A.is; slot_is = refl; moment = refl; speed_is = refl; odometer = c.odometer_now-odometer.ensures.value }, c.accept_here.ensures.leaves.noted);
+  rings = (record { which = A; slot = c.args.put.slot; at = c.args.put.at; speed = c.args.put.speed; odometer = c.odometer_now-odometer.result }, record { which = sym c.in-A.is; slot_is = refl; moment = refl; speed_is = refl; odometer = c.odometer_now-odometer.ensures.value }, c.accept_here.ensures.leaves.rings);
+  noted = (record { which = A; slot = c.args.put.slot; at = c.args.put.at; speed = c.args.put.speed; odometer = c.odometer_now-odometer.result }, record { which = sym c.in-A.is; slot_is = refl; moment = refl; speed_is = refl; odometer = c.odometer_now-odometer.ensures.value }, c.accept_here.ensures.leaves.noted);
 }
 
 pub returns-in-A-clause-held : goal.returns-in-A-clause-held
@@ -76,7 +76,7 @@ returns-in-A-clause-goes g c = record {
 
 pub returns-in-B-clause-accepted : goal.returns-in-B-clause-accepted
 returns-in-B-clause-accepted g c = record {
-  enters = (record { which = B; slot = c.args.slot; at = c.args.at; speed = c.args.speed; odometer = c.odometer_now-odometer.result }, record { which = sym c.in-B.is; slot_is = refl; moment = refl; speed_is = refl; odometer = c.odometer_now-odometer.ensures.value }, c.accept_here-in-B.ensures.accepted.enters);
+  enters = (record { which = B; slot = c.args.put.slot; at = c.args.put.at; speed = c.args.put.speed; odometer = c.odometer_now-odometer.result }, record { which = sym c.in-B.is; slot_is = refl; moment = refl; speed_is = refl; odometer = c.odometer_now-odometer.ensures.value }, c.accept_here-in-B.ensures.accepted.enters);
   run = c.accept_here-in-B.ensures.accepted.run;
   refused = c.accept_here-in-B.ensures.accepted.refused;
   beside = c.accept_here-in-B.ensures.accepted.beside;
@@ -88,17 +88,17 @@ returns-in-B-clause-promises g c = record {
       λ room.
       let d : Devices = devices (g.M.Medium.state c.args.unit.now) (g.C.Chip.state c.args.card_a.now) (g.D.Chip.state c.args.card_b.now) in
       let e : Devices = devices (g.M.Medium.state c.accept_here-in-B.new.unit) (g.C.Chip.state c.args.card_a.now) (g.D.Chip.state c.accept_here-in-B.new.card) in
-      subst (λ (card : Card). JudgesSo c.args.slot card c.args.at (is_err c.accept_here-in-B.result) c.args.run.now c.accept_here-in-B.new.run c.args.outcome.now c.accept_here-in-B.new.outcome d e) (sym c.in-B.is) (c.accept_here-in-B.ensures.promises.recorded room c.odometer_now-odometer.ensures.value);
+      subst (λ (card : Card). JudgesSo c.args.put.slot card c.args.put.at (is_err c.accept_here-in-B.result) c.args.run.now c.accept_here-in-B.new.run c.args.outcome.now c.accept_here-in-B.new.outcome d e) (sym c.in-B.is) (c.accept_here-in-B.ensures.promises.recorded room c.odometer_now-odometer.ensures.value);
   evented =
       λ room.
       let d : Devices = devices (g.M.Medium.state c.args.unit.now) (g.C.Chip.state c.args.card_a.now) (g.D.Chip.state c.args.card_b.now) in
       let e : Devices = devices (g.M.Medium.state c.accept_here-in-B.new.unit) (g.C.Chip.state c.args.card_a.now) (g.D.Chip.state c.accept_here-in-B.new.card) in
-      subst (λ (card : Card). EventsJudged c.args.slot card c.args.at c.args.speed (is_err c.accept_here-in-B.result) c.args.run.now c.accept_here-in-B.new.run c.args.outcome.now c.accept_here-in-B.new.outcome d e) (sym c.in-B.is) (c.accept_here-in-B.ensures.promises.evented room);
+      subst (λ (card : Card). EventsJudged c.args.put.slot card c.args.put.at c.args.put.speed (is_err c.accept_here-in-B.result) c.args.run.now c.accept_here-in-B.new.run c.args.outcome.now c.accept_here-in-B.new.outcome d e) (sym c.in-B.is) (c.accept_here-in-B.ensures.promises.evented room);
   ringed =
       λ room.
       let d : Devices = devices (g.M.Medium.state c.args.unit.now) (g.C.Chip.state c.args.card_a.now) (g.D.Chip.state c.args.card_b.now) in
       let e : Devices = devices (g.M.Medium.state c.accept_here-in-B.new.unit) (g.C.Chip.state c.args.card_a.now) (g.D.Chip.state c.accept_here-in-B.new.card) in
-      subst (λ (card : Card). RingsJudged c.args.slot card c.args.at (is_err c.accept_here-in-B.result) c.args.run.now c.accept_here-in-B.new.run c.args.outcome.now c.accept_here-in-B.new.outcome d e) (sym c.in-B.is)
+      subst (λ (card : Card). RingsJudged c.args.put.slot card c.args.put.at (is_err c.accept_here-in-B.result) c.args.run.now c.accept_here-in-B.new.run c.args.outcome.now c.accept_here-in-B.new.outcome d e) (sym c.in-B.is)
       (λ o done s n waits fewer at next spans now counted time.
       let same = c.odometer_now-odometer.ensures.value next.goes.within.sp next.goes.within.minutes in
       c.accept_here-in-B.ensures.promises.ringed room o done s n waits fewer at next spans (record { at = same ∙ now.at; reads = subst (λ (k : ℕ). IsReading spans k) (sym same) now.reads }) counted time);
@@ -106,13 +106,13 @@ returns-in-B-clause-promises g c = record {
       λ room.
       let d : Devices = devices (g.M.Medium.state c.args.unit.now) (g.C.Chip.state c.args.card_a.now) (g.D.Chip.state c.args.card_b.now) in
       let e : Devices = devices (g.M.Medium.state c.accept_here-in-B.new.unit) (g.C.Chip.state c.args.card_a.now) (g.D.Chip.state c.accept_here-in-B.new.card) in
-      subst (λ (card : Card). CardsJudged c.args.slot card c.args.at c.args.speed (is_err c.accept_here-in-B.result) c.args.run.now c.args.outcome.now c.accept_here-in-B.new.outcome d e) (sym c.in-B.is) (c.accept_here-in-B.ensures.promises.cards room);
+      subst (λ (card : Card). CardsJudged c.args.put.slot card c.args.put.at c.args.put.speed (is_err c.accept_here-in-B.result) c.args.run.now c.args.outcome.now c.accept_here-in-B.new.outcome d e) (sym c.in-B.is) (c.accept_here-in-B.ensures.promises.cards room);
 }
 
 pub returns-in-B-clause-leaves : goal.returns-in-B-clause-leaves
 returns-in-B-clause-leaves g c = record {
-  rings = (record { which = B; slot = c.args.slot; at = c.args.at; speed = c.args.speed; odometer = c.odometer_now-odometer.result }, record { which = sym c.in-B.is; slot_is = refl; moment = refl; speed_is = refl; odometer = c.odometer_now-odometer.ensures.value }, c.accept_here-in-B.ensures.leaves.rings);
-  noted = (record { which = B; slot = c.args.slot; at = c.args.at; speed = c.args.speed; odometer = c.odometer_now-odometer.result }, record { which = sym c.in-B.is; slot_is = refl; moment = refl; speed_is = refl; odometer = c.odometer_now-odometer.ensures.value }, c.accept_here-in-B.ensures.leaves.noted);
+  rings = (record { which = B; slot = c.args.put.slot; at = c.args.put.at; speed = c.args.put.speed; odometer = c.odometer_now-odometer.result }, record { which = sym c.in-B.is; slot_is = refl; moment = refl; speed_is = refl; odometer = c.odometer_now-odometer.ensures.value }, c.accept_here-in-B.ensures.leaves.rings);
+  noted = (record { which = B; slot = c.args.put.slot; at = c.args.put.at; speed = c.args.put.speed; odometer = c.odometer_now-odometer.result }, record { which = sym c.in-B.is; slot_is = refl; moment = refl; speed_is = refl; odometer = c.odometer_now-odometer.ensures.value }, c.accept_here-in-B.ensures.leaves.noted);
 }
 
 pub returns-in-B-clause-held : goal.returns-in-B-clause-held

@@ -37,7 +37,7 @@ returns-then-not-has_power-clause-ringed g c = λ power. absurd (let no : false 
 pub returns-then-not-is_lit-clause-ringed : goal.returns-then-not-is_lit-clause-ringed
 returns-then-not-is_lit-clause-ringed g c = λ power o done s now front rest are begun in_ time.
     let dark : is_lit c.args.run.now.power ≡ false = sym c.is_lit.ensures ∙ c.if-not-is_lit.true in
-    ringed-over o done s c.args.run.now c.args.outcome.now (devices (g.M.Medium.state c.args.unit.now) (g.C.Chip.state c.args.card_a.now) (g.D.Chip.state c.args.card_b.now)) (length front) c.args.begun dark in_
+    ringed-over o done s c.args.run.now c.args.outcome.now (devices (g.M.Medium.state c.args.unit.now) (g.C.Chip.state c.args.card_a.now) (g.D.Chip.state c.args.card_b.now)) (length front) c.args.deed.begun dark in_
 
 pub returns-clause-ringed : goal.returns-clause-ringed
 returns-clause-ringed g c = λ power. c.act_lit.ensures.promises.ringed
@@ -50,7 +50,7 @@ returns-then-not-has_power-clause-cards g c = λ power. absurd (let no : false �
 pub returns-then-not-is_lit-clause-cards : goal.returns-then-not-is_lit-clause-cards
 returns-then-not-is_lit-clause-cards g c = λ power o done s now front rest are begun in_ time.
     let dark : is_lit c.args.run.now.power ≡ false = sym c.is_lit.ensures ∙ c.if-not-is_lit.true in
-    carded-over o done s c.args.run.now c.args.outcome.now (devices (g.M.Medium.state c.args.unit.now) (g.C.Chip.state c.args.card_a.now) (g.D.Chip.state c.args.card_b.now)) (length front) c.args.begun dark in_
+    carded-over o done s c.args.run.now c.args.outcome.now (devices (g.M.Medium.state c.args.unit.now) (g.C.Chip.state c.args.card_a.now) (g.D.Chip.state c.args.card_b.now)) (length front) c.args.deed.begun dark in_
 
 pub returns-clause-cards : goal.returns-clause-cards
 returns-clause-cards g c = λ power. c.act_lit.ensures.promises.cards
@@ -62,8 +62,8 @@ returns-then-not-has_power-clause-acted g c = record {
   done =
       let run = c.args.run.now in
       let o = c.args.outcome.now in
-      subst (λ (b : Bool). IsActed b (is_lit run.power) c.args.action c.args.begun c.args.speed run run o (record o { refused = c.refuse.new.refused })) (sym c.if-not-has_power.true) (refl, ap (λ (l : Listed Refused). record o { refused = l }) c.refuse.ensures);
-  refused = c.refuse.ensures ∙ ap (λ (b : Bool). with_lines (refusal_lines (refused_by b (is_lit c.args.run.now.power) c.args.run.now c.args.speed c.args.action) c.args.run.now.next c.args.begun) c.args.outcome.now.refused) (sym c.if-not-has_power.true);
+      subst (λ (b : Bool). IsActed b (is_lit run.power) c.args.deed.action c.args.deed.begun c.args.deed.speed run run o (record o { refused = c.refuse.new.refused })) (sym c.if-not-has_power.true) (refl, ap (λ (l : Listed Refused). record o { refused = l }) c.refuse.ensures);
+  refused = c.refuse.ensures ∙ ap (λ (b : Bool). with_lines (refusal_lines (refused_by b (is_lit c.args.run.now.power) c.args.run.now c.args.deed.speed c.args.deed.action) c.args.run.now.next c.args.deed.begun) c.args.outcome.now.refused) (sym c.if-not-has_power.true);
   none = λ no. refl;
   lost = λ power dark. absurd (let no : false ≡ true = sym c.if-not-has_power.true ∙ power in cc);
   selected = λ lit. absurd (let no : true ≡ false = sym lit ∙ c.requires.dark c.if-not-has_power.true in cc);
@@ -86,12 +86,12 @@ returns-then-not-is_lit-clause-acted g c = record {
       let run = c.args.run.now in
       let o = c.args.outcome.now in
       let dark : is_lit run.power ≡ false = sym c.is_lit.ensures ∙ c.if-not-is_lit.true in
-      subst (λ (b : Bool). IsActed b (is_lit run.power) c.args.action c.args.begun c.args.speed run run o o) (sym c.if-not-has_power.false)
-      (subst (λ (l : Bool). IsActed true l c.args.action c.args.begun c.args.speed run run o o) (sym dark) (refl, refl));
+      subst (λ (b : Bool). IsActed b (is_lit run.power) c.args.deed.action c.args.deed.begun c.args.deed.speed run run o o) (sym c.if-not-has_power.false)
+      (subst (λ (l : Bool). IsActed true l c.args.deed.action c.args.deed.begun c.args.deed.speed run run o o) (sym dark) (refl, refl));
   refused =
       let lit : is_lit c.args.run.now.power ≡ false = sym c.is_lit.ensures ∙ c.if-not-is_lit.true in
-      subst (λ (b : Bool). c.args.outcome.now.refused ≡ with_lines (refusal_lines (refused_by b (is_lit c.args.run.now.power) c.args.run.now c.args.speed c.args.action) c.args.run.now.next c.args.begun) c.args.outcome.now.refused) (sym c.if-not-has_power.false)
-      (subst (λ (l : Bool). c.args.outcome.now.refused ≡ with_lines (refusal_lines (refused_by true l c.args.run.now c.args.speed c.args.action) c.args.run.now.next c.args.begun) c.args.outcome.now.refused) (sym lit) (ap (λ (xs : List Refused). record c.args.outcome.now.refused { items = xs }) (sym (append-nil c.args.outcome.now.refused.items))));
+      subst (λ (b : Bool). c.args.outcome.now.refused ≡ with_lines (refusal_lines (refused_by b (is_lit c.args.run.now.power) c.args.run.now c.args.deed.speed c.args.deed.action) c.args.run.now.next c.args.deed.begun) c.args.outcome.now.refused) (sym c.if-not-has_power.false)
+      (subst (λ (l : Bool). c.args.outcome.now.refused ≡ with_lines (refusal_lines (refused_by true l c.args.run.now c.args.deed.speed c.args.deed.action) c.args.run.now.next c.args.deed.begun) c.args.outcome.now.refused) (sym lit) (ap (λ (xs : List Refused). record c.args.outcome.now.refused { items = xs }) (sym (append-nil c.args.outcome.now.refused.items))));
   none = λ no. refl;
   lost = λ power dark. (refl, refl);
   selected =
@@ -117,17 +117,17 @@ returns-clause-acted g c = record {
       let run = c.args.run.now in
       let o = c.args.outcome.now in
       let lit : is_lit run.power ≡ true = sym c.is_lit.ensures ∙ c.if-not-is_lit.false in
-      subst (λ (b : Bool). IsActed b (is_lit run.power) c.args.action c.args.begun c.args.speed run c.act_lit.new.run o c.act_lit.new.outcome) (sym c.if-not-has_power.false)
-      (subst (λ (l : Bool). IsActed true l c.args.action c.args.begun c.args.speed run c.act_lit.new.run o c.act_lit.new.outcome) (sym lit) c.act_lit.ensures.acted.done);
+      subst (λ (b : Bool). IsActed b (is_lit run.power) c.args.deed.action c.args.deed.begun c.args.deed.speed run c.act_lit.new.run o c.act_lit.new.outcome) (sym c.if-not-has_power.false)
+      (subst (λ (l : Bool). IsActed true l c.args.deed.action c.args.deed.begun c.args.deed.speed run c.act_lit.new.run o c.act_lit.new.outcome) (sym lit) c.act_lit.ensures.acted.done);
   refused =
       let lit : is_lit c.args.run.now.power ≡ true = sym c.is_lit.ensures ∙ c.if-not-is_lit.false in
-      subst (λ (b : Bool). c.act_lit.new.outcome.refused ≡ with_lines (refusal_lines (refused_by b (is_lit c.args.run.now.power) c.args.run.now c.args.speed c.args.action) c.args.run.now.next c.args.begun) c.args.outcome.now.refused) (sym c.if-not-has_power.false)
-      (subst (λ (l : Bool). c.act_lit.new.outcome.refused ≡ with_lines (refusal_lines (refused_by true l c.args.run.now c.args.speed c.args.action) c.args.run.now.next c.args.begun) c.args.outcome.now.refused) (sym lit) (c.act_lit.ensures.acted.refused));
+      subst (λ (b : Bool). c.act_lit.new.outcome.refused ≡ with_lines (refusal_lines (refused_by b (is_lit c.args.run.now.power) c.args.run.now c.args.deed.speed c.args.deed.action) c.args.run.now.next c.args.deed.begun) c.args.outcome.now.refused) (sym c.if-not-has_power.false)
+      (subst (λ (l : Bool). c.act_lit.new.outcome.refused ≡ with_lines (refusal_lines (refused_by true l c.args.run.now c.args.deed.speed c.args.deed.action) c.args.run.now.next c.args.deed.begun) c.args.outcome.now.refused) (sym lit) (c.act_lit.ensures.acted.refused));
   none =
       λ no. c.act_lit.ensures.acted.none (λ is.
       let run = c.args.run.now in
       let lit : is_lit run.power ≡ true = sym c.is_lit.ensures ∙ c.if-not-is_lit.false in
-      no (lit-refused c.args.has_power (is_lit run.power) run c.args.speed c.args.action c.if-not-has_power.false lit is));
+      no (lit-refused c.args.deed.has_power (is_lit run.power) run c.args.deed.speed c.args.deed.action c.if-not-has_power.false lit is));
   lost =
       λ power dark.
       let lit : is_lit c.args.run.now.power ≡ true = sym c.is_lit.ensures ∙ c.if-not-is_lit.false in

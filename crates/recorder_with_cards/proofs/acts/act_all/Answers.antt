@@ -38,16 +38,16 @@ module _ (g : Over) (c : After-act_item g) where
   abbrev dev2 : Devices
   dev2 = devices (g.M.Medium.state c.act_item.new.unit) (g.C.Chip.state c.act_item.new.card_a) (g.D.Chip.state c.act_item.new.card_b)
 
-  one-more : (I : Inside) → length (actions_in (between c.args.from (c.loop-i.i + 1) c.args.items.now)) ≡ c.loop-i.i + 1 - c.args.from → c.loop-i.i + 1 - c.args.from ≤ largest_number →
-      (length (actions_in (between c.args.from c.loop-i.i c.args.items.now)) ≡ c.loop-i.i - c.args.from → c.loop-i.i - c.args.from ≤ largest_number →
-      ActsBy I (actions_in (between c.args.from c.loop-i.i c.args.items.now)) (c.loop-i.i - c.args.from) c.args.speed c.args.run.now c.loop-i.run c.args.outcome.now c.loop-i.outcome dev0 dev1) →
-      ActsBy I (action_of c.get.result.now) c.number_of.result c.args.speed c.loop-i.run c.act_item.new.run c.loop-i.outcome c.act_item.new.outcome dev1 dev2 →
-      ActsBy I (actions_in (between c.args.from (c.loop-i.i + 1) c.args.items.now)) (c.loop-i.i + 1 - c.args.from) c.args.speed c.args.run.now c.act_item.new.run c.args.outcome.now c.act_item.new.outcome dev0 dev2
+  one-more : (I : Inside) → length (actions_in (between c.args.due.from (c.loop-i.i + 1) c.args.due.items.now)) ≡ c.loop-i.i + 1 - c.args.due.from → c.loop-i.i + 1 - c.args.due.from ≤ largest_number →
+      (length (actions_in (between c.args.due.from c.loop-i.i c.args.due.items.now)) ≡ c.loop-i.i - c.args.due.from → c.loop-i.i - c.args.due.from ≤ largest_number →
+      ActsBy I (actions_in (between c.args.due.from c.loop-i.i c.args.due.items.now)) (c.loop-i.i - c.args.due.from) c.args.due.speed c.args.run.now c.loop-i.run c.args.outcome.now c.loop-i.outcome dev0 dev1) →
+      ActsBy I (action_of c.get.result.now) c.number_of.result c.args.due.speed c.loop-i.run c.act_item.new.run c.loop-i.outcome c.act_item.new.outcome dev1 dev2 →
+      ActsBy I (actions_in (between c.args.due.from (c.loop-i.i + 1) c.args.due.items.now)) (c.loop-i.i + 1 - c.args.due.from) c.args.due.speed c.args.run.now c.act_item.new.run c.args.outcome.now c.act_item.new.outcome dev0 dev2
   one-more I many few were is =
       let i : ℕ = c.loop-i.i in
-      let from : ℕ = c.args.from in
+      let from : ℕ = c.args.due.from in
       let low : from ≤ i = c.loop-i.auto.i in
-      let items = c.args.items.now in
+      let items = c.args.due.items.now in
       let item = c.get.result.now in
       let so = actions_in (between from i items) in
       let more = actions-more items from i item low c.get.ensures in
@@ -57,39 +57,39 @@ module _ (g : Over) (c : After-act_item g) where
       let now : length (action_of item) ≡ 1 = omega (arith, parts.0, parts.1, one, many, low) in
       let number : c.number_of.result ≡ i - from + 1 = let n = c.number_of.ensures in omega (arith, n, few, low) in
       let same : c.number_of.result ≡ i + 1 - from = omega (arith, number, low) in
-      subst (λ (n : ℕ). ActsBy I (actions_in (between from (i + 1) items)) n c.args.speed c.args.run.now c.act_item.new.run c.args.outcome.now c.act_item.new.outcome dev0 dev2) same
-      (subst (λ (xs : List Action). ActsBy I xs c.number_of.result c.args.speed c.args.run.now c.act_item.new.run c.args.outcome.now c.act_item.new.outcome dev0 dev2) (sym more)
-      (actions-then I so (action_of item) (i - from) c.number_of.result c.args.speed c.args.run.now c.loop-i.run c.act_item.new.run c.args.outcome.now c.loop-i.outcome c.act_item.new.outcome dev0 dev1 dev2
+      subst (λ (n : ℕ). ActsBy I (actions_in (between from (i + 1) items)) n c.args.due.speed c.args.run.now c.act_item.new.run c.args.outcome.now c.act_item.new.outcome dev0 dev2) same
+      (subst (λ (xs : List Action). ActsBy I xs c.number_of.result c.args.due.speed c.args.run.now c.act_item.new.run c.args.outcome.now c.act_item.new.outcome dev0 dev2) (sym more)
+      (actions-then I so (action_of item) (i - from) c.number_of.result c.args.due.speed c.args.run.now c.loop-i.run c.act_item.new.run c.args.outcome.now c.loop-i.outcome c.act_item.new.outcome dev0 dev1 dev2
       (omega (arith, number, now)) c.loop-i.invariant.next (later-time c.act_item.ensures.goes.later) (were before (omega (arith, few, low))) is))
 
 pub act_item-requires-clause-room : goal.act_item-requires-clause-room
 act_item-requires-clause-room g c =
     let run = c.args.run.now in
     let o = c.args.outcome.now in
-    let items = c.args.items.now in
-    let less : c.loop-i.i < c.args.to = c.loop-i-test.true in
-    let all = insertions_in c.args.from c.args.to items in
-    let here = first-in items c.loop-i.i c.args.to c.get.result.now c.get.ensures less in
-    room-less cuts_within c.loop-i.run c.loop-i.outcome 1 1 0 0 (insertions_in c.loop-i.i c.args.to items + 0) (insertion_count c.get.result.now) (c.args.to - c.loop-i.i + 0) 1 (omega arith) (omega arith) (omega (arith, here)) (omega (arith, less))
-    (c.loop-i.invariant.room 0 0 0 0 (room-less cuts_within run o 1 1 0 0 all (all + 0) (c.args.to - c.args.from) (c.args.to - c.args.from + 0) (omega arith) (omega arith) (omega arith) (omega arith) c.requires.room))
+    let items = c.args.due.items.now in
+    let less : c.loop-i.i < c.args.due.to = c.loop-i-test.true in
+    let all = insertions_in c.args.due.from c.args.due.to items in
+    let here = first-in items c.loop-i.i c.args.due.to c.get.result.now c.get.ensures less in
+    room-less cuts_within c.loop-i.run c.loop-i.outcome 1 1 0 0 (insertions_in c.loop-i.i c.args.due.to items + 0) (insertion_count c.get.result.now) (c.args.due.to - c.loop-i.i + 0) 1 (omega arith) (omega arith) (omega (arith, here)) (omega (arith, less))
+    (c.loop-i.invariant.room 0 0 0 0 (room-less cuts_within run o 1 1 0 0 all (all + 0) (c.args.due.to - c.args.due.from) (c.args.due.to - c.args.due.from + 0) (omega arith) (omega arith) (omega arith) (omega arith) c.requires.room))
 
 pub loop-i-init : goal.loop-i-init
 loop-i-init g c = record {
   going = c.requires.going;
-  acted = subst (λ (xs : List Item). AreActed c.args.has_power c.args.speed 0 xs c.args.run.now c.args.run.now c.args.outcome.now c.args.outcome.now) (sym (between-none c.args.from c.args.items.now)) (refl, refl);
+  acted = subst (λ (xs : List Item). AreActed c.args.due.has_power c.args.due.speed 0 xs c.args.run.now c.args.run.now c.args.outcome.now c.args.outcome.now) (sym (between-none c.args.due.from c.args.due.items.now)) (refl, refl);
   ringed = λ power many few.
       let d : Devices = devices (g.M.Medium.state c.args.unit.now) (g.C.Chip.state c.args.card_a.now) (g.D.Chip.state c.args.card_b.now) in
-      subst (λ (xs : List Action). RingsActions xs (c.args.from - c.args.from) c.args.speed c.args.run.now c.args.run.now c.args.outcome.now c.args.outcome.now d d) (sym (ap actions_in (between-none c.args.from c.args.items.now)))
-      (no-action InSecondRinged (c.args.from - c.args.from) c.args.speed c.args.run.now c.args.outcome.now d);
+      subst (λ (xs : List Action). RingsActions xs (c.args.due.from - c.args.due.from) c.args.due.speed c.args.run.now c.args.run.now c.args.outcome.now c.args.outcome.now d d) (sym (ap actions_in (between-none c.args.due.from c.args.due.items.now)))
+      (no-action InSecondRinged (c.args.due.from - c.args.due.from) c.args.due.speed c.args.run.now c.args.outcome.now d);
   cards = λ power many few.
       let d : Devices = devices (g.M.Medium.state c.args.unit.now) (g.C.Chip.state c.args.card_a.now) (g.D.Chip.state c.args.card_b.now) in
-      subst (λ (xs : List Action). CardsActions xs (c.args.from - c.args.from) c.args.speed c.args.run.now c.args.run.now c.args.outcome.now c.args.outcome.now d d) (sym (ap actions_in (between-none c.args.from c.args.items.now)))
-      (no-action InSecondCarded (c.args.from - c.args.from) c.args.speed c.args.run.now c.args.outcome.now d);
+      subst (λ (xs : List Action). CardsActions xs (c.args.due.from - c.args.due.from) c.args.due.speed c.args.run.now c.args.run.now c.args.outcome.now c.args.outcome.now d d) (sym (ap actions_in (between-none c.args.due.from c.args.due.items.now)))
+      (no-action InSecondCarded (c.args.due.from - c.args.due.from) c.args.due.speed c.args.run.now c.args.outcome.now d);
   still = λ dark. (dark, refl, refl, refl);
   later = later-same (devices (g.M.Medium.state c.args.unit.now) (g.C.Chip.state c.args.card_a.now) (g.D.Chip.state c.args.card_b.now));
   calm = calm-same (devices (g.M.Medium.state c.args.unit.now) (g.C.Chip.state c.args.card_a.now) (g.D.Chip.state c.args.card_b.now));
   broke = broke-none c.args.outcome.now.breaks.items {old = (g.M.Medium.state c.args.unit.now)} {new = (g.M.Medium.state c.args.unit.now)} (omega arith);
-  most = writes-none 0 (c.args.from - c.args.from) (devices (g.M.Medium.state c.args.unit.now) (g.C.Chip.state c.args.card_a.now) (g.D.Chip.state c.args.card_b.now));
+  most = writes-none 0 (c.args.due.from - c.args.due.from) (devices (g.M.Medium.state c.args.unit.now) (g.C.Chip.state c.args.card_a.now) (g.D.Chip.state c.args.card_b.now));
   dark = c.requires.dark;
   next = refl;
   unfound = refl;
@@ -101,15 +101,15 @@ pub loop-i-preserved : goal.loop-i-preserved
 loop-i-preserved g c =
     let v = c.loop-i.invariant in
     let e = c.act_item.ensures in
-    let items = c.args.items.now in
-    let less : c.loop-i.i < c.args.to = c.loop-i-test.true in
-    let here = first-in items c.loop-i.i c.args.to c.get.result.now c.get.ensures less in
+    let items = c.args.due.items.now in
+    let less : c.loop-i.i < c.args.due.to = c.loop-i-test.true in
+    let here = first-in items c.loop-i.i c.args.due.to c.get.result.now c.get.ensures less in
     record {
       going = e.going;
-      acted = subst (λ (xs : List Item). AreActed c.args.has_power c.args.speed 0 xs c.args.run.now c.act_item.new.run c.args.outcome.now c.act_item.new.outcome) (sym (between-more items c.args.from c.loop-i.i c.get.result.now c.loop-i.auto.i c.get.ensures))
-          (acted-more c.args.has_power c.args.speed 0 (c.loop-i.i - c.args.from + 1) (between c.args.from c.loop-i.i items) c.get.result.now c.args.run.now c.loop-i.run c.act_item.new.run c.args.outcome.now c.loop-i.outcome c.act_item.new.outcome v.acted
-          (let long = length-take (c.loop-i.i - c.args.from) (drop c.args.from items) in let rest = length-drop c.args.from items in let last = c.requires.last in let low = c.loop-i.auto.i in omega (arith, long, rest, last, low, less))
-          (subst (λ (n : ℕ). IsItemActed c.get.result.now c.args.has_power (is_lit c.loop-i.run.power) n c.args.speed c.loop-i.run c.act_item.new.run c.loop-i.outcome c.act_item.new.outcome) c.number_of.ensures e.acted.done));
+      acted = subst (λ (xs : List Item). AreActed c.args.due.has_power c.args.due.speed 0 xs c.args.run.now c.act_item.new.run c.args.outcome.now c.act_item.new.outcome) (sym (between-more items c.args.due.from c.loop-i.i c.get.result.now c.loop-i.auto.i c.get.ensures))
+          (acted-more c.args.due.has_power c.args.due.speed 0 (c.loop-i.i - c.args.due.from + 1) (between c.args.due.from c.loop-i.i items) c.get.result.now c.args.run.now c.loop-i.run c.act_item.new.run c.args.outcome.now c.loop-i.outcome c.act_item.new.outcome v.acted
+          (let long = length-take (c.loop-i.i - c.args.due.from) (drop c.args.due.from items) in let rest = length-drop c.args.due.from items in let last = c.requires.last in let low = c.loop-i.auto.i in omega (arith, long, rest, last, low, less))
+          (subst (λ (n : ℕ). IsItemActed c.get.result.now c.args.due.has_power (is_lit c.loop-i.run.power) n c.args.due.speed c.loop-i.run c.act_item.new.run c.loop-i.outcome c.act_item.new.outcome) c.number_of.ensures e.acted.done));
       ringed = λ power many few. one-more g (goal.at.loop-i-preserved g c).After-act_item InSecondRinged many few (v.ringed power) (e.ringed power);
       cards = λ power many few. one-more g (goal.at.loop-i-preserved g c).After-act_item InSecondCarded many few (v.cards power) (e.cards power);
       still = λ dark.
@@ -121,29 +121,29 @@ loop-i-preserved g c =
       broke = broke-then c.loop-i.invariant.broke c.act_item.ensures.goes.broke;
       most =
           let low = c.loop-i.auto.i in
-          writes-more 0 0 (c.loop-i.i - c.args.from + 1) (c.loop-i.i + 1 - c.args.from) (devices (g.M.Medium.state c.args.unit.now) (g.C.Chip.state c.args.card_a.now) (g.D.Chip.state c.args.card_b.now)) (devices (g.M.Medium.state c.act_item.new.unit) (g.C.Chip.state c.act_item.new.card_a) (g.D.Chip.state c.act_item.new.card_b)) (omega arith) (omega (arith, low))
-          (writes-then 0 0 (c.loop-i.i - c.args.from) 1 (devices (g.M.Medium.state c.args.unit.now) (g.C.Chip.state c.args.card_a.now) (g.D.Chip.state c.args.card_b.now)) (devices (g.M.Medium.state c.loop-i.unit) (g.C.Chip.state c.loop-i.card_a) (g.D.Chip.state c.loop-i.card_b)) (devices (g.M.Medium.state c.act_item.new.unit) (g.C.Chip.state c.act_item.new.card_a) (g.D.Chip.state c.act_item.new.card_b)) v.most e.goes.most);
+          writes-more 0 0 (c.loop-i.i - c.args.due.from + 1) (c.loop-i.i + 1 - c.args.due.from) (devices (g.M.Medium.state c.args.unit.now) (g.C.Chip.state c.args.card_a.now) (g.D.Chip.state c.args.card_b.now)) (devices (g.M.Medium.state c.act_item.new.unit) (g.C.Chip.state c.act_item.new.card_a) (g.D.Chip.state c.act_item.new.card_b)) (omega arith) (omega (arith, low))
+          (writes-then 0 0 (c.loop-i.i - c.args.due.from) 1 (devices (g.M.Medium.state c.args.unit.now) (g.C.Chip.state c.args.card_a.now) (g.D.Chip.state c.args.card_b.now)) (devices (g.M.Medium.state c.loop-i.unit) (g.C.Chip.state c.loop-i.card_a) (g.D.Chip.state c.loop-i.card_b)) (devices (g.M.Medium.state c.act_item.new.unit) (g.C.Chip.state c.act_item.new.card_a) (g.D.Chip.state c.act_item.new.card_b)) v.most e.goes.most);
       dark = e.dark;
       next = e.acted.next ∙ v.next;
       unfound = e.acted.unfound ∙ v.unfound;
       room = λ left offs insertions actions h.
-          let rest = insertions_in (c.loop-i.i + 1) c.args.to items in
+          let rest = insertions_in (c.loop-i.i + 1) c.args.due.to items in
           let one = insertion_count c.get.result.now in
-          let now = insertions_in c.loop-i.i c.args.to items in
-          e.room left offs (rest + insertions) (c.args.to - (c.loop-i.i + 1) + actions)
-          (room-less cuts_within c.loop-i.run c.loop-i.outcome (1 + left) (1 + left) offs offs (now + insertions) (one + (rest + insertions)) (c.args.to - c.loop-i.i + actions) (1 + (c.args.to - (c.loop-i.i + 1) + actions))
+          let now = insertions_in c.loop-i.i c.args.due.to items in
+          e.room left offs (rest + insertions) (c.args.due.to - (c.loop-i.i + 1) + actions)
+          (room-less cuts_within c.loop-i.run c.loop-i.outcome (1 + left) (1 + left) offs offs (now + insertions) (one + (rest + insertions)) (c.args.due.to - c.loop-i.i + actions) (1 + (c.args.due.to - (c.loop-i.i + 1) + actions))
           (omega arith) (omega arith) (omega (arith, here)) (omega (arith, less)) (v.room left offs insertions actions h));
       breaks = let more = e.goes.more in let was = v.breaks in omega (arith, more, was);
     }
 
 pub returns-clause-room : goal.returns-clause-room
 returns-clause-room g c = λ left offs insertions actions h.
-    let items = c.args.items.now in
-    let end : c.args.to ≤ c.loop-i.i = c.loop-i-test.false in
-    let some : c.loop-i.i ≤ c.args.to = c.loop-i.auto.i-end c.requires.first in
-    let same : c.loop-i.i ≡ c.args.to = omega (arith, end, some) in
-    let none = ap (λ (i : ℕ). insertions_in i c.args.to items) same ∙ none-in items c.args.to in
-    room-less cuts_within c.loop-i.run c.loop-i.outcome (1 + left) (1 + left) offs offs (insertions_in c.loop-i.i c.args.to items + insertions) insertions (c.args.to - c.loop-i.i + actions) actions
+    let items = c.args.due.items.now in
+    let end : c.args.due.to ≤ c.loop-i.i = c.loop-i-test.false in
+    let some : c.loop-i.i ≤ c.args.due.to = c.loop-i.auto.i-end c.requires.first in
+    let same : c.loop-i.i ≡ c.args.due.to = omega (arith, end, some) in
+    let none = ap (λ (i : ℕ). insertions_in i c.args.due.to items) same ∙ none-in items c.args.due.to in
+    room-less cuts_within c.loop-i.run c.loop-i.outcome (1 + left) (1 + left) offs offs (insertions_in c.loop-i.i c.args.due.to items + insertions) insertions (c.args.due.to - c.loop-i.i + actions) actions
     (omega arith) (omega arith) (omega arith) (omega arith) (c.loop-i.invariant.room left offs insertions actions h)
 
 -- ---- where no tear of a failed call is told no card has broken down
@@ -151,9 +151,9 @@ returns-clause-room g c = λ left offs insertions actions h.
 pub returns-clause-acted : goal.returns-clause-acted
 returns-clause-acted g c = record {
   done =
-      let end : c.args.to ≤ c.loop-i.i = c.loop-i-test.false in
-      let some : c.loop-i.i ≤ c.args.to = c.loop-i.auto.i-end c.requires.first in
-      subst (λ (n : ℕ). AreActed c.args.has_power c.args.speed 0 (between c.args.from n c.args.items.now) c.args.run.now c.loop-i.run c.args.outcome.now c.loop-i.outcome) (let same : c.loop-i.i ≡ c.args.to = omega (arith, end, some) in same) c.loop-i.invariant.acted;
+      let end : c.args.due.to ≤ c.loop-i.i = c.loop-i-test.false in
+      let some : c.loop-i.i ≤ c.args.due.to = c.loop-i.auto.i-end c.requires.first in
+      subst (λ (n : ℕ). AreActed c.args.due.has_power c.args.due.speed 0 (between c.args.due.from n c.args.due.items.now) c.args.run.now c.loop-i.run c.args.outcome.now c.loop-i.outcome) (let same : c.loop-i.i ≡ c.args.due.to = omega (arith, end, some) in same) c.loop-i.invariant.acted;
   next = c.loop-i.invariant.next;
   unfound = c.loop-i.invariant.unfound;
 }
@@ -161,17 +161,17 @@ returns-clause-acted g c = record {
 pub returns-clause-promises : goal.returns-clause-promises
 returns-clause-promises g c = record {
   ringed =
-      let end : c.args.to ≤ c.loop-i.i = c.loop-i-test.false in
-      let some : c.loop-i.i ≤ c.args.to = c.loop-i.auto.i-end c.requires.first in
-      subst (λ (n : ℕ). c.args.has_power ≡ true → length (actions_in (between c.args.from n c.args.items.now)) ≡ n - c.args.from → n - c.args.from ≤ largest_number
-      → RingsActions (actions_in (between c.args.from n c.args.items.now)) (n - c.args.from) c.args.speed c.args.run.now c.loop-i.run c.args.outcome.now c.loop-i.outcome (devices (g.M.Medium.state c.args.unit.now) (g.C.Chip.state c.args.card_a.now) (g.D.Chip.state c.args.card_b.now)) (devices (g.M.Medium.state c.loop-i.unit) (g.C.Chip.state c.loop-i.card_a) (g.D.Chip.state c.loop-i.card_b)))
-      (let same : c.loop-i.i ≡ c.args.to = omega (arith, end, some) in same) c.loop-i.invariant.ringed;
+      let end : c.args.due.to ≤ c.loop-i.i = c.loop-i-test.false in
+      let some : c.loop-i.i ≤ c.args.due.to = c.loop-i.auto.i-end c.requires.first in
+      subst (λ (n : ℕ). c.args.due.has_power ≡ true → length (actions_in (between c.args.due.from n c.args.due.items.now)) ≡ n - c.args.due.from → n - c.args.due.from ≤ largest_number
+      → RingsActions (actions_in (between c.args.due.from n c.args.due.items.now)) (n - c.args.due.from) c.args.due.speed c.args.run.now c.loop-i.run c.args.outcome.now c.loop-i.outcome (devices (g.M.Medium.state c.args.unit.now) (g.C.Chip.state c.args.card_a.now) (g.D.Chip.state c.args.card_b.now)) (devices (g.M.Medium.state c.loop-i.unit) (g.C.Chip.state c.loop-i.card_a) (g.D.Chip.state c.loop-i.card_b)))
+      (let same : c.loop-i.i ≡ c.args.due.to = omega (arith, end, some) in same) c.loop-i.invariant.ringed;
   cards =
-      let end : c.args.to ≤ c.loop-i.i = c.loop-i-test.false in
-      let some : c.loop-i.i ≤ c.args.to = c.loop-i.auto.i-end c.requires.first in
-      subst (λ (n : ℕ). c.args.has_power ≡ true → length (actions_in (between c.args.from n c.args.items.now)) ≡ n - c.args.from → n - c.args.from ≤ largest_number
-      → CardsActions (actions_in (between c.args.from n c.args.items.now)) (n - c.args.from) c.args.speed c.args.run.now c.loop-i.run c.args.outcome.now c.loop-i.outcome (devices (g.M.Medium.state c.args.unit.now) (g.C.Chip.state c.args.card_a.now) (g.D.Chip.state c.args.card_b.now)) (devices (g.M.Medium.state c.loop-i.unit) (g.C.Chip.state c.loop-i.card_a) (g.D.Chip.state c.loop-i.card_b)))
-      (let same : c.loop-i.i ≡ c.args.to = omega (arith, end, some) in same) c.loop-i.invariant.cards;
+      let end : c.args.due.to ≤ c.loop-i.i = c.loop-i-test.false in
+      let some : c.loop-i.i ≤ c.args.due.to = c.loop-i.auto.i-end c.requires.first in
+      subst (λ (n : ℕ). c.args.due.has_power ≡ true → length (actions_in (between c.args.due.from n c.args.due.items.now)) ≡ n - c.args.due.from → n - c.args.due.from ≤ largest_number
+      → CardsActions (actions_in (between c.args.due.from n c.args.due.items.now)) (n - c.args.due.from) c.args.due.speed c.args.run.now c.loop-i.run c.args.outcome.now c.loop-i.outcome (devices (g.M.Medium.state c.args.unit.now) (g.C.Chip.state c.args.card_a.now) (g.D.Chip.state c.args.card_b.now)) (devices (g.M.Medium.state c.loop-i.unit) (g.C.Chip.state c.loop-i.card_a) (g.D.Chip.state c.loop-i.card_b)))
+      (let same : c.loop-i.i ≡ c.args.due.to = omega (arith, end, some) in same) c.loop-i.invariant.cards;
 }
 
 pub returns-clause-goes : goal.returns-clause-goes
@@ -181,7 +181,7 @@ returns-clause-goes g c = record {
   more = c.loop-i.invariant.breaks;
   broke = c.loop-i.invariant.broke;
   most =
-      let end : c.args.to ≤ c.loop-i.i = c.loop-i-test.false in
-      let some : c.loop-i.i ≤ c.args.to = c.loop-i.auto.i-end c.requires.first in
-      writes-more 0 0 (c.loop-i.i - c.args.from) (c.args.to - c.args.from) (devices (g.M.Medium.state c.args.unit.now) (g.C.Chip.state c.args.card_a.now) (g.D.Chip.state c.args.card_b.now)) (devices (g.M.Medium.state c.loop-i.unit) (g.C.Chip.state c.loop-i.card_a) (g.D.Chip.state c.loop-i.card_b)) (omega arith) (omega (arith, end, some)) c.loop-i.invariant.most;
+      let end : c.args.due.to ≤ c.loop-i.i = c.loop-i-test.false in
+      let some : c.loop-i.i ≤ c.args.due.to = c.loop-i.auto.i-end c.requires.first in
+      writes-more 0 0 (c.loop-i.i - c.args.due.from) (c.args.due.to - c.args.due.from) (devices (g.M.Medium.state c.args.unit.now) (g.C.Chip.state c.args.card_a.now) (g.D.Chip.state c.args.card_b.now)) (devices (g.M.Medium.state c.loop-i.unit) (g.C.Chip.state c.loop-i.card_a) (g.D.Chip.state c.loop-i.card_b)) (omega arith) (omega (arith, end, some)) c.loop-i.invariant.most;
 }

@@ -15,20 +15,20 @@ use Rattle.recorder_with_cards.proofs.acts.act_all.Given as goal
 abbrev pub invariant-loop-i : goal.invariant-loop-i
 invariant-loop-i g l = record {
   going : IsInsideSecond l.run (g.M.Medium.state l.unit) (g.C.Chip.card l.card_a) (g.D.Chip.card l.card_b) (g.C.Chip.state l.card_a) (g.D.Chip.state l.card_b);
-  acted : AreActed l.has_power l.speed 0 (between l.from l.i l.items) l.fn.run l.run l.fn.outcome l.outcome;
-  ringed : l.has_power ≡ true → length (actions_in (between l.from l.i l.items)) ≡ l.i - l.from → l.i - l.from ≤ largest_number
-      → RingsActions (actions_in (between l.from l.i l.items)) (l.i - l.from) l.speed l.fn.run l.run l.fn.outcome l.outcome (devices (g.M.Medium.state l.fn.unit) (g.C.Chip.state l.fn.card_a) (g.D.Chip.state l.fn.card_b)) (devices (g.M.Medium.state l.unit) (g.C.Chip.state l.card_a) (g.D.Chip.state l.card_b));
-  cards : l.has_power ≡ true → length (actions_in (between l.from l.i l.items)) ≡ l.i - l.from → l.i - l.from ≤ largest_number
-      → CardsActions (actions_in (between l.from l.i l.items)) (l.i - l.from) l.speed l.fn.run l.run l.fn.outcome l.outcome (devices (g.M.Medium.state l.fn.unit) (g.C.Chip.state l.fn.card_a) (g.D.Chip.state l.fn.card_b)) (devices (g.M.Medium.state l.unit) (g.C.Chip.state l.card_a) (g.D.Chip.state l.card_b));
+  acted : AreActed l.fn.due.has_power l.fn.due.speed 0 (between l.fn.due.from l.i l.fn.due.items.now) l.fn.run l.run l.fn.outcome l.outcome;
+  ringed : l.fn.due.has_power ≡ true → length (actions_in (between l.fn.due.from l.i l.fn.due.items.now)) ≡ l.i - l.fn.due.from → l.i - l.fn.due.from ≤ largest_number
+      → RingsActions (actions_in (between l.fn.due.from l.i l.fn.due.items.now)) (l.i - l.fn.due.from) l.fn.due.speed l.fn.run l.run l.fn.outcome l.outcome (devices (g.M.Medium.state l.fn.unit) (g.C.Chip.state l.fn.card_a) (g.D.Chip.state l.fn.card_b)) (devices (g.M.Medium.state l.unit) (g.C.Chip.state l.card_a) (g.D.Chip.state l.card_b));
+  cards : l.fn.due.has_power ≡ true → length (actions_in (between l.fn.due.from l.i l.fn.due.items.now)) ≡ l.i - l.fn.due.from → l.i - l.fn.due.from ≤ largest_number
+      → CardsActions (actions_in (between l.fn.due.from l.i l.fn.due.items.now)) (l.i - l.fn.due.from) l.fn.due.speed l.fn.run l.run l.fn.outcome l.outcome (devices (g.M.Medium.state l.fn.unit) (g.C.Chip.state l.fn.card_a) (g.D.Chip.state l.fn.card_b)) (devices (g.M.Medium.state l.unit) (g.C.Chip.state l.card_a) (g.D.Chip.state l.card_b));
   still : is_lit l.fn.run.power ≡ false → (is_lit l.run.power ≡ false) × (l.unit ≡ l.fn.unit) × (l.card_a ≡ l.fn.card_a) × (l.card_b ≡ l.fn.card_b);
   later : AreLater (devices (g.M.Medium.state l.fn.unit) (g.C.Chip.state l.fn.card_a) (g.D.Chip.state l.fn.card_b)) (devices (g.M.Medium.state l.unit) (g.C.Chip.state l.card_a) (g.D.Chip.state l.card_b));
   calm : AreCalm l.fn.outcome.breaks.items l.outcome.breaks.items (devices (g.M.Medium.state l.fn.unit) (g.C.Chip.state l.fn.card_a) (g.D.Chip.state l.fn.card_b)) (devices (g.M.Medium.state l.unit) (g.C.Chip.state l.card_a) (g.D.Chip.state l.card_b));
-  most : WritesFor 0 (l.i - l.from) (devices (g.M.Medium.state l.fn.unit) (g.C.Chip.state l.fn.card_a) (g.D.Chip.state l.fn.card_b)) (devices (g.M.Medium.state l.unit) (g.C.Chip.state l.card_a) (g.D.Chip.state l.card_b));
+  most : WritesFor 0 (l.i - l.fn.due.from) (devices (g.M.Medium.state l.fn.unit) (g.C.Chip.state l.fn.card_a) (g.D.Chip.state l.fn.card_b)) (devices (g.M.Medium.state l.unit) (g.C.Chip.state l.card_a) (g.D.Chip.state l.card_b));
   broke : BreaksDown l.fn.outcome.breaks.items l.outcome.breaks.items (g.M.Medium.state l.fn.unit) (g.M.Medium.state l.unit);
-  dark : l.has_power ≡ false → is_lit l.run.power ≡ false;
+  dark : l.fn.due.has_power ≡ false → is_lit l.run.power ≡ false;
   next : l.run.next ≡ l.fn.run.next;
   unfound : l.run.unfound ≡ l.fn.run.unfound;
-  room : (left offs insertions actions : ℕ) → HasRoomWithin l.fn.run l.fn.outcome (1 + left) offs (insertions_in l.from l.to l.items + insertions) (l.to - l.from + actions)
-      → HasRoomWithin l.run l.outcome (1 + left) offs (insertions_in l.i l.to l.items + insertions) (l.to - l.i + actions);
+  room : (left offs insertions actions : ℕ) → HasRoomWithin l.fn.run l.fn.outcome (1 + left) offs (insertions_in l.fn.due.from l.fn.due.to l.fn.due.items.now + insertions) (l.fn.due.to - l.fn.due.from + actions)
+      → HasRoomWithin l.run l.outcome (1 + left) offs (insertions_in l.i l.fn.due.to l.fn.due.items.now + insertions) (l.fn.due.to - l.i + actions);
   breaks : length l.fn.outcome.breaks.items ≤ length l.outcome.breaks.items;
 }

@@ -32,33 +32,33 @@ returns-in-Act-clause-still g c = λ dark.
 
 pub returns-in-Act-clause-ringed : goal.returns-in-Act-clause-ringed
 returns-in-Act-clause-ringed g c = λ power.
-    subst (λ (xs : List Action). RingsActions xs c.args.begun c.args.speed c.args.run.now c.act.new.run c.args.outcome.now c.act.new.outcome (devices (g.M.Medium.state c.args.unit.now) (g.C.Chip.state c.args.card_a.now) (g.D.Chip.state c.args.card_b.now)) (devices (g.M.Medium.state c.act.new.unit) (g.C.Chip.state c.act.new.card_a) (g.D.Chip.state c.act.new.card_b))) (sym (ap action_of c.in-Act.is)) (c.act.ensures.ringed power)
+    subst (λ (xs : List Action). RingsActions xs c.args.due.begun c.args.due.speed c.args.run.now c.act.new.run c.args.outcome.now c.act.new.outcome (devices (g.M.Medium.state c.args.unit.now) (g.C.Chip.state c.args.card_a.now) (g.D.Chip.state c.args.card_b.now)) (devices (g.M.Medium.state c.act.new.unit) (g.C.Chip.state c.act.new.card_a) (g.D.Chip.state c.act.new.card_b))) (sym (ap action_of c.in-Act.is)) (c.act.ensures.ringed power)
 
 pub returns-in-Run-clause-ringed : goal.returns-in-Run-clause-ringed
 returns-in-Run-clause-ringed g c = λ power.
     let d : Devices = devices (g.M.Medium.state c.args.unit.now) (g.C.Chip.state c.args.card_a.now) (g.D.Chip.state c.args.card_b.now) in
-    subst (λ (xs : List Action). RingsActions xs c.args.begun c.args.speed c.args.run.now c.args.run.now c.args.outcome.now c.args.outcome.now d d) (sym (ap action_of c.in-Run.is)) (no-action InSecondRinged c.args.begun c.args.speed c.args.run.now c.args.outcome.now d)
+    subst (λ (xs : List Action). RingsActions xs c.args.due.begun c.args.due.speed c.args.run.now c.args.run.now c.args.outcome.now c.args.outcome.now d d) (sym (ap action_of c.in-Run.is)) (no-action InSecondRinged c.args.due.begun c.args.due.speed c.args.run.now c.args.outcome.now d)
 
 pub returns-in-Off-clause-ringed : goal.returns-in-Off-clause-ringed
 returns-in-Off-clause-ringed g c = λ power.
     let d : Devices = devices (g.M.Medium.state c.args.unit.now) (g.C.Chip.state c.args.card_a.now) (g.D.Chip.state c.args.card_b.now) in
-    subst (λ (xs : List Action). RingsActions xs c.args.begun c.args.speed c.args.run.now c.args.run.now c.args.outcome.now c.args.outcome.now d d) (sym (ap action_of c.in-Off.is)) (no-action InSecondRinged c.args.begun c.args.speed c.args.run.now c.args.outcome.now d)
+    subst (λ (xs : List Action). RingsActions xs c.args.due.begun c.args.due.speed c.args.run.now c.args.run.now c.args.outcome.now c.args.outcome.now d d) (sym (ap action_of c.in-Off.is)) (no-action InSecondRinged c.args.due.begun c.args.due.speed c.args.run.now c.args.outcome.now d)
 
 -- ---- what the cards show
 
 pub returns-in-Act-clause-cards : goal.returns-in-Act-clause-cards
 returns-in-Act-clause-cards g c = λ power.
-    subst (λ (xs : List Action). CardsActions xs c.args.begun c.args.speed c.args.run.now c.act.new.run c.args.outcome.now c.act.new.outcome (devices (g.M.Medium.state c.args.unit.now) (g.C.Chip.state c.args.card_a.now) (g.D.Chip.state c.args.card_b.now)) (devices (g.M.Medium.state c.act.new.unit) (g.C.Chip.state c.act.new.card_a) (g.D.Chip.state c.act.new.card_b))) (sym (ap action_of c.in-Act.is)) (c.act.ensures.cards power)
+    subst (λ (xs : List Action). CardsActions xs c.args.due.begun c.args.due.speed c.args.run.now c.act.new.run c.args.outcome.now c.act.new.outcome (devices (g.M.Medium.state c.args.unit.now) (g.C.Chip.state c.args.card_a.now) (g.D.Chip.state c.args.card_b.now)) (devices (g.M.Medium.state c.act.new.unit) (g.C.Chip.state c.act.new.card_a) (g.D.Chip.state c.act.new.card_b))) (sym (ap action_of c.in-Act.is)) (c.act.ensures.cards power)
 
 pub returns-in-Run-clause-cards : goal.returns-in-Run-clause-cards
 returns-in-Run-clause-cards g c = λ power.
     let d : Devices = devices (g.M.Medium.state c.args.unit.now) (g.C.Chip.state c.args.card_a.now) (g.D.Chip.state c.args.card_b.now) in
-    subst (λ (xs : List Action). CardsActions xs c.args.begun c.args.speed c.args.run.now c.args.run.now c.args.outcome.now c.args.outcome.now d d) (sym (ap action_of c.in-Run.is)) (no-action InSecondCarded c.args.begun c.args.speed c.args.run.now c.args.outcome.now d)
+    subst (λ (xs : List Action). CardsActions xs c.args.due.begun c.args.due.speed c.args.run.now c.args.run.now c.args.outcome.now c.args.outcome.now d d) (sym (ap action_of c.in-Run.is)) (no-action InSecondCarded c.args.due.begun c.args.due.speed c.args.run.now c.args.outcome.now d)
 
 pub returns-in-Off-clause-cards : goal.returns-in-Off-clause-cards
 returns-in-Off-clause-cards g c = λ power.
     let d : Devices = devices (g.M.Medium.state c.args.unit.now) (g.C.Chip.state c.args.card_a.now) (g.D.Chip.state c.args.card_b.now) in
-    subst (λ (xs : List Action). CardsActions xs c.args.begun c.args.speed c.args.run.now c.args.run.now c.args.outcome.now c.args.outcome.now d d) (sym (ap action_of c.in-Off.is)) (no-action InSecondCarded c.args.begun c.args.speed c.args.run.now c.args.outcome.now d)
+    subst (λ (xs : List Action). CardsActions xs c.args.due.begun c.args.due.speed c.args.run.now c.args.run.now c.args.outcome.now c.args.outcome.now d d) (sym (ap action_of c.in-Off.is)) (no-action InSecondCarded c.args.due.begun c.args.due.speed c.args.run.now c.args.outcome.now d)
 
 -- ---- where no tear of a failed call is told no card has broken down
 
@@ -66,7 +66,7 @@ pub returns-in-Act-clause-acted : goal.returns-in-Act-clause-acted
 returns-in-Act-clause-acted g c = record {
   done =
       let run = c.args.run.now in
-      subst (λ (i : Item). IsItemActed i c.args.has_power (is_lit run.power) c.args.begun c.args.speed run c.act.new.run c.args.outcome.now c.act.new.outcome) (sym c.in-Act.is) c.act.ensures.acted.done;
+      subst (λ (i : Item). IsItemActed i c.args.due.has_power (is_lit run.power) c.args.due.begun c.args.due.speed run c.act.new.run c.args.outcome.now c.act.new.outcome) (sym c.in-Act.is) c.act.ensures.acted.done;
   next = c.act.ensures.acted.next;
   unfound = c.act.ensures.acted.unfound;
 }
@@ -82,7 +82,7 @@ returns-in-Act-clause-goes g c = record {
 
 pub returns-in-Run-clause-acted : goal.returns-in-Run-clause-acted
 returns-in-Run-clause-acted g c = record {
-  done = subst (λ (i : Item). IsItemActed i c.args.has_power (is_lit c.args.run.now.power) c.args.begun c.args.speed c.args.run.now c.args.run.now c.args.outcome.now c.args.outcome.now) (sym c.in-Run.is) (refl, refl);
+  done = subst (λ (i : Item). IsItemActed i c.args.due.has_power (is_lit c.args.run.now.power) c.args.due.begun c.args.due.speed c.args.run.now c.args.run.now c.args.outcome.now c.args.outcome.now) (sym c.in-Run.is) (refl, refl);
   next = refl;
   unfound = refl;
 }
@@ -98,7 +98,7 @@ returns-in-Run-clause-goes g c = record {
 
 pub returns-in-Off-clause-acted : goal.returns-in-Off-clause-acted
 returns-in-Off-clause-acted g c = record {
-  done = subst (λ (i : Item). IsItemActed i c.args.has_power (is_lit c.args.run.now.power) c.args.begun c.args.speed c.args.run.now c.args.run.now c.args.outcome.now c.args.outcome.now) (sym c.in-Off.is) (refl, refl);
+  done = subst (λ (i : Item). IsItemActed i c.args.due.has_power (is_lit c.args.run.now.power) c.args.due.begun c.args.due.speed c.args.run.now c.args.run.now c.args.outcome.now c.args.outcome.now) (sym c.in-Off.is) (refl, refl);
   next = refl;
   unfound = refl;
 }

@@ -76,19 +76,19 @@ module _ (g : Over) (c : After-carry_out g) where
   abbrev behind : Devices
   behind = devices (g.M.Medium.state c.carry_out.new.unit) (g.C.Chip.state c.carry_out.new.card_a) (g.D.Chip.state c.carry_out.new.card_b)
 
-  unstopped : stopped_in run c.args.speed c.args.action ≡ None
+  unstopped : stopped_in run c.args.deed.speed c.args.deed.action ≡ None
   unstopped = first_of (search rules, grind (arith, common_steps))
 
-  allowed : refusal (logged run.keeper.cabin.slots.seats) c.args.speed c.args.action ≡ None
-  allowed = (none-of-both run c.args.speed c.args.action unstopped).0
+  allowed : refusal (logged run.keeper.cabin.slots.seats) c.args.deed.speed c.args.deed.action ≡ None
+  allowed = (none-of-both run c.args.deed.speed c.args.deed.action unstopped).0
 
   -- it is the next one of this second
-  module _ (o : Origin) (done : List TraceSecond) (s : TraceSecond) (now : IsNow s c.args.speed run) (front rest : List Action) (are : s.actions ≡ front ++ c.args.action ∷ rest) (here : c.args.begun ≡ suc (length front)) (time : HaveTime behind) where
+  module _ (o : Origin) (done : List TraceSecond) (s : TraceSecond) (now : IsNow s c.args.deed.speed run) (front rest : List Action) (are : s.actions ≡ front ++ c.args.deed.action ∷ rest) (here : c.args.deed.begun ≡ suc (length front)) (time : HaveTime behind) where
     abbrev more : List Action
-    more = front ++ c.args.action ∷ []
+    more = front ++ c.args.deed.action ∷ []
 
-    many : length more ≡ c.args.begun
-    many = let long = length-append front (c.args.action ∷ []) in omega (arith, long, here)
+    many : length more ≡ c.args.deed.begun
+    many = let long = length-append front (c.args.deed.action ∷ []) in omega (arith, long, here)
 
     some : 0 < s.number
     some = let low = c.requires.going.low in let number = now.number in omega (arith, low, number)
@@ -97,74 +97,74 @@ module _ (g : Over) (c : After-carry_out g) where
     still_next = now.number ∙ sym c.carry_out.ensures.done.stays.next
 
     all-so : s.actions ≡ more ++ rest
-    all-so = are ∙ sym (append_assoc front (c.args.action ∷ []) rest)
+    all-so = are ∙ sym (append_assoc front (c.args.deed.action ∷ []) rest)
 
-    goes : (w : RunWithin o done s (In (length front)) [] [] run out before) → GoesOnOrFails (is_err c.carry_out.result) o done s (In c.args.begun) [] mid told behind w.within.b
+    goes : (w : RunWithin o done s (In (length front)) [] [] run out before) → GoesOnOrFails (is_err c.carry_out.result) o done s (In c.args.deed.begun) [] mid told behind w.within.b
     goes w = c.carry_out.ensures.promises.recorded o done s now front rest are here allowed w time
 
-    noted : (h : WithinEvented o done s (In (length front)) [] [] Acting run out before) → EventsGoOn (is_err c.carry_out.result) o done s h.within.within.b.run (In c.args.begun) Acting (log_of told) behind
+    noted : (h : WithinEvented o done s (In (length front)) [] [] Acting run out before) → EventsGoOn (is_err c.carry_out.result) o done s h.within.within.b.run (In c.args.deed.begun) Acting (log_of told) behind
     noted h = c.carry_out.ensures.promises.evented o done s now front rest are here allowed h.within h.evented time
 
     rung : (h : WithinRinged o done s (length front) run out before) → RingsGoOn (is_err c.carry_out.result) o done s h.evented.within.within.b more mid (log_of told) h.spans h.told behind
-    rung h = c.carry_out.ensures.promises.ringed o done s now front rest are here allowed h.evented.within h.spans h.told (at-front o done s run out before front (c.args.action ∷ rest) are h) time
+    rung h = c.carry_out.ensures.promises.ringed o done s now front rest are here allowed h.evented.within h.spans h.told (at-front o done s run out before front (c.args.deed.action ∷ rest) are h) time
 
     carded : (h : WithinCarded o done s (length front) run out before) → CardsGoOn (is_err c.carry_out.result) o done s h.ringed.evented.within.within.b.run.log more (log_of told) behind
-    carded h = c.carry_out.ensures.promises.cards o done s now front rest are here allowed h.vehicle h.ringed.evented.within (cards-now o done s run out before front (c.args.action ∷ rest) are some h.ringed.evented.within h.cards) time
+    carded h = c.carry_out.ensures.promises.cards o done s now front rest are here allowed h.vehicle h.ringed.evented.within (cards-now o done s run out before front (c.args.deed.action ∷ rest) are some h.ringed.evented.within h.cards) time
 
     -- it goes on
-    ringed-goes : is_err c.carry_out.result ≡ false → WithinRinged o done s (length front) run out before → InSecondRinged o done s c.args.begun mid told behind
+    ringed-goes : is_err c.carry_out.result ≡ false → WithinRinged o done s (length front) run out before → InSecondRinged o done s c.args.deed.begun mid told behind
     ringed-goes well h =
         let w = h.evented.within in
-        in-ringed_lit o done s mid told behind c.args.begun
-        (ringed-on o done s (length front) c.args.begun run mid out told before behind h more rest all-so many (subst (λ (b : Bool). GoesOnOrFails b o done s (In c.args.begun) [] mid told behind w.within.b) well (goes w))
-        (subst (λ (b : Bool). EventsGoOn b o done s w.within.b.run (In c.args.begun) Acting (log_of told) behind) well (noted h.evented))
-        (done-watched c.args.action (moment_of c.args.begun run) c.args.speed (is_err c.carry_out.result) run mid out told c.carry_out.ensures.done.action_done)
+        in-ringed_lit o done s mid told behind c.args.deed.begun
+        (ringed-on o done s (length front) c.args.deed.begun run mid out told before behind h more rest all-so many (subst (λ (b : Bool). GoesOnOrFails b o done s (In c.args.deed.begun) [] mid told behind w.within.b) well (goes w))
+        (subst (λ (b : Bool). EventsGoOn b o done s w.within.b.run (In c.args.deed.begun) Acting (log_of told) behind) well (noted h.evented))
+        (done-watched c.args.deed.action (moment_of c.args.deed.begun run) c.args.deed.speed (is_err c.carry_out.result) run mid out told c.carry_out.ensures.done.action_done)
         (subst (λ (b : Bool). RingsGoOn b o done s w.within.b more mid (log_of told) h.spans h.told behind) well (rung h)))
 
-    carded-goes : is_err c.carry_out.result ≡ false → WithinCarded o done s (length front) run out before → InSecondCarded o done s c.args.begun mid told behind
+    carded-goes : is_err c.carry_out.result ≡ false → WithinCarded o done s (length front) run out before → InSecondCarded o done s c.args.deed.begun mid told behind
     carded-goes well h =
         let w = h.ringed.evented.within in
-        let watched = done-watched c.args.action (moment_of c.args.begun run) c.args.speed (is_err c.carry_out.result) run mid out told c.carry_out.ensures.done.action_done in
-        in-carded_lit o done s mid told behind c.args.begun (record {
-          ringed = ringed-lit o done s mid told behind c.args.begun (ap is_lit (c.carry_out.ensures.done.stays.power ∙ c.requires.lit)) (ringed-goes well h.ringed);
+        let watched = done-watched c.args.deed.action (moment_of c.args.deed.begun run) c.args.deed.speed (is_err c.carry_out.result) run mid out told c.carry_out.ensures.done.action_done in
+        in-carded_lit o done s mid told behind c.args.deed.begun (record {
+          ringed = ringed-lit o done s mid told behind c.args.deed.begun (ap is_lit (c.carry_out.ensures.done.stays.power ∙ c.requires.lit)) (ringed-goes well h.ringed);
           vehicle = ap (λ m. m.registration) watched.memory ∙ h.vehicle;
-          cards = cards-on o done s c.args.begun mid told behind more rest w.within.b all-so many some (subst (λ (b : Bool). GoesOnOrFails b o done s (In c.args.begun) [] mid told behind w.within.b) well (goes w))
+          cards = cards-on o done s c.args.deed.begun mid told behind more rest w.within.b all-so many some (subst (λ (b : Bool). GoesOnOrFails b o done s (In c.args.deed.begun) [] mid told behind w.within.b) well (goes w))
               (subst (λ (b : Bool). CardsGoOn b o done s w.within.b.run.log more (log_of told) behind) well (carded h));
         })
 
     -- or the unit failed, and power is lost
-    module _ (failed : is_err c.carry_out.result ≡ true) (new : Run) (after : Outcome) (cut_so : new ≡ cut_run mid.next mid) (told_so : after ≡ record told { breaks = with_lines (cut_at mid.next true c.args.begun ∷ []) told.breaks }) where
-      fails : (w : RunWithin o done s (In (length front)) [] [] run out before) → RunFails o done s (In c.args.begun) mid told behind
-      fails w = subst (λ (b : Bool). GoesOnOrFails b o done s (In c.args.begun) [] mid told behind w.within.b) failed (goes w)
+    module _ (failed : is_err c.carry_out.result ≡ true) (new : Run) (after : Outcome) (cut_so : new ≡ cut_run mid.next mid) (told_so : after ≡ record told { breaks = with_lines (cut_at mid.next true c.args.deed.begun ∷ []) told.breaks }) where
+      fails : (w : RunWithin o done s (In (length front)) [] [] run out before) → RunFails o done s (In c.args.deed.begun) mid told behind
+      fails w = subst (λ (b : Bool). GoesOnOrFails b o done s (In c.args.deed.begun) [] mid told behind w.within.b) failed (goes w)
 
       rings-cut : (h : WithinRinged o done s (length front) run out before) → RingsCut o done s h.evented.within.within.b more mid (log_of told) h.spans h.told behind
       rings-cut h = subst (λ (b : Bool). RingsGoOn b o done s h.evented.within.within.b more mid (log_of told) h.spans h.told behind) failed (rung h)
 
-      ringed-lost : WithinRinged o done s (length front) run out before → InSecondRinged o done s c.args.begun new after behind
+      ringed-lost : WithinRinged o done s (length front) run out before → InSecondRinged o done s c.args.deed.begun new after behind
       ringed-lost h =
           let w = h.evented.within in
           let stays = c.carry_out.ensures.done.stays in
-          in-ringed_cut o done s new after behind c.args.begun
-          (ringed-cuts o done s w.within.b c.args.begun mid new told after behind h.spans h.told still_next
-          (evented-cuts o done s (length front) c.args.begun run mid new out told after before behind now.number h.evented
-          (cut o done s c.args.begun rest mid new told after behind w.origin still_next (left front rest c.args.action s here are) (fails w) cut_so told_so)
-          (subst (λ (b : Bool). EventsGoOn b o done s w.within.b.run (In c.args.begun) Acting (log_of told) behind) failed (noted h.evented))
-          (done-watched c.args.action (moment_of c.args.begun run) c.args.speed (is_err c.carry_out.result) run mid out told c.carry_out.ensures.done.action_done) stays.next stays.unfound cut_so told_so)
+          in-ringed_cut o done s new after behind c.args.deed.begun
+          (ringed-cuts o done s w.within.b c.args.deed.begun mid new told after behind h.spans h.told still_next
+          (evented-cuts o done s (length front) c.args.deed.begun run mid new out told after before behind now.number h.evented
+          (cut o done s c.args.deed.begun rest mid new told after behind w.origin still_next (left front rest c.args.deed.action s here are) (fails w) cut_so told_so)
+          (subst (λ (b : Bool). EventsGoOn b o done s w.within.b.run (In c.args.deed.begun) Acting (log_of told) behind) failed (noted h.evented))
+          (done-watched c.args.deed.action (moment_of c.args.deed.begun run) c.args.deed.speed (is_err c.carry_out.result) run mid out told c.carry_out.ensures.done.action_done) stays.next stays.unfound cut_so told_so)
           more many (rings-cut h)
-          (cut-stores o done s (length front) c.args.begun run mid out told before behind h more rest many (fails w) (stays.power ∙ c.requires.lit) (left front rest c.args.action s here are) stays.unfound (rings-cut h))
+          (cut-stores o done s (length front) c.args.deed.begun run mid out told before behind h more rest many (fails w) (stays.power ∙ c.requires.lit) (left front rest c.args.deed.action s here are) stays.unfound (rings-cut h))
           cut_so told_so)
 
-      carded-lost : WithinCarded o done s (length front) run out before → InSecondCarded o done s c.args.begun new after behind
+      carded-lost : WithinCarded o done s (length front) run out before → InSecondCarded o done s c.args.deed.begun new after behind
       carded-lost h =
           let w = h.ringed.evented.within in
           let log : with_cut (log_of told) s more ≡ log_of after =
-          ap (λ (n : ℕ). and_break (log_of told) (cut_at s.number true n)) many ∙ ap (λ (u : ℕ). and_break (log_of told) (cut_at u true c.args.begun)) still_next ∙ sym (ap log_of told_so) in
-          let lines = subst (λ (u : ℕ). TellsMoreOf u out.breaks.items told.breaks.items) (sym now.number) (done-of c.args.action (moment_of c.args.begun run) c.args.speed (is_err c.carry_out.result) run mid out told c.carry_out.ensures.done.action_done) in
-          let watched = done-watched c.args.action (moment_of c.args.begun run) c.args.speed (is_err c.carry_out.result) run mid out told c.carry_out.ensures.done.action_done in
+          ap (λ (n : ℕ). and_break (log_of told) (cut_at s.number true n)) many ∙ ap (λ (u : ℕ). and_break (log_of told) (cut_at u true c.args.deed.begun)) still_next ∙ sym (ap log_of told_so) in
+          let lines = subst (λ (u : ℕ). TellsMoreOf u out.breaks.items told.breaks.items) (sym now.number) (done-of c.args.deed.action (moment_of c.args.deed.begun run) c.args.deed.speed (is_err c.carry_out.result) run mid out told c.carry_out.ensures.done.action_done) in
+          let watched = done-watched c.args.deed.action (moment_of c.args.deed.begun run) c.args.deed.speed (is_err c.carry_out.result) run mid out told c.carry_out.ensures.done.action_done in
           let shown = cut-cards o done s (length front) run out before behind w told more rest all-so (cut-later o done s (length front) run out before w told more lines (rings-cut h.ringed).behind some) (fails w).within.moment.up_to.uncut
           (subst (λ (b : Bool). CardsGoOn b o done s w.within.b.run.log more (log_of told) behind) failed (carded h)) in
-          in-carded_cut o done s new after behind c.args.begun (record {
-            ringed = ringed-cut o done s new after behind c.args.begun (ap (λ (q : Run). is_lit q.power) cut_so) (ringed-lost h.ringed);
+          in-carded_cut o done s new after behind c.args.deed.begun (record {
+            ringed = ringed-cut o done s new after behind c.args.deed.begun (ap (λ (q : Run). is_lit q.power) cut_so) (ringed-lost h.ringed);
             vehicle = ap (λ (q : Run). q.keeper.memory.registration) cut_so ∙ ap (λ m. m.registration) watched.memory ∙ h.vehicle;
             cards = subst (λ (l : RunLog). CardsBehind o (done ++ s ∷ []) l behind) log shown;
           })
@@ -188,9 +188,9 @@ returns-then-is_err-clause-room g c = λ left offs insertions actions h.
     let stand = c.carry_out.ensures.held.held.stand in
     let dark = ap (λ (r : Run). falls_of r.keeper.cabin) c.cut.ensures.run in
     let less = cut-falls new.next stand.0 stand.1 new.keeper.cabin stand.2 in
-    room-cut run new c.args.outcome.now c.carry_out.new.outcome (put_count c.args.action) c.carry_out.ensures.done.stays.next c.requires.lit c.carry_out.ensures.takes c.cut.new.self (record c.carry_out.new.outcome { breaks = c.cut.new.breaks })
+    room-cut run new c.args.outcome.now c.carry_out.new.outcome (put_count c.args.deed.action) c.carry_out.ensures.done.stays.next c.requires.lit c.carry_out.ensures.takes c.cut.new.self (record c.carry_out.new.outcome { breaks = c.cut.new.breaks })
     (ap (λ (r : Run). r.power) c.cut.ensures.run) (ap (λ (r : Run). r.next) c.cut.ensures.run) (few-wait (run.next / 60) run (c.requires.going.lit (ap is_lit c.requires.lit))) (omega (arith, dark, less))
-    (ap (λ (l : Listed Break). length l.items) c.cut.ensures.breaks ∙ lines-length (cut_at new.next true c.args.begun ∷ []) c.carry_out.new.outcome.breaks) (ap (λ (l : Listed Break). l.room) c.cut.ensures.breaks) refl refl refl
+    (ap (λ (l : Listed Break). length l.items) c.cut.ensures.breaks ∙ lines-length (cut_at new.next true c.args.deed.begun ∷ []) c.carry_out.new.outcome.breaks) (ap (λ (l : Listed Break). l.room) c.cut.ensures.breaks) refl refl refl
     left offs insertions actions h
 
 -- ---- it goes on
@@ -219,10 +219,10 @@ pub returns-in-Err-clause-still : goal.returns-in-Err-clause-still
 returns-in-Err-clause-still g c = λ none. (refl, refl, refl)
 
 pub returns-then-is_err-clause-still : goal.returns-then-is_err-clause-still
-returns-then-is_err-clause-still g c = λ none. c.carry_out.ensures.still (subst (λ (r : Option SlotFault). CallsNone r c.args.action) (allowed g (goal.at.returns-then-is_err-clause-still g c).After-carry_out) none)
+returns-then-is_err-clause-still g c = λ none. c.carry_out.ensures.still (subst (λ (r : Option SlotFault). CallsNone r c.args.deed.action) (allowed g (goal.at.returns-then-is_err-clause-still g c).After-carry_out) none)
 
 pub returns-else-is_err-clause-still : goal.returns-else-is_err-clause-still
-returns-else-is_err-clause-still g c = λ none. c.carry_out.ensures.still (subst (λ (r : Option SlotFault). CallsNone r c.args.action) (allowed g (goal.at.returns-else-is_err-clause-still g c).After-carry_out) none)
+returns-else-is_err-clause-still g c = λ none. c.carry_out.ensures.still (subst (λ (r : Option SlotFault). CallsNone r c.args.deed.action) (allowed g (goal.at.returns-else-is_err-clause-still g c).After-carry_out) none)
 
 -- ---- where no tear of a failed call is told no card has broken down
 
@@ -231,10 +231,10 @@ returns-in-Err-clause-acted g c = record {
   done =
       let run = c.args.run.now in
       let o = c.args.outcome.now in
-      subst (λ (r : Option SlotFault). IsActedBy r c.args.action c.args.begun c.args.speed run run o (record o { refused = c.refuse.new.refused })) c.in-Err.ensures (refl, ap (λ (l : Listed Refused). record o { refused = l }) c.refuse.ensures);
-  refused = c.refuse.ensures ∙ ap (λ (r : Option SlotFault). with_lines (refusal_lines r c.args.run.now.next c.args.begun) c.args.outcome.now.refused) c.in-Err.ensures;
+      subst (λ (r : Option SlotFault). IsActedBy r c.args.deed.action c.args.deed.begun c.args.deed.speed run run o (record o { refused = c.refuse.new.refused })) c.in-Err.ensures (refl, ap (λ (l : Listed Refused). record o { refused = l }) c.refuse.ensures);
+  refused = c.refuse.ensures ∙ ap (λ (r : Option SlotFault). with_lines (refusal_lines r c.args.run.now.next c.args.deed.begun) c.args.outcome.now.refused) c.in-Err.ensures;
   none = λ no. refl;
-  selected = refused-selected c.args.run.now c.args.speed c.args.action _ (sym c.in-Err.ensures);
+  selected = refused-selected c.args.run.now c.args.deed.speed c.args.deed.action _ (sym c.in-Err.ensures);
   next = refl;
   unfound = refl;
 }
@@ -243,18 +243,18 @@ pub returns-in-Err-clause-promises : goal.returns-in-Err-clause-promises
 returns-in-Err-clause-promises g c = record {
   ringed =
       λ o done s now front rest are begun in_ time.
-      let here : suc (length front) ≡ c.args.begun = omega (arith, begun) in
+      let here : suc (length front) ≡ c.args.deed.begun = omega (arith, begun) in
       let run = c.args.run.now in
       let out = c.args.outcome.now in
       let d : Devices = devices (g.M.Medium.state c.args.unit.now) (g.C.Chip.state c.args.card_a.now) (g.D.Chip.state c.args.card_b.now) in
       let told : Outcome = record out { refused = c.refuse.new.refused } in
       let h = ringed-lit o done s run out d (length front) (ap is_lit c.requires.lit) in_ in
-      in-ringed_lit o done s run told d c.args.begun
+      in-ringed_lit o done s run told d c.args.deed.begun
       (subst (λ (n : ℕ). WithinRinged o done s n run told d) here
-      (refused-ringed o done s c.args.speed run out d now front c.args.action rest are h c.in-Err.fault (sym c.in-Err.ensures) told (ap (λ (l : Listed Refused). record out { refused = l }) c.refuse.ensures ∙ ap (λ (n : ℕ). told_refused run out c.in-Err.fault n) (sym here))));
+      (refused-ringed o done s c.args.deed.speed run out d now front c.args.deed.action rest are h c.in-Err.fault (sym c.in-Err.ensures) told (ap (λ (l : Listed Refused). record out { refused = l }) c.refuse.ensures ∙ ap (λ (n : ℕ). told_refused run out c.in-Err.fault n) (sym here))));
   cards =
       λ o done s now front rest are begun in_ time.
-      let here : suc (length front) ≡ c.args.begun = omega (arith, begun) in
+      let here : suc (length front) ≡ c.args.deed.begun = omega (arith, begun) in
       let run = c.args.run.now in
       let out = c.args.outcome.now in
       let d : Devices = devices (g.M.Medium.state c.args.unit.now) (g.C.Chip.state c.args.card_a.now) (g.D.Chip.state c.args.card_b.now) in
@@ -265,15 +265,15 @@ returns-in-Err-clause-promises g c = record {
       let low = c.requires.going.low in
       let number = now.number in
       let some : 0 < s.number = omega (arith, low, number) in
-      let more : List Action = front ++ c.args.action ∷ [] in
-      let many : length more ≡ suc (length front) = let long = length-append front (c.args.action ∷ []) in omega (arith, long) in
-      let cards = refused-cards o done s c.args.speed run out d now front c.args.action rest are w (cards-now o done s run out d front (c.args.action ∷ rest) are some w h.cards) c.in-Err.fault (sym c.in-Err.ensures) told told_is in
-      in-carded_lit o done s run told d c.args.begun (record {
-        ringed = subst (λ (n : ℕ). WithinRinged o done s n run told d) here (refused-ringed o done s c.args.speed run out d now front c.args.action rest are h.ringed c.in-Err.fault (sym c.in-Err.ensures) told (ap (λ (l : Listed Refused). record out { refused = l }) c.refuse.ensures ∙ ap (λ (n : ℕ). told_refused run out c.in-Err.fault n) (sym here)));
+      let more : List Action = front ++ c.args.deed.action ∷ [] in
+      let many : length more ≡ suc (length front) = let long = length-append front (c.args.deed.action ∷ []) in omega (arith, long) in
+      let cards = refused-cards o done s c.args.deed.speed run out d now front c.args.deed.action rest are w (cards-now o done s run out d front (c.args.deed.action ∷ rest) are some w h.cards) c.in-Err.fault (sym c.in-Err.ensures) told told_is in
+      in-carded_lit o done s run told d c.args.deed.begun (record {
+        ringed = subst (λ (n : ℕ). WithinRinged o done s n run told d) here (refused-ringed o done s c.args.deed.speed run out d now front c.args.deed.action rest are h.ringed c.in-Err.fault (sym c.in-Err.ensures) told (ap (λ (l : Listed Refused). record out { refused = l }) c.refuse.ensures ∙ ap (λ (n : ℕ). told_refused run out c.in-Err.fault n) (sym here)));
         vehicle = h.vehicle;
         cards = subst (λ (n : ℕ). CardsIn o done s (log_of told) (take n s.actions) (log_of told) d) here
-            (cards-on o done s (suc (length front)) run told d more rest w.within.b (are ∙ sym (append_assoc front (c.args.action ∷ []) rest)) many some
-            (refused o done s c.args.speed run out d now front c.args.action rest are w c.in-Err.fault (sym c.in-Err.ensures) told told_is) cards);
+            (cards-on o done s (suc (length front)) run told d more rest w.within.b (are ∙ sym (append_assoc front (c.args.deed.action ∷ []) rest)) many some
+            (refused o done s c.args.deed.speed run out d now front c.args.deed.action rest are w c.in-Err.fault (sym c.in-Err.ensures) told told_is) cards);
       });
 }
 
@@ -293,18 +293,18 @@ returns-then-is_err-clause-acted g c = record {
       let o = c.args.outcome.now in
       let failed : is_err c.carry_out.result ≡ true = sym c.is_err.ensures.value ∙ c.if-is_err.true in
       let told : Outcome = c.carry_out.new.outcome in
-      subst (λ (r : Option SlotFault). IsActedBy r c.args.action c.args.begun c.args.speed run c.cut.new.self o (record told { breaks = c.cut.new.breaks })) (sym (unstopped g (goal.at.returns-then-is_err-clause-acted g c).After-carry_out))
+      subst (λ (r : Option SlotFault). IsActedBy r c.args.deed.action c.args.deed.begun c.args.deed.speed run c.cut.new.self o (record told { breaks = c.cut.new.breaks })) (sym (unstopped g (goal.at.returns-then-is_err-clause-acted g c).After-carry_out))
       (record {
         failed = true;
         between = c.carry_out.new.run;
         told = told;
-        done = subst (λ (b : Bool). IsDone c.args.action (moment_of c.args.begun run) c.args.speed b run c.carry_out.new.run o told) failed c.carry_out.ensures.done.action_done;
+        done = subst (λ (b : Bool). IsDone c.args.deed.action (moment_of c.args.deed.begun run) c.args.deed.speed b run c.carry_out.new.run o told) failed c.carry_out.ensures.done.action_done;
         run = c.cut.ensures.run;
         outcome = ap (λ (l : Listed Break). record told { breaks = l }) c.cut.ensures.breaks;
       });
-  refused = c.carry_out.ensures.done.refused ∙ ap (λ (xs : List Refused). record c.args.outcome.now.refused { items = xs }) (sym (append-nil c.args.outcome.now.refused.items)) ∙ ap (λ (r : Option SlotFault). with_lines (refusal_lines r c.args.run.now.next c.args.begun) c.args.outcome.now.refused) (sym (unstopped g (goal.at.returns-then-is_err-clause-acted g c).After-carry_out));
+  refused = c.carry_out.ensures.done.refused ∙ ap (λ (xs : List Refused). record c.args.outcome.now.refused { items = xs }) (sym (append-nil c.args.outcome.now.refused.items)) ∙ ap (λ (r : Option SlotFault). with_lines (refusal_lines r c.args.run.now.next c.args.deed.begun) c.args.outcome.now.refused) (sym (unstopped g (goal.at.returns-then-is_err-clause-acted g c).After-carry_out));
   none = λ no. absurd (no (unstopped g (goal.at.returns-then-is_err-clause-acted g c).After-carry_out));
-  selected = fine-selected c.args.action (is_err c.carry_out.result) c.args.run.now c.cut.new.self (let failed : is_err c.carry_out.result ≡ true = sym c.is_err.ensures.value ∙ c.if-is_err.true in failed) c.carry_out.ensures.done.fine;
+  selected = fine-selected c.args.deed.action (is_err c.carry_out.result) c.args.run.now c.cut.new.self (let failed : is_err c.carry_out.result ≡ true = sym c.is_err.ensures.value ∙ c.if-is_err.true in failed) c.carry_out.ensures.done.fine;
   next = ap (λ (r : Run). r.next) c.cut.ensures.run ∙ c.carry_out.ensures.done.stays.next;
   unfound = ap (λ (r : Run). r.unfound) c.cut.ensures.run ∙ c.carry_out.ensures.done.stays.unfound;
 }
@@ -329,9 +329,9 @@ returns-then-is_err-clause-goes g c = record {
   calm = calm-more (devices (g.M.Medium.state c.args.unit.now) (g.C.Chip.state c.args.card_a.now) (g.D.Chip.state c.args.card_b.now)) (devices (g.M.Medium.state c.carry_out.new.unit) (g.C.Chip.state c.carry_out.new.card_a) (g.D.Chip.state c.carry_out.new.card_b)) _ c.carry_out.ensures.goes.calm (ap (λ (l : Listed Break). l.items) c.cut.ensures.breaks) refl;
   more =
       let more = c.carry_out.ensures.goes.more in
-      let told = ap (λ (l : Listed Break). length l.items) c.cut.ensures.breaks ∙ lines-length (cut_at c.carry_out.new.run.next true c.args.begun ∷ []) c.carry_out.new.outcome.breaks in
+      let told = ap (λ (l : Listed Break). length l.items) c.cut.ensures.breaks ∙ lines-length (cut_at c.carry_out.new.run.next true c.args.deed.begun ∷ []) c.carry_out.new.outcome.breaks in
       omega (arith, more, told);
-  broke = cut-broke _ _ _ _ _ (g.M.Medium.state c.args.unit.now) (g.M.Medium.state c.carry_out.new.unit) (is_err c.carry_out.result) (c.requires.going.lit (ap is_lit c.requires.lit)).ready.unit_ready.works c.carry_out.ensures.held.cause (sym c.is_err.ensures.value ∙ c.if-is_err.true) (done-uncut c.args.action _ c.args.speed _ _ _ _ _ c.carry_out.ensures.done.action_done) (ap (λ (l : Listed Break). l.items) c.cut.ensures.breaks);
+  broke = cut-broke _ _ _ _ _ (g.M.Medium.state c.args.unit.now) (g.M.Medium.state c.carry_out.new.unit) (is_err c.carry_out.result) (c.requires.going.lit (ap is_lit c.requires.lit)).ready.unit_ready.works c.carry_out.ensures.held.cause (sym c.is_err.ensures.value ∙ c.if-is_err.true) (done-uncut c.args.deed.action _ c.args.deed.speed _ _ _ _ _ c.carry_out.ensures.done.action_done) (ap (λ (l : Listed Break). l.items) c.cut.ensures.breaks);
   most = c.carry_out.ensures.goes.most;
 }
 
@@ -342,16 +342,16 @@ returns-else-is_err-clause-acted g c = record {
       let o = c.args.outcome.now in
       let well : is_err c.carry_out.result ≡ false = sym c.is_err.ensures.value ∙ c.if-is_err.false in
       let told : Outcome = c.carry_out.new.outcome in
-      subst (λ (r : Option SlotFault). IsActedBy r c.args.action c.args.begun c.args.speed run c.carry_out.new.run o told) (sym (unstopped g (goal.at.returns-else-is_err-clause-acted g c).After-carry_out))
+      subst (λ (r : Option SlotFault). IsActedBy r c.args.deed.action c.args.deed.begun c.args.deed.speed run c.carry_out.new.run o told) (sym (unstopped g (goal.at.returns-else-is_err-clause-acted g c).After-carry_out))
       (record {
         failed = false;
         between = c.carry_out.new.run;
         told = told;
-        done = subst (λ (b : Bool). IsDone c.args.action (moment_of c.args.begun run) c.args.speed b run c.carry_out.new.run o told) well c.carry_out.ensures.done.action_done;
+        done = subst (λ (b : Bool). IsDone c.args.deed.action (moment_of c.args.deed.begun run) c.args.deed.speed b run c.carry_out.new.run o told) well c.carry_out.ensures.done.action_done;
         run = refl;
         outcome = refl;
       });
-  refused = c.carry_out.ensures.done.refused ∙ ap (λ (xs : List Refused). record c.args.outcome.now.refused { items = xs }) (sym (append-nil c.args.outcome.now.refused.items)) ∙ ap (λ (r : Option SlotFault). with_lines (refusal_lines r c.args.run.now.next c.args.begun) c.args.outcome.now.refused) (sym (unstopped g (goal.at.returns-else-is_err-clause-acted g c).After-carry_out));
+  refused = c.carry_out.ensures.done.refused ∙ ap (λ (xs : List Refused). record c.args.outcome.now.refused { items = xs }) (sym (append-nil c.args.outcome.now.refused.items)) ∙ ap (λ (r : Option SlotFault). with_lines (refusal_lines r c.args.run.now.next c.args.deed.begun) c.args.outcome.now.refused) (sym (unstopped g (goal.at.returns-else-is_err-clause-acted g c).After-carry_out));
   none = λ no. absurd (no (unstopped g (goal.at.returns-else-is_err-clause-acted g c).After-carry_out));
   selected = c.carry_out.ensures.done.selected;
   next = c.carry_out.ensures.done.stays.next;
@@ -375,6 +375,6 @@ returns-else-is_err-clause-goes g c = record {
   later = c.carry_out.ensures.goes.later;
   calm = c.carry_out.ensures.goes.calm;
   more = c.carry_out.ensures.goes.more;
-  broke = uncut-broke _ _ (g.M.Medium.state c.args.unit.now) (g.M.Medium.state c.carry_out.new.unit) (is_err c.carry_out.result) c.carry_out.ensures.held.cause (sym c.is_err.ensures.value ∙ c.if-is_err.false) (done-uncut c.args.action _ c.args.speed _ _ _ _ _ c.carry_out.ensures.done.action_done);
+  broke = uncut-broke _ _ (g.M.Medium.state c.args.unit.now) (g.M.Medium.state c.carry_out.new.unit) (is_err c.carry_out.result) c.carry_out.ensures.held.cause (sym c.is_err.ensures.value ∙ c.if-is_err.false) (done-uncut c.args.deed.action _ c.args.deed.speed _ _ _ _ _ c.carry_out.ensures.done.action_done);
   most = c.carry_out.ensures.goes.most;
 }

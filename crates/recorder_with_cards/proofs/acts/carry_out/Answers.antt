@@ -66,14 +66,14 @@ module _ (g : Over) (c : After-insert g) where
   abbrev behind-insert : Devices
   behind-insert = devices (g.M.Medium.state c.insert.new.unit) (g.C.Chip.state c.insert.new.card_a) (g.D.Chip.state c.insert.new.card_b)
 
-  by-insert : (P : Action → Moment → Type 0) → P (Insert c.in-Insert.slot c.in-Insert.card) c.moment-at.result → P c.args.action (moment_of c.args.begun c.args.run.now)
-  by-insert P = moved P c.args.action (Insert c.in-Insert.slot c.in-Insert.card) c.moment-at.result (moment_of c.args.begun c.args.run.now) c.in-Insert.is c.moment-at.ensures
+  by-insert : (P : Action → Moment → Type 0) → P (Insert c.in-Insert.slot c.in-Insert.card) c.moment-at.result → P c.args.deed.action (moment_of c.args.deed.begun c.args.run.now)
+  by-insert P = moved P c.args.deed.action (Insert c.in-Insert.slot c.in-Insert.card) c.moment-at.result (moment_of c.args.deed.begun c.args.run.now) c.in-Insert.is c.moment-at.ensures
 
   late-insert : c.moment-at.result.late ≡ false
   late-insert = ap (λ (m : Moment). m.late) c.moment-at.ensures
 
   room-insert : length c.args.outcome.now.marks.items + 3 * c.args.run.now.minutes.owing + MOST_OWED ≤ c.args.outcome.now.marks.room
-  room-insert = put-room c.args.run.now c.args.outcome.now (put_count c.args.action) 0 c.requires.lit (few-wait (c.args.run.now.next / 60) c.args.run.now (c.requires.going.lit (ap is_lit c.requires.lit))) c.requires.room
+  room-insert = put-room c.args.run.now c.args.outcome.now (put_count c.args.deed.action) 0 c.requires.lit (few-wait (c.args.run.now.next / 60) c.args.run.now (c.requires.going.lit (ap is_lit c.requires.lit))) c.requires.room
 
 module _ (g : Over) (c : After-withdraw g) where
   abbrev before-withdraw : Devices
@@ -82,8 +82,8 @@ module _ (g : Over) (c : After-withdraw g) where
   abbrev behind-withdraw : Devices
   behind-withdraw = devices (g.M.Medium.state c.withdraw.new.unit) (g.C.Chip.state c.withdraw.new.card_a) (g.D.Chip.state c.withdraw.new.card_b)
 
-  by-withdraw : (P : Action → Moment → Type 0) → P (Withdraw c.in-Withdraw.slot) c.moment-at.result → P c.args.action (moment_of c.args.begun c.args.run.now)
-  by-withdraw P = moved P c.args.action (Withdraw c.in-Withdraw.slot) c.moment-at.result (moment_of c.args.begun c.args.run.now) c.in-Withdraw.is c.moment-at.ensures
+  by-withdraw : (P : Action → Moment → Type 0) → P (Withdraw c.in-Withdraw.slot) c.moment-at.result → P c.args.deed.action (moment_of c.args.deed.begun c.args.run.now)
+  by-withdraw P = moved P c.args.deed.action (Withdraw c.in-Withdraw.slot) c.moment-at.result (moment_of c.args.deed.begun c.args.run.now) c.in-Withdraw.is c.moment-at.ensures
 
   late-withdraw : c.moment-at.result.late ≡ false
   late-withdraw = ap (λ (m : Moment). m.late) c.moment-at.ensures
@@ -95,8 +95,8 @@ module _ (g : Over) (c : After-note_place g) where
   abbrev behind-place : Devices
   behind-place = devices (g.M.Medium.state c.note_place.new.unit) (g.C.Chip.state c.note_place.new.card_a) (g.D.Chip.state c.note_place.new.card_b)
 
-  by-place : (P : Action → Moment → Type 0) → P (Place c.in-Place.slot c.in-Place.ending c.in-Place.country c.in-Place.region) c.moment-at.result → P c.args.action (moment_of c.args.begun c.args.run.now)
-  by-place P = moved P c.args.action (Place c.in-Place.slot c.in-Place.ending c.in-Place.country c.in-Place.region) c.moment-at.result (moment_of c.args.begun c.args.run.now) c.in-Place.is c.moment-at.ensures
+  by-place : (P : Action → Moment → Type 0) → P (Place c.in-Place.slot c.in-Place.ending c.in-Place.country c.in-Place.region) c.moment-at.result → P c.args.deed.action (moment_of c.args.deed.begun c.args.run.now)
+  by-place P = moved P c.args.deed.action (Place c.in-Place.slot c.in-Place.ending c.in-Place.country c.in-Place.region) c.moment-at.result (moment_of c.args.deed.begun c.args.run.now) c.in-Place.is c.moment-at.ensures
 
   late-place : c.moment-at.result.late ≡ false
   late-place = ap (λ (m : Moment). m.late) c.moment-at.ensures
@@ -113,8 +113,8 @@ module _ (g : Over) (c : After-pull g) where
   abbrev torn_card : Option Card
   torn_card = card_in (seat_in c.args.run.now.keeper.cabin.slots.seats c.in-Tear.slot)
 
-  by-tear : (P : Action → Run → Listed Break → Type 0) → P (Tear c.in-Tear.slot) (pulled_run torn_card c.args.run.now.next c.args.run.now) (with_lines (pulled_breaks torn_card c.in-Tear.slot (moment_of c.args.begun c.args.run.now)) c.args.outcome.now.breaks) →
-      P c.args.action c.pull.new.run c.pull.new.breaks
+  by-tear : (P : Action → Run → Listed Break → Type 0) → P (Tear c.in-Tear.slot) (pulled_run torn_card c.args.run.now.next c.args.run.now) (with_lines (pulled_breaks torn_card c.in-Tear.slot (moment_of c.args.deed.begun c.args.run.now)) c.args.outcome.now.breaks) →
+      P c.args.deed.action c.pull.new.run c.pull.new.breaks
   by-tear P h =
       let told = c.pull.ensures.breaks ∙ ap (λ (m : Moment). with_lines (pulled_breaks torn_card c.in-Tear.slot m) c.args.outcome.now.breaks) c.moment-at.ensures in
       let is = c.pull.ensures.run ∙ ap (λ (m : Moment). pulled_run torn_card m.second c.args.run.now) c.moment-at.ensures in
@@ -134,8 +134,8 @@ note_place-requires-clause-acting g c = record { lit = c.requires.lit; low = c.r
 pub insert-requires-clause-elsewhere : goal.insert-requires-clause-elsewhere
 insert-requires-clause-elsewhere g c =
     let seats = c.args.run.now.keeper.cabin.slots.seats in
-    insert-elsewhere seats c.in-Insert.slot c.in-Insert.card c.args.speed
-    (none-of-both c.args.run.now c.args.speed (Insert c.in-Insert.slot c.in-Insert.card) (subst (λ (a : Action). stopped_in c.args.run.now c.args.speed a ≡ None) c.in-Insert.is c.requires.allowed)).0
+    insert-elsewhere seats c.in-Insert.slot c.in-Insert.card c.args.deed.speed
+    (none-of-both c.args.run.now c.args.deed.speed (Insert c.in-Insert.slot c.in-Insert.card) (subst (λ (a : Action). stopped_in c.args.run.now c.args.deed.speed a ≡ None) c.in-Insert.is c.requires.allowed)).0
 
 pub returns-in-Select-clause-going : goal.returns-in-Select-clause-going
 returns-in-Select-clause-going g c =
@@ -147,7 +147,7 @@ returns-in-Select-clause-going g c =
 pub enter-requires : goal.enter-requires
 enter-requires g c =
     let here = Manual c.in-Manual.slot c.in-Manual.pick c.in-Manual.minute in
-    record { taken = (none-of-both c.args.run.now c.args.speed here (subst (λ (a : Action). stopped_in c.args.run.now c.args.speed a ≡ None) c.in-Manual.is c.requires.allowed)).1 }
+    record { taken = (none-of-both c.args.run.now c.args.deed.speed here (subst (λ (a : Action). stopped_in c.args.run.now c.args.deed.speed a ≡ None) c.in-Manual.is c.requires.allowed)).1 }
 
 module _ (g : Over) (c : After-enter g) where
   abbrev hand : HandEntry
@@ -161,7 +161,7 @@ module _ (g : Over) (c : After-enter g) where
   hand-stands from leaving s = subst (λ (r : Run). CabinIsSound from leaving r.keeper.cabin) c.enter.ensures.entered (c.enter.ensures.stands from leaving s)
 
   -- what is known of the run behind it
-  by-hand : (P : Action → Run → Type 0) → P (Manual c.in-Manual.slot c.in-Manual.pick c.in-Manual.minute) (entered_run c.in-Manual.slot c.in-Manual.pick c.in-Manual.minute c.args.run.now) → P c.args.action c.enter.new.run
+  by-hand : (P : Action → Run → Type 0) → P (Manual c.in-Manual.slot c.in-Manual.pick c.in-Manual.minute) (entered_run c.in-Manual.slot c.in-Manual.pick c.in-Manual.minute c.args.run.now) → P c.args.deed.action c.enter.new.run
   by-hand P h = subst (λ (a : Action). P a c.enter.new.run) (sym c.in-Manual.is) (subst (λ (r : Run). P (Manual c.in-Manual.slot c.in-Manual.pick c.in-Manual.minute) r) (sym c.enter.ensures.entered) h)
 
 pub returns-in-Manual-clause-going : goal.returns-in-Manual-clause-going
@@ -221,7 +221,7 @@ returns-in-Manual-clause-still g c = λ none. (refl, refl, refl)
 
 pub returns-in-Insert-clause-done : goal.returns-in-Insert-clause-done
 returns-in-Insert-clause-done g c = record {
-  action_done = by-insert g c (λ a m. IsDone a m c.args.speed (is_err c.insert.result) c.args.run.now c.insert.new.run c.args.outcome.now c.insert.new.outcome) c.insert.ensures.inserted.enters;
+  action_done = by-insert g c (λ a m. IsDone a m c.args.deed.speed (is_err c.insert.result) c.args.run.now c.insert.new.run c.args.outcome.now c.insert.new.outcome) c.insert.ensures.inserted.enters;
   selected = subst (λ (a : Action). IsSelected a c.args.run.now c.insert.new.run) (sym c.in-Insert.is) tt;
   fine = subst (λ (a : Action). IsFine a (is_err c.insert.result)) (sym c.in-Insert.is) tt;
   stays =
@@ -232,16 +232,16 @@ returns-in-Insert-clause-done g c = record {
 
 pub returns-in-Insert-clause-promises : goal.returns-in-Insert-clause-promises
 returns-in-Insert-clause-promises g c = record {
-  recorded = by-insert g c (λ a m. RecordsAction a m.begun c.args.speed (is_err c.insert.result) c.args.run.now c.insert.new.run c.args.outcome.now c.insert.new.outcome (before-insert g c) (behind-insert g c)) (c.insert.ensures.promises.recorded (late-insert g c) (room-insert g c));
-  evented = by-insert g c (λ a m. EventsAction a m.begun c.args.speed (is_err c.insert.result) c.args.run.now c.insert.new.run c.args.outcome.now c.insert.new.outcome (before-insert g c) (behind-insert g c)) (c.insert.ensures.promises.evented (late-insert g c) (room-insert g c));
-  ringed = by-insert g c (λ a m. RingsAction a m.begun c.args.speed (is_err c.insert.result) c.args.run.now c.insert.new.run c.args.outcome.now c.insert.new.outcome (before-insert g c) (behind-insert g c)) (c.insert.ensures.promises.ringed (late-insert g c) (room-insert g c));
-  cards = by-insert g c (λ a m. CardsAction a m.begun c.args.speed (is_err c.insert.result) c.args.run.now c.args.outcome.now c.insert.new.outcome (before-insert g c) (behind-insert g c)) (c.insert.ensures.promises.cards (late-insert g c) (room-insert g c));
+  recorded = by-insert g c (λ a m. RecordsAction a m.begun c.args.deed.speed (is_err c.insert.result) c.args.run.now c.insert.new.run c.args.outcome.now c.insert.new.outcome (before-insert g c) (behind-insert g c)) (c.insert.ensures.promises.recorded (late-insert g c) (room-insert g c));
+  evented = by-insert g c (λ a m. EventsAction a m.begun c.args.deed.speed (is_err c.insert.result) c.args.run.now c.insert.new.run c.args.outcome.now c.insert.new.outcome (before-insert g c) (behind-insert g c)) (c.insert.ensures.promises.evented (late-insert g c) (room-insert g c));
+  ringed = by-insert g c (λ a m. RingsAction a m.begun c.args.deed.speed (is_err c.insert.result) c.args.run.now c.insert.new.run c.args.outcome.now c.insert.new.outcome (before-insert g c) (behind-insert g c)) (c.insert.ensures.promises.ringed (late-insert g c) (room-insert g c));
+  cards = by-insert g c (λ a m. CardsAction a m.begun c.args.deed.speed (is_err c.insert.result) c.args.run.now c.args.outcome.now c.insert.new.outcome (before-insert g c) (behind-insert g c)) (c.insert.ensures.promises.cards (late-insert g c) (room-insert g c));
 }
 
 pub returns-in-Insert-clause-leaves : goal.returns-in-Insert-clause-leaves
 returns-in-Insert-clause-leaves g c = record {
-  events = by-insert g c (λ a m. NotesDone a m c.args.speed (is_err c.insert.result) c.args.run.now c.insert.new.run c.args.outcome.now c.insert.new.outcome (before-insert g c) (behind-insert g c)) c.insert.ensures.leaves.noted;
-  rings = λ tells. by-insert g c (λ a m. RingsDone a m c.args.speed (is_err c.insert.result) c.args.run.now c.insert.new.run c.args.outcome.now c.insert.new.outcome (g.M.Medium.state c.args.unit.now) (g.M.Medium.state c.insert.new.unit)) (c.insert.ensures.leaves.rings tells);
+  events = by-insert g c (λ a m. NotesDone a m c.args.deed.speed (is_err c.insert.result) c.args.run.now c.insert.new.run c.args.outcome.now c.insert.new.outcome (before-insert g c) (behind-insert g c)) c.insert.ensures.leaves.noted;
+  rings = λ tells. by-insert g c (λ a m. RingsDone a m c.args.deed.speed (is_err c.insert.result) c.args.run.now c.insert.new.run c.args.outcome.now c.insert.new.outcome (g.M.Medium.state c.args.unit.now) (g.M.Medium.state c.insert.new.unit)) (c.insert.ensures.leaves.rings tells);
 }
 
 pub returns-in-Insert-clause-held : goal.returns-in-Insert-clause-held
@@ -254,13 +254,13 @@ pub returns-in-Insert-clause-goes : goal.returns-in-Insert-clause-goes
 returns-in-Insert-clause-goes g c = record {
   later = c.insert.ensures.goes.later;
   calm = c.insert.ensures.goes.calm;
-  more = inserted-more c.in-Insert.slot c.in-Insert.card c.moment-at.result c.args.speed (is_err c.insert.result) c.args.run.now c.insert.new.run c.args.outcome.now c.insert.new.outcome c.insert.ensures.inserted.enters;
+  more = inserted-more c.in-Insert.slot c.in-Insert.card c.moment-at.result c.args.deed.speed (is_err c.insert.result) c.args.run.now c.insert.new.run c.args.outcome.now c.insert.new.outcome c.insert.ensures.inserted.enters;
   most = writes-act _ _ c.insert.ensures.goes.most;
 }
 
 pub returns-in-Withdraw-clause-done : goal.returns-in-Withdraw-clause-done
 returns-in-Withdraw-clause-done g c = record {
-  action_done = by-withdraw g c (λ a m. IsDone a m c.args.speed (is_err c.withdraw.result) c.args.run.now c.withdraw.new.run c.args.outcome.now c.withdraw.new.outcome) c.withdraw.ensures.withdrawn.card;
+  action_done = by-withdraw g c (λ a m. IsDone a m c.args.deed.speed (is_err c.withdraw.result) c.args.run.now c.withdraw.new.run c.args.outcome.now c.withdraw.new.outcome) c.withdraw.ensures.withdrawn.card;
   selected = subst (λ (a : Action). IsSelected a c.args.run.now c.withdraw.new.run) (sym c.in-Withdraw.is) tt;
   fine = subst (λ (a : Action). IsFine a (is_err c.withdraw.result)) (sym c.in-Withdraw.is) tt;
   stays =
@@ -271,16 +271,16 @@ returns-in-Withdraw-clause-done g c = record {
 
 pub returns-in-Withdraw-clause-promises : goal.returns-in-Withdraw-clause-promises
 returns-in-Withdraw-clause-promises g c = record {
-  recorded = by-withdraw g c (λ a m. RecordsAction a m.begun c.args.speed (is_err c.withdraw.result) c.args.run.now c.withdraw.new.run c.args.outcome.now c.withdraw.new.outcome (before-withdraw g c) (behind-withdraw g c)) (c.withdraw.ensures.promises.recorded (late-withdraw g c) c.args.speed);
-  evented = by-withdraw g c (λ a m. EventsAction a m.begun c.args.speed (is_err c.withdraw.result) c.args.run.now c.withdraw.new.run c.args.outcome.now c.withdraw.new.outcome (before-withdraw g c) (behind-withdraw g c)) (c.withdraw.ensures.promises.evented (late-withdraw g c) c.args.speed);
-  ringed = by-withdraw g c (λ a m. RingsAction a m.begun c.args.speed (is_err c.withdraw.result) c.args.run.now c.withdraw.new.run c.args.outcome.now c.withdraw.new.outcome (before-withdraw g c) (behind-withdraw g c)) (c.withdraw.ensures.promises.ringed (late-withdraw g c) c.args.speed);
-  cards = by-withdraw g c (λ a m. CardsAction a m.begun c.args.speed (is_err c.withdraw.result) c.args.run.now c.args.outcome.now c.withdraw.new.outcome (before-withdraw g c) (behind-withdraw g c)) (c.withdraw.ensures.promises.cards (late-withdraw g c) c.args.speed);
+  recorded = by-withdraw g c (λ a m. RecordsAction a m.begun c.args.deed.speed (is_err c.withdraw.result) c.args.run.now c.withdraw.new.run c.args.outcome.now c.withdraw.new.outcome (before-withdraw g c) (behind-withdraw g c)) (c.withdraw.ensures.promises.recorded (late-withdraw g c) c.args.deed.speed);
+  evented = by-withdraw g c (λ a m. EventsAction a m.begun c.args.deed.speed (is_err c.withdraw.result) c.args.run.now c.withdraw.new.run c.args.outcome.now c.withdraw.new.outcome (before-withdraw g c) (behind-withdraw g c)) (c.withdraw.ensures.promises.evented (late-withdraw g c) c.args.deed.speed);
+  ringed = by-withdraw g c (λ a m. RingsAction a m.begun c.args.deed.speed (is_err c.withdraw.result) c.args.run.now c.withdraw.new.run c.args.outcome.now c.withdraw.new.outcome (before-withdraw g c) (behind-withdraw g c)) (c.withdraw.ensures.promises.ringed (late-withdraw g c) c.args.deed.speed);
+  cards = by-withdraw g c (λ a m. CardsAction a m.begun c.args.deed.speed (is_err c.withdraw.result) c.args.run.now c.args.outcome.now c.withdraw.new.outcome (before-withdraw g c) (behind-withdraw g c)) (c.withdraw.ensures.promises.cards (late-withdraw g c) c.args.deed.speed);
 }
 
 pub returns-in-Withdraw-clause-leaves : goal.returns-in-Withdraw-clause-leaves
 returns-in-Withdraw-clause-leaves g c = record {
-  events = by-withdraw g c (λ a m. NotesDone a m c.args.speed (is_err c.withdraw.result) c.args.run.now c.withdraw.new.run c.args.outcome.now c.withdraw.new.outcome (before-withdraw g c) (behind-withdraw g c)) c.withdraw.ensures.leaves.events;
-  rings = λ tells. by-withdraw g c (λ a m. RingsDone a m c.args.speed (is_err c.withdraw.result) c.args.run.now c.withdraw.new.run c.args.outcome.now c.withdraw.new.outcome (g.M.Medium.state c.args.unit.now) (g.M.Medium.state c.withdraw.new.unit)) (c.withdraw.ensures.leaves.rings tells);
+  events = by-withdraw g c (λ a m. NotesDone a m c.args.deed.speed (is_err c.withdraw.result) c.args.run.now c.withdraw.new.run c.args.outcome.now c.withdraw.new.outcome (before-withdraw g c) (behind-withdraw g c)) c.withdraw.ensures.leaves.events;
+  rings = λ tells. by-withdraw g c (λ a m. RingsDone a m c.args.deed.speed (is_err c.withdraw.result) c.args.run.now c.withdraw.new.run c.args.outcome.now c.withdraw.new.outcome (g.M.Medium.state c.args.unit.now) (g.M.Medium.state c.withdraw.new.unit)) (c.withdraw.ensures.leaves.rings tells);
 }
 
 pub returns-in-Withdraw-clause-held : goal.returns-in-Withdraw-clause-held
@@ -299,7 +299,7 @@ returns-in-Withdraw-clause-goes g c = record {
 
 pub returns-in-Place-clause-done : goal.returns-in-Place-clause-done
 returns-in-Place-clause-done g c = record {
-  action_done = by-place g c (λ a m. IsDone a m c.args.speed (is_err c.note_place.result) c.args.run.now c.note_place.new.run c.args.outcome.now (record c.args.outcome.now { breaks = c.note_place.new.breaks })) (c.note_place.ensures.placed.card.0, c.note_place.ensures.placed.card.1, refl);
+  action_done = by-place g c (λ a m. IsDone a m c.args.deed.speed (is_err c.note_place.result) c.args.run.now c.note_place.new.run c.args.outcome.now (record c.args.outcome.now { breaks = c.note_place.new.breaks })) (c.note_place.ensures.placed.card.0, c.note_place.ensures.placed.card.1, refl);
   selected = subst (λ (a : Action). IsSelected a c.args.run.now c.note_place.new.run) (sym c.in-Place.is) tt;
   fine = subst (λ (a : Action). IsFine a (is_err c.note_place.result)) (sym c.in-Place.is) tt;
   stays =
@@ -310,20 +310,20 @@ returns-in-Place-clause-done g c = record {
 
 pub returns-in-Place-clause-promises : goal.returns-in-Place-clause-promises
 returns-in-Place-clause-promises g c = record {
-  recorded = by-place g c (λ a m. RecordsAction a m.begun c.args.speed (is_err c.note_place.result) c.args.run.now c.note_place.new.run c.args.outcome.now (record c.args.outcome.now { breaks = c.note_place.new.breaks }) (before-place g c) (behind-place g c)) (c.note_place.ensures.promises.recorded (late-place g c) c.in-Place.ending c.in-Place.country c.in-Place.region c.args.speed c.args.outcome.now refl);
-  evented = by-place g c (λ a m. EventsAction a m.begun c.args.speed (is_err c.note_place.result) c.args.run.now c.note_place.new.run c.args.outcome.now (record c.args.outcome.now { breaks = c.note_place.new.breaks }) (before-place g c) (behind-place g c)) (c.note_place.ensures.promises.evented (late-place g c) c.in-Place.ending c.in-Place.country c.in-Place.region c.args.speed c.args.outcome.now refl);
+  recorded = by-place g c (λ a m. RecordsAction a m.begun c.args.deed.speed (is_err c.note_place.result) c.args.run.now c.note_place.new.run c.args.outcome.now (record c.args.outcome.now { breaks = c.note_place.new.breaks }) (before-place g c) (behind-place g c)) (c.note_place.ensures.promises.recorded (late-place g c) c.in-Place.ending c.in-Place.country c.in-Place.region c.args.deed.speed c.args.outcome.now refl);
+  evented = by-place g c (λ a m. EventsAction a m.begun c.args.deed.speed (is_err c.note_place.result) c.args.run.now c.note_place.new.run c.args.outcome.now (record c.args.outcome.now { breaks = c.note_place.new.breaks }) (before-place g c) (behind-place g c)) (c.note_place.ensures.promises.evented (late-place g c) c.in-Place.ending c.in-Place.country c.in-Place.region c.args.deed.speed c.args.outcome.now refl);
   ringed =
-      by-place g c (λ a m. RingsAction a m.begun c.args.speed (is_err c.note_place.result) c.args.run.now c.note_place.new.run c.args.outcome.now (record c.args.outcome.now { breaks = c.note_place.new.breaks }) (before-place g c) (behind-place g c))
-      (c.note_place.ensures.promises.ringed c.in-Place.ending c.in-Place.country c.in-Place.region (place-now g c) (late-place g c) c.args.speed c.args.outcome.now refl);
-  cards = by-place g c (λ a m. CardsAction a m.begun c.args.speed (is_err c.note_place.result) c.args.run.now c.args.outcome.now (record c.args.outcome.now { breaks = c.note_place.new.breaks }) (before-place g c) (behind-place g c)) (c.note_place.ensures.promises.cards (late-place g c) c.in-Place.ending c.in-Place.country c.in-Place.region c.args.speed c.args.outcome.now refl);
+      by-place g c (λ a m. RingsAction a m.begun c.args.deed.speed (is_err c.note_place.result) c.args.run.now c.note_place.new.run c.args.outcome.now (record c.args.outcome.now { breaks = c.note_place.new.breaks }) (before-place g c) (behind-place g c))
+      (c.note_place.ensures.promises.ringed c.in-Place.ending c.in-Place.country c.in-Place.region (place-now g c) (late-place g c) c.args.deed.speed c.args.outcome.now refl);
+  cards = by-place g c (λ a m. CardsAction a m.begun c.args.deed.speed (is_err c.note_place.result) c.args.run.now c.args.outcome.now (record c.args.outcome.now { breaks = c.note_place.new.breaks }) (before-place g c) (behind-place g c)) (c.note_place.ensures.promises.cards (late-place g c) c.in-Place.ending c.in-Place.country c.in-Place.region c.args.deed.speed c.args.outcome.now refl);
 }
 
 pub returns-in-Place-clause-leaves : goal.returns-in-Place-clause-leaves
 returns-in-Place-clause-leaves g c = record {
-  events = by-place g c (λ a m. NotesDone a m c.args.speed (is_err c.note_place.result) c.args.run.now c.note_place.new.run c.args.outcome.now (record c.args.outcome.now { breaks = c.note_place.new.breaks }) (before-place g c) (behind-place g c)) c.note_place.ensures.leaves.events;
+  events = by-place g c (λ a m. NotesDone a m c.args.deed.speed (is_err c.note_place.result) c.args.run.now c.note_place.new.run c.args.outcome.now (record c.args.outcome.now { breaks = c.note_place.new.breaks }) (before-place g c) (behind-place g c)) c.note_place.ensures.leaves.events;
   rings =
       λ tells.
-      subst (λ (a : Action). RingsDone a (moment_of c.args.begun c.args.run.now) c.args.speed (is_err c.note_place.result) c.args.run.now c.note_place.new.run c.args.outcome.now (record c.args.outcome.now { breaks = c.note_place.new.breaks }) (g.M.Medium.state c.args.unit.now) (g.M.Medium.state c.note_place.new.unit))
+      subst (λ (a : Action). RingsDone a (moment_of c.args.deed.begun c.args.run.now) c.args.deed.speed (is_err c.note_place.result) c.args.run.now c.note_place.new.run c.args.outcome.now (record c.args.outcome.now { breaks = c.note_place.new.breaks }) (g.M.Medium.state c.args.unit.now) (g.M.Medium.state c.note_place.new.unit))
       (sym c.in-Place.is) (c.place-entry.result, place-now g c, c.note_place.ensures.leaves.rings tells);
 }
 
@@ -346,7 +346,7 @@ returns-in-Select-clause-done g c = record {
   action_done =
       let run = c.args.run.now in
       let o = c.args.outcome.now in
-      subst (λ (a : Action). IsDone a (moment_of c.args.begun run) c.args.speed false run (record run { minutes = c.select.new.self }) o o) (sym c.in-Select.is) (refl, (refl, c.select.ensures.picked), refl);
+      subst (λ (a : Action). IsDone a (moment_of c.args.deed.begun run) c.args.deed.speed false run (record run { minutes = c.select.new.self }) o o) (sym c.in-Select.is) (refl, (refl, c.select.ensures.picked), refl);
   selected = subst (λ (a : Action). IsSelected a c.args.run.now (record c.args.run.now { minutes = c.select.new.self })) (sym c.in-Select.is) (refl, c.select.ensures.picked);
   fine = subst (λ (a : Action). IsFine a false) (sym c.in-Select.is) refl;
   stays = record { power = refl; next = refl; begun = refl; unfound = refl };
@@ -362,19 +362,19 @@ returns-in-Select-clause-promises g c = record {
       let new : Run = record run { minutes = c.select.new.self } in
       let d : Devices = devices (g.M.Medium.state c.args.unit.now) (g.C.Chip.state c.args.card_a.now) (g.D.Chip.state c.args.card_b.now) in
       subst (λ (n : ℕ). RunGoesOn o done s (In n) [] new out d h.within.b) (sym begun)
-      (selected o done s c.args.speed run out d now front c.args.action rest are h c.in-Select.slot c.in-Select.pick c.in-Select.is allowed new (refl, c.select.ensures.picked));
+      (selected o done s c.args.deed.speed run out d now front c.args.deed.action rest are h c.in-Select.slot c.in-Select.pick c.in-Select.is allowed new (refl, c.select.ensures.picked));
   evented = λ o done s now front rest are begun allowed h events time. events;
   ringed =
       let run = c.args.run.now in
       let o = c.args.outcome.now in
       let d : Devices = devices (g.M.Medium.state c.args.unit.now) (g.C.Chip.state c.args.card_a.now) (g.D.Chip.state c.args.card_b.now) in
-      subst (λ (a : Action). RingsAction a c.args.begun c.args.speed false run (record run { minutes = c.select.new.self }) o o d d) (sym c.in-Select.is)
-      (selected-ringed d c.in-Select.slot c.in-Select.pick c.args.begun c.args.speed run c.select.new.self o);
+      subst (λ (a : Action). RingsAction a c.args.deed.begun c.args.deed.speed false run (record run { minutes = c.select.new.self }) o o d d) (sym c.in-Select.is)
+      (selected-ringed d c.in-Select.slot c.in-Select.pick c.args.deed.begun c.args.deed.speed run c.select.new.self o);
   cards =
       let run = c.args.run.now in
       let o = c.args.outcome.now in
       let d : Devices = devices (g.M.Medium.state c.args.unit.now) (g.C.Chip.state c.args.card_a.now) (g.D.Chip.state c.args.card_b.now) in
-      subst (λ (a : Action). CardsAction a c.args.begun c.args.speed false run o o d d) (sym c.in-Select.is) (selected-cards d c.in-Select.slot c.in-Select.pick c.args.begun c.args.speed run o);
+      subst (λ (a : Action). CardsAction a c.args.deed.begun c.args.deed.speed false run o o d d) (sym c.in-Select.is) (selected-cards d c.in-Select.slot c.in-Select.pick c.args.deed.begun c.args.deed.speed run o);
 }
 
 pub returns-in-Select-clause-leaves : goal.returns-in-Select-clause-leaves
@@ -383,14 +383,14 @@ returns-in-Select-clause-leaves g c = record {
       let run = c.args.run.now in
       let o = c.args.outcome.now in
       let d = devices (g.M.Medium.state c.args.unit.now) (g.C.Chip.state c.args.card_a.now) (g.D.Chip.state c.args.card_b.now) in
-      subst (λ (a : Action). NotesDone a (moment_of c.args.begun run) c.args.speed false run (record run { minutes = c.select.new.self }) o o d d) (sym c.in-Select.is)
+      subst (λ (a : Action). NotesDone a (moment_of c.args.deed.begun run) c.args.deed.speed false run (record run { minutes = c.select.new.self }) o o d d) (sym c.in-Select.is)
       (same-noted (g.M.Medium.state c.args.unit.now) (g.C.Chip.state c.args.card_a.now) (g.D.Chip.state c.args.card_b.now));
   rings =
       λ tells.
       let run = c.args.run.now in
       let o = c.args.outcome.now in
       let U = g.M.Medium.state c.args.unit.now in
-      subst (λ (a : Action). RingsDone a (moment_of c.args.begun run) c.args.speed false run (record run { minutes = c.select.new.self }) o o U U) (sym c.in-Select.is) (rings-left U);
+      subst (λ (a : Action). RingsDone a (moment_of c.args.deed.begun run) c.args.deed.speed false run (record run { minutes = c.select.new.self }) o o U U) (sym c.in-Select.is) (rings-left U);
 }
 
 pub returns-in-Select-clause-held : goal.returns-in-Select-clause-held
@@ -414,7 +414,7 @@ returns-in-Manual-clause-done g c = record {
   action_done =
       let run = c.args.run.now in
       let o = c.args.outcome.now in
-      by-hand g c (λ a r. IsDone a (moment_of c.args.begun run) c.args.speed false run r o o) (refl, refl, refl);
+      by-hand g c (λ a r. IsDone a (moment_of c.args.deed.begun run) c.args.deed.speed false run r o o) (refl, refl, refl);
   selected = by-hand g c (λ a r. IsSelected a c.args.run.now r) tt;
   fine = subst (λ (a : Action). IsFine a false) (sym c.in-Manual.is) refl;
   stays = by-hand g c (λ a r. StaysIn c.args.run.now r) (record { power = refl; next = refl; begun = refl; unfound = refl });
@@ -428,20 +428,20 @@ returns-in-Manual-clause-promises g c = record {
       let run = c.args.run.now in
       let out = c.args.outcome.now in
       let d : Devices = devices (g.M.Medium.state c.args.unit.now) (g.C.Chip.state c.args.card_a.now) (g.D.Chip.state c.args.card_b.now) in
-      subst (λ (r : Run). RunGoesOn o done s (In c.args.begun) [] r out d h.within.b) (sym c.enter.ensures.entered)
+      subst (λ (r : Run). RunGoesOn o done s (In c.args.deed.begun) [] r out d h.within.b) (sym c.enter.ensures.entered)
       (subst (λ (n : ℕ). RunGoesOn o done s (In n) [] (entered_run c.in-Manual.slot c.in-Manual.pick c.in-Manual.minute run) out d h.within.b) (sym begun)
-      (entered o done s c.args.speed run out d now front c.args.action rest are h c.in-Manual.slot c.in-Manual.pick c.in-Manual.minute c.in-Manual.is c.requires.allowed));
+      (entered o done s c.args.deed.speed run out d now front c.args.deed.action rest are h c.in-Manual.slot c.in-Manual.pick c.in-Manual.minute c.in-Manual.is c.requires.allowed));
   evented = λ o done s now front rest are begun allowed h events time. events;
   ringed =
       let run = c.args.run.now in
       let o = c.args.outcome.now in
       let d : Devices = devices (g.M.Medium.state c.args.unit.now) (g.C.Chip.state c.args.card_a.now) (g.D.Chip.state c.args.card_b.now) in
-      by-hand g c (λ a r. RingsAction a c.args.begun c.args.speed false run r o o d d) (hand-ringed d c.in-Manual.slot c.in-Manual.pick c.in-Manual.minute c.args.begun c.args.speed run o);
+      by-hand g c (λ a r. RingsAction a c.args.deed.begun c.args.deed.speed false run r o o d d) (hand-ringed d c.in-Manual.slot c.in-Manual.pick c.in-Manual.minute c.args.deed.begun c.args.deed.speed run o);
   cards =
       let run = c.args.run.now in
       let o = c.args.outcome.now in
       let d : Devices = devices (g.M.Medium.state c.args.unit.now) (g.C.Chip.state c.args.card_a.now) (g.D.Chip.state c.args.card_b.now) in
-      subst (λ (a : Action). CardsAction a c.args.begun c.args.speed false run o o d d) (sym c.in-Manual.is) (hand-cards d c.in-Manual.slot c.in-Manual.pick c.in-Manual.minute c.args.begun c.args.speed run o);
+      subst (λ (a : Action). CardsAction a c.args.deed.begun c.args.deed.speed false run o o d d) (sym c.in-Manual.is) (hand-cards d c.in-Manual.slot c.in-Manual.pick c.in-Manual.minute c.args.deed.begun c.args.deed.speed run o);
 }
 
 pub returns-in-Manual-clause-leaves : goal.returns-in-Manual-clause-leaves
@@ -450,14 +450,14 @@ returns-in-Manual-clause-leaves g c = record {
       let run = c.args.run.now in
       let o = c.args.outcome.now in
       let d = devices (g.M.Medium.state c.args.unit.now) (g.C.Chip.state c.args.card_a.now) (g.D.Chip.state c.args.card_b.now) in
-      by-hand g c (λ a r. NotesDone a (moment_of c.args.begun run) c.args.speed false run r o o d d)
+      by-hand g c (λ a r. NotesDone a (moment_of c.args.deed.begun run) c.args.deed.speed false run r o o d d)
       (same-noted (g.M.Medium.state c.args.unit.now) (g.C.Chip.state c.args.card_a.now) (g.D.Chip.state c.args.card_b.now));
   rings =
       λ tells.
       let run = c.args.run.now in
       let o = c.args.outcome.now in
       let U = g.M.Medium.state c.args.unit.now in
-      by-hand g c (λ a r. RingsDone a (moment_of c.args.begun run) c.args.speed false run r o o U U) (rings-left U);
+      by-hand g c (λ a r. RingsDone a (moment_of c.args.deed.begun run) c.args.deed.speed false run r o o U U) (rings-left U);
 }
 
 pub returns-in-Manual-clause-held : goal.returns-in-Manual-clause-held
@@ -481,8 +481,8 @@ returns-in-Tear-clause-done g c = record {
   action_done =
       let run = c.args.run.now in
       let o = c.args.outcome.now in
-      subst (λ (a : Action). IsDone a (moment_of c.args.begun run) c.args.speed false run c.pull.new.run o (record o { breaks = c.pull.new.breaks })) (sym c.in-Tear.is)
-      (subst (λ (m : Moment). IsDone (Tear c.in-Tear.slot) m c.args.speed false run c.pull.new.run o (record o { breaks = c.pull.new.breaks })) c.moment-at.ensures
+      subst (λ (a : Action). IsDone a (moment_of c.args.deed.begun run) c.args.deed.speed false run c.pull.new.run o (record o { breaks = c.pull.new.breaks })) (sym c.in-Tear.is)
+      (subst (λ (m : Moment). IsDone (Tear c.in-Tear.slot) m c.args.deed.speed false run c.pull.new.run o (record o { breaks = c.pull.new.breaks })) c.moment-at.ensures
       (refl, c.pull.ensures.run, ap (λ (l : Listed Break). record o { breaks = l }) c.pull.ensures.breaks));
   selected = subst (λ (a : Action). IsSelected a c.args.run.now c.pull.new.run) (sym c.in-Tear.is) tt;
   fine = subst (λ (a : Action). IsFine a false) (sym c.in-Tear.is) tt;
@@ -494,10 +494,10 @@ returns-in-Tear-clause-done g c = record {
 
 pub returns-in-Tear-clause-promises : goal.returns-in-Tear-clause-promises
 returns-in-Tear-clause-promises g c = record {
-  recorded = by-tear g c (λ a r l. RecordsAction a c.args.begun c.args.speed false c.args.run.now r c.args.outcome.now (record c.args.outcome.now { breaks = l }) (torn g c) (torn g c)) (pulled-recorded (torn g c) c.in-Tear.slot c.args.begun c.args.speed c.args.run.now c.args.outcome.now _ (c.requires.going.lit (ap is_lit c.requires.lit)).cabin);
-  evented = by-tear g c (λ a r l. EventsAction a c.args.begun c.args.speed false c.args.run.now r c.args.outcome.now (record c.args.outcome.now { breaks = l }) (torn g c) (torn g c)) (pulled-evented (torn g c) c.in-Tear.slot c.args.begun c.args.speed c.args.run.now c.args.outcome.now);
-  ringed = by-tear g c (λ a r l. RingsAction a c.args.begun c.args.speed false c.args.run.now r c.args.outcome.now (record c.args.outcome.now { breaks = l }) (torn g c) (torn g c)) (pulled-ringed (torn g c) c.in-Tear.slot c.args.begun c.args.speed c.args.run.now c.args.outcome.now);
-  cards = by-tear g c (λ a r l. CardsAction a c.args.begun c.args.speed false c.args.run.now c.args.outcome.now (record c.args.outcome.now { breaks = l }) (torn g c) (torn g c)) (pulled-cards (torn g c) c.in-Tear.slot c.args.begun c.args.speed c.args.run.now c.args.outcome.now);
+  recorded = by-tear g c (λ a r l. RecordsAction a c.args.deed.begun c.args.deed.speed false c.args.run.now r c.args.outcome.now (record c.args.outcome.now { breaks = l }) (torn g c) (torn g c)) (pulled-recorded (torn g c) c.in-Tear.slot c.args.deed.begun c.args.deed.speed c.args.run.now c.args.outcome.now _ (c.requires.going.lit (ap is_lit c.requires.lit)).cabin);
+  evented = by-tear g c (λ a r l. EventsAction a c.args.deed.begun c.args.deed.speed false c.args.run.now r c.args.outcome.now (record c.args.outcome.now { breaks = l }) (torn g c) (torn g c)) (pulled-evented (torn g c) c.in-Tear.slot c.args.deed.begun c.args.deed.speed c.args.run.now c.args.outcome.now);
+  ringed = by-tear g c (λ a r l. RingsAction a c.args.deed.begun c.args.deed.speed false c.args.run.now r c.args.outcome.now (record c.args.outcome.now { breaks = l }) (torn g c) (torn g c)) (pulled-ringed (torn g c) c.in-Tear.slot c.args.deed.begun c.args.deed.speed c.args.run.now c.args.outcome.now);
+  cards = by-tear g c (λ a r l. CardsAction a c.args.deed.begun c.args.deed.speed false c.args.run.now c.args.outcome.now (record c.args.outcome.now { breaks = l }) (torn g c) (torn g c)) (pulled-cards (torn g c) c.in-Tear.slot c.args.deed.begun c.args.deed.speed c.args.run.now c.args.outcome.now);
 }
 
 pub returns-in-Tear-clause-leaves : goal.returns-in-Tear-clause-leaves
@@ -506,14 +506,14 @@ returns-in-Tear-clause-leaves g c = record {
       let run = c.args.run.now in
       let o = c.args.outcome.now in
       let d = devices (g.M.Medium.state c.args.unit.now) (g.C.Chip.state c.args.card_a.now) (g.D.Chip.state c.args.card_b.now) in
-      subst (λ (a : Action). NotesDone a (moment_of c.args.begun run) c.args.speed false run c.pull.new.run o (record o { breaks = c.pull.new.breaks }) d d) (sym c.in-Tear.is)
+      subst (λ (a : Action). NotesDone a (moment_of c.args.deed.begun run) c.args.deed.speed false run c.pull.new.run o (record o { breaks = c.pull.new.breaks }) d d) (sym c.in-Tear.is)
       (same-noted (g.M.Medium.state c.args.unit.now) (g.C.Chip.state c.args.card_a.now) (g.D.Chip.state c.args.card_b.now));
   rings =
       λ tells.
       let run = c.args.run.now in
       let o = c.args.outcome.now in
       let U = g.M.Medium.state c.args.unit.now in
-      subst (λ (a : Action). RingsDone a (moment_of c.args.begun run) c.args.speed false run c.pull.new.run o (record o { breaks = c.pull.new.breaks }) U U) (sym c.in-Tear.is) (rings-left U);
+      subst (λ (a : Action). RingsDone a (moment_of c.args.deed.begun run) c.args.deed.speed false run c.pull.new.run o (record o { breaks = c.pull.new.breaks }) U U) (sym c.in-Tear.is) (rings-left U);
 }
 
 pub returns-in-Tear-clause-held : goal.returns-in-Tear-clause-held

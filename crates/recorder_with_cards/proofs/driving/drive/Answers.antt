@@ -60,24 +60,24 @@ module _ (g : Over) (c : After-drive_on g) where
   dev4 = devices (g.M.Medium.state c.drive_on.new.unit) (g.C.Chip.state c.drive_on.new.card_a) (g.D.Chip.state c.drive_on.new.card_b)
 
   abbrev acts : List Action
-  acts = actions_in (between c.args.from c.args.to c.args.items.now)
+  acts = actions_in (between c.args.due.from c.args.due.to c.args.due.items.now)
 
   abbrev second : TraceSecond
-  second = record { number = c.args.run.now.next; has_power = true; speed = c.args.speed; actions = acts }
+  second = record { number = c.args.run.now.next; has_power = true; speed = c.args.due.speed; actions = acts }
 
   begun-next : c.begin_second.new.run.next ≡ c.args.run.now.next
   begun-next = c.in_ok-has_power.ensures.begun.next
 
-  now-begun : IsNow second c.args.speed c.begin_second.new.run
+  now-begun : IsNow second c.args.due.speed c.begin_second.new.run
   now-begun = record { number = sym begun-next; given = refl; speed_is = refl }
 
-  now-acted : IsNow second c.args.speed c.act_all.new.run
+  now-acted : IsNow second c.args.due.speed c.act_all.new.run
   now-acted = record { number = sym begun-next ∙ sym c.act_all.ensures.acted.next; given = refl; speed_is = refl }
 
   later-by-one : c.turn.new.run.next ≡ c.args.run.now.next + 1
   later-by-one = c.turn.ensures.turned.next ∙ ap (λ (n : ℕ). n + 1) (c.act_all.ensures.acted.next ∙ begun-next)
 
-  begun-all : length acts ≡ c.args.to - c.args.from → c.args.to - c.args.from ≤ largest_number → c.number_of-begun.result ≡ c.args.to - c.args.from
+  begun-all : length acts ≡ c.args.due.to - c.args.due.from → c.args.due.to - c.args.due.from ≤ largest_number → c.number_of-begun.result ≡ c.args.due.to - c.args.due.from
   begun-all many few = let n = c.number_of-begun.ensures in omega (arith, n, few)
 
   time-three : HaveTime dev4 → HaveTime dev3
@@ -99,13 +99,13 @@ module _ (g : Over) (c : After-drive_on g) where
 
     begins : CameSo c.args.run.now.next c.args.run.now c.begin_second.new.run c.args.outcome.now c.begin_second.new.outcome
     begins =
-        came-begun c.args.speed c.args.run.now.next c.args.run.now c.begin_second.new.run c.args.outcome.now c.begin_second.new.outcome dev0 dev1 refl
+        came-begun c.args.due.speed c.args.run.now.next c.args.run.now c.begin_second.new.run c.args.outcome.now c.begin_second.new.outcome dev0 dev1 refl
         (λ on. let is = c.in_ok-has_power.ensures.lit on in (is.1, is.2)) (λ dark. c.in_ok-has_power.ensures.promises.noted dark has-given)
 
     came : CameSo c.args.run.now.next c.args.run.now c.act_all.new.run c.args.outcome.now c.act_all.new.outcome
     came =
-        came-acted c.args.run.now.next c.args.speed 0 (between c.args.from c.args.to c.args.items.now) c.args.run.now c.begin_second.new.run c.act_all.new.run c.args.outcome.now c.begin_second.new.outcome c.act_all.new.outcome refl begins
-        (subst (λ (b : Bool). AreActed b c.args.speed 0 (between c.args.from c.args.to c.args.items.now) c.begin_second.new.run c.act_all.new.run c.begin_second.new.outcome c.act_all.new.outcome) given c.act_all.ensures.acted.done)
+        came-acted c.args.run.now.next c.args.due.speed 0 (between c.args.due.from c.args.due.to c.args.due.items.now) c.args.run.now c.begin_second.new.run c.act_all.new.run c.args.outcome.now c.begin_second.new.outcome c.act_all.new.outcome refl begins
+        (subst (λ (b : Bool). AreActed b c.args.due.speed 0 (between c.args.due.from c.args.due.to c.args.due.items.now) c.begin_second.new.run c.act_all.new.run c.begin_second.new.outcome c.act_all.new.outcome) given c.act_all.ensures.acted.done)
 
   -- there was no power: nothing was called
   module _ (away : c.in_ok-has_power.has_power ≡ false) where
@@ -122,35 +122,35 @@ module _ (g : Over) (c : After-drive_on g) where
         let turned = c.turn.ensures.dark acted.0 in
         same-devices P g.M.Medium.state g.C.Chip.state g.D.Chip.state c.args.unit.now c.turn.new.unit c.args.card_a.now c.turn.new.card_a c.args.card_b.now c.turn.new.card_b (turned.0 ∙ acted.1 ∙ kept.2, turned.1 ∙ acted.2 ∙ kept.3, turned.2 ∙ acted.3 ∙ kept.4) h
 
-    acted-so : length acts ≡ c.args.to - c.args.from → c.args.to - c.args.from ≤ largest_number → (c.act_all.new.run ≡ c.begin_second.new.run) × (c.act_all.new.outcome ≡ record c.begin_second.new.outcome { refused = with_lines (refused_dark c.begin_second.new.run.next acts) c.begin_second.new.outcome.refused })
+    acted-so : length acts ≡ c.args.due.to - c.args.due.from → c.args.due.to - c.args.due.from ≤ largest_number → (c.act_all.new.run ≡ c.begin_second.new.run) × (c.act_all.new.outcome ≡ record c.begin_second.new.outcome { refused = with_lines (refused_dark c.begin_second.new.run.next acts) c.begin_second.new.outcome.refused })
     acted-so many few =
-        let all = all-actions c.args.from c.args.to c.args.items.now many in
-        acted-dark c.args.speed 0 (between c.args.from c.args.to c.args.items.now) c.begin_second.new.run c.act_all.new.run c.begin_second.new.outcome c.act_all.new.outcome all.0 (let most = all.1 in omega (arith, most, few))
-        (subst (λ (b : Bool). AreActed b c.args.speed 0 (between c.args.from c.args.to c.args.items.now) c.begin_second.new.run c.act_all.new.run c.begin_second.new.outcome c.act_all.new.outcome) away c.act_all.ensures.acted.done)
+        let all = all-actions c.args.due.from c.args.due.to c.args.due.items.now many in
+        acted-dark c.args.due.speed 0 (between c.args.due.from c.args.due.to c.args.due.items.now) c.begin_second.new.run c.act_all.new.run c.begin_second.new.outcome c.act_all.new.outcome all.0 (let most = all.1 in omega (arith, most, few))
+        (subst (λ (b : Bool). AreActed b c.args.due.speed 0 (between c.args.due.from c.args.due.to c.args.due.items.now) c.begin_second.new.run c.act_all.new.run c.begin_second.new.outcome c.act_all.new.outcome) away c.act_all.ensures.acted.done)
 
     passes : (c.turn.new.run ≡ passed 1 c.number_of-begun.result c.act_all.new.run) × (c.turn.new.outcome ≡ c.act_all.new.outcome)
-    passes = passes-dark c.act_all.new.run c.turn.new.run c.act_all.new.outcome c.turn.new.outcome 1 c.args.speed c.number_of-begun.result (c.act_all.ensures.still dark).0 c.turn.ensures.turned.seconds
+    passes = passes-dark c.act_all.new.run c.turn.new.run c.act_all.new.outcome c.turn.new.outcome 1 c.args.due.speed c.number_of-begun.result (c.act_all.ensures.still dark).0 c.turn.ensures.turned.seconds
 
-    passed-on : length acts ≡ c.args.to - c.args.from → c.args.to - c.args.from ≤ largest_number → c.turn.new.run ≡ passed 1 c.number_of-begun.result c.args.run.now
+    passed-on : length acts ≡ c.args.due.to - c.args.due.from → c.args.due.to - c.args.due.from ≤ largest_number → c.turn.new.run ≡ passed 1 c.number_of-begun.result c.args.run.now
     passed-on many few = passes.0 ∙ ap (passed 1 c.number_of-begun.result) ((acted-so many few).0 ∙ (c.in_ok-has_power.ensures.dark away).0)
 
-    refused-all : length acts ≡ c.args.to - c.args.from → c.args.to - c.args.from ≤ largest_number → c.turn.new.outcome ≡ record c.args.outcome.now { refused = with_lines (refused_dark c.args.run.now.next acts) c.args.outcome.now.refused }
+    refused-all : length acts ≡ c.args.due.to - c.args.due.from → c.args.due.to - c.args.due.from ≤ largest_number → c.turn.new.outcome ≡ record c.args.outcome.now { refused = with_lines (refused_dark c.args.run.now.next acts) c.args.outcome.now.refused }
     refused-all many few =
         passes.1 ∙ (acted-so many few).1 ∙ ap (λ (x : Outcome). record x { refused = with_lines (refused_dark c.begin_second.new.run.next acts) x.refused }) (c.in_ok-has_power.ensures.dark away).1
         ∙ ap (λ (n : ℕ). record c.args.outcome.now { refused = with_lines (refused_dark n acts) c.args.outcome.now.refused }) begun-next
 
   -- what is carried behind it
   first-second : (R : Between) (I : Inside) (o : Origin) (done : List TraceSecond) → HasBegunBy R I (Ok c.in_ok-has_power.has_power) o done second c.begin_second.new.run c.begin_second.new.outcome dev1 →
-      (c.in_ok-has_power.has_power ≡ true → I o done second 0 c.begin_second.new.run c.begin_second.new.outcome dev1 → R o (done ++ driven 1 c.args.run.now.next c.args.speed acts) c.turn.new.run c.turn.new.outcome dev3) →
-      (c.in_ok-has_power.has_power ≡ false → R o (done ++ driven 1 c.args.run.now.next c.args.speed acts) c.turn.new.run c.turn.new.outcome dev0) → R o (done ++ driven 1 c.args.run.now.next c.args.speed acts) c.turn.new.run c.turn.new.outcome dev3
+      (c.in_ok-has_power.has_power ≡ true → I o done second 0 c.begin_second.new.run c.begin_second.new.outcome dev1 → R o (done ++ driven 1 c.args.run.now.next c.args.due.speed acts) c.turn.new.run c.turn.new.outcome dev3) →
+      (c.in_ok-has_power.has_power ≡ false → R o (done ++ driven 1 c.args.run.now.next c.args.due.speed acts) c.turn.new.run c.turn.new.outcome dev0) → R o (done ++ driven 1 c.args.run.now.next c.args.due.speed acts) c.turn.new.run c.turn.new.outcome dev3
   first-second R I o done begun lit dark_so =
       by-power R I c.in_ok-has_power.has_power o done second c.begin_second.new.run c.begin_second.new.outcome dev1 begun lit
-      (λ away was_. still away (λ (x : Devices). R o (done ++ driven 1 c.args.run.now.next c.args.speed acts) c.turn.new.run c.turn.new.outcome x) (dark_so away))
+      (λ away was_. still away (λ (x : Devices). R o (done ++ driven 1 c.args.run.now.next c.args.due.speed acts) c.turn.new.run c.turn.new.outcome x) (dark_so away))
 
 pub begin_second-requires-clause-room : goal.begin_second-requires-clause-room
 begin_second-requires-clause-room g c =
     let some = c.requires.some in
-    room-less cuts_from c.args.run.now c.args.outcome.now c.args.seconds 1 0 0 (insertions_in c.args.from c.args.to c.args.items.now) 0 (c.args.to - c.args.from) 0 (omega (arith, some)) (omega arith) (omega arith) (omega arith) c.requires.room
+    room-less cuts_from c.args.run.now c.args.outcome.now c.args.due.seconds 1 0 0 (insertions_in c.args.due.from c.args.due.to c.args.due.items.now) 0 (c.args.due.to - c.args.due.from) 0 (omega (arith, some)) (omega arith) (omega arith) (omega arith) c.requires.room
 
 pub act_all-requires-clause-dark : goal.act_all-requires-clause-dark
 act_all-requires-clause-dark g c = λ no.
@@ -161,18 +161,18 @@ act_all-requires-clause-dark g c = λ no.
 pub act_all-requires-clause-room : goal.act_all-requires-clause-room
 act_all-requires-clause-room g c =
     let some = c.requires.some in
-    let s : ℕ = c.args.seconds in
-    let k : ℕ = insertions_in c.args.from c.args.to c.args.items.now in
-    let a : ℕ = c.args.to - c.args.from in
+    let s : ℕ = c.args.due.seconds in
+    let k : ℕ = insertions_in c.args.due.from c.args.due.to c.args.due.items.now in
+    let a : ℕ = c.args.due.to - c.args.due.from in
     room-less cuts_within c.begin_second.new.run c.begin_second.new.outcome (1 + (s - 1)) 1 0 0 k k a a (omega arith) (omega arith) (omega arith) (omega arith)
     (c.in_ok-has_power.ensures.room (s - 1) 0 k a (room-less cuts_from c.args.run.now c.args.outcome.now s (1 + (s - 1)) 0 0 k k a a (omega (arith, some)) (omega arith) (omega arith) (omega arith) c.requires.room))
 
 pub turn-requires-clause-room : goal.turn-requires-clause-room
 turn-requires-clause-room g c =
     let some = c.requires.some in
-    let s : ℕ = c.args.seconds in
-    let k : ℕ = insertions_in c.args.from c.args.to c.args.items.now in
-    let a : ℕ = c.args.to - c.args.from in
+    let s : ℕ = c.args.due.seconds in
+    let k : ℕ = insertions_in c.args.due.from c.args.due.to c.args.due.items.now in
+    let a : ℕ = c.args.due.to - c.args.due.from in
     room-less cuts_within c.act_all.new.run c.act_all.new.outcome (1 + (s - 1)) 1 0 0 0 0 0 0 (omega arith) (omega arith) (omega arith) (omega arith)
     (c.act_all.ensures.room (s - 1) 0 0 0
     (room-less cuts_within c.begin_second.new.run c.begin_second.new.outcome (1 + (s - 1)) (1 + (s - 1)) 0 0 k (k + 0) a (a + 0) (omega arith) (omega arith) (omega arith) (omega arith)
@@ -181,9 +181,9 @@ turn-requires-clause-room g c =
 pub drive_on-requires-clause-room : goal.drive_on-requires-clause-room
 drive_on-requires-clause-room g c =
     let some = c.requires.some in
-    let s : ℕ = c.args.seconds in
-    let k : ℕ = insertions_in c.args.from c.args.to c.args.items.now in
-    let a : ℕ = c.args.to - c.args.from in
+    let s : ℕ = c.args.due.seconds in
+    let k : ℕ = insertions_in c.args.due.from c.args.due.to c.args.due.items.now in
+    let a : ℕ = c.args.due.to - c.args.due.from in
     c.turn.ensures.room (s - 1) 0 0 0 (c.act_all.ensures.room (s - 1) 0 0 0
     (room-less cuts_within c.begin_second.new.run c.begin_second.new.outcome (1 + (s - 1)) (1 + (s - 1)) 0 0 k (k + 0) a (a + 0) (omega arith) (omega arith) (omega arith) (omega arith)
     (c.in_ok-has_power.ensures.room (s - 1) 0 k a (room-less cuts_from c.args.run.now c.args.outcome.now s (1 + (s - 1)) 0 0 k k a a (omega (arith, some)) (omega arith) (omega arith) (omega arith) c.requires.room))))
@@ -209,9 +209,9 @@ drive_on-requires-clause-unfound g c =
 pub returns-clause-room : goal.returns-clause-room
 returns-clause-room g c = λ left offs insertions actions h.
     let some = c.requires.some in
-    let s : ℕ = c.args.seconds in
-    let k : ℕ = insertions_in c.args.from c.args.to c.args.items.now in
-    let a : ℕ = c.args.to - c.args.from in
+    let s : ℕ = c.args.due.seconds in
+    let k : ℕ = insertions_in c.args.due.from c.args.due.to c.args.due.items.now in
+    let a : ℕ = c.args.due.to - c.args.due.from in
     let n : ℕ = s - 1 + left in
     c.drive_on.ensures.room left offs insertions actions (c.turn.ensures.room n offs insertions actions (c.act_all.ensures.room n offs insertions actions (c.in_ok-has_power.ensures.room n offs (k + insertions) (a + actions)
     (room-less cuts_from c.args.run.now c.args.outcome.now (s + left) (1 + n) offs offs (k + insertions) (k + insertions) (a + actions) (a + actions) (omega (arith, some)) (omega arith) (omega arith) (omega arith) h))))
@@ -255,7 +255,7 @@ returns-in_err-has_power-clause-later g c =
 pub returns-clause-ringed : goal.returns-clause-ringed
 returns-clause-ringed g c = λ many few o done r time.
     let number = begun-all g c many few in
-    let whole : c.args.to - c.args.from ≡ 0 + length (acts g c) = omega (arith, many) in
+    let whole : c.args.due.to - c.args.due.from ≡ 0 + length (acts g c) = omega (arith, many) in
     let s : TraceSecond = second g c in
     let begun = c.in_ok-has_power.ensures.promises.ringed o done s (record { number = refl; given = refl; speed_is = refl }) r (time-one g c time) in
     let behind = first-second g c RunRinged InSecondRinged o done begun
@@ -263,13 +263,13 @@ returns-clause-ringed g c = λ many few o done r time.
     let acted = c.act_all.ensures.promises.ringed lit many few o done s (now-begun g c) [] [] (sym (append-nil (acts g c))) whole in_ (time-two g c time) in
     c.turn.ensures.promises.ringed o done s (now-acted g c) (many ∙ sym number) (λ more. absurd (omega (arith, more)))
     (subst (λ (n : ℕ). InSecondRinged o done s n c.act_all.new.run c.act_all.new.outcome (dev2 g c)) (sym number) acted) (time-three g c time))
-    (λ away. dark-ringed o done c.args.run.now c.args.outcome.now (dev0 g c) r 1 c.args.speed c.number_of-begun.result (acts g c) (omega arith) (none-given g c away) (omega arith) c.turn.new.run c.turn.new.outcome (passed-on g c away many few) (refused-all g c away many few)) in
-    run-then RunRinged c.drive_on.result o done c.args.seconds c.args.run.now.next c.turn.new.run.next c.args.speed (acts g c) c.drive_on.new.run c.drive_on.new.outcome (dev4 g c) c.requires.some (later-by-one g c)
-    (c.drive_on.ensures.ringed o (done ++ driven 1 c.args.run.now.next c.args.speed (acts g c)) (done, s, refl, refl) behind time)
+    (λ away. dark-ringed o done c.args.run.now c.args.outcome.now (dev0 g c) r 1 c.args.due.speed c.number_of-begun.result (acts g c) (omega arith) (none-given g c away) (omega arith) c.turn.new.run c.turn.new.outcome (passed-on g c away many few) (refused-all g c away many few)) in
+    run-then RunRinged c.drive_on.result o done c.args.due.seconds c.args.run.now.next c.turn.new.run.next c.args.due.speed (acts g c) c.drive_on.new.run c.drive_on.new.outcome (dev4 g c) c.requires.some (later-by-one g c)
+    (c.drive_on.ensures.ringed o (done ++ driven 1 c.args.run.now.next c.args.due.speed (acts g c)) (done, s, refl, refl) behind time)
 
 pub returns-in_err-has_power-clause-ringed : goal.returns-in_err-has_power-clause-ringed
 returns-in_err-has_power-clause-ringed g c = λ many few o done r time.
-    let s : TraceSecond = record { number = c.args.run.now.next; has_power = true; speed = c.args.speed; actions = actions_in (between c.args.from c.args.to c.args.items.now) } in
+    let s : TraceSecond = record { number = c.args.run.now.next; has_power = true; speed = c.args.due.speed; actions = actions_in (between c.args.due.from c.args.due.to c.args.due.items.now) } in
     absurd (c.in_err-has_power.ensures.promises.ringed o done s (record { number = refl; given = refl; speed_is = refl }) r time)
 
 -- ---- and the events on the cards
@@ -277,7 +277,7 @@ returns-in_err-has_power-clause-ringed g c = λ many few o done r time.
 pub returns-clause-cards : goal.returns-clause-cards
 returns-clause-cards g c = λ many few o done r time.
     let number = begun-all g c many few in
-    let whole : c.args.to - c.args.from ≡ 0 + length (acts g c) = omega (arith, many) in
+    let whole : c.args.due.to - c.args.due.from ≡ 0 + length (acts g c) = omega (arith, many) in
     let s : TraceSecond = second g c in
     let low = c.requires.going.low in
     let positive : 0 < c.args.run.now.next = omega (arith, low) in
@@ -285,20 +285,20 @@ returns-clause-cards g c = λ many few o done r time.
     let behind = first-second g c RunCarded InSecondCarded o done begun
     (λ lit in_.
     let acted = c.act_all.ensures.promises.cards lit many few o done s (now-begun g c) [] [] (sym (append-nil (acts g c))) whole in_ (time-two g c time) in
-    turned-carded o done s 1 c.args.speed c.number_of-begun.result c.act_all.new.run c.turn.new.run c.act_all.new.outcome c.turn.new.outcome (dev2 g c) (dev3 g c) (many ∙ sym number) positive
+    turned-carded o done s 1 c.args.due.speed c.number_of-begun.result c.act_all.new.run c.turn.new.run c.act_all.new.outcome c.turn.new.outcome (dev2 g c) (dev3 g c) (many ∙ sym number) positive
     (subst (λ (n : ℕ). InSecondCarded o done s n c.act_all.new.run c.act_all.new.outcome (dev2 g c)) (sym number) acted) c.turn.ensures.turned.seconds
     (λ x. c.turn.ensures.promises.ringed o done s (now-acted g c) (many ∙ sym number) (λ more. absurd (omega (arith, more))) x (time-three g c time))
     (λ x. c.turn.ensures.promises.cards o done s (now-acted g c) (many ∙ sym number) (λ more. absurd (omega (arith, more))) x (time-three g c time))
     (c.turn.ensures.promises.speeds o done s (now-acted g c) (many ∙ sym number) (λ more. absurd (omega (arith, more)))
     (in-second o done s c.args.run.now c.act_all.new.run c.args.outcome.now c.act_all.new.outcome (dev0 g c) (dev2 g c) r.ringed.evented.recorded r.speeds refl refl (has-given g c lit) (came g c lit) (leaves g c) c.number_of-begun.result
     (carded-in (is_lit c.act_all.new.run.power) o done s c.number_of-begun.result c.act_all.new.run c.act_all.new.outcome (dev2 g c) (subst (λ (n : ℕ). InSecondCarded o done s n c.act_all.new.run c.act_all.new.outcome (dev2 g c)) (sym number) acted))) (time-three g c time)))
-    (λ away. dark-carded o done c.args.run.now c.args.outcome.now (dev0 g c) r c.requires.going.low 1 c.args.speed c.number_of-begun.result (acts g c) (omega arith) (none-given g c away) (omega arith) c.turn.new.run c.turn.new.outcome (passed-on g c away many few) (refused-all g c away many few)) in
-    run-then RunCarded c.drive_on.result o done c.args.seconds c.args.run.now.next c.turn.new.run.next c.args.speed (acts g c) c.drive_on.new.run c.drive_on.new.outcome (dev4 g c) c.requires.some (later-by-one g c)
-    (c.drive_on.ensures.cards o (done ++ driven 1 c.args.run.now.next c.args.speed (acts g c)) (done, s, refl, refl) behind time)
+    (λ away. dark-carded o done c.args.run.now c.args.outcome.now (dev0 g c) r c.requires.going.low 1 c.args.due.speed c.number_of-begun.result (acts g c) (omega arith) (none-given g c away) (omega arith) c.turn.new.run c.turn.new.outcome (passed-on g c away many few) (refused-all g c away many few)) in
+    run-then RunCarded c.drive_on.result o done c.args.due.seconds c.args.run.now.next c.turn.new.run.next c.args.due.speed (acts g c) c.drive_on.new.run c.drive_on.new.outcome (dev4 g c) c.requires.some (later-by-one g c)
+    (c.drive_on.ensures.cards o (done ++ driven 1 c.args.run.now.next c.args.due.speed (acts g c)) (done, s, refl, refl) behind time)
 
 pub returns-in_err-has_power-clause-cards : goal.returns-in_err-has_power-clause-cards
 returns-in_err-has_power-clause-cards g c = λ many few o done r time.
-    let s : TraceSecond = record { number = c.args.run.now.next; has_power = true; speed = c.args.speed; actions = actions_in (between c.args.from c.args.to c.args.items.now) } in
+    let s : TraceSecond = record { number = c.args.run.now.next; has_power = true; speed = c.args.due.speed; actions = actions_in (between c.args.due.from c.args.due.to c.args.due.items.now) } in
     absurd (c.in_err-has_power.ensures.promises.cards o done s (record { number = refl; given = refl; speed_is = refl }) r time)
 
 -- ---- how often the unit broke down
@@ -321,8 +321,8 @@ returns-in_err-has_power-clause-calm g c = c.in_err-has_power.ensures.goes.calm
 
 pub returns-clause-most : goal.returns-clause-most
 returns-clause-most g c =
-    writes-driven c.args.seconds (c.args.to - c.args.from) (dev0 g c) (dev1 g c) (dev2 g c) (dev3 g c) (dev4 g c) c.requires.some c.in_ok-has_power.ensures.goes.most c.act_all.ensures.goes.most c.turn.ensures.goes.most c.drive_on.ensures.most
+    writes-driven c.args.due.seconds (c.args.due.to - c.args.due.from) (dev0 g c) (dev1 g c) (dev2 g c) (dev3 g c) (dev4 g c) c.requires.some c.in_ok-has_power.ensures.goes.most c.act_all.ensures.goes.most c.turn.ensures.goes.most c.drive_on.ensures.most
 
 pub returns-in_err-has_power-clause-most : goal.returns-in_err-has_power-clause-most
 returns-in_err-has_power-clause-most g c =
-    writes-begun c.args.seconds (c.args.to - c.args.from) (devices (g.M.Medium.state c.args.unit.now) (g.C.Chip.state c.args.card_a.now) (g.D.Chip.state c.args.card_b.now)) (devices (g.M.Medium.state c.begin_second.new.unit) (g.C.Chip.state c.begin_second.new.card_a) (g.D.Chip.state c.begin_second.new.card_b)) c.requires.some c.in_err-has_power.ensures.goes.most
+    writes-begun c.args.due.seconds (c.args.due.to - c.args.due.from) (devices (g.M.Medium.state c.args.unit.now) (g.C.Chip.state c.args.card_a.now) (g.D.Chip.state c.args.card_b.now)) (devices (g.M.Medium.state c.begin_second.new.unit) (g.C.Chip.state c.begin_second.new.card_a) (g.D.Chip.state c.begin_second.new.card_b)) c.requires.some c.in_err-has_power.ensures.goes.most

@@ -27,16 +27,16 @@ loop-left-init g c = record {
   few = omega arith;
   ringed = λ o done last r time.
       let d : Devices = devices (g.M.Medium.state c.args.unit.now) (g.C.Chip.state c.args.card_a.now) (g.D.Chip.state c.args.card_b.now) in
-      subst (λ (n : ℕ). LastAt (done ++ driven n c.args.run.now.next c.args.speed []) c.args.speed × RunRinged o (done ++ driven n c.args.run.now.next c.args.speed []) c.args.run.now c.args.outcome.now d) (let e : 0 ≡ c.args.seconds - c.args.seconds = omega arith in e)
-      (subst (λ (ss : List TraceSecond). LastAt ss c.args.speed × RunRinged o ss c.args.run.now c.args.outcome.now d) (sym (append-nil done)) (last, r));
+      subst (λ (n : ℕ). LastAt (done ++ driven n c.args.run.now.next c.args.more.speed []) c.args.more.speed × RunRinged o (done ++ driven n c.args.run.now.next c.args.more.speed []) c.args.run.now c.args.outcome.now d) (let e : 0 ≡ c.args.more.seconds - c.args.more.seconds = omega arith in e)
+      (subst (λ (ss : List TraceSecond). LastAt ss c.args.more.speed × RunRinged o ss c.args.run.now c.args.outcome.now d) (sym (append-nil done)) (last, r));
   cards = λ o done last r time.
       let d : Devices = devices (g.M.Medium.state c.args.unit.now) (g.C.Chip.state c.args.card_a.now) (g.D.Chip.state c.args.card_b.now) in
-      subst (λ (n : ℕ). LastAt (done ++ driven n c.args.run.now.next c.args.speed []) c.args.speed × RunCarded o (done ++ driven n c.args.run.now.next c.args.speed []) c.args.run.now c.args.outcome.now d) (let e : 0 ≡ c.args.seconds - c.args.seconds = omega arith in e)
-      (subst (λ (ss : List TraceSecond). LastAt ss c.args.speed × RunCarded o ss c.args.run.now c.args.outcome.now d) (sym (append-nil done)) (last, r));
+      subst (λ (n : ℕ). LastAt (done ++ driven n c.args.run.now.next c.args.more.speed []) c.args.more.speed × RunCarded o (done ++ driven n c.args.run.now.next c.args.more.speed []) c.args.run.now c.args.outcome.now d) (let e : 0 ≡ c.args.more.seconds - c.args.more.seconds = omega arith in e)
+      (subst (λ (ss : List TraceSecond). LastAt ss c.args.more.speed × RunCarded o ss c.args.run.now c.args.outcome.now d) (sym (append-nil done)) (last, r));
   later = after-same (devices (g.M.Medium.state c.args.unit.now) (g.C.Chip.state c.args.card_a.now) (g.D.Chip.state c.args.card_b.now));
   calm = calm-same (devices (g.M.Medium.state c.args.unit.now) (g.C.Chip.state c.args.card_a.now) (g.D.Chip.state c.args.card_b.now));
   broke = broke-none c.args.outcome.now.breaks.items {old = (g.M.Medium.state c.args.unit.now)} {new = (g.M.Medium.state c.args.unit.now)} (omega arith);
-  most = writes-none (c.args.seconds - c.args.seconds) 0 (devices (g.M.Medium.state c.args.unit.now) (g.C.Chip.state c.args.card_a.now) (g.D.Chip.state c.args.card_b.now));
+  most = writes-none (c.args.more.seconds - c.args.more.seconds) 0 (devices (g.M.Medium.state c.args.unit.now) (g.C.Chip.state c.args.card_a.now) (g.D.Chip.state c.args.card_b.now));
   unfound = c.requires.unfound;
 }
 
@@ -63,35 +63,35 @@ loop-left-preserved g c =
           (room-less cuts_from c.loop-left.run c.loop-left.outcome (left + more) (n + (left - n + more)) offs offs insertions insertions actions actions (omega (arith, most)) (omega arith) (omega arith) (omega arith) (v.room more offs insertions actions h));
       few = let few = v.few in omega (arith, few);
       ringed = λ o done last r time.
-          let so : ℕ = c.args.seconds - left in
+          let so : ℕ = c.args.more.seconds - left in
           let was = v.ringed o done last r (after-time c.in_ok-step.ensures.later time) in
           let few = v.few in
           let start = v.next in
           let here : c.loop-left.run.next ≡ c.args.run.now.next + so = omega (arith, start, few) in
           let e : Devices = devices (g.M.Medium.state c.step.new.unit) (g.C.Chip.state c.step.new.card_a) (g.D.Chip.state c.step.new.card_b) in
-          subst (λ (ss : List TraceSecond). LastAt ss c.args.speed × RunRinged o ss c.step.new.run c.step.new.outcome e)
-          (append_assoc done (driven so c.args.run.now.next c.args.speed []) (driven n c.loop-left.run.next c.args.speed [])
-          ∙ ap (λ (ss : List TraceSecond). done ++ ss) (ap (λ (m : ℕ). driven so c.args.run.now.next c.args.speed [] ++ driven n m c.args.speed []) here ∙ sym (plain-parts so n c.args.run.now.next c.args.speed)
-          ∙ ap (λ (m : ℕ). driven m c.args.run.now.next c.args.speed []) (let e : so + n ≡ c.args.seconds - (left - n) = omega (arith, few, most) in e)))
-          (last-more n c.loop-left.run.next c.args.speed (done ++ driven so c.args.run.now.next c.args.speed []) was.0, c.in_ok-step.ensures.ringed o (done ++ driven so c.args.run.now.next c.args.speed []) was.0 was.1 time);
+          subst (λ (ss : List TraceSecond). LastAt ss c.args.more.speed × RunRinged o ss c.step.new.run c.step.new.outcome e)
+          (append_assoc done (driven so c.args.run.now.next c.args.more.speed []) (driven n c.loop-left.run.next c.args.more.speed [])
+          ∙ ap (λ (ss : List TraceSecond). done ++ ss) (ap (λ (m : ℕ). driven so c.args.run.now.next c.args.more.speed [] ++ driven n m c.args.more.speed []) here ∙ sym (plain-parts so n c.args.run.now.next c.args.more.speed)
+          ∙ ap (λ (m : ℕ). driven m c.args.run.now.next c.args.more.speed []) (let e : so + n ≡ c.args.more.seconds - (left - n) = omega (arith, few, most) in e)))
+          (last-more n c.loop-left.run.next c.args.more.speed (done ++ driven so c.args.run.now.next c.args.more.speed []) was.0, c.in_ok-step.ensures.ringed o (done ++ driven so c.args.run.now.next c.args.more.speed []) was.0 was.1 time);
       cards = λ o done last r time.
-          let so : ℕ = c.args.seconds - left in
+          let so : ℕ = c.args.more.seconds - left in
           let was = v.cards o done last r (after-time c.in_ok-step.ensures.later time) in
           let few = v.few in
           let start = v.next in
           let here : c.loop-left.run.next ≡ c.args.run.now.next + so = omega (arith, start, few) in
           let e : Devices = devices (g.M.Medium.state c.step.new.unit) (g.C.Chip.state c.step.new.card_a) (g.D.Chip.state c.step.new.card_b) in
-          subst (λ (ss : List TraceSecond). LastAt ss c.args.speed × RunCarded o ss c.step.new.run c.step.new.outcome e)
-          (append_assoc done (driven so c.args.run.now.next c.args.speed []) (driven n c.loop-left.run.next c.args.speed [])
-          ∙ ap (λ (ss : List TraceSecond). done ++ ss) (ap (λ (m : ℕ). driven so c.args.run.now.next c.args.speed [] ++ driven n m c.args.speed []) here ∙ sym (plain-parts so n c.args.run.now.next c.args.speed)
-          ∙ ap (λ (m : ℕ). driven m c.args.run.now.next c.args.speed []) (let e : so + n ≡ c.args.seconds - (left - n) = omega (arith, few, most) in e)))
-          (last-more n c.loop-left.run.next c.args.speed (done ++ driven so c.args.run.now.next c.args.speed []) was.0, c.in_ok-step.ensures.cards o (done ++ driven so c.args.run.now.next c.args.speed []) was.0 was.1 time);
+          subst (λ (ss : List TraceSecond). LastAt ss c.args.more.speed × RunCarded o ss c.step.new.run c.step.new.outcome e)
+          (append_assoc done (driven so c.args.run.now.next c.args.more.speed []) (driven n c.loop-left.run.next c.args.more.speed [])
+          ∙ ap (λ (ss : List TraceSecond). done ++ ss) (ap (λ (m : ℕ). driven so c.args.run.now.next c.args.more.speed [] ++ driven n m c.args.more.speed []) here ∙ sym (plain-parts so n c.args.run.now.next c.args.more.speed)
+          ∙ ap (λ (m : ℕ). driven m c.args.run.now.next c.args.more.speed []) (let e : so + n ≡ c.args.more.seconds - (left - n) = omega (arith, few, most) in e)))
+          (last-more n c.loop-left.run.next c.args.more.speed (done ++ driven so c.args.run.now.next c.args.more.speed []) was.0, c.in_ok-step.ensures.cards o (done ++ driven so c.args.run.now.next c.args.more.speed []) was.0 was.1 time);
       later = after-then (devices (g.M.Medium.state c.args.unit.now) (g.C.Chip.state c.args.card_a.now) (g.D.Chip.state c.args.card_b.now)) (devices (g.M.Medium.state c.loop-left.unit) (g.C.Chip.state c.loop-left.card_a) (g.D.Chip.state c.loop-left.card_b)) (devices (g.M.Medium.state c.step.new.unit) (g.C.Chip.state c.step.new.card_a) (g.D.Chip.state c.step.new.card_b)) v.later c.in_ok-step.ensures.later;
       calm = calm-then (devices (g.M.Medium.state c.args.unit.now) (g.C.Chip.state c.args.card_a.now) (g.D.Chip.state c.args.card_b.now)) (devices (g.M.Medium.state c.loop-left.unit) (g.C.Chip.state c.loop-left.card_a) (g.D.Chip.state c.loop-left.card_b)) (devices (g.M.Medium.state c.step.new.unit) (g.C.Chip.state c.step.new.card_a) (g.D.Chip.state c.step.new.card_b)) v.calm c.in_ok-step.ensures.calm;
       most =
           let few = v.few in
-          writes-more (c.args.seconds - left + n) (c.args.seconds - (left - n)) 0 0 (devices (g.M.Medium.state c.args.unit.now) (g.C.Chip.state c.args.card_a.now) (g.D.Chip.state c.args.card_b.now)) (devices (g.M.Medium.state c.step.new.unit) (g.C.Chip.state c.step.new.card_a) (g.D.Chip.state c.step.new.card_b)) (omega (arith, few, most)) (omega arith)
-          (writes-then (c.args.seconds - left) n 0 0 (devices (g.M.Medium.state c.args.unit.now) (g.C.Chip.state c.args.card_a.now) (g.D.Chip.state c.args.card_b.now)) (devices (g.M.Medium.state c.loop-left.unit) (g.C.Chip.state c.loop-left.card_a) (g.D.Chip.state c.loop-left.card_b)) (devices (g.M.Medium.state c.step.new.unit) (g.C.Chip.state c.step.new.card_a) (g.D.Chip.state c.step.new.card_b)) v.most c.in_ok-step.ensures.most);
+          writes-more (c.args.more.seconds - left + n) (c.args.more.seconds - (left - n)) 0 0 (devices (g.M.Medium.state c.args.unit.now) (g.C.Chip.state c.args.card_a.now) (g.D.Chip.state c.args.card_b.now)) (devices (g.M.Medium.state c.step.new.unit) (g.C.Chip.state c.step.new.card_a) (g.D.Chip.state c.step.new.card_b)) (omega (arith, few, most)) (omega arith)
+          (writes-then (c.args.more.seconds - left) n 0 0 (devices (g.M.Medium.state c.args.unit.now) (g.C.Chip.state c.args.card_a.now) (g.D.Chip.state c.args.card_b.now)) (devices (g.M.Medium.state c.loop-left.unit) (g.C.Chip.state c.loop-left.card_a) (g.D.Chip.state c.loop-left.card_b)) (devices (g.M.Medium.state c.step.new.unit) (g.C.Chip.state c.step.new.card_a) (g.D.Chip.state c.step.new.card_b)) v.most c.in_ok-step.ensures.most);
       broke = broke-then c.loop-left.invariant.broke c.in_ok-step.ensures.broke;
       unfound = e.unfound;
     }
@@ -132,26 +132,26 @@ returns-in_err-step-clause-later g c = after-then (devices (g.M.Medium.state c.a
 pub returns-clause-ringed : goal.returns-clause-ringed
 returns-clause-ringed g c = λ o done last r time.
     let none = c.loop-left-test.false in
-    subst (λ (n : ℕ). RunRinged o (done ++ driven n c.args.run.now.next c.args.speed []) c.loop-left.run c.loop-left.outcome (devices (g.M.Medium.state c.loop-left.unit) (g.C.Chip.state c.loop-left.card_a) (g.D.Chip.state c.loop-left.card_b))) (let e : c.args.seconds - c.loop-left.left ≡ c.args.seconds = omega (arith, none) in e)
+    subst (λ (n : ℕ). RunRinged o (done ++ driven n c.args.run.now.next c.args.more.speed []) c.loop-left.run c.loop-left.outcome (devices (g.M.Medium.state c.loop-left.unit) (g.C.Chip.state c.loop-left.card_a) (g.D.Chip.state c.loop-left.card_b))) (let e : c.args.more.seconds - c.loop-left.left ≡ c.args.more.seconds = omega (arith, none) in e)
     ((c.loop-left.invariant.ringed o done last r time).1)
 
 pub returns-in_err-step-clause-ringed : goal.returns-in_err-step-clause-ringed
 returns-in_err-step-clause-ringed g c = λ o done last r time.
     let was = c.loop-left.invariant.ringed o done last r (after-time c.in_err-step.ensures.later time) in
-    absurd (c.in_err-step.ensures.ringed o (done ++ driven (c.args.seconds - c.loop-left.left) c.args.run.now.next c.args.speed []) was.0 was.1 time)
+    absurd (c.in_err-step.ensures.ringed o (done ++ driven (c.args.more.seconds - c.loop-left.left) c.args.run.now.next c.args.more.speed []) was.0 was.1 time)
 
 -- ---- and the events on the cards
 
 pub returns-clause-cards : goal.returns-clause-cards
 returns-clause-cards g c = λ o done last r time.
     let none = c.loop-left-test.false in
-    subst (λ (n : ℕ). RunCarded o (done ++ driven n c.args.run.now.next c.args.speed []) c.loop-left.run c.loop-left.outcome (devices (g.M.Medium.state c.loop-left.unit) (g.C.Chip.state c.loop-left.card_a) (g.D.Chip.state c.loop-left.card_b))) (let e : c.args.seconds - c.loop-left.left ≡ c.args.seconds = omega (arith, none) in e)
+    subst (λ (n : ℕ). RunCarded o (done ++ driven n c.args.run.now.next c.args.more.speed []) c.loop-left.run c.loop-left.outcome (devices (g.M.Medium.state c.loop-left.unit) (g.C.Chip.state c.loop-left.card_a) (g.D.Chip.state c.loop-left.card_b))) (let e : c.args.more.seconds - c.loop-left.left ≡ c.args.more.seconds = omega (arith, none) in e)
     ((c.loop-left.invariant.cards o done last r time).1)
 
 pub returns-in_err-step-clause-cards : goal.returns-in_err-step-clause-cards
 returns-in_err-step-clause-cards g c = λ o done last r time.
     let was = c.loop-left.invariant.cards o done last r (after-time c.in_err-step.ensures.later time) in
-    absurd (c.in_err-step.ensures.cards o (done ++ driven (c.args.seconds - c.loop-left.left) c.args.run.now.next c.args.speed []) was.0 was.1 time)
+    absurd (c.in_err-step.ensures.cards o (done ++ driven (c.args.more.seconds - c.loop-left.left) c.args.run.now.next c.args.more.speed []) was.0 was.1 time)
 
 -- ---- how often the unit broke down
 
@@ -173,11 +173,11 @@ returns-in_err-step-clause-calm g c = calm-then (devices (g.M.Medium.state c.arg
 
 pub returns-clause-most : goal.returns-clause-most
 returns-clause-most g c =
-    writes-more (c.args.seconds - c.loop-left.left) c.args.seconds 0 0 (devices (g.M.Medium.state c.args.unit.now) (g.C.Chip.state c.args.card_a.now) (g.D.Chip.state c.args.card_b.now)) (devices (g.M.Medium.state c.loop-left.unit) (g.C.Chip.state c.loop-left.card_a) (g.D.Chip.state c.loop-left.card_b)) (omega arith) (omega arith) c.loop-left.invariant.most
+    writes-more (c.args.more.seconds - c.loop-left.left) c.args.more.seconds 0 0 (devices (g.M.Medium.state c.args.unit.now) (g.C.Chip.state c.args.card_a.now) (g.D.Chip.state c.args.card_b.now)) (devices (g.M.Medium.state c.loop-left.unit) (g.C.Chip.state c.loop-left.card_a) (g.D.Chip.state c.loop-left.card_b)) (omega arith) (omega arith) c.loop-left.invariant.most
 
 pub returns-in_err-step-clause-most : goal.returns-in_err-step-clause-most
 returns-in_err-step-clause-most g c =
     let few = c.loop-left.invariant.few in
     let most = c.turn_length-n.ensures.most in
-    writes-more (c.args.seconds - c.loop-left.left + c.turn_length-n.result) c.args.seconds 0 0 (devices (g.M.Medium.state c.args.unit.now) (g.C.Chip.state c.args.card_a.now) (g.D.Chip.state c.args.card_b.now)) (devices (g.M.Medium.state c.step.new.unit) (g.C.Chip.state c.step.new.card_a) (g.D.Chip.state c.step.new.card_b)) (omega (arith, few, most)) (omega arith)
-    (writes-then (c.args.seconds - c.loop-left.left) c.turn_length-n.result 0 0 (devices (g.M.Medium.state c.args.unit.now) (g.C.Chip.state c.args.card_a.now) (g.D.Chip.state c.args.card_b.now)) (devices (g.M.Medium.state c.loop-left.unit) (g.C.Chip.state c.loop-left.card_a) (g.D.Chip.state c.loop-left.card_b)) (devices (g.M.Medium.state c.step.new.unit) (g.C.Chip.state c.step.new.card_a) (g.D.Chip.state c.step.new.card_b)) c.loop-left.invariant.most c.in_err-step.ensures.most)
+    writes-more (c.args.more.seconds - c.loop-left.left + c.turn_length-n.result) c.args.more.seconds 0 0 (devices (g.M.Medium.state c.args.unit.now) (g.C.Chip.state c.args.card_a.now) (g.D.Chip.state c.args.card_b.now)) (devices (g.M.Medium.state c.step.new.unit) (g.C.Chip.state c.step.new.card_a) (g.D.Chip.state c.step.new.card_b)) (omega (arith, few, most)) (omega arith)
+    (writes-then (c.args.more.seconds - c.loop-left.left) c.turn_length-n.result 0 0 (devices (g.M.Medium.state c.args.unit.now) (g.C.Chip.state c.args.card_a.now) (g.D.Chip.state c.args.card_b.now)) (devices (g.M.Medium.state c.loop-left.unit) (g.C.Chip.state c.loop-left.card_a) (g.D.Chip.state c.loop-left.card_b)) (devices (g.M.Medium.state c.step.new.unit) (g.C.Chip.state c.step.new.card_a) (g.D.Chip.state c.step.new.card_b)) c.loop-left.invariant.most c.in_err-step.ensures.most)

@@ -44,9 +44,9 @@ module _ (g : Over) (c : After-turn g) where
   dev2 = devices (g.M.Medium.state c.turn.new.unit) (g.C.Chip.state c.turn.new.card_a) (g.D.Chip.state c.turn.new.card_b)
 
   abbrev second : TraceSecond
-  second = record { number = c.args.run.now.next; has_power = true; speed = c.args.speed; actions = [] }
+  second = record { number = c.args.run.now.next; has_power = true; speed = c.args.more.speed; actions = [] }
 
-  now-begun : IsNow second c.args.speed c.begin_second.new.run
+  now-begun : IsNow second c.args.more.speed c.begin_second.new.run
   now-begun = record { number = sym c.in_ok-begin_second.ensures.begun.next; given = refl; speed_is = refl }
 
   time-begun : HaveTime dev2 → HaveTime dev1
@@ -59,7 +59,7 @@ module _ (g : Over) (c : After-turn g) where
 
     came : CameSo c.args.run.now.next c.args.run.now c.begin_second.new.run c.args.outcome.now c.begin_second.new.outcome
     came =
-        came-begun c.args.speed c.args.run.now.next c.args.run.now c.begin_second.new.run c.args.outcome.now c.begin_second.new.outcome dev0 dev1 refl
+        came-begun c.args.more.speed c.args.run.now.next c.args.run.now c.begin_second.new.run c.args.outcome.now c.begin_second.new.outcome dev0 dev1 refl
         (λ on. let is = c.in_ok-begin_second.ensures.lit on in (is.1, is.2)) (λ dark. c.in_ok-begin_second.ensures.promises.noted dark has-given)
 
   -- there was no power: nothing was called
@@ -76,38 +76,38 @@ module _ (g : Over) (c : After-turn g) where
         let turned = c.turn.ensures.dark dark in
         same-devices P g.M.Medium.state g.C.Chip.state g.D.Chip.state c.args.unit.now c.turn.new.unit c.args.card_a.now c.turn.new.card_a c.args.card_b.now c.turn.new.card_b (turned.0 ∙ kept.2, turned.1 ∙ kept.3, turned.2 ∙ kept.4) h
 
-    passes : (c.turn.new.run ≡ passed c.args.n 0 c.begin_second.new.run) × (c.turn.new.outcome ≡ c.begin_second.new.outcome)
-    passes = passes-dark c.begin_second.new.run c.turn.new.run c.begin_second.new.outcome c.turn.new.outcome c.args.n c.args.speed 0 dark c.turn.ensures.turned.seconds
+    passes : (c.turn.new.run ≡ passed c.args.more.seconds 0 c.begin_second.new.run) × (c.turn.new.outcome ≡ c.begin_second.new.outcome)
+    passes = passes-dark c.begin_second.new.run c.turn.new.run c.begin_second.new.outcome c.turn.new.outcome c.args.more.seconds c.args.more.speed 0 dark c.turn.ensures.turned.seconds
 
-    passed-on : c.turn.new.run ≡ passed c.args.n 0 c.args.run.now
-    passed-on = passes.0 ∙ ap (passed c.args.n 0) (c.in_ok-begin_second.ensures.dark away).0
+    passed-on : c.turn.new.run ≡ passed c.args.more.seconds 0 c.args.run.now
+    passed-on = passes.0 ∙ ap (passed c.args.more.seconds 0) (c.in_ok-begin_second.ensures.dark away).0
 
     refused-none : c.turn.new.outcome ≡ record c.args.outcome.now { refused = with_lines (refused_dark c.args.run.now.next []) c.args.outcome.now.refused }
     refused-none = passes.1 ∙ (c.in_ok-begin_second.ensures.dark away).1 ∙ none-refused c.args.outcome.now
 
   -- what is carried behind them
   stepped : (R : Between) (I : Inside) (o : Origin) (done : List TraceSecond) → HasBegunBy R I (Ok c.in_ok-begin_second.field-0) o done second c.begin_second.new.run c.begin_second.new.outcome dev1 →
-      (c.in_ok-begin_second.field-0 ≡ true → I o done second 0 c.begin_second.new.run c.begin_second.new.outcome dev1 → R o (done ++ second ∷ driven (c.args.n - 1) (c.args.run.now.next + 1) c.args.speed []) c.turn.new.run c.turn.new.outcome dev2) →
-      (c.in_ok-begin_second.field-0 ≡ false → R o (done ++ driven c.args.n c.args.run.now.next c.args.speed []) c.turn.new.run c.turn.new.outcome dev0) → R o (done ++ driven c.args.n c.args.run.now.next c.args.speed []) c.turn.new.run c.turn.new.outcome dev2
+      (c.in_ok-begin_second.field-0 ≡ true → I o done second 0 c.begin_second.new.run c.begin_second.new.outcome dev1 → R o (done ++ second ∷ driven (c.args.more.seconds - 1) (c.args.run.now.next + 1) c.args.more.speed []) c.turn.new.run c.turn.new.outcome dev2) →
+      (c.in_ok-begin_second.field-0 ≡ false → R o (done ++ driven c.args.more.seconds c.args.run.now.next c.args.more.speed []) c.turn.new.run c.turn.new.outcome dev0) → R o (done ++ driven c.args.more.seconds c.args.run.now.next c.args.more.speed []) c.turn.new.run c.turn.new.outcome dev2
   stepped R I o done begun lit dark_so =
       by-power R I c.in_ok-begin_second.field-0 o done second c.begin_second.new.run c.begin_second.new.outcome dev1 begun
-      (λ lit_ in_. subst (λ (ss : List TraceSecond). R o ss c.turn.new.run c.turn.new.outcome dev2) (ap (λ (ss : List TraceSecond). done ++ ss) (sym (first-driven c.args.n c.args.run.now.next c.args.speed [] c.requires.some))) (lit lit_ in_))
-      (λ away was_. still away (λ (x : Devices). R o (done ++ driven c.args.n c.args.run.now.next c.args.speed []) c.turn.new.run c.turn.new.outcome x) (dark_so away))
+      (λ lit_ in_. subst (λ (ss : List TraceSecond). R o ss c.turn.new.run c.turn.new.outcome dev2) (ap (λ (ss : List TraceSecond). done ++ ss) (sym (first-driven c.args.more.seconds c.args.run.now.next c.args.more.speed [] c.requires.some))) (lit lit_ in_))
+      (λ away was_. still away (λ (x : Devices). R o (done ++ driven c.args.more.seconds c.args.run.now.next c.args.more.speed []) c.turn.new.run c.turn.new.outcome x) (dark_so away))
 
 pub begin_second-requires-clause-room : goal.begin_second-requires-clause-room
-begin_second-requires-clause-room g c = let some = c.requires.some in room-less cuts_from c.args.run.now c.args.outcome.now c.args.n 1 0 0 0 0 0 0 (omega (arith, some)) (omega arith) (omega arith) (omega arith) c.requires.room
+begin_second-requires-clause-room g c = let some = c.requires.some in room-less cuts_from c.args.run.now c.args.outcome.now c.args.more.seconds 1 0 0 0 0 0 0 (omega (arith, some)) (omega arith) (omega arith) (omega arith) c.requires.room
 
 pub turn-requires-clause-room : goal.turn-requires-clause-room
 turn-requires-clause-room g c =
     let some = c.requires.some in
-    let n : ℕ = c.args.n in
+    let n : ℕ = c.args.more.seconds in
     room-less cuts_within c.begin_second.new.run c.begin_second.new.outcome (1 + (n - 1)) n 0 0 0 0 0 0 (omega arith) (omega arith) (omega arith) (omega arith)
     (c.in_ok-begin_second.ensures.room (n - 1) 0 0 0 (room-less cuts_from c.args.run.now c.args.outcome.now n (1 + (n - 1)) 0 0 0 0 0 0 (omega (arith, some)) (omega arith) (omega arith) (omega arith) c.requires.room))
 
 pub returns-clause-room : goal.returns-clause-room
 returns-clause-room g c = λ left offs insertions actions h.
     let some = c.requires.some in
-    let n : ℕ = c.args.n in
+    let n : ℕ = c.args.more.seconds in
     c.turn.ensures.room left offs insertions actions
     (room-less cuts_within c.begin_second.new.run c.begin_second.new.outcome (1 + (n - 1 + left)) (n + left) offs offs insertions insertions actions actions (omega arith) (omega arith) (omega arith) (omega arith)
     (c.in_ok-begin_second.ensures.room (n - 1 + left) offs insertions actions (room-less cuts_from c.args.run.now c.args.outcome.now (n + left) (1 + (n - 1 + left)) offs offs insertions insertions actions actions (omega (arith, some)) (omega arith) (omega arith) (omega arith) h)))
@@ -144,11 +144,11 @@ pub returns-clause-ringed : goal.returns-clause-ringed
 returns-clause-ringed g c = λ o done last r time.
     stepped g c RunRinged InSecondRinged o done (c.in_ok-begin_second.ensures.promises.ringed o done (second g c) (record { number = refl; given = refl; speed_is = refl }) r (time-begun g c time))
     (λ lit_ in_. c.turn.ensures.promises.ringed o done (second g c) (now-begun g c) refl (λ more. (refl, last)) in_ time)
-    (λ away. dark-ringed o done c.args.run.now c.args.outcome.now (dev0 g c) r c.args.n c.args.speed 0 [] c.requires.some (none-given g c away) c.requires.minute c.turn.new.run c.turn.new.outcome (passed-on g c away) (refused-none g c away))
+    (λ away. dark-ringed o done c.args.run.now c.args.outcome.now (dev0 g c) r c.args.more.seconds c.args.more.speed 0 [] c.requires.some (none-given g c away) c.requires.minute c.turn.new.run c.turn.new.outcome (passed-on g c away) (refused-none g c away))
 
 pub returns-in_err-begin_second-clause-ringed : goal.returns-in_err-begin_second-clause-ringed
 returns-in_err-begin_second-clause-ringed g c = λ o done last r time.
-    let s : TraceSecond = record { number = c.args.run.now.next; has_power = true; speed = c.args.speed; actions = [] } in
+    let s : TraceSecond = record { number = c.args.run.now.next; has_power = true; speed = c.args.more.speed; actions = [] } in
     absurd (c.in_err-begin_second.ensures.promises.ringed o done s (record { number = refl; given = refl; speed_is = refl }) r time)
 
 -- ---- and the events on the cards
@@ -158,17 +158,17 @@ returns-clause-cards g c = λ o done last r time.
     let low = c.requires.going.low in
     let positive : 0 < c.args.run.now.next = omega (arith, low) in
     stepped g c RunCarded InSecondCarded o done (c.in_ok-begin_second.ensures.promises.cards o done (second g c) (record { number = refl; given = refl; speed_is = refl }) r (time-begun g c time))
-    (λ lit_ in_. turned-carded o done (second g c) c.args.n c.args.speed 0 c.begin_second.new.run c.turn.new.run c.begin_second.new.outcome c.turn.new.outcome (dev1 g c) (dev2 g c) refl positive in_ c.turn.ensures.turned.seconds
+    (λ lit_ in_. turned-carded o done (second g c) c.args.more.seconds c.args.more.speed 0 c.begin_second.new.run c.turn.new.run c.begin_second.new.outcome c.turn.new.outcome (dev1 g c) (dev2 g c) refl positive in_ c.turn.ensures.turned.seconds
     (λ x. c.turn.ensures.promises.ringed o done (second g c) (now-begun g c) refl (λ more. (refl, last)) x time)
     (λ x. c.turn.ensures.promises.cards o done (second g c) (now-begun g c) refl (λ more. refl) x time)
     (c.turn.ensures.promises.speeds o done (second g c) (now-begun g c) refl (λ more. refl)
     (in-second o done (second g c) c.args.run.now c.begin_second.new.run c.args.outcome.now c.begin_second.new.outcome (dev0 g c) (dev1 g c) r.ringed.evented.recorded r.speeds refl refl (has-given g c lit_) (came g c lit_) c.in_ok-begin_second.ensures.goes.later.speeds 0
     (carded-in (is_lit c.begin_second.new.run.power) o done (second g c) 0 c.begin_second.new.run c.begin_second.new.outcome (dev1 g c) in_)) time))
-    (λ away. dark-carded o done c.args.run.now c.args.outcome.now (dev0 g c) r c.requires.going.low c.args.n c.args.speed 0 [] c.requires.some (none-given g c away) c.requires.minute c.turn.new.run c.turn.new.outcome (passed-on g c away) (refused-none g c away))
+    (λ away. dark-carded o done c.args.run.now c.args.outcome.now (dev0 g c) r c.requires.going.low c.args.more.seconds c.args.more.speed 0 [] c.requires.some (none-given g c away) c.requires.minute c.turn.new.run c.turn.new.outcome (passed-on g c away) (refused-none g c away))
 
 pub returns-in_err-begin_second-clause-cards : goal.returns-in_err-begin_second-clause-cards
 returns-in_err-begin_second-clause-cards g c = λ o done last r time.
-    let s : TraceSecond = record { number = c.args.run.now.next; has_power = true; speed = c.args.speed; actions = [] } in
+    let s : TraceSecond = record { number = c.args.run.now.next; has_power = true; speed = c.args.more.speed; actions = [] } in
     absurd (c.in_err-begin_second.ensures.promises.cards o done s (record { number = refl; given = refl; speed_is = refl }) r time)
 
 -- ---- how often the unit broke down
@@ -190,8 +190,8 @@ returns-in_err-begin_second-clause-calm g c = c.in_err-begin_second.ensures.goes
 -- ---- its writes
 
 pub returns-clause-most : goal.returns-clause-most
-returns-clause-most g c = writes-second c.args.n (dev0 g c) (dev1 g c) (dev2 g c) c.requires.some c.in_ok-begin_second.ensures.goes.most c.turn.ensures.goes.most
+returns-clause-most g c = writes-second c.args.more.seconds (dev0 g c) (dev1 g c) (dev2 g c) c.requires.some c.in_ok-begin_second.ensures.goes.most c.turn.ensures.goes.most
 
 pub returns-in_err-begin_second-clause-most : goal.returns-in_err-begin_second-clause-most
 returns-in_err-begin_second-clause-most g c =
-    writes-begun c.args.n 0 (devices (g.M.Medium.state c.args.unit.now) (g.C.Chip.state c.args.card_a.now) (g.D.Chip.state c.args.card_b.now)) (devices (g.M.Medium.state c.begin_second.new.unit) (g.C.Chip.state c.begin_second.new.card_a) (g.D.Chip.state c.begin_second.new.card_b)) c.requires.some c.in_err-begin_second.ensures.goes.most
+    writes-begun c.args.more.seconds 0 (devices (g.M.Medium.state c.args.unit.now) (g.C.Chip.state c.args.card_a.now) (g.D.Chip.state c.args.card_b.now)) (devices (g.M.Medium.state c.begin_second.new.unit) (g.C.Chip.state c.begin_second.new.card_a) (g.D.Chip.state c.begin_second.new.card_b)) c.requires.some c.in_err-begin_second.ensures.goes.most

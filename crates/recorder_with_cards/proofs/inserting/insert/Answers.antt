@@ -62,7 +62,7 @@ use Rattle.recorder_with_cards.proofs.inserting.insert.Goals as goal
 
 module _ (g : Over) (c : After-settle g) where
   abbrev put : Run
-  put = put_run c.args.slot c.args.card c.args.run.now
+  put = put_run c.args.put.slot c.args.put.card c.args.run.now
 
   abbrev found : Devices
   found = devices (g.M.Medium.state c.args.unit.now) (g.C.Chip.state c.args.card_a.now) (g.D.Chip.state c.args.card_b.now)
@@ -70,30 +70,30 @@ module _ (g : Over) (c : After-settle g) where
   abbrev settled : Devices
   settled = devices (g.M.Medium.state c.settle.new.unit) (g.C.Chip.state c.settle.new.card_a) (g.D.Chip.state c.settle.new.card_b)
 
-  bare : IsBareIn (with_card_in c.args.slot c.args.card c.args.run.now.keeper.cabin) c.args.slot
+  bare : IsBareIn (with_card_in c.args.put.slot c.args.put.card c.args.run.now.keeper.cabin) c.args.put.slot
   bare =
       let h = c.requires.acting.going in
-      put-bare c.args.slot c.args.card c.args.run.now.keeper.cabin (ungiven_of h.span) (subst (λ (b : Cabin). CabinIsSound (ungiven_of h.span) None b) c.put_in.ensures.kept (c.put_in.ensures.stands (ungiven_of h.span) h.cabin))
+      put-bare c.args.put.slot c.args.put.card c.args.run.now.keeper.cabin (ungiven_of h.span) (subst (λ (b : Cabin). CabinIsSound (ungiven_of h.span) None b) c.put_in.ensures.kept (c.put_in.ensures.stands (ungiven_of h.span) h.cabin))
 
   taken : Takes 0 0 0 put c.settle.new.run c.args.outcome.now c.settle.new.outcome
   taken = subst (λ (b : Cabin). Takes 0 0 0 (with_cabin b c.args.run.now) c.settle.new.run c.args.outcome.now c.settle.new.outcome) c.put_in.ensures.kept c.settle.ensures.takes
 
 -- the card sits in its slot
-seat-there : (g : Over) (c : In_ok-settle g) → seat_in c.settle.new.run.keeper.cabin.slots.seats c.args.slot ≡ Some (record { card = c.args.card; newest = None })
+seat-there : (g : Over) (c : In_ok-settle g) → seat_in c.settle.new.run.keeper.cabin.slots.seats c.args.put.slot ≡ Some (record { card = c.args.put.card; newest = None })
 seat-there g c =
     let h = c.requires.acting.going in
     let cabin = c.args.run.now.keeper.cabin in
     let stands = subst (λ (b : Cabin). CabinIsSound (ungiven_of h.span) None b) c.put_in.ensures.kept (c.put_in.ensures.stands (ungiven_of h.span) h.cabin) in
-    let here = subst (λ (b : Cabin). IsBareIn b c.args.slot) (sym c.put_in.ensures.kept) (put-bare c.args.slot c.args.card cabin (ungiven_of h.span) stands) in
-    (c.in_ok-settle.ensures.behind.bare refl c.args.slot here).0 ∙ ap (λ (b : Cabin). seat_in b.slots.seats c.args.slot) c.put_in.ensures.kept ∙ seat-put c.args.slot c.args.card cabin
+    let here = subst (λ (b : Cabin). IsBareIn b c.args.put.slot) (sym c.put_in.ensures.kept) (put-bare c.args.put.slot c.args.put.card cabin (ungiven_of h.span) stands) in
+    (c.in_ok-settle.ensures.behind.bare refl c.args.put.slot here).0 ∙ ap (λ (b : Cabin). seat_in b.slots.seats c.args.put.slot) c.put_in.ensures.kept ∙ seat-put c.args.put.slot c.args.put.card cabin
 
 -- where the unit failed
 module _ (g : Over) (c : After-from_residual g) where
   failed : true ≡ is_err c.from_residual.result
   failed = search rules
 
-  unsettles : IsSettled c.args.at true (put_run c.args.slot c.args.card c.args.run.now) c.settle.new.run c.args.outcome.now c.settle.new.outcome
-  unsettles = subst (λ (b : Cabin). IsSettled c.args.at true (with_cabin b c.args.run.now) c.settle.new.run c.args.outcome.now c.settle.new.outcome) c.put_in.ensures.kept c.in_err-settle.ensures.settled
+  unsettles : IsSettled c.args.put.at true (put_run c.args.put.slot c.args.put.card c.args.run.now) c.settle.new.run c.args.outcome.now c.settle.new.outcome
+  unsettles = subst (λ (b : Cabin). IsSettled c.args.put.at true (with_cabin b c.args.run.now) c.settle.new.run c.args.outcome.now c.settle.new.outcome) c.put_in.ensures.kept c.in_err-settle.ensures.settled
 
 -- and where the card was judged
 module _ (g : Over) (c : After-accept_in g) where
@@ -103,12 +103,12 @@ module _ (g : Over) (c : After-accept_in g) where
   abbrev behind : Devices
   behind = devices (g.M.Medium.state c.accept_in.new.unit) (g.C.Chip.state c.accept_in.new.card_a) (g.D.Chip.state c.accept_in.new.card_b)
 
-  settles : IsSettled c.args.at false (put g settling) c.settle.new.run c.args.outcome.now c.settle.new.outcome
-  settles = subst (λ (b : Cabin). IsSettled c.args.at false (with_cabin b c.args.run.now) c.settle.new.run c.args.outcome.now c.settle.new.outcome) c.put_in.ensures.kept c.in_ok-settle.ensures.settled
+  settles : IsSettled c.args.put.at false (put g settling) c.settle.new.run c.args.outcome.now c.settle.new.outcome
+  settles = subst (λ (b : Cabin). IsSettled c.args.put.at false (with_cabin b c.args.run.now) c.settle.new.run c.args.outcome.now c.settle.new.outcome) c.put_in.ensures.kept c.in_ok-settle.ensures.settled
 
-  records : RecordsSettling c.in_ok-settle.ensures.keeps.decided c.args.at false (put g settling) c.settle.new.run c.args.outcome.now c.settle.new.outcome (found g settling) (settled g settling)
+  records : RecordsSettling c.in_ok-settle.ensures.keeps.decided c.args.put.at false (put g settling) c.settle.new.run c.args.outcome.now c.settle.new.outcome (found g settling) (settled g settling)
   records =
-      subst (λ (b : Cabin). RecordsSettling c.in_ok-settle.ensures.keeps.decided c.args.at false (with_cabin b c.args.run.now) c.settle.new.run c.args.outcome.now c.settle.new.outcome (found g settling) (settled g settling)) c.put_in.ensures.kept c.in_ok-settle.ensures.keeps.recorded
+      subst (λ (b : Cabin). RecordsSettling c.in_ok-settle.ensures.keeps.decided c.args.put.at false (with_cabin b c.args.run.now) c.settle.new.run c.args.outcome.now c.settle.new.outcome (found g settling) (settled g settling)) c.put_in.ensures.kept c.in_ok-settle.ensures.keeps.recorded
 
   time-settled : HaveTime behind → HaveTime (settled g settling)
   time-settled time = time-before (settled g settling) behind c.accept_in.ensures.goes.later.unit.clock c.accept_in.ensures.goes.later.card_a.clock c.accept_in.ensures.goes.later.card_b.clock time
@@ -125,26 +125,26 @@ settle-requires-clause-held g c =
     let run = c.args.run.now in let h = c.requires.acting.going in
     let stands = subst (λ (b : Cabin). CabinIsSound (ungiven_of h.span) None b) c.put_in.ensures.kept (c.put_in.ensures.stands (ungiven_of h.span) h.cabin) in
     subst (λ (b : Cabin). CanBeCut (run.next / 60) (with_cabin b run) (g.M.Medium.state c.args.unit.now) (g.C.Chip.card c.args.card_a.now) (g.D.Chip.card c.args.card_b.now) (g.C.Chip.state c.args.card_a.now) (g.D.Chip.state c.args.card_b.now))
-    (sym c.put_in.ensures.kept) (put-held c.args.slot c.args.card (run.next / 60) run (ungiven_of h.span) stands c.requires.acting.held)
+    (sym c.put_in.ensures.kept) (put-held c.args.put.slot c.args.put.card (run.next / 60) run (ungiven_of h.span) stands c.requires.acting.held)
 
 pub settle-requires-clause-going : goal.settle-requires-clause-going
 settle-requires-clause-going g c =
     let run = c.args.run.now in (
       None,
       subst (λ (b : Cabin). RunHasPowerAllSeated (run.next / 60) (with_cabin b run) (g.M.Medium.state c.args.unit.now) (g.C.Chip.card c.args.card_a.now) (g.D.Chip.card c.args.card_b.now) (g.C.Chip.state c.args.card_a.now) (g.D.Chip.state c.args.card_b.now))
-          (sym c.put_in.ensures.kept) (put-going c.args.slot c.args.card (run.next / 60) run (λ from s. subst (λ (b : Cabin). CabinIsSound from None b) c.put_in.ensures.kept (c.put_in.ensures.stands from s)) c.requires.acting.going),
+          (sym c.put_in.ensures.kept) (put-going c.args.put.slot c.args.put.card (run.next / 60) run (λ from s. subst (λ (b : Cabin). CabinIsSound from None b) c.put_in.ensures.kept (c.put_in.ensures.stands from s)) c.requires.acting.going),
     )
 
 pub returns-in_err-settle-clause-takes : goal.returns-in_err-settle-clause-takes
 returns-in_err-settle-clause-takes g c =
     let run = c.args.run.now in
-    put-takes c.args.slot c.args.card run c.requires.empty c.settle.new.run c.args.outcome.now c.settle.new.outcome
+    put-takes c.args.put.slot c.args.put.card run c.requires.empty c.settle.new.run c.args.outcome.now c.settle.new.outcome
     (taken g (goal.at.returns-in_err-settle-clause-takes g c).After-settle)
 
 pub returns-clause-takes : goal.returns-clause-takes
 returns-clause-takes g c =
     let run = c.args.run.now in
-    put-then c.args.slot c.args.card run c.requires.empty c.settle.new.run c.accept_in.new.run c.args.outcome.now c.settle.new.outcome c.accept_in.new.outcome
+    put-then c.args.put.slot c.args.put.card run c.requires.empty c.settle.new.run c.accept_in.new.run c.args.outcome.now c.settle.new.outcome c.accept_in.new.outcome
     (taken g (settling g c)) c.accept_in.ensures.takes
 
 pub accept_in-requires-clause-acting : goal.accept_in-requires-clause-acting
@@ -163,7 +163,7 @@ accept_in-requires-clause-acting g c = record {
       let run = c.args.run.now in
       c.in_ok-settle.ensures.going None
       (subst (λ (b : Cabin). RunHasPowerAllSeated (run.next / 60) (with_cabin b run) (g.M.Medium.state c.args.unit.now) (g.C.Chip.card c.args.card_a.now) (g.D.Chip.card c.args.card_b.now) (g.C.Chip.state c.args.card_a.now) (g.D.Chip.state c.args.card_b.now))
-      (sym c.put_in.ensures.kept) (put-going c.args.slot c.args.card (run.next / 60) run (λ from s. subst (λ (b : Cabin). CabinIsSound from None b) c.put_in.ensures.kept (c.put_in.ensures.stands from s)) c.requires.acting.going));
+      (sym c.put_in.ensures.kept) (put-going c.args.put.slot c.args.put.card (run.next / 60) run (λ from s. subst (λ (b : Cabin). CabinIsSound from None b) c.put_in.ensures.kept (c.put_in.ensures.stands from s)) c.requires.acting.going));
 }
 
 pub accept_in-requires-clause-seat : goal.accept_in-requires-clause-seat
@@ -172,7 +172,7 @@ accept_in-requires-clause-seat g c = seat-there g (goal.at.accept_in-requires-cl
 pub accept_in-requires-clause-breaks : goal.accept_in-requires-clause-breaks
 accept_in-requires-clause-breaks g c =
     let t = (taken g (goal.at.accept_in-requires-clause-breaks g c).After-settle).breaks in
-    let room = c.settle.ensures.takes.rooms.1 in let f = put-falls c.args.slot c.args.card c.args.run.now.keeper.cabin c.requires.empty in
+    let room = c.settle.ensures.takes.rooms.1 in let f = put-falls c.args.put.slot c.args.put.card c.args.run.now.keeper.cabin c.requires.empty in
     let had = c.requires.breaks in
     omega (arith, t, room, f, had)
 
@@ -193,21 +193,21 @@ returns-in_err-settle-clause-promises g c = record {
       λ late room o done s now front rest actions begun allowed within time.
       let at = (goal.at.returns-in_err-settle-clause-promises g c).After-settle in
       let r = c.in_err-settle.ensures.keeps in
-      let records = subst (λ (b : Cabin). RecordsSettling r.decided c.args.at true (with_cabin b c.args.run.now) c.settle.new.run c.args.outcome.now c.settle.new.outcome (found g at) (settled g at)) c.put_in.ensures.kept r.recorded in
-      let fails = unsettled c.args.slot c.args.card c.args.at c.args.speed c.args.run.now c.args.outcome.now (found g at) o done s now front rest actions c.requires.at begun late allowed within (ungiven_of c.requires.acting.going.span) c.requires.acting.going.cabin c.settle.new.run c.settle.new.outcome true (unsettles g c) r.decided r.given (settled g at) records time refl in
-      subst (λ (f : Bool). GoesOnOrFails f o done s (In c.args.at.begun) [] c.settle.new.run c.settle.new.outcome (settled g at) within.within.b) (failed g c) fails;
+      let records = subst (λ (b : Cabin). RecordsSettling r.decided c.args.put.at true (with_cabin b c.args.run.now) c.settle.new.run c.args.outcome.now c.settle.new.outcome (found g at) (settled g at)) c.put_in.ensures.kept r.recorded in
+      let fails = unsettled c.args.put.slot c.args.put.card c.args.put.at c.args.put.speed c.args.run.now c.args.outcome.now (found g at) o done s now front rest actions c.requires.at begun late allowed within (ungiven_of c.requires.acting.going.span) c.requires.acting.going.cabin c.settle.new.run c.settle.new.outcome true (unsettles g c) r.decided r.given (settled g at) records time refl in
+      subst (λ (f : Bool). GoesOnOrFails f o done s (In c.args.put.at.begun) [] c.settle.new.run c.settle.new.outcome (settled g at) within.within.b) (failed g c) fails;
   evented =
       λ late room o done s now front rest actions begun allowed within events time.
       let at = (goal.at.returns-in_err-settle-clause-promises g c).After-settle in
       let r = c.in_err-settle.ensures.keeps in
-      let notes = subst (λ (b : Cabin). EventsSettling r.decided c.args.at true (with_cabin b c.args.run.now) c.settle.new.run c.args.outcome.now c.settle.new.outcome (found g at) (settled g at)) c.put_in.ensures.kept r.evented in
-      let fails = unsettled-evented c.args.slot c.args.card c.args.at c.args.speed c.args.run.now c.args.outcome.now (found g at) o done s now front rest actions c.requires.at begun late allowed within (ungiven_of c.requires.acting.going.span) c.requires.acting.going.cabin (bare g at) c.settle.new.run c.settle.new.outcome true (unsettles g c) r.decided r.given (settled g at) notes time events refl in
-      subst (λ (f : Bool). EventsGoOn f o done s within.within.b.run (In c.args.at.begun) Acting (log_of c.settle.new.outcome) (settled g at)) (failed g c) fails;
+      let notes = subst (λ (b : Cabin). EventsSettling r.decided c.args.put.at true (with_cabin b c.args.run.now) c.settle.new.run c.args.outcome.now c.settle.new.outcome (found g at) (settled g at)) c.put_in.ensures.kept r.evented in
+      let fails = unsettled-evented c.args.put.slot c.args.put.card c.args.put.at c.args.put.speed c.args.run.now c.args.outcome.now (found g at) o done s now front rest actions c.requires.at begun late allowed within (ungiven_of c.requires.acting.going.span) c.requires.acting.going.cabin (bare g at) c.settle.new.run c.settle.new.outcome true (unsettles g c) r.decided r.given (settled g at) notes time events refl in
+      subst (λ (f : Bool). EventsGoOn f o done s within.within.b.run (In c.args.put.at.begun) Acting (log_of c.settle.new.outcome) (settled g at)) (failed g c) fails;
   ringed =
       λ late room o done s now front rest actions begun allowed within spans t rings time.
       let run = c.args.run.now in
       let out = c.args.outcome.now in
-      let put : Run = put_run c.args.slot c.args.card run in
+      let put : Run = put_run c.args.put.slot c.args.put.card run in
       let mid : Run = c.settle.new.run in
       let told : Outcome = c.settle.new.outcome in
       let U : State = g.M.Medium.state c.args.unit.now in
@@ -215,38 +215,38 @@ returns-in_err-settle-clause-promises g c = record {
       let d : Devices = devices U (g.C.Chip.state c.args.card_a.now) (g.D.Chip.state c.args.card_b.now) in
       let e : Devices = devices V (g.C.Chip.state c.settle.new.card_a) (g.D.Chip.state c.settle.new.card_b) in
       let settles = unsettles g c in
-      let lines = up-to-tells c.args.at settles.decided true (told_of put out) (told_of mid told) settles.kept in
-      let at = at-is c.args.slot c.args.card c.args.at c.args.speed run out d o done s now front rest actions c.requires.at begun late allowed within (ungiven_of c.requires.acting.going.span) c.requires.acting.going.cabin in
+      let lines = up-to-tells c.args.put.at settles.decided true (told_of put out) (told_of mid told) settles.kept in
+      let at = at-is c.args.put.slot c.args.put.card c.args.put.at c.args.put.speed run out d o done s now front rest actions c.requires.at begun late allowed within (ungiven_of c.requires.acting.going.span) c.requires.acting.going.cabin in
       let v = c.in_err-settle.ensures.keeps in
-      let stay = subst (λ (b : Cabin). PlacesSettling v.decided c.args.at (with_cabin b run) mid out d e) c.put_in.ensures.kept v.places in
-      let places = settled-places c.args.slot c.args.card c.args.at c.args.speed run out d o done s now front rest actions c.requires.at begun late allowed within (ungiven_of c.requires.acting.going.span) c.requires.acting.going.cabin mid told true settles v.decided v.given
+      let stay = subst (λ (b : Cabin). PlacesSettling v.decided c.args.put.at (with_cabin b run) mid out d e) c.put_in.ensures.kept v.places in
+      let places = settled-places c.args.put.slot c.args.put.card c.args.put.at c.args.put.speed run out d o done s now front rest actions c.requires.at begun late allowed within (ungiven_of c.requires.acting.going.span) c.requires.acting.going.cabin mid told true settles v.decided v.given
       e stay time spans t (spans-here o done s within.within.b.run.log front run (log_of out) spans t d rings) in
-      let rung = unsettled-ringed o done s front rest c.args.slot c.args.card actions run out d within spans t rings (refuses o done s c.args.speed run out d now front (Insert c.args.slot c.args.card) rest actions within None allowed)
+      let rung = unsettled-ringed o done s front rest c.args.put.slot c.args.put.card actions run out d within spans t rings (refuses o done s c.args.put.speed run out d now front (Insert c.args.put.slot c.args.put.card) rest actions within None allowed)
       mid told e lines.lines (ap log_of settles.outcome ∙ ap (λ (bs : List Break). record (log_of out) { breaks = bs }) lines.are) (subst (λ (m : Moment). AreTears m lines.lines) at lines.tears)
-      (settling-leaves c.args.at true (with_cabin c.put_in.new.self run) mid out told U V (settled-noted c.in_err-settle.ensures.keeps))
+      (settling-leaves c.args.put.at true (with_cabin c.put_in.new.self run) mid out told U V (settled-noted c.in_err-settle.ensures.keeps))
       (more-left o d e (within.within.powered.lit.unit.unit_holds [] []).later within.within.there.clocks (settled-left c.settle.ensures.goes.keeping)) places
       (fewer-seats put mid (ap (λ (r : Run). r.noted) settles.only) lines.sessions) lines.odometer (ap (λ (r : Run). r.noted) settles.only) in
-      subst (λ (f : Bool). RingsGoOn f o done s within.within.b (front ++ Insert c.args.slot c.args.card ∷ []) mid (log_of told) spans t e) (failed g c) rung;
+      subst (λ (f : Bool). RingsGoOn f o done s within.within.b (front ++ Insert c.args.put.slot c.args.put.card ∷ []) mid (log_of told) spans t e) (failed g c) rung;
   cards =
       λ late room o done s now front rest actions begun allowed vehicle within cards time.
       let run = c.args.run.now in
       let out = c.args.outcome.now in
-      let put : Run = put_run c.args.slot c.args.card run in
+      let put : Run = put_run c.args.put.slot c.args.put.card run in
       let mid : Run = c.settle.new.run in
       let told : Outcome = c.settle.new.outcome in
       let d : Devices = devices (g.M.Medium.state c.args.unit.now) (g.C.Chip.state c.args.card_a.now) (g.D.Chip.state c.args.card_b.now) in
       let e : Devices = devices (g.M.Medium.state c.settle.new.unit) (g.C.Chip.state c.settle.new.card_a) (g.D.Chip.state c.settle.new.card_b) in
       let settles = unsettles g c in
-      let lines = up-to-tells c.args.at settles.decided true (told_of put out) (told_of mid told) settles.kept in
-      let at = at-is c.args.slot c.args.card c.args.at c.args.speed run out d o done s now front rest actions c.requires.at begun late allowed within (ungiven_of c.requires.acting.going.span) c.requires.acting.going.cabin in
+      let lines = up-to-tells c.args.put.at settles.decided true (told_of put out) (told_of mid told) settles.kept in
+      let at = at-is c.args.put.slot c.args.put.card c.args.put.at c.args.put.speed run out d o done s now front rest actions c.requires.at begun late allowed within (ungiven_of c.requires.acting.going.span) c.requires.acting.going.cabin in
       let v = c.in_err-settle.ensures.keeps in
-      let shows = subst (λ (b : Cabin). CardsSettling v.decided c.args.at (with_cabin b run) mid out d e) c.put_in.ensures.kept v.cards in
-      let still : StillShow o d e = shows o done s (length front) (entering_by (length front) (Insert c.args.slot c.args.card)) at
-      (waits-within c.args.slot c.args.card c.args.at c.args.speed run out d o done s now front rest actions c.requires.at begun late allowed within (ungiven_of c.requires.acting.going.span) c.requires.acting.going.cabin mid told true settles v.decided v.given) time in
-      let goes = unsettled-cards o done s front rest c.args.slot c.args.card actions run out d within cards (refuses o done s c.args.speed run out d now front (Insert c.args.slot c.args.card) rest actions within None allowed)
+      let shows = subst (λ (b : Cabin). CardsSettling v.decided c.args.put.at (with_cabin b run) mid out d e) c.put_in.ensures.kept v.cards in
+      let still : StillShow o d e = shows o done s (length front) (entering_by (length front) (Insert c.args.put.slot c.args.put.card)) at
+      (waits-within c.args.put.slot c.args.put.card c.args.put.at c.args.put.speed run out d o done s now front rest actions c.requires.at begun late allowed within (ungiven_of c.requires.acting.going.span) c.requires.acting.going.cabin mid told true settles v.decided v.given) time in
+      let goes = unsettled-cards o done s front rest c.args.put.slot c.args.put.card actions run out d within cards (refuses o done s c.args.put.speed run out d now front (Insert c.args.put.slot c.args.put.card) rest actions within None allowed)
       told e lines.lines (ap log_of settles.outcome ∙ ap (λ (bs : List Break). record (log_of out) { breaks = bs }) lines.are) (subst (λ (m : Moment). AreTears m lines.lines) at lines.tears)
       (more-left o d e (within.within.powered.lit.unit.unit_holds [] []).later within.within.there.clocks (settled-left c.settle.ensures.goes.keeping)) still in
-      subst (λ (f : Bool). CardsGoOn f o done s within.within.b.run.log (front ++ Insert c.args.slot c.args.card ∷ []) (log_of told) e) (failed g c) goes;
+      subst (λ (f : Bool). CardsGoOn f o done s within.within.b.run.log (front ++ Insert c.args.put.slot c.args.put.card ∷ []) (log_of told) e) (failed g c) goes;
 }
 
 pub returns-in_err-settle-clause-leaves : goal.returns-in_err-settle-clause-leaves
@@ -255,10 +255,10 @@ returns-in_err-settle-clause-leaves g c = record {
       λ tells.
       let U : State = g.M.Medium.state c.args.unit.now in
       let V : State = g.M.Medium.state c.settle.new.unit in
-      inl (sym (failed g c), unsettles g c, settling-leaves c.args.at true (with_cabin c.put_in.new.self c.args.run.now) c.settle.new.run c.args.outcome.now c.settle.new.outcome U V (settled-noted c.in_err-settle.ensures.keeps));
+      inl (sym (failed g c), unsettles g c, settling-leaves c.args.put.at true (with_cabin c.put_in.new.self c.args.run.now) c.settle.new.run c.args.outcome.now c.settle.new.outcome U V (settled-noted c.in_err-settle.ensures.keeps));
   noted =
       let run = c.args.run.now in
-      let put : Run = put_run c.args.slot c.args.card run in
+      let put : Run = put_run c.args.put.slot c.args.put.card run in
       let out = c.args.outcome.now in
       let mid : Run = c.settle.new.run in
       let told : Outcome = c.settle.new.outcome in
@@ -268,8 +268,8 @@ returns-in_err-settle-clause-leaves g c = record {
       let Y : State = g.D.Chip.state c.args.card_b.now in
       let X1 : State = g.C.Chip.state c.settle.new.card_a in
       let Y1 : State = g.D.Chip.state c.settle.new.card_b in
-      let settling = subst (λ (b : Cabin). NotesSettling c.args.at true (with_cabin b run) mid out told U V) c.put_in.ensures.kept (settled-noted c.in_err-settle.ensures.keeps) in
-      let these = settles-these c.args.at true put mid out told U V X Y X1 Y1 (g.met.M.Medium.coherent c.args.unit.now) c.requires.acting.held.is_unit settling in
+      let settling = subst (λ (b : Cabin). NotesSettling c.args.put.at true (with_cabin b run) mid out told U V) c.put_in.ensures.kept (settled-noted c.in_err-settle.ensures.keeps) in
+      let these = settles-these c.args.put.at true put mid out told U V X Y X1 Y1 (g.met.M.Medium.coherent c.args.unit.now) c.requires.acting.held.is_unit settling in
       record {
         events = these.0;
         are = inl (sym (failed g c), these.1);
@@ -297,7 +297,7 @@ returns-clause-inserted g c = record {
       inr (record {
         between = c.settle.new.run;
         told = c.settle.new.outcome;
-        settled_first = subst (λ (b : Cabin). IsSettled c.args.at false (with_cabin b run) c.settle.new.run c.args.outcome.now c.settle.new.outcome) c.put_in.ensures.kept c.in_ok-settle.ensures.settled;
+        settled_first = subst (λ (b : Cabin). IsSettled c.args.put.at false (with_cabin b run) c.settle.new.run c.args.outcome.now c.settle.new.outcome) c.put_in.ensures.kept c.in_ok-settle.ensures.settled;
         entering = a.0;
         now = a.1;
         accepted = a.2;
@@ -315,21 +315,21 @@ returns-clause-promises g c = record {
   recorded =
       λ late room o done s now front rest actions begun allowed within time.
       let r = c.in_ok-settle.ensures.keeps in
-      inserted c.args.slot c.args.card c.args.at c.args.speed c.args.run.now c.args.outcome.now (found g (settling g c)) o done s now front rest actions c.requires.at begun late allowed within (ungiven_of c.requires.acting.going.span) c.requires.acting.going.cabin c.settle.new.run c.settle.new.outcome false (settles g c) r.decided r.given (settled g (settling g c)) (records g c)
+      inserted c.args.put.slot c.args.put.card c.args.put.at c.args.put.speed c.args.run.now c.args.outcome.now (found g (settling g c)) o done s now front rest actions c.requires.at begun late allowed within (ungiven_of c.requires.acting.going.span) c.requires.acting.going.cabin c.settle.new.run c.settle.new.outcome false (settles g c) r.decided r.given (settled g (settling g c)) (records g c)
       (time-settled g c time) refl (seat-there g (goal.at.returns-clause-promises g c).In_ok-settle) (is_err c.accept_in.result) c.accept_in.new.run c.accept_in.new.outcome (behind g c)
       (c.accept_in.ensures.promises.recorded (room-then g c room)) time;
   evented =
       λ late room o done s now front rest actions begun allowed within events time.
       let r = c.in_ok-settle.ensures.keeps in
       let q = c.in_ok-settle.ensures.keeps in
-      let notes = subst (λ (b : Cabin). EventsSettling r.decided c.args.at false (with_cabin b c.args.run.now) c.settle.new.run c.args.outcome.now c.settle.new.outcome (found g (settling g c)) (settled g (settling g c))) c.put_in.ensures.kept r.evented in
-      inserted-evented c.args.slot c.args.card c.args.at c.args.speed c.args.run.now c.args.outcome.now (found g (settling g c)) o done s now front rest actions c.requires.at begun late allowed within (ungiven_of c.requires.acting.going.span) c.requires.acting.going.cabin (bare g (settling g c)) c.settle.new.run c.settle.new.outcome false (settles g c) r.decided r.given (settled g (settling g c)) notes (time-settled g c time) events
+      let notes = subst (λ (b : Cabin). EventsSettling r.decided c.args.put.at false (with_cabin b c.args.run.now) c.settle.new.run c.args.outcome.now c.settle.new.outcome (found g (settling g c)) (settled g (settling g c))) c.put_in.ensures.kept r.evented in
+      inserted-evented c.args.put.slot c.args.put.card c.args.put.at c.args.put.speed c.args.run.now c.args.outcome.now (found g (settling g c)) o done s now front rest actions c.requires.at begun late allowed within (ungiven_of c.requires.acting.going.span) c.requires.acting.going.cabin (bare g (settling g c)) c.settle.new.run c.settle.new.outcome false (settles g c) r.decided r.given (settled g (settling g c)) notes (time-settled g c time) events
       q.decided q.given (records g c) refl (seat-there g (goal.at.returns-clause-promises g c).In_ok-settle) (is_err c.accept_in.result) c.accept_in.new.run c.accept_in.new.outcome (behind g c) (c.accept_in.ensures.promises.evented (room-then g c room)) time;
   ringed =
       λ late room o done s now front rest actions begun allowed within spans t rings time.
       let run = c.args.run.now in
       let out = c.args.outcome.now in
-      let put : Run = put_run c.args.slot c.args.card run in
+      let put : Run = put_run c.args.put.slot c.args.put.card run in
       let mid : Run = c.settle.new.run in
       let told : Outcome = c.settle.new.outcome in
       let U : State = g.M.Medium.state c.args.unit.now in
@@ -340,30 +340,30 @@ returns-clause-promises g c = record {
       let q = c.in_ok-settle.ensures.keeps in
       let settles = settles g c in
       let before = time-settled g c time in
-      let lines = up-to-tells c.args.at settles.decided false (told_of put out) (told_of mid told) settles.kept in
-      let at = at-is c.args.slot c.args.card c.args.at c.args.speed run out d o done s now front rest actions c.requires.at begun late allowed within (ungiven_of c.requires.acting.going.span) c.requires.acting.going.cabin in
-      let fine = refuses o done s c.args.speed run out d now front (Insert c.args.slot c.args.card) rest actions within None allowed in
+      let lines = up-to-tells c.args.put.at settles.decided false (told_of put out) (told_of mid told) settles.kept in
+      let at = at-is c.args.put.slot c.args.put.card c.args.put.at c.args.put.speed run out d o done s now front rest actions c.requires.at begun late allowed within (ungiven_of c.requires.acting.going.span) c.requires.acting.going.cabin in
+      let fine = refuses o done s c.args.put.speed run out d now front (Insert c.args.put.slot c.args.put.card) rest actions within None allowed in
       let log : log_of told ≡ record (log_of out) { breaks = (log_of out).breaks ++ lines.lines } = ap log_of settles.outcome ∙ ap (λ (bs : List Break). record (log_of out) { breaks = bs }) lines.are in
       let tears = subst (λ (m : Moment). AreTears m lines.lines) at lines.tears in
-      let leaves = settling-leaves c.args.at false (with_cabin c.put_in.new.self run) mid out told U V (settled-noted c.in_ok-settle.ensures.keeps) in
+      let leaves = settling-leaves c.args.put.at false (with_cabin c.put_in.new.self run) mid out told U V (settled-noted c.in_ok-settle.ensures.keeps) in
       let left = more-left o d e (within.within.powered.lit.unit.unit_holds [] []).later within.within.there.clocks (settled-left c.settle.ensures.goes.keeping) in
       let v = c.in_ok-settle.ensures.keeps in
-      let stay = subst (λ (b : Cabin). PlacesSettling v.decided c.args.at (with_cabin b run) mid out d e) c.put_in.ensures.kept v.places in
-      let places = settled-places c.args.slot c.args.card c.args.at c.args.speed run out d o done s now front rest actions c.requires.at begun late allowed within (ungiven_of c.requires.acting.going.span) c.requires.acting.going.cabin mid told false settles v.decided v.given
+      let stay = subst (λ (b : Cabin). PlacesSettling v.decided c.args.put.at (with_cabin b run) mid out d e) c.put_in.ensures.kept v.places in
+      let places = settled-places c.args.put.slot c.args.put.card c.args.put.at c.args.put.speed run out d o done s now front rest actions c.requires.at begun late allowed within (ungiven_of c.requires.acting.going.span) c.requires.acting.going.cabin mid told false settles v.decided v.given
       e stay before spans t (spans-here o done s within.within.b.run.log front run (log_of out) spans t d rings) in
       let noted : mid.noted ≡ run.noted = ap (λ (r : Run). r.noted) settles.only in
       let fewer = fewer-seats put mid noted lines.sessions in
       let counted : mid.noted ≤ length (log_of told).finds = let few = rings.counted in let same = ap (λ (l : RunLog). length l.finds) log in omega (arith, few, same, noted) in
-      let j = next-judged c.args.slot c.args.card c.args.at c.args.speed run out d o done s now front rest actions c.requires.at begun late allowed within (ungiven_of c.requires.acting.going.span) c.requires.acting.going.cabin mid told false settles q.decided q.given e (records g c) before refl (seat-there g (goal.at.returns-clause-promises g c).In_ok-settle) (with_second spans run.keeper.odometer t)
-      (odometer-mid o done s front rest c.args.slot c.args.card actions run out d within spans t rings fine mid told e lines.lines log tears leaves left places fewer lines.odometer noted (entering_by (length front) (Insert c.args.slot c.args.card)))
+      let j = next-judged c.args.put.slot c.args.put.card c.args.put.at c.args.put.speed run out d o done s now front rest actions c.requires.at begun late allowed within (ungiven_of c.requires.acting.going.span) c.requires.acting.going.cabin mid told false settles q.decided q.given e (records g c) before refl (seat-there g (goal.at.returns-clause-promises g c).In_ok-settle) (with_second spans run.keeper.odometer t)
+      (odometer-mid o done s front rest c.args.put.slot c.args.put.card actions run out d within spans t rings fine mid told e lines.lines log tears leaves left places fewer lines.odometer noted (entering_by (length front) (Insert c.args.put.slot c.args.put.card)))
       counted (is_err c.accept_in.result) c.accept_in.new.run c.accept_in.new.outcome last (c.accept_in.ensures.promises.ringed (room-then g c room)) time in
-      inserted-ringed o done s front rest c.args.slot c.args.card actions run out d within spans t rings fine mid told e lines.lines log tears leaves left places fewer lines.odometer noted
+      inserted-ringed o done s front rest c.args.put.slot c.args.put.card actions run out d within spans t rings fine mid told e lines.lines log tears leaves left places fewer lines.odometer noted
       (is_err c.accept_in.result) c.accept_in.new.run c.accept_in.new.outcome last j;
   cards =
       λ late room o done s now front rest actions begun allowed vehicle within cards time.
       let run = c.args.run.now in
       let out = c.args.outcome.now in
-      let put : Run = put_run c.args.slot c.args.card run in
+      let put : Run = put_run c.args.put.slot c.args.put.card run in
       let mid : Run = c.settle.new.run in
       let told : Outcome = c.settle.new.outcome in
       let d = found g (settling g c) in
@@ -372,20 +372,20 @@ returns-clause-promises g c = record {
       let q = c.in_ok-settle.ensures.keeps in
       let v = c.in_ok-settle.ensures.keeps in
       let settles = settles g c in
-      let shows = subst (λ (b : Cabin). CardsSettling v.decided c.args.at (with_cabin b run) mid out d e) c.put_in.ensures.kept v.cards in
+      let shows = subst (λ (b : Cabin). CardsSettling v.decided c.args.put.at (with_cabin b run) mid out d e) c.put_in.ensures.kept v.cards in
       let before = time-settled g c time in
-      let lines = up-to-tells c.args.at settles.decided false (told_of put out) (told_of mid told) settles.kept in
-      let at = at-is c.args.slot c.args.card c.args.at c.args.speed run out d o done s now front rest actions c.requires.at begun late allowed within (ungiven_of c.requires.acting.going.span) c.requires.acting.going.cabin in
-      let fine = refuses o done s c.args.speed run out d now front (Insert c.args.slot c.args.card) rest actions within None allowed in
+      let lines = up-to-tells c.args.put.at settles.decided false (told_of put out) (told_of mid told) settles.kept in
+      let at = at-is c.args.put.slot c.args.put.card c.args.put.at c.args.put.speed run out d o done s now front rest actions c.requires.at begun late allowed within (ungiven_of c.requires.acting.going.span) c.requires.acting.going.cabin in
+      let fine = refuses o done s c.args.put.speed run out d now front (Insert c.args.put.slot c.args.put.card) rest actions within None allowed in
       let log : log_of told ≡ record (log_of out) { breaks = (log_of out).breaks ++ lines.lines } = ap log_of settles.outcome ∙ ap (λ (bs : List Break). record (log_of out) { breaks = bs }) lines.are in
       let tears = subst (λ (m : Moment). AreTears m lines.lines) at lines.tears in
       let left = more-left o d e (within.within.powered.lit.unit.unit_holds [] []).later within.within.there.clocks (settled-left c.settle.ensures.goes.keeping) in
-      let still : StillShow o d e = shows o done s (length front) (entering_by (length front) (Insert c.args.slot c.args.card)) at
-      (waits-within c.args.slot c.args.card c.args.at c.args.speed run out d o done s now front rest actions c.requires.at begun late allowed within (ungiven_of c.requires.acting.going.span) c.requires.acting.going.cabin mid told false settles v.decided v.given) before in
-      let own : mid.keeper.memory.registration ≡ vehicle_in o = ap (λ m. m.registration) (settled-watched c.args.at false put mid out told settles).memory ∙ vehicle in
-      let j = next-cards c.args.slot c.args.card c.args.at c.args.speed run out d o done s now front rest actions c.requires.at begun late allowed within (ungiven_of c.requires.acting.going.span) c.requires.acting.going.cabin mid told false settles q.decided q.given e (records g c) before refl (seat-there g (goal.at.returns-clause-promises g c).In_ok-settle)
+      let still : StillShow o d e = shows o done s (length front) (entering_by (length front) (Insert c.args.put.slot c.args.put.card)) at
+      (waits-within c.args.put.slot c.args.put.card c.args.put.at c.args.put.speed run out d o done s now front rest actions c.requires.at begun late allowed within (ungiven_of c.requires.acting.going.span) c.requires.acting.going.cabin mid told false settles v.decided v.given) before in
+      let own : mid.keeper.memory.registration ≡ vehicle_in o = ap (λ m. m.registration) (settled-watched c.args.put.at false put mid out told settles).memory ∙ vehicle in
+      let j = next-cards c.args.put.slot c.args.put.card c.args.put.at c.args.put.speed run out d o done s now front rest actions c.requires.at begun late allowed within (ungiven_of c.requires.acting.going.span) c.requires.acting.going.cabin mid told false settles q.decided q.given e (records g c) before refl (seat-there g (goal.at.returns-clause-promises g c).In_ok-settle)
       (is_err c.accept_in.result) c.accept_in.new.outcome last (c.accept_in.ensures.promises.cards (room-then g c room)) own time in
-      inserted-cards o done s front rest c.args.slot c.args.card actions run out d within cards fine told e lines.lines log tears left still (is_err c.accept_in.result) c.accept_in.new.outcome last j;
+      inserted-cards o done s front rest c.args.put.slot c.args.put.card actions run out d within cards fine told e lines.lines log tears left still (is_err c.accept_in.result) c.accept_in.new.outcome last j;
 }
 
 pub returns-clause-leaves : goal.returns-clause-leaves
@@ -395,7 +395,7 @@ returns-clause-leaves g c = record {
       let U : State = g.M.Medium.state c.args.unit.now in
       let V : State = g.M.Medium.state c.settle.new.unit in
       let W : State = g.M.Medium.state c.accept_in.new.unit in
-      let leaves = settling-leaves c.args.at false (with_cabin c.put_in.new.self c.args.run.now) c.settle.new.run c.args.outcome.now c.settle.new.outcome U V (settled-noted c.in_ok-settle.ensures.keeps) in
+      let leaves = settling-leaves c.args.put.at false (with_cabin c.put_in.new.self c.args.run.now) c.settle.new.run c.args.outcome.now c.settle.new.outcome U V (settled-noted c.in_ok-settle.ensures.keeps) in
       let j = c.accept_in.ensures.leaves.rings in
       inr (record {
         between = c.settle.new.run;
@@ -412,7 +412,7 @@ returns-clause-leaves g c = record {
       });
   noted =
       let run = c.args.run.now in
-      let put : Run = put_run c.args.slot c.args.card run in
+      let put : Run = put_run c.args.put.slot c.args.put.card run in
       let out = c.args.outcome.now in
       let mid : Run = c.settle.new.run in
       let told : Outcome = c.settle.new.outcome in
@@ -422,13 +422,13 @@ returns-clause-leaves g c = record {
       let Y : State = g.D.Chip.state c.args.card_b.now in
       let X1 : State = g.C.Chip.state c.settle.new.card_a in
       let Y1 : State = g.D.Chip.state c.settle.new.card_b in
-      let settling = subst (λ (b : Cabin). NotesSettling c.args.at false (with_cabin b run) mid out told U V) c.put_in.ensures.kept (settled-noted c.in_ok-settle.ensures.keeps) in
-      let these = settles-these c.args.at false put mid out told U V X Y X1 Y1 (g.met.M.Medium.coherent c.args.unit.now) c.requires.acting.held.is_unit settling in
+      let settling = subst (λ (b : Cabin). NotesSettling c.args.put.at false (with_cabin b run) mid out told U V) c.put_in.ensures.kept (settled-noted c.in_ok-settle.ensures.keeps) in
+      let these = settles-these c.args.put.at false put mid out told U V X Y X1 Y1 (g.met.M.Medium.coherent c.args.unit.now) c.requires.acting.held.is_unit settling in
       let new : Run = c.accept_in.new.run in
       let after : Outcome = c.accept_in.new.outcome in
       let e : Devices = devices V X1 Y1 in
       let f : Devices = devices (g.M.Medium.state c.accept_in.new.unit) (g.C.Chip.state c.accept_in.new.card_a) (g.D.Chip.state c.accept_in.new.card_b) in
-      let judged = anew-these (Some c.args.card) c.args.slot c.args.at c.args.at c.args.speed (is_err c.accept_in.result) mid new told after e f refl c.accept_in.ensures.leaves.noted in
+      let judged = anew-these (Some c.args.put.card) c.args.put.slot c.args.put.at c.args.put.at c.args.put.speed (is_err c.accept_in.result) mid new told after e f refl c.accept_in.ensures.leaves.noted in
       record {
         events = these.0 ++ judged.0;
         are = inr (record { between = mid; told = told; faults = these.0; judged = judged.0; settles = these.1; judges = judged.1; are = refl });

@@ -94,7 +94,7 @@ module _ (g : Over) (c : After-resume g) where
   log : began ≡ found_log run.unfound c.last_kept-kept.result (log_of out)
   log = ap (λ (l : Listed Break). log_of (record out { breaks = l })) c.learn.ensures.breaks
 
-  values : values_of c.learn.new.self (record out { breaks = c.learn.new.breaks }) ≡ read_values c.args.journal.kept (values_of run out)
+  values : values_of c.learn.new.self (record out { breaks = c.learn.new.breaks }) ≡ read_values c.args.waking.journal.kept (values_of run out)
   values = learned run c.learn.new.self out c.learn.new.breaks c.last_kept-kept.result c.learn.ensures.run c.learn.ensures.breaks c.learn.ensures.same ∙ ap (λ (k : ℕ). read_values k (values_of run out)) c.last_kept-kept.ensures.kept
 
   -- the breaks that were told before are found, and no line of a tear comes with that
@@ -105,7 +105,7 @@ module _ (g : Over) (c : After-resume g) where
   calm = calm-none dev0 (ap (λ (l : Listed Break). failed_tears l.items) c.learn.ensures.breaks ∙ found-tears run.unfound c.last_kept-kept.result out.breaks.items)
 
   -- a second that may get power, with room for what is told
-  module _ (room : length out.marks.items + MOST_OWED * bare_seats run.keeper.cabin.slots.seats ≤ out.marks.room) (o : Origin) (done : List TraceSecond) (s : TraceSecond) (now : IsNow s c.args.speed run) (has : has_power run.power run.next ≡ true) (time : HaveTime dev1) where
+  module _ (room : length out.marks.items + MOST_OWED * bare_seats run.keeper.cabin.slots.seats ≤ out.marks.room) (o : Origin) (done : List TraceSecond) (s : TraceSecond) (now : IsNow s c.args.waking.speed run) (has : has_power run.power run.next ≡ true) (time : HaveTime dev1) where
     room_learnt : length out.marks.items + MOST_OWED * bare_seats c.learn.new.self.keeper.cabin.slots.seats ≤ out.marks.room
     room_learnt = let same = ap (λ (r : Run). bare_seats r.keeper.cabin.slots.seats) c.learn.ensures.run in omega (arith, room, same)
 
@@ -159,7 +159,7 @@ module _ (g : Over) (c : After-from_residual g) where
       let powered = may-of run.power rec.supply run.next rec.powers c.requires.dark has in
       let image = image-of U.image (unit-tells o done rec.supply (values_of run c.args.outcome.now) before rec.recorded powered) in
       let early = kept-early o done rec.supply (values_of run c.args.outcome.now) before rec.recorded powered image.0 ((g.met.M.Medium.coherent c.args.unit.now).is_left image.0 image.1) in
-      let is = (at-image (IsFoundBy c.args.journal) U.image image.0 image.1 c.requires.loaded.found).kept in
+      let is = (at-image (IsFoundBy c.args.waking.journal) U.image image.0 image.1 c.requires.loaded.found).kept in
       let kept = c.last_kept-kept.ensures.kept in
       let same = ap (λ (r : Run). r.next) c.learn.ensures.run in
       let back = c.in_err-judge_clock.ensures.back.1 in
@@ -180,7 +180,7 @@ module _ (g : Over) (c : After-cut g) where
   line : lost ≡ record c.resume.new.outcome { breaks = with_lines (cut_at c.resume.new.run.next true 0 ∷ []) c.resume.new.outcome.breaks }
   line = ap (λ (l : Listed Break). record c.resume.new.outcome { breaks = l }) c.cut.ensures.breaks
 
-  module _ (room : length (out g resuming).marks.items + MOST_OWED * bare_seats (run g resuming).keeper.cabin.slots.seats ≤ (out g resuming).marks.room) (o : Origin) (done : List TraceSecond) (s : TraceSecond) (now : IsNow s c.args.speed (run g resuming)) (has : has_power (run g resuming).power (run g resuming).next ≡ true) (time : HaveTime (dev1 g resuming)) where
+  module _ (room : length (out g resuming).marks.items + MOST_OWED * bare_seats (run g resuming).keeper.cabin.slots.seats ≤ (out g resuming).marks.room) (o : Origin) (done : List TraceSecond) (s : TraceSecond) (now : IsNow s c.args.waking.speed (run g resuming)) (has : has_power (run g resuming).power (run g resuming).next ≡ true) (time : HaveTime (dev1 g resuming)) where
     recorded_cut : RunRecorded o done (run g resuming) (out g resuming) (dev0 g resuming) → RunCut o done s c.cut.new.self lost (dev1 g resuming)
     recorded_cut rec =
         cut o done s 0 s.actions (mid g resuming) c.cut.new.self (told g resuming) lost (dev1 g resuming) rec.origin (now.number ∙ sym (next g resuming)) ([], refl, refl)
@@ -225,10 +225,10 @@ returns-then-is_err-clause-going g c =
 
 -- ---- what is noted
 
-noted-so : (g : Over) (c : After-resume g) (failed_so : Bool) → is_err c.resume.result ≡ failed_so → NotesWaking c.args.journal.kept c.args.speed failed_so (read_run (run g c) (out g c)) (mid g c) (read_outcome c.args.journal.kept (run g c) (out g c)) (told g c) (dev0 g c) (dev1 g c)
+noted-so : (g : Over) (c : After-resume g) (failed_so : Bool) → is_err c.resume.result ≡ failed_so → NotesWaking c.args.waking.journal.kept c.args.waking.speed failed_so (read_run (run g c) (out g c)) (mid g c) (read_outcome c.args.waking.journal.kept (run g c) (out g c)) (told g c) (dev0 g c) (dev1 g c)
 noted-so g c failed_so is =
-    as-read c.args.journal.kept c.last_kept-kept.result c.args.speed failed_so (run g c) c.learn.new.self (mid g c) (out g c) c.learn.new.breaks (told g c) (dev0 g c) (dev1 g c) c.learn.ensures.run c.learn.ensures.breaks c.last_kept-kept.ensures.kept
-    (subst (λ (f : Bool). NotesWaking c.args.journal.kept c.args.speed f c.learn.new.self (mid g c) (record (out g c) { breaks = c.learn.new.breaks }) (told g c) (dev0 g c) (dev1 g c)) is c.resume.ensures.noted)
+    as-read c.args.waking.journal.kept c.last_kept-kept.result c.args.waking.speed failed_so (run g c) c.learn.new.self (mid g c) (out g c) c.learn.new.breaks (told g c) (dev0 g c) (dev1 g c) c.learn.ensures.run c.learn.ensures.breaks c.last_kept-kept.ensures.kept
+    (subst (λ (f : Bool). NotesWaking c.args.waking.journal.kept c.args.waking.speed f c.learn.new.self (mid g c) (record (out g c) { breaks = c.learn.new.breaks }) (told g c) (dev0 g c) (dev1 g c)) is c.resume.ensures.noted)
 
 pub returns-then-is_err-clause-noted : goal.returns-then-is_err-clause-noted
 returns-then-is_err-clause-noted g c = record { failed = true; woken = c.resume.new.run; out = c.resume.new.outcome; waking = noted-so g (resuming g c) true (failed g c); ends = (c.cut.ensures.run, line g c) }

@@ -345,6 +345,6 @@ returns-in-Err-Failed-clause-goes g c = record {
   calm = calm-more (dev0 g (reading g c)) (dev1 g (reading g c)) _ (calm g (reading g c)) (ap (λ (l : Listed Break). l.items) c.cut.ensures.breaks) refl;
   broke =
       let rose = rw c.in-Err-Failed.field-0-is at c.in-Err-Failed.ensures.broke in
-      broke-once _ _ (ap (λ (l : Listed Break). l.items) c.cut.ensures.breaks) rose;
+      broke-once _ _ (ap (λ (l : Listed Break). l.items) c.cut.ensures.breaks) rose c.open_unit.ensures.cause.once;
   most = let same = c.open_unit.ensures.clock in record { unit = omega (arith, same); card_a = omega arith; card_b = omega arith };
 }

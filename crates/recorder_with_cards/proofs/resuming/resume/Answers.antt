@@ -170,19 +170,19 @@ module _ (g : Over) (c : After-moment-at g) where
   others = waiting_in CoDriver (card_in mid.keeper.cabin.slots.seats.codriver)
 
   abbrev Premises : Type 0
-  Premises = Behind c.args.journal.kept run out dev0
+  Premises = Behind c.args.waking.journal.kept run out dev0
 
   abbrev WithEvents : Premises → Type 0
-  WithEvents p = BehindEvents c.args.journal.kept c.args.speed run out dev0 p
+  WithEvents p = BehindEvents c.args.waking.journal.kept c.args.waking.speed run out dev0 p
 
   abbrev WithRings : Premises → Type 0
-  WithRings p = BehindRings c.args.journal.kept run out dev0 p
+  WithRings p = BehindRings c.args.waking.journal.kept run out dev0 p
 
   cabin : mid.keeper.cabin ≡ run.keeper.cabin
   cabin = ap (λ (k : Keeper). k.cabin) c.begin_span.ensures.begun.keeper
 
   none : mid.minutes.owing ≡ 0
-  none = begun-none c.args.rule mid.minutes run.next c.begin_span.ensures.begun.minutes
+  none = begun-none c.args.waking.rule mid.minutes run.next c.begin_span.ensures.begun.minutes
 
   bare : IsBare mid.keeper.cabin.slots.seats.driver
   bare =
@@ -211,14 +211,14 @@ module _ (g : Over) (c : After-moment-at g) where
   }
 
   quiet : NotesNothing dev0 mended
-  quiet = says c.args.journal (g.M.Medium.state c.args.unit.now) (g.M.Medium.state c.mend.new.unit) (g.C.Chip.state c.args.card_a.now) (g.D.Chip.state c.args.card_b.now) (g.met.M.Medium.coherent c.args.unit.now) c.mend.ensures.leaves.moments
+  quiet = says c.args.waking.journal (g.M.Medium.state c.args.unit.now) (g.M.Medium.state c.mend.new.unit) (g.C.Chip.state c.args.card_a.now) (g.D.Chip.state c.args.card_b.now) (g.met.M.Medium.coherent c.args.unit.now) c.mend.ensures.leaves.moments
 
   noted : NotesEvents [] false dev0 mended
-  noted = mended-noted c.args.journal (g.M.Medium.state c.args.unit.now) (g.M.Medium.state c.mend.new.unit) (g.C.Chip.state c.args.card_a.now) (g.D.Chip.state c.args.card_b.now) (g.met.M.Medium.coherent c.args.unit.now) c.mend.ensures.leaves.moments false
+  noted = mended-noted c.args.waking.journal (g.M.Medium.state c.args.unit.now) (g.M.Medium.state c.mend.new.unit) (g.C.Chip.state c.args.card_a.now) (g.D.Chip.state c.args.card_b.now) (g.met.M.Medium.coherent c.args.unit.now) c.mend.ensures.leaves.moments false
 
   later : AreLater dev0 mended
   later = later-of-unit (g.M.Medium.state c.args.unit.now) (g.M.Medium.state c.mend.new.unit) (g.C.Chip.state c.args.card_a.now) (g.D.Chip.state c.args.card_b.now) (state-by (g.M.Medium.state c.args.unit.now) (g.M.Medium.state c.mend.new.unit) _ c.mend.ensures.goes.clock c.mend.ensures.goes.cause)
-      (mending-leaves c.args.journal (g.M.Medium.state c.args.unit.now) (g.M.Medium.state c.mend.new.unit) (g.met.M.Medium.coherent c.args.unit.now) c.mend.ensures.leaves.moments)
+      (mending-leaves c.args.waking.journal (g.M.Medium.state c.args.unit.now) (g.M.Medium.state c.mend.new.unit) (g.met.M.Medium.coherent c.args.unit.now) c.mend.ensures.leaves.moments)
 
   -- no block is added yet: the pointer is an index, as in each image that decodes
   newest : KnowsNewest None (g.M.Medium.state c.mend.new.unit)
@@ -231,7 +231,7 @@ module _ (g : Over) (c : After-moment-at g) where
   calm = calm-of-unit (g.M.Medium.state c.args.unit.now) (g.M.Medium.state c.mend.new.unit) (g.C.Chip.state c.args.card_a.now) (g.D.Chip.state c.args.card_b.now)
 
   abbrev premises : length out.marks.items + MOST_OWED * bare_seats run.keeper.cabin.slots.seats ≤ out.marks.room → (o : Origin) → IsOrigin o → run.keeper.memory.registration ≡ vehicle_in o → (done : List TraceSecond) (s : TraceSecond) (supply : UnitPower) (v : Values) → RecordBetweenSeconds o done supply v dev0 →
-      AllStay o (marked v.marks (truths_of o v.log done)) 0 v.log (notes_in v.log done) run.keeper.memory.registration v.cabin dev0 → MayPower supply v.next → s.number ≡ v.next → s.has_power ≡ true → values_of run out ≡ read_values c.args.journal.kept v → Premises
+      AllStay o (marked v.marks (truths_of o v.log done)) 0 v.log (notes_in v.log done) run.keeper.memory.registration v.cabin dev0 → MayPower supply v.next → s.number ≡ v.next → s.has_power ≡ true → values_of run out ≡ read_values c.args.waking.journal.kept v → Premises
   premises room o origin vehicle done s supply v r stay may number given values = record { room = room; o = o; origin = origin; vehicle = vehicle; done = done; s = s; supply = supply; v = v; r = r; stay = stay; may = may; number = number; given = given; values = values }
 
   module _ (p : Premises) where
@@ -242,10 +242,10 @@ module _ (g : Over) (c : After-moment-at g) where
         let Y : State = g.D.Chip.state c.args.card_b.now in
         let ok = c.in_ok-mend.ensures in
         let loaded = c.requires.loaded in
-        awake p.o p.origin p.done p.s p.supply p.v U X Y p.r p.may p.number p.given (g.met.M.Medium.coherent c.args.unit.now) (wholes-of U X Y (g.met.C.Chip.coherent c.args.card_a.now) (g.met.D.Chip.coherent c.args.card_b.now)) loaded.works c.args.journal (kept-of c.args.journal U.image loaded.found)
-        (g.M.Medium.state c.mend.new.unit) false c.mend.ensures.leaves.moments c.mend.ensures.goes.tells ok.goes.cause c.mend.ensures.rules.holds ok.rules.first ok.rules.second run p.vehicle out p.values refl c.mend.new.journal ok.stands.agrees c.args.rule c.requires.rule mid c.begin_span.ensures.begun (g.met.M.Medium.coherent c.mend.new.unit) p.stay
+        awake p.o p.origin p.done p.s p.supply p.v U X Y p.r p.may p.number p.given (g.met.M.Medium.coherent c.args.unit.now) (wholes-of U X Y (g.met.C.Chip.coherent c.args.card_a.now) (g.met.D.Chip.coherent c.args.card_b.now)) loaded.works c.args.waking.journal (kept-of c.args.waking.journal U.image loaded.found)
+        (g.M.Medium.state c.mend.new.unit) false c.mend.ensures.leaves.moments c.mend.ensures.goes.tells ok.goes.cause c.mend.ensures.rules.holds ok.rules.first ok.rules.second run p.vehicle out p.values refl c.mend.new.journal ok.stands.agrees c.args.waking.rule c.requires.rule mid c.begin_span.ensures.begun (g.met.M.Medium.coherent c.mend.new.unit) p.stay
 
-    is : (woke.0.run ≡ found_again c.args.journal.kept (progress p.v p.supply p.r.book)) × (woke.0.span ≡ []) × HaveLeftMore p.o dev0 mended
+    is : (woke.0.run ≡ found_again c.args.waking.journal.kept (progress p.v p.supply p.r.book)) × (woke.0.span ≡ []) × HaveLeftMore p.o dev0 mended
     unfolding woke
     is =
         let U : State = g.M.Medium.state c.args.unit.now in
@@ -253,8 +253,8 @@ module _ (g : Over) (c : After-moment-at g) where
         let Y : State = g.D.Chip.state c.args.card_b.now in
         let ok = c.in_ok-mend.ensures in
         let loaded = c.requires.loaded in
-        awake-is p.o p.origin p.done p.s p.supply p.v U X Y p.r p.may p.number p.given (g.met.M.Medium.coherent c.args.unit.now) (wholes-of U X Y (g.met.C.Chip.coherent c.args.card_a.now) (g.met.D.Chip.coherent c.args.card_b.now)) loaded.works c.args.journal (kept-of c.args.journal U.image loaded.found)
-        (g.M.Medium.state c.mend.new.unit) false c.mend.ensures.leaves.moments c.mend.ensures.goes.tells ok.goes.cause c.mend.ensures.rules.holds ok.rules.first ok.rules.second run p.vehicle out p.values refl c.mend.new.journal ok.stands.agrees c.args.rule c.requires.rule mid c.begin_span.ensures.begun (g.met.M.Medium.coherent c.mend.new.unit) p.stay
+        awake-is p.o p.origin p.done p.s p.supply p.v U X Y p.r p.may p.number p.given (g.met.M.Medium.coherent c.args.unit.now) (wholes-of U X Y (g.met.C.Chip.coherent c.args.card_a.now) (g.met.D.Chip.coherent c.args.card_b.now)) loaded.works c.args.waking.journal (kept-of c.args.waking.journal U.image loaded.found)
+        (g.M.Medium.state c.mend.new.unit) false c.mend.ensures.leaves.moments c.mend.ensures.goes.tells ok.goes.cause c.mend.ensures.rules.holds ok.rules.first ok.rules.second run p.vehicle out p.values refl c.mend.new.journal ok.stands.agrees c.args.waking.rule c.requires.rule mid c.begin_span.ensures.begun (g.met.M.Medium.coherent c.mend.new.unit) p.stay
 
     next_is : run.next ≡ p.s.number
     next_is = ap (λ (x : Values). x.next) p.values ∙ sym p.number
@@ -268,14 +268,14 @@ module _ (g : Over) (c : After-moment-at g) where
     now : c.moment-at.result ≡ moment_in p.s 0
     now = c.moment-at.ensures ∙ ap (λ (m : ℕ). record { second = m; begun = 0; late = false }) (c.begin_span.ensures.begun.next ∙ next_is)
 
-    log_is : log_of out ≡ (found_again c.args.journal.kept (progress p.v p.supply p.r.book)).log
+    log_is : log_of out ≡ (found_again c.args.waking.journal.kept (progress p.v p.supply p.r.book)).log
     log_is = ap (λ (x : Values). x.log) p.values
 
     began_log : woke.0.run.log ≡ log_of out
     began_log = ap (λ (q : Progress). q.log) is.0 ∙ sym log_is
 
-    woken : WithEvents p → WakesEvented p.o p.done p.s woke.0 (waiting_in Driver first_card ++ others) both_slots mid out mended × ComesInTurn Driver (log_of out) p.s.number × BookFollowsRun (rule_of p.o) (start_at p.o) p.o.from (first_second_of p.o) p.done (found_again c.args.journal.kept (progress p.v p.supply p.r.book))
-    woken e = wakes-evented p.o p.done p.s p.supply p.v dev0 mended p.r p.may p.number p.given c.args.journal.kept e.evented quiet woke.0 (waiting_in Driver first_card ++ others) mid out woke.1 is log_is
+    woken : WithEvents p → WakesEvented p.o p.done p.s woke.0 (waiting_in Driver first_card ++ others) both_slots mid out mended × ComesInTurn Driver (log_of out) p.s.number × BookFollowsRun (rule_of p.o) (start_at p.o) p.o.from (first_second_of p.o) p.done (found_again c.args.waking.journal.kept (progress p.v p.supply p.r.book))
+    woken e = wakes-evented p.o p.done p.s p.supply p.v dev0 mended p.r p.may p.number p.given c.args.waking.journal.kept e.evented quiet woke.0 (waiting_in Driver first_card ++ others) mid out woke.1 is log_is
 
     -- of the rings
     module _ (q : WithRings p) where
@@ -289,7 +289,7 @@ module _ (g : Over) (c : After-moment-at g) where
           let U : State = g.M.Medium.state c.args.unit.now in
           let W : State = g.M.Medium.state c.mend.new.unit in
           wakes-ringed p.o p.done p.s woke.0 (waiting_in Driver first_card ++ others) mid out mended woke.1 (sym began_log) q.spans q.seats
-          (behind-stays dev0 mended p.o p.done (log_of out) p.s.number q.spans q.seats q.ringed (mend-leaves c.args.journal U W (g.met.M.Medium.coherent c.args.unit.now) c.mend.ensures.leaves.moments) is.2 (cards-beside p.o q.spans U W (g.C.Chip.state c.args.card_a.now) (g.D.Chip.state c.args.card_b.now)))
+          (behind-stays dev0 mended p.o p.done (log_of out) p.s.number q.spans q.seats q.ringed (mend-leaves c.args.waking.journal U W (g.met.M.Medium.coherent c.args.unit.now) c.mend.ensures.leaves.moments) is.2 (cards-beside p.o q.spans U W (g.C.Chip.state c.args.card_a.now) (g.D.Chip.state c.args.card_b.now)))
           (λ card. ap (option_map (seating_of mid.noted)) (ap (λ (b : Cabin). session_of b.cards card) cabin ∙ (c.requires.going.dark c.requires.dark).bare card)) (omega (arith, counted, noted_so))
 
       stands : StandsOn p.o (log_of out) mid.unfound q.spans mid.keeper.odometer
@@ -299,11 +299,11 @@ module _ (g : Over) (c : After-moment-at g) where
           let Y : State = g.D.Chip.state c.args.card_b.now in
           let ok = c.in_ok-mend.ensures in
           let loaded = c.requires.loaded in
-          let kept_now : c.mend.new.journal.kept ≡ c.args.journal.kept = ap (λ (j : Notes). j.kept) ok.stands.notes in
+          let kept_now : c.mend.new.journal.kept ≡ c.args.waking.journal.kept = ap (λ (j : Notes). j.kept) ok.stands.notes in
           subst (λ (n : ℕ). StandsOn p.o (log_of out) n q.spans mid.keeper.odometer) (sym c.begin_span.ensures.begun.unfound)
-          (awake-stands p.o p.origin p.done p.s p.supply p.v U X Y p.r p.may p.number p.given (g.met.M.Medium.coherent c.args.unit.now) (wholes-of U X Y (g.met.C.Chip.coherent c.args.card_a.now) (g.met.D.Chip.coherent c.args.card_b.now)) loaded.works c.args.journal (kept-of c.args.journal U.image loaded.found)
-          (g.M.Medium.state c.mend.new.unit) false c.mend.ensures.leaves.moments c.mend.ensures.goes.tells ok.goes.cause c.mend.ensures.rules.holds ok.rules.first ok.rules.second run p.vehicle out p.values refl c.mend.new.journal ok.stands.agrees c.args.rule c.requires.rule mid c.begin_span.ensures.begun (g.met.M.Medium.coherent c.mend.new.unit) p.stay
-          kept_now q.spans (spans-before p.o p.done p.supply p.v dev0 p.r c.args.journal.kept (log_of out) log_is q.spans q.ringed.spans_are) q.off)
+          (awake-stands p.o p.origin p.done p.s p.supply p.v U X Y p.r p.may p.number p.given (g.met.M.Medium.coherent c.args.unit.now) (wholes-of U X Y (g.met.C.Chip.coherent c.args.card_a.now) (g.met.D.Chip.coherent c.args.card_b.now)) loaded.works c.args.waking.journal (kept-of c.args.waking.journal U.image loaded.found)
+          (g.M.Medium.state c.mend.new.unit) false c.mend.ensures.leaves.moments c.mend.ensures.goes.tells ok.goes.cause c.mend.ensures.rules.holds ok.rules.first ok.rules.second run p.vehicle out p.values refl c.mend.new.journal ok.stands.agrees c.args.waking.rule c.requires.rule mid c.begin_span.ensures.begun (g.met.M.Medium.coherent c.mend.new.unit) p.stay
+          kept_now q.spans (spans-before p.o p.done p.supply p.v dev0 p.r c.args.waking.journal.kept (log_of out) log_is q.spans q.ringed.spans_are) q.off)
 
       -- behind the calls that follow
       rings-then : (failed : Bool) (new : Run) (after : Outcome) (e : Devices) → RingsGoOn failed p.o p.done p.s woke.0 [] new (log_of after) q.spans told e → (failed ≡ true → RunFails p.o p.done p.s (In 0) new after e) → new.power ≡ Lit → new.unfound ≡ mid.unfound →
@@ -335,7 +335,7 @@ module _ (g : Over) (c : After-accept_anew g) where
   still nobody_sits P = same-devices P g.M.Medium.state g.C.Chip.state g.D.Chip.state c.mend.new.unit c.accept_anew.new.unit c.args.card_a.now c.accept_anew.new.card_a c.args.card_b.now c.accept_anew.new.card_b (c.accept_anew.ensures.still nobody_sits)
 
   same-one : (one.keeper.memory ≡ (mid g span).keeper.memory) × (one.watch ≡ (mid g span).watch)
-  same-one = anew-limit (first_card g span) Driver c.moment-at.result c.args.speed (mid g span) one (out g span) out1 c.accept_anew.ensures.accepted.enters
+  same-one = anew-limit (first_card g span) Driver c.moment-at.result c.args.waking.speed (mid g span) one (out g span) out1 c.accept_anew.ensures.accepted.enters
 
   power-one : one.power ≡ Lit
   power-one = ap (λ (r : Run). r.power) c.accept_anew.ensures.accepted.run ∙ c.begin_span.ensures.begun.power
@@ -351,8 +351,8 @@ module _ (g : Over) (c : After-accept_anew g) where
       let begun = ap (λ (k : Keeper). k.memory.registration) c.begin_span.ensures.begun.keeper ∙ vehicle in
       (begun, ap (λ (m : UnitFacts). m.registration) same-one.0 ∙ begun)
 
-  noted-one : (vs : List UnitEvent) × JudgesDriver c.args.speed (mid g span) one (out g span) out1 vs × NotesEvents vs (is_err c.accept_anew.result) (dev0 g span) dev1
-  noted-one = driver-these c.moment-at.result c.args.speed (is_err c.accept_anew.result) (mid g span) one (out g span) out1 (dev0 g span) (mended g span) dev1 c.moment-at.ensures (noted g span) c.accept_anew.ensures.leaves.noted
+  noted-one : (vs : List UnitEvent) × JudgesDriver c.args.waking.speed (mid g span) one (out g span) out1 vs × NotesEvents vs (is_err c.accept_anew.result) (dev0 g span) dev1
+  noted-one = driver-these c.moment-at.result c.args.waking.speed (is_err c.accept_anew.result) (mid g span) one (out g span) out1 (dev0 g span) (mended g span) dev1 c.moment-at.ensures (noted g span) c.accept_anew.ensures.leaves.noted
 
   later-one : AreLater (dev0 g span) dev1
   later-one = later-then (dev0 g span) (mended g span) dev1 (later g span) c.accept_anew.ensures.goes.later
@@ -367,12 +367,12 @@ module _ (g : Over) (c : After-accept_anew g) where
     first : (is_err c.accept_anew.result ≡ false → RunWaking p.o p.done p.s (woke g span p).0 (others g span) (CoDriver ∷ []) one out1 dev1) × (is_err c.accept_anew.result ≡ true → GoesOnOrCut true p.o p.done p.s (In 0) [] one out1 dev1)
     first =
         driver-judged p.o p.done p.s (woke g span p).0 (first_card g span) (others g span) (mid g span) (out g span) (mended g span) (woke g span p).1 (at-once CoDriver (card_in (mid g span).keeper.cabin.slots.seats.codriver)) refl (bare g span)
-        c.moment-at.result (now g span p) c.args.speed (is_err c.accept_anew.result) one out1 c.accept_anew.ensures.accepted.enters dev1 still time (c.accept_anew.ensures.promises.recorded room-one)
+        c.moment-at.result (now g span p) c.args.waking.speed (is_err c.accept_anew.result) one out1 c.accept_anew.ensures.accepted.enters dev1 still time (c.accept_anew.ensures.promises.recorded room-one)
 
     evented-one : WithEvents g span p → EventsGoOn (is_err c.accept_anew.result) p.o p.done p.s (woke g span p).0.run (In 0) Waking (log_of out1) dev1
     evented-one e =
         driver-evented p.o p.done p.s (woke g span p).0 (first_card g span) (others g span) (mid g span) (out g span) (mended g span) (woken g span p e).0 (woken g span p e).1 (at-once CoDriver (card_in (mid g span).keeper.cabin.slots.seats.codriver)) refl (bare g span)
-        c.moment-at.result (now g span p) c.args.speed e.speed_is (is_err c.accept_anew.result) one out1 c.accept_anew.ensures.accepted.enters dev1 still time (c.accept_anew.ensures.promises.recorded room-one) (c.accept_anew.ensures.promises.evented room-one)
+        c.moment-at.result (now g span p) c.args.waking.speed e.speed_is (is_err c.accept_anew.result) one out1 c.accept_anew.ensures.accepted.enters dev1 still time (c.accept_anew.ensures.promises.recorded room-one) (c.accept_anew.ensures.promises.evented room-one)
 
     limit-one : WithEvents g span p → one.keeper.memory.limit ≡ limit_in p.o
     limit-one e = ap (λ (m : UnitFacts). m.limit) (same-one.0 ∙ ap (λ (k : Keeper). k.memory) c.begin_span.ensures.begun.keeper) ∙ e.limit
@@ -386,12 +386,12 @@ module _ (g : Over) (c : After-accept_anew g) where
     ringed-one : (q : WithRings g span p) → RingsGoOn (is_err c.accept_anew.result) p.o p.done p.s (woke g span p).0 [] one (log_of out1) q.spans (told g span p q) dev1
     ringed-one q =
         driver-ringed p.o p.done p.s (woke g span p).0 (first_card g span) (others g span) (mid g span) (out g span) (mended g span) q.spans (told g span p q) (starts g span p q) ((woke g span p).1.waking.none CoDriver (in-both CoDriver))
-        (at-once CoDriver (card_in (mid g span).keeper.cabin.slots.seats.codriver)) refl (bare g span) c.moment-at.result (now g span p) c.args.speed (is_err c.accept_anew.result) one out1 c.accept_anew.ensures.accepted.enters dev1 still time (c.accept_anew.ensures.promises.recorded room-one) (c.accept_anew.ensures.promises.ringed room-one)
+        (at-once CoDriver (card_in (mid g span).keeper.cabin.slots.seats.codriver)) refl (bare g span) c.moment-at.result (now g span p) c.args.waking.speed (is_err c.accept_anew.result) one out1 c.accept_anew.ensures.accepted.enters dev1 still time (c.accept_anew.ensures.promises.recorded room-one) (c.accept_anew.ensures.promises.ringed room-one)
 
-    cards-one : p.s.speed ≡ c.args.speed → (run g span).keeper.memory.registration ≡ vehicle_in p.o → CardsBehind p.o p.done (log_of (out g span)) (dev0 g span) → WakesOn (is_err c.accept_anew.result) p.o p.done p.s (woke g span p).0.run.log (log_of out1) dev1
+    cards-one : p.s.speed ≡ c.args.waking.speed → (run g span).keeper.memory.registration ≡ vehicle_in p.o → CardsBehind p.o p.done (log_of (out g span)) (dev0 g span) → WakesOn (is_err c.accept_anew.result) p.o p.done p.s (woke g span p).0.run.log (log_of out1) dev1
     cards-one speed_is vehicle shown =
         driver-woken p.o p.done p.s (woke g span p).0 (first_card g span) (others g span) (mid g span) (out g span) (mended g span) (woke g span p).1 (at-once CoDriver (card_in (mid g span).keeper.cabin.slots.seats.codriver)) refl (bare g span) (positive g span p) (vehicle-one p.o vehicle).0
-        (cards-begun g span p shown) c.moment-at.result (now g span p) c.args.speed speed_is (is_err c.accept_anew.result) one out1 c.accept_anew.ensures.accepted.enters dev1 still time (c.accept_anew.ensures.promises.recorded room-one) (c.accept_anew.ensures.promises.cards room-one)
+        (cards-begun g span p shown) c.moment-at.result (now g span p) c.args.waking.speed speed_is (is_err c.accept_anew.result) one out1 c.accept_anew.ensures.accepted.enters dev1 still time (c.accept_anew.ensures.promises.recorded room-one) (c.accept_anew.ensures.promises.cards room-one)
 
 -- ---- and that in the co-driver slot
 
@@ -430,7 +430,7 @@ module _ (g : Over) (c : After-accept_anew-2 g) where
   still-two nobody_sits P = same-devices P g.M.Medium.state g.C.Chip.state g.D.Chip.state c.accept_anew.new.unit c.accept_anew-2.new.unit c.accept_anew.new.card_a c.accept_anew-2.new.card_a c.accept_anew.new.card_b c.accept_anew-2.new.card_b (c.accept_anew-2.ensures.still nobody_sits)
 
   same-two : (two.keeper.memory ≡ (one g driver).keeper.memory) × (two.watch ≡ (one g driver).watch)
-  same-two = anew-limit second_card CoDriver c.moment-at.result c.args.speed (one g driver) two (out1 g driver) out2 c.accept_anew-2.ensures.accepted.enters
+  same-two = anew-limit second_card CoDriver c.moment-at.result c.args.waking.speed (one g driver) two (out1 g driver) out2 c.accept_anew-2.ensures.accepted.enters
 
   power-two : two.power ≡ Lit
   power-two = ap (λ (r : Run). r.power) c.accept_anew-2.ensures.accepted.run ∙ power-one g driver
@@ -453,14 +453,14 @@ module _ (g : Over) (c : After-accept_anew-2 g) where
 
   more-two : length (out g start).breaks.items ≤ length out2.breaks.items
   more-two =
-      let first_more = anew-more (first_card g start) Driver c.moment-at.result c.args.speed (mid g start) (one g driver) (out g start) (out1 g driver) c.accept_anew.ensures.accepted.enters in
-      let second_more = anew-more second_card CoDriver c.moment-at.result c.args.speed (one g driver) two (out1 g driver) out2 c.accept_anew-2.ensures.accepted.enters in
+      let first_more = anew-more (first_card g start) Driver c.moment-at.result c.args.waking.speed (mid g start) (one g driver) (out g start) (out1 g driver) c.accept_anew.ensures.accepted.enters in
+      let second_more = anew-more second_card CoDriver c.moment-at.result c.args.waking.speed (one g driver) two (out1 g driver) out2 c.accept_anew-2.ensures.accepted.enters in
       omega (arith, first_more, second_more)
 
-  noted-two : (ws : List UnitEvent) × JudgesBoth c.args.speed (mid g start) two (out g start) out2 ws × NotesEvents ws (is_err c.accept_anew-2.result) (dev0 g start) dev2
+  noted-two : (ws : List UnitEvent) × JudgesBoth c.args.waking.speed (mid g start) two (out g start) out2 ws × NotesEvents ws (is_err c.accept_anew-2.result) (dev0 g start) dev2
   noted-two =
       let these = noted-one g driver in
-      both-these c.moment-at.result c.args.speed (is_err c.accept_anew-2.result) (mid g start) (one g driver) two (out g start) (out1 g driver) out2 (dev0 g start) (dev1 g driver) dev2 c.moment-at.ensures these.0 these.1
+      both-these c.moment-at.result c.args.waking.speed (is_err c.accept_anew-2.result) (mid g start) (one g driver) two (out g start) (out1 g driver) out2 (dev0 g start) (dev1 g driver) dev2 c.moment-at.ensures these.0 these.1
       (subst (λ (f : Bool). NotesEvents these.0 f (dev0 g start) (dev1 g driver)) well these.2) c.accept_anew-2.ensures.leaves.noted
 
   later-two : AreLater (dev0 g start) dev2
@@ -492,13 +492,13 @@ module _ (g : Over) (c : After-accept_anew-2 g) where
 
     second : GoesOnOrCut (is_err c.accept_anew-2.result) p.o p.done p.s (In 0) [] two out2 dev2
     second =
-        codriver-judged p.o p.done p.s (woke g start p).0 second_card (one g driver) (out1 g driver) (dev1 g driver) waking refl bare-two c.moment-at.result (now g start p) c.args.speed (is_err c.accept_anew-2.result) two out2 c.accept_anew-2.ensures.accepted.enters dev2 still-two time
+        codriver-judged p.o p.done p.s (woke g start p).0 second_card (one g driver) (out1 g driver) (dev1 g driver) waking refl bare-two c.moment-at.result (now g start p) c.args.waking.speed (is_err c.accept_anew-2.result) two out2 c.accept_anew-2.ensures.accepted.enters dev2 still-two time
         (c.accept_anew-2.ensures.promises.recorded room-two)
 
     -- nobody waits any more
     goes-on : is_err c.accept_anew-2.result ≡ false → RunWaking p.o p.done p.s (woke g start p).0 [] [] two out2 dev2
     goes-on fine =
-        codriver-on p.o p.done p.s (woke g start p).0 second_card (one g driver) (out1 g driver) (dev1 g driver) waking refl bare-two c.moment-at.result (now g start p) c.args.speed (is_err c.accept_anew-2.result) two out2 c.accept_anew-2.ensures.accepted.enters dev2 still-two time
+        codriver-on p.o p.done p.s (woke g start p).0 second_card (one g driver) (out1 g driver) (dev1 g driver) waking refl bare-two c.moment-at.result (now g start p) c.args.waking.speed (is_err c.accept_anew-2.result) two out2 c.accept_anew-2.ensures.accepted.enters dev2 still-two time
         (c.accept_anew-2.ensures.promises.recorded room-two) fine
 
     evented-two : WithEvents g start p → EventsGoOn (is_err c.accept_anew-2.result) p.o p.done p.s (woke g start p).0.run (In 0) Waking (log_of out2) dev2
@@ -509,7 +509,7 @@ module _ (g : Over) (c : After-accept_anew-2 g) where
           empty = (woken g start p e).0.empty;
           evented = subst (λ (f : Bool). EventsGoOn f p.o p.done p.s (woke g start p).0.run (In 0) Waking (log_of (out1 g driver)) (dev1 g driver)) well (evented-one g driver p time-one e);
         } in
-        codriver-evented p.o p.done p.s (woke g start p).0 second_card (one g driver) (out1 g driver) (dev1 g driver) behind refl bare-two c.moment-at.result (now g start p) c.args.speed e.speed_is (is_err c.accept_anew-2.result) two out2 c.accept_anew-2.ensures.accepted.enters dev2 still-two time
+        codriver-evented p.o p.done p.s (woke g start p).0 second_card (one g driver) (out1 g driver) (dev1 g driver) behind refl bare-two c.moment-at.result (now g start p) c.args.waking.speed e.speed_is (is_err c.accept_anew-2.result) two out2 c.accept_anew-2.ensures.accepted.enters dev2 still-two time
         (c.accept_anew-2.ensures.promises.recorded room-two) (c.accept_anew-2.ensures.promises.evented room-two)
 
     limit-two : WithEvents g start p → two.keeper.memory.limit ≡ limit_in p.o
@@ -527,7 +527,7 @@ module _ (g : Over) (c : After-accept_anew-2 g) where
           waking = waking;
           rings = subst (λ (f : Bool). RingsGoOn f p.o p.done p.s (woke g start p).0 [] (one g driver) (log_of (out1 g driver)) q.spans (told g start p q) (dev1 g driver)) well (ringed-one g driver p time-one q);
         } in
-        codriver-ringed p.o p.done p.s (woke g start p).0 second_card (one g driver) (out1 g driver) (dev1 g driver) q.spans (told g start p q) behind refl bare-two c.moment-at.result (now g start p) c.args.speed (is_err c.accept_anew-2.result) two out2 c.accept_anew-2.ensures.accepted.enters dev2 still-two time
+        codriver-ringed p.o p.done p.s (woke g start p).0 second_card (one g driver) (out1 g driver) (dev1 g driver) q.spans (told g start p q) behind refl bare-two c.moment-at.result (now g start p) c.args.waking.speed (is_err c.accept_anew-2.result) two out2 c.accept_anew-2.ensures.accepted.enters dev2 still-two time
         (c.accept_anew-2.ensures.promises.recorded room-two) (c.accept_anew-2.ensures.promises.ringed room-two)
 
     rings-two : (q : WithRings g start p) → RingsWoken (is_err c.accept_anew-2.result) (log_of (out g start)) p.o p.done p.s q.spans two (log_of out2) dev2
@@ -535,11 +535,11 @@ module _ (g : Over) (c : After-accept_anew-2 g) where
         rings-then g start p q (is_err c.accept_anew-2.result) two out2 dev2 (ringed-two q) (λ fails. subst (λ (f : Bool). GoesOnOrCut f p.o p.done p.s (In 0) [] two out2 dev2) fails second) power-two unfound-two
         (λ fine. (goes-on fine).odometer ∙ sym (woke g start p).1.odometer)
 
-    cards-two : p.s.speed ≡ c.args.speed → (run g start).keeper.memory.registration ≡ vehicle_in p.o → CardsBehind p.o p.done (log_of (out g start)) (dev0 g start) → WakesOn (is_err c.accept_anew-2.result) p.o p.done p.s (woke g start p).0.run.log (log_of out2) dev2
+    cards-two : p.s.speed ≡ c.args.waking.speed → (run g start).keeper.memory.registration ≡ vehicle_in p.o → CardsBehind p.o p.done (log_of (out g start)) (dev0 g start) → WakesOn (is_err c.accept_anew-2.result) p.o p.done p.s (woke g start p).0.run.log (log_of out2) dev2
     cards-two speed_is vehicle shown =
         codriver-woken p.o p.done p.s (woke g start p).0 second_card (one g driver) (out1 g driver) (dev1 g driver) waking refl bare-two (positive g start p) (vehicle-one g driver p.o vehicle).1
         (subst (λ (f : Bool). WakesOn f p.o p.done p.s (woke g start p).0.run.log (log_of (out1 g driver)) (dev1 g driver)) well (cards-one g driver p time-one speed_is vehicle shown))
-        c.moment-at.result (now g start p) c.args.speed speed_is (is_err c.accept_anew-2.result) two out2 c.accept_anew-2.ensures.accepted.enters dev2 still-two time (c.accept_anew-2.ensures.promises.recorded room-two) (c.accept_anew-2.ensures.promises.cards room-two)
+        c.moment-at.result (now g start p) c.args.waking.speed speed_is (is_err c.accept_anew-2.result) two out2 c.accept_anew-2.ensures.accepted.enters dev2 still-two time (c.accept_anew-2.ensures.promises.recorded room-two) (c.accept_anew-2.ensures.promises.cards room-two)
 
     -- where all went well
     module _ (fine : is_err c.accept_anew-2.result ≡ false) where
@@ -563,7 +563,7 @@ module _ (g : Over) (c : After-accept_anew-2 g) where
 
       empty : WithEvents g start p → within.within.b.span ≡ []
       empty e =
-          here-empty p.o p.origin p.done p.s p.supply p.v (dev0 g start) (mended g start) p.r p.may p.number p.given c.args.journal.kept e.evented (quiet g start) (is g start p).2 (woken g start p e).2 (woke g start p).0 (is g start p).0 (is g start p).1 (woken g start p e).0.bare
+          here-empty p.o p.origin p.done p.s p.supply p.v (dev0 g start) (mended g start) p.r p.may p.number p.given c.args.waking.journal.kept e.evented (quiet g start) (is g start p).2 (woken g start p e).2 (woke g start p).0 (is g start p).0 (is g start p).1 (woken g start p e).0.bare
           two out2 dev2 (goes-on fine) (evented-on e) (ungiven_of lit.span) lit.cabin (small g start p)
 
       off-here : (went within.within.b.run.log p.done).before.running ≡ false
@@ -572,10 +572,10 @@ module _ (g : Over) (c : After-accept_anew-2 g) where
       bare-here : WithEvents g start p → AreBare (went within.within.b.run.log p.done).before.slots
       bare-here e = subst (λ (b : Beginning). AreBare (went b.run.log p.done).before.slots) (sym began) (woken g start p e).0.bare
 
-      log-here : within.within.b.run.log ≡ (found_again c.args.journal.kept (progress p.v p.supply p.r.book)).log
+      log-here : within.within.b.run.log ≡ (found_again c.args.waking.journal.kept (progress p.v p.supply p.r.book)).log
       log-here = ap (λ (b : Beginning). b.run.log) began ∙ ap (λ (q : Progress). q.log) (is g start p).0
 
-      cards-here : p.s.speed ≡ c.args.speed → (run g start).keeper.memory.registration ≡ vehicle_in p.o → CardsBehind p.o p.done (log_of (out g start)) (dev0 g start) → CardsWaking p.o p.done p.s within.within.b.run.log (log_of out2) dev2
+      cards-here : p.s.speed ≡ c.args.waking.speed → (run g start).keeper.memory.registration ≡ vehicle_in p.o → CardsBehind p.o p.done (log_of (out g start)) (dev0 g start) → CardsWaking p.o p.done p.s within.within.b.run.log (log_of out2) dev2
       cards-here speed_is vehicle shown =
           subst (λ (b : Beginning). CardsWaking p.o p.done p.s b.run.log (log_of out2) dev2) (sym began) (subst (λ (f : Bool). WakesOn f p.o p.done p.s (woke g start p).0.run.log (log_of out2) dev2) fine (cards-two speed_is vehicle shown))
 
@@ -607,7 +607,7 @@ module _ (g : Over) (c : After-note_gap g) where
   stays = gap-memory (gap_of c.last_kept-kept.result (two g both).next) (now_moment (two g both)) (is_err c.note_gap.result) (two g both) new (out2 g both).breaks c.note_gap.new.breaks c.note_gap.ensures.noted.reach.0 c.note_gap.ensures.noted.reach.1
 
   -- its events, by what was kept before
-  gap-events : AreGapEvents (gap_of c.args.journal.kept (two g both).next) (now_moment (two g both)) (is_err c.note_gap.result) (two g both) new (out2 g both).breaks c.note_gap.new.breaks c.note_gap.ensures.leaves.events.0 c.note_gap.ensures.leaves.events.1
+  gap-events : AreGapEvents (gap_of c.args.waking.journal.kept (two g both).next) (now_moment (two g both)) (is_err c.note_gap.result) (two g both) new (out2 g both).breaks c.note_gap.new.breaks c.note_gap.ensures.leaves.events.0 c.note_gap.ensures.leaves.events.1
   gap-events =
       subst (λ (k : ℕ). AreGapEvents (gap_of k (two g both).next) (now_moment (two g both)) (is_err c.note_gap.result) (two g both) new (out2 g both).breaks c.note_gap.new.breaks c.note_gap.ensures.leaves.events.0 c.note_gap.ensures.leaves.events.1) c.last_kept-kept.ensures.kept c.note_gap.ensures.leaves.events.2
 
@@ -622,7 +622,7 @@ module _ (g : Over) (c : After-note_gap g) where
     goes = c.note_gap.ensures.promises.recorded p.o p.done p.s (out2 g both) here (λ first_. comes g both p time-two fine)
 
     told-before : p.v.log.breaks ≡ [] → ⊥
-    told-before = some-told p.v.unfound c.args.journal.kept p.v.log.breaks (out g begin).breaks.items (ap (λ (x : Values). x.log.breaks) p.values) some
+    told-before = some-told p.v.unfound c.args.waking.journal.kept p.v.log.breaks (out g begin).breaks.items (ap (λ (x : Values). x.log.breaks) p.values) some
 
 -- ---- where the unit failed as it was mended
 
@@ -636,18 +636,18 @@ module _ (g : Over) (c : After-from_residual g) where
   failed-mend : true ≡ is_err c.from_residual.result
   failed-mend = search rules
 
-  module _ (p : Behind c.args.journal.kept c.args.run.now c.args.outcome.now as_found) where
-    read : IsReadAgain p.o p.done (progress p.v p.supply p.r.book) c.args.journal.kept as_found as_left
+  module _ (p : Behind c.args.waking.journal.kept c.args.run.now c.args.outcome.now as_found) where
+    read : IsReadAgain p.o p.done (progress p.v p.supply p.r.book) c.args.waking.journal.kept as_found as_left
     read =
         let U : State = g.M.Medium.state c.args.unit.now in
         let X : State = g.C.Chip.state c.args.card_a.now in
         let Y : State = g.D.Chip.state c.args.card_b.now in
         let bad = c.in_err-mend.ensures in
         let loaded = c.requires.loaded in
-        unmended-read p.o p.origin p.done p.s p.supply p.v U X Y p.r p.may p.number p.given (g.met.M.Medium.coherent c.args.unit.now) (wholes-of U X Y (g.met.C.Chip.coherent c.args.card_a.now) (g.met.D.Chip.coherent c.args.card_b.now)) loaded.works c.args.journal (kept-of c.args.journal U.image loaded.found)
+        unmended-read p.o p.origin p.done p.s p.supply p.v U X Y p.r p.may p.number p.given (g.met.M.Medium.coherent c.args.unit.now) (wholes-of U X Y (g.met.C.Chip.coherent c.args.card_a.now) (g.met.D.Chip.coherent c.args.card_b.now)) loaded.works c.args.waking.journal (kept-of c.args.waking.journal U.image loaded.found)
         (g.M.Medium.state c.mend.new.unit) true c.mend.ensures.leaves.moments c.mend.ensures.goes.tells bad.goes.cause c.mend.ensures.rules.holds bad.rules.first bad.rules.second c.args.run.now p.vehicle c.args.outcome.now p.values refl
 
-    log-found : log_of c.args.outcome.now ≡ (found_again c.args.journal.kept (progress p.v p.supply p.r.book)).log
+    log-found : log_of c.args.outcome.now ≡ (found_again c.args.waking.journal.kept (progress p.v p.supply p.r.book)).log
     log-found = ap (λ (x : Values). x.log) p.values
 
 -- ---- whether a call failed
@@ -686,13 +686,13 @@ accept_anew-requires-clause-acting g c = record {
   held =
       let at = (goal.at.accept_anew-requires-clause-acting g c).After-moment-at in
       subst (λ (m : ℕ). CanBeCut (m / 60) (mid g at) (g.M.Medium.state c.mend.new.unit) (g.C.Chip.card c.args.card_a.now) (g.D.Chip.card c.args.card_b.now) (g.C.Chip.state c.args.card_a.now) (g.D.Chip.state c.args.card_b.now)) (sym c.begin_span.ensures.begun.next)
-      (span-held c.args.rule (run g at) (mid g at) c.mend.new.journal c.requires.going c.begin_span.ensures.begun (ready g at) c.begin_span.ensures.odometer);
+      (span-held c.args.waking.rule (run g at) (mid g at) c.mend.new.journal c.requires.going c.begin_span.ensures.begun (ready g at) c.begin_span.ensures.odometer);
   going =
       let at = (goal.at.accept_anew-requires-clause-acting g c).After-moment-at in
       let kept = ap (λ (j : Notes). j.kept) c.in_ok-mend.ensures.stands.notes in
       let early = c.requires.later in
       subst (λ (m : ℕ). RunHasPowerAllSeated (m / 60) (mid g at) (g.M.Medium.state c.mend.new.unit) (g.C.Chip.card c.args.card_a.now) (g.D.Chip.card c.args.card_b.now) (g.C.Chip.state c.args.card_a.now) (g.D.Chip.state c.args.card_b.now)) (sym c.begin_span.ensures.begun.next)
-      (span-lit c.args.rule (run g at) (mid g at) c.mend.new.journal c.requires.dark c.requires.going c.begin_span.ensures.begun (omega (arith, kept, early)) (ready g at) (newest g at));
+      (span-lit c.args.waking.rule (run g at) (mid g at) c.mend.new.journal c.requires.dark c.requires.going c.begin_span.ensures.begun (omega (arith, kept, early)) (ready g at) (newest g at));
 }
 
 pub accept_anew-requires-2-clause-acting : goal.accept_anew-requires-2-clause-acting
@@ -802,7 +802,7 @@ returns-in_err-mend-clause-noted g c = record {
   reach = Unmended;
   events = [];
   are = (sym (failed-mend g c), refl, refl, refl);
-  notes = mended-noted c.args.journal (g.M.Medium.state c.args.unit.now) (g.M.Medium.state c.mend.new.unit) (g.C.Chip.state c.args.card_a.now) (g.D.Chip.state c.args.card_b.now) (g.met.M.Medium.coherent c.args.unit.now) c.mend.ensures.leaves.moments (is_err c.from_residual.result);
+  notes = mended-noted c.args.waking.journal (g.M.Medium.state c.args.unit.now) (g.M.Medium.state c.mend.new.unit) (g.C.Chip.state c.args.card_a.now) (g.D.Chip.state c.args.card_b.now) (g.met.M.Medium.coherent c.args.unit.now) c.mend.ensures.leaves.moments (is_err c.from_residual.result);
 }
 
 pub returns-in_err-accept_anew-clause-noted : goal.returns-in_err-accept_anew-clause-noted
@@ -812,7 +812,7 @@ returns-in_err-accept_anew-clause-noted g c =
     record {
       reach = AtDriver (mid g (span g card));
       events = these.0;
-      are = ((c.args.rule, c.mend.new.journal, c.begin_span.ensures.begun), sym (failed-one g c), these.1);
+      are = ((c.args.waking.rule, c.mend.new.journal, c.begin_span.ensures.begun), sym (failed-one g c), these.1);
       notes = subst (λ (f : Bool). NotesEvents these.0 f (dev0 g (span g card)) (dev1 g card)) (fails-one g c ∙ failed-one g c) these.2;
     }
 
@@ -823,7 +823,7 @@ returns-in_err-accept_anew-2-clause-noted g c =
     record {
       reach = AtCoDriver (mid g (start g cards));
       events = these.0;
-      are = ((c.args.rule, c.mend.new.journal, c.begin_span.ensures.begun), sym (failed-two g c), these.1);
+      are = ((c.args.waking.rule, c.mend.new.journal, c.begin_span.ensures.begun), sym (failed-two g c), these.1);
       notes = subst (λ (f : Bool). NotesEvents these.0 f (dev0 g (start g cards)) (dev2 g cards)) (fails-two g c ∙ failed-two g c) these.2;
     }
 
@@ -834,7 +834,7 @@ returns-then-is_first-clause-noted g c =
     record {
       reach = NoneBefore (mid g (start g cards));
       events = these.0;
-      are = ((c.args.rule, c.mend.new.journal, c.begin_span.ensures.begun), refl, none-before g c, these.1);
+      are = ((c.args.waking.rule, c.mend.new.journal, c.begin_span.ensures.begun), refl, none-before g c, these.1);
       notes = subst (λ (f : Bool). NotesEvents these.0 f (dev0 g (start g cards)) (dev2 g cards)) (fine-first g c) these.2;
     }
 
@@ -847,7 +847,7 @@ returns-clause-noted g c =
       reach = AtGap (mid g (begin g c)) gap.0;
       events = these.0 ++ gap.1;
       are = (
-        (c.args.rule, c.mend.new.journal, c.begin_span.ensures.begun),
+        (c.args.waking.rule, c.mend.new.journal, c.begin_span.ensures.begun),
         some g c,
         record {
           two = two g cards;
@@ -886,14 +886,14 @@ returns-in_err-mend-clause-promises g c = record {
       let bad = c.in_err-mend.ensures in
       let loaded = c.requires.loaded in
       subst (λ (f : Bool). GoesOnOrCut f o done s (In 0) [] c.args.run.now c.args.outcome.now (as_left g c)) (failed-mend g c)
-      (unmended o origin done s supply v U X Y r may number given (g.met.M.Medium.coherent c.args.unit.now) (wholes-of U X Y (g.met.C.Chip.coherent c.args.card_a.now) (g.met.D.Chip.coherent c.args.card_b.now)) loaded.works c.args.journal (kept-of c.args.journal U.image loaded.found)
+      (unmended o origin done s supply v U X Y r may number given (g.met.M.Medium.coherent c.args.unit.now) (wholes-of U X Y (g.met.C.Chip.coherent c.args.card_a.now) (g.met.D.Chip.coherent c.args.card_b.now)) loaded.works c.args.waking.journal (kept-of c.args.waking.journal U.image loaded.found)
       W true c.mend.ensures.leaves.moments c.mend.ensures.goes.tells bad.goes.cause c.mend.ensures.rules.holds bad.rules.first bad.rules.second c.args.run.now vehicle c.args.outcome.now values refl c.requires.dark);
   evented =
       λ room o origin vehicle done s supply v r stay may number given speed_is values evented limit time.
-      let p : Behind c.args.journal.kept c.args.run.now c.args.outcome.now (as_found g c) = record { room = room; o = o; origin = origin; vehicle = vehicle; done = done; s = s; supply = supply; v = v; r = r; stay = stay; may = may; number = number; given = given; values = values } in
-      let again : Progress = found_again c.args.journal.kept (progress v supply r.book) in
-      let silent = says c.args.journal (g.M.Medium.state c.args.unit.now) (g.M.Medium.state c.mend.new.unit) (g.C.Chip.state c.args.card_a.now) (g.D.Chip.state c.args.card_b.now) (g.met.M.Medium.coherent c.args.unit.now) c.mend.ensures.leaves.moments in
-      let lost = unmended-evented o done s supply v (as_found g c) (as_left g c) r may number given c.args.journal.kept evented silent (read g c p).left (read g c p).followed (read g c p) in
+      let p : Behind c.args.waking.journal.kept c.args.run.now c.args.outcome.now (as_found g c) = record { room = room; o = o; origin = origin; vehicle = vehicle; done = done; s = s; supply = supply; v = v; r = r; stay = stay; may = may; number = number; given = given; values = values } in
+      let again : Progress = found_again c.args.waking.journal.kept (progress v supply r.book) in
+      let silent = says c.args.waking.journal (g.M.Medium.state c.args.unit.now) (g.M.Medium.state c.mend.new.unit) (g.C.Chip.state c.args.card_a.now) (g.D.Chip.state c.args.card_b.now) (g.met.M.Medium.coherent c.args.unit.now) c.mend.ensures.leaves.moments in
+      let lost = unmended-evented o done s supply v (as_found g c) (as_left g c) r may number given c.args.waking.journal.kept evented silent (read g c p).left (read g c p).followed (read g c p) in
       subst (λ (f : Bool). EventsWoken f (log_of c.args.outcome.now) o done s c.args.run.now c.args.outcome.now (as_left g c)) (failed-mend g c)
       (woken-fails o done s again Waking c.args.run.now c.args.outcome.now (as_left g c) (log_of c.args.outcome.now)
       (subst (λ (l : RunLog). Evented o (done ++ s ∷ []) (and_break l (cut_at s.number true 0)) again.unfound (suc v.next) Lost (as_left g c)) (sym (log-found g c p)) lost)
@@ -906,17 +906,17 @@ returns-in_err-mend-clause-promises g c = record {
       let W : State = g.M.Medium.state c.mend.new.unit in
       let bad = c.in_err-mend.ensures in
       let loaded = c.requires.loaded in
-      let p : Behind c.args.journal.kept c.args.run.now c.args.outcome.now (as_found g c) = record { room = room; o = o; origin = origin; vehicle = vehicle; done = done; s = s; supply = supply; v = v; r = r; stay = stay; may = may; number = number; given = given; values = values } in
-      let q : Progress = found_again c.args.journal.kept (progress v supply r.book) in
-      let behind = behind-stays (as_found g c) (as_left g c) o done (log_of c.args.outcome.now) s.number spans seats ringed (mend-leaves c.args.journal U W (g.met.M.Medium.coherent c.args.unit.now) c.mend.ensures.leaves.moments) (read g c p).left (cards-beside o spans U W X Y) in
-      let log_now : log_of c.args.outcome.now ≡ found_log v.unfound c.args.journal.kept v.log = log-found g c p in
-      let are = spans-before o done supply v (as_found g c) r c.args.journal.kept (log_of c.args.outcome.now) log_now spans ringed.spans_are in
+      let p : Behind c.args.waking.journal.kept c.args.run.now c.args.outcome.now (as_found g c) = record { room = room; o = o; origin = origin; vehicle = vehicle; done = done; s = s; supply = supply; v = v; r = r; stay = stay; may = may; number = number; given = given; values = values } in
+      let q : Progress = found_again c.args.waking.journal.kept (progress v supply r.book) in
+      let behind = behind-stays (as_found g c) (as_left g c) o done (log_of c.args.outcome.now) s.number spans seats ringed (mend-leaves c.args.waking.journal U W (g.met.M.Medium.coherent c.args.unit.now) c.mend.ensures.leaves.moments) (read g c p).left (cards-beside o spans U W X Y) in
+      let log_now : log_of c.args.outcome.now ≡ found_log v.unfound c.args.waking.journal.kept v.log = log-found g c p in
+      let are = spans-before o done supply v (as_found g c) r c.args.waking.journal.kept (log_of c.args.outcome.now) log_now spans ringed.spans_are in
       let stands_so =
-      unmended-stands o origin done s supply v U X Y r may number given (g.met.M.Medium.coherent c.args.unit.now) (wholes-of U X Y (g.met.C.Chip.coherent c.args.card_a.now) (g.met.D.Chip.coherent c.args.card_b.now)) loaded.works c.args.journal (kept-of c.args.journal U.image loaded.found)
+      unmended-stands o origin done s supply v U X Y r may number given (g.met.M.Medium.coherent c.args.unit.now) (wholes-of U X Y (g.met.C.Chip.coherent c.args.card_a.now) (g.met.D.Chip.coherent c.args.card_b.now)) loaded.works c.args.waking.journal (kept-of c.args.waking.journal U.image loaded.found)
       W true c.mend.ensures.leaves.moments c.mend.ensures.goes.tells bad.goes.cause c.mend.ensures.rules.holds bad.rules.first bad.rules.second c.args.run.now vehicle c.args.outcome.now values refl spans are off in
       let base = stands_so.0 in
       let cut = unpowered-ringed o done s q (read g c p).followed (read g c p).followed.power number given (as_left g c) spans seats (subst (λ (l : RunLog). RingedBehind o done l s.number spans seats (as_left g c)) (log-found g c p) behind) base in
-      let kept_so = stays-stored o v.log v.unfound spans (as_found g c) (as_left g c) (mend-stays c.args.journal (as_found g c) (as_left g c) (g.met.M.Medium.coherent c.args.unit.now) c.mend.ensures.leaves.moments) off in
+      let kept_so = stays-stored o v.log v.unfound spans (as_found g c) (as_left g c) (mend-stays c.args.waking.journal (as_found g c) (as_left g c) (g.met.M.Medium.coherent c.args.unit.now) c.mend.ensures.leaves.moments) off in
       let stored = unmended-stored o done s q (read g c p).followed (read g c p).followed.power number given spans (as_left g c) base stands_so.1 kept_so.stores in
       let after : List SpanFrom = spans_cut spans base (with_cut q.log s []) done s in
       subst (λ (f : Bool). RingsWoken f (log_of c.args.outcome.now) o done s spans c.args.run.now (log_of c.args.outcome.now) (as_left g c)) (failed-mend g c) (
@@ -927,8 +927,8 @@ returns-in_err-mend-clause-promises g c = record {
       );
   cards =
       λ room o origin done s supply v r stay may number given speed_is values evented limit vehicle shown time.
-      let p : Behind c.args.journal.kept c.args.run.now c.args.outcome.now (as_found g c) = record { room = room; o = o; origin = origin; vehicle = vehicle; done = done; s = s; supply = supply; v = v; r = r; stay = stay; may = may; number = number; given = given; values = values } in
-      let q : Progress = found_again c.args.journal.kept (progress v supply r.book) in
+      let p : Behind c.args.waking.journal.kept c.args.run.now c.args.outcome.now (as_found g c) = record { room = room; o = o; origin = origin; vehicle = vehicle; done = done; s = s; supply = supply; v = v; r = r; stay = stay; may = may; number = number; given = given; values = values } in
+      let q : Progress = found_again c.args.waking.journal.kept (progress v supply r.book) in
       let here_is : c.args.run.now.next ≡ v.next = ap (λ (x : Values). x.next) values in
       let low = c.requires.going.low in
       let some_so : 0 < s.number = omega (arith, number, here_is, low) in
@@ -949,7 +949,7 @@ pub returns-in_err-mend-clause-goes : goal.returns-in_err-mend-clause-goes
 returns-in_err-mend-clause-goes g c = record {
   later =
       later-of-unit (g.M.Medium.state c.args.unit.now) (g.M.Medium.state c.mend.new.unit) (g.C.Chip.state c.args.card_a.now) (g.D.Chip.state c.args.card_b.now) (state-by (g.M.Medium.state c.args.unit.now) (g.M.Medium.state c.mend.new.unit) _ c.mend.ensures.goes.clock c.mend.ensures.goes.cause)
-      (mending-leaves c.args.journal (g.M.Medium.state c.args.unit.now) (g.M.Medium.state c.mend.new.unit) (g.met.M.Medium.coherent c.args.unit.now) c.mend.ensures.leaves.moments);
+      (mending-leaves c.args.waking.journal (g.M.Medium.state c.args.unit.now) (g.M.Medium.state c.mend.new.unit) (g.met.M.Medium.coherent c.args.unit.now) c.mend.ensures.leaves.moments);
   calm = calm-of-unit (g.M.Medium.state c.args.unit.now) (g.M.Medium.state c.mend.new.unit) (g.C.Chip.state c.args.card_a.now) (g.D.Chip.state c.args.card_b.now);
   more = omega arith;
   most = wrote-more 34 94 0 2152 (devices (g.M.Medium.state c.args.unit.now) (g.C.Chip.state c.args.card_a.now) (g.D.Chip.state c.args.card_b.now)) (devices (g.M.Medium.state c.mend.new.unit) (g.C.Chip.state c.args.card_a.now) (g.D.Chip.state c.args.card_b.now)) (omega arith) (omega arith) (wrote-unit 34 0 (g.M.Medium.state c.args.unit.now) (g.M.Medium.state c.mend.new.unit) (g.C.Chip.state c.args.card_a.now) (g.D.Chip.state c.args.card_b.now) c.mend.ensures.most);
@@ -1012,7 +1012,7 @@ returns-in_err-accept_anew-clause-goes g c = record {
   calm = calm-one g (goal.at.returns-in_err-accept_anew-clause-goes g c).After-accept_anew;
   more =
       let at = (goal.at.returns-in_err-accept_anew-clause-goes g c).After-moment-at in
-      anew-more (first_card g at) Driver c.moment-at.result c.args.speed (mid g at) c.accept_anew.new.run (out g at) c.accept_anew.new.outcome c.accept_anew.ensures.accepted.enters;
+      anew-more (first_card g at) Driver c.moment-at.result c.args.waking.speed (mid g at) c.accept_anew.new.run (out g at) c.accept_anew.new.outcome c.accept_anew.ensures.accepted.enters;
   most =
       wrote-more (34 + 24) 94 (0 + 1072) 2152 (devices (g.M.Medium.state c.args.unit.now) (g.C.Chip.state c.args.card_a.now) (g.D.Chip.state c.args.card_b.now)) (devices (g.M.Medium.state c.accept_anew.new.unit) (g.C.Chip.state c.accept_anew.new.card_a) (g.D.Chip.state c.accept_anew.new.card_b)) (omega arith) (omega arith)
       (wrote-then 34 24 0 1072 (devices (g.M.Medium.state c.args.unit.now) (g.C.Chip.state c.args.card_a.now) (g.D.Chip.state c.args.card_b.now)) (devices (g.M.Medium.state c.mend.new.unit) (g.C.Chip.state c.args.card_a.now) (g.D.Chip.state c.args.card_b.now)) (devices (g.M.Medium.state c.accept_anew.new.unit) (g.C.Chip.state c.accept_anew.new.card_a) (g.D.Chip.state c.accept_anew.new.card_b)) (wrote-unit 34 0 (g.M.Medium.state c.args.unit.now) (g.M.Medium.state c.mend.new.unit) (g.C.Chip.state c.args.card_a.now) (g.D.Chip.state c.args.card_b.now) c.mend.ensures.most) c.accept_anew.ensures.goes.most);
@@ -1101,13 +1101,13 @@ returns-then-is_first-clause-promises g c = record {
       let well_two = fine-first g c in
       let p = premises g at room o origin vehicle done s supply v r stay may number given values in
       let e : WithEvents g at p = record { speed_is = speed_is; evented = evented; limit = limit } in
-      let untold = none-told v.unfound c.args.journal.kept v.log.breaks (out g at).breaks.items (ap (λ (x : Values). x.log.breaks) values) (none-before g c) in
+      let untold = none-told v.unfound c.args.waking.journal.kept v.log.breaks (out g at).breaks.items (ap (λ (x : Values). x.log.breaks) values) (none-before g c) in
       let stands_so = lit g cards p time well_two in
       let noted_so =
-      none-woken o origin done s supply v (dev0 g at) (mended g at) r may number given c.args.journal.kept evented (quiet g at) (is g at p).2 (woken g at p e).2 (woke g at p).0 (is g at p).0 (is g at p).1 (woken g at p e).0.bare
+      none-woken o origin done s supply v (dev0 g at) (mended g at) r may number given c.args.waking.journal.kept evented (quiet g at) (is g at p).2 (woken g at p e).2 (woke g at p).0 (is g at p).0 (is g at p).1 (woken g at p e).0.bare
       (two g cards) (out2 g cards) (dev2 g cards) (goes-on g cards p time well_two) (evented-on g cards p time well_two e) (ungiven_of stands_so.span) stands_so.cabin (small g at p) untold (same-noted (dev2 g cards).unit (dev2 g cards).card_a (dev2 g cards).card_b) in
       woken-on o done s (within g cards p time well_two).within.b (two g cards) (out2 g cards) (dev2 g cards) (empty g cards p time well_two e) (within g cards p time well_two) refl noted_so (limit-two g cards p time e)
-      (begun-watched o c.args.rule (run g at) (mid g at) (two g cards) c.mend.new.journal c.begin_span.ensures.begun limit ((same-two g cards).1 ∙ (same-one g (driver g cards)).1)) (log_of (out g at)) (began-here g cards p time well_two);
+      (begun-watched o c.args.waking.rule (run g at) (mid g at) (two g cards) c.mend.new.journal c.begin_span.ensures.begun limit ((same-two g cards).1 ∙ (same-one g (driver g cards)).1)) (log_of (out g at)) (began-here g cards p time well_two);
   ringed =
       λ room o origin vehicle done s supply v r stay may number given values spans seats ringed counted off time.
       let cards = (goal.at.returns-then-is_first-clause-promises g c).After-accept_anew-2 in
@@ -1121,12 +1121,12 @@ returns-then-is_first-clause-promises g c = record {
       let well_two = fine-first g c in
       let p = premises g at room o origin vehicle done s supply v r stay may number given values in
       let e : WithEvents g at p = record { speed_is = speed_is; evented = evented; limit = limit } in
-      let untold = none-told v.unfound c.args.journal.kept v.log.breaks (out g at).breaks.items (ap (λ (x : Values). x.log.breaks) values) (none-before g c) in
+      let untold = none-told v.unfound c.args.waking.journal.kept v.log.breaks (out g at).breaks.items (ap (λ (x : Values). x.log.breaks) values) (none-before g c) in
       let stands_so = lit g cards p time well_two in
       let x = within g cards p time well_two in
       woken-all false o done s x.within.b.run.log (log_of (out g at)) (two g cards) (log_of (out2 g cards)) (dev2 g cards) (began-here g cards p time well_two) (vehicle-two g cards o vehicle)
       (gap-shown o done s (two g cards) (out2 g cards) (dev2 g cards) (dev2 g cards) x (ungiven_of stands_so.span) stands_so.cabin (off-here g cards p time well_two) (bare-here g cards p time well_two e) (positive g at p) None
-      (none-list o done s supply v (dev0 g at) (mended g at) r may number given c.args.journal.kept evented (quiet g at) (is g at p).2 (woken g at p e).2 x.within.b.run.log (log-here g cards p time well_two) untold) (vehicle-two g cards o vehicle) (cards-here g cards p time well_two speed_is vehicle shown)
+      (none-list o done s supply v (dev0 g at) (mended g at) r may number given c.args.waking.journal.kept evented (quiet g at) (is g at p).2 (woken g at p e).2 x.within.b.run.log (log-here g cards p time well_two) untold) (vehicle-two g cards o vehicle) (cards-here g cards p time well_two speed_is vehicle shown)
       false (two g cards) (out2 g cards).breaks NoGap (refl, refl, refl) (left-itself o (dev2 g cards)) (λ bad. none-fails bad) (none-noted (two g cards).keeper.cabin.cards (two g cards).keeper.memory.registration (dev2 g cards)));
 }
 
@@ -1172,17 +1172,17 @@ returns-clause-promises g c = record {
       let e : WithEvents g at p = record { speed_is = speed_is; evented = evented; limit = limit } in
       let past = time-two g c p time in
       let stands_so = lit g cards p past (fine g c) in
-      let early : c.args.journal.kept < s.number / 60 = subst (λ (n : ℕ). c.args.journal.kept < n / 60) (next_is g at p) c.requires.later in
+      let early : c.args.waking.journal.kept < s.number / 60 = subst (λ (n : ℕ). c.args.waking.journal.kept < n / 60) (next_is g at p) c.requires.later in
       let gap = c.note_gap.ensures.leaves.events in
       let noted_so =
-      gap-woken o origin done s supply v (dev0 g at) (mended g at) r may number given c.args.journal.kept evented (quiet g at) (is g at p).2 (woken g at p e).2 (woke g at p).0 (is g at p).0 (is g at p).1 (woken g at p e).0.bare
+      gap-woken o origin done s supply v (dev0 g at) (mended g at) r may number given c.args.waking.journal.kept evented (quiet g at) (is g at p).2 (woken g at p e).2 (woke g at p).0 (is g at p).0 (is g at p).1 (woken g at p e).0.bare
       (two g cards) (out2 g cards) (dev2 g cards) (goes-on g cards p past (fine g c)) (evented-on g cards p past (fine g c) e) (ungiven_of stands_so.span) stands_so.cabin (small g at p) (told-before g c p time) early (dev3 g c)
       (is_err c.note_gap.result) (new g c) c.note_gap.new.breaks gap.0 gap.1 (gap-events g c) gap.3 (c.note_gap.ensures.leaves.beside o done s (out2 g cards) (here g c p time) (comes g cards p past (fine g c))) in
       woken-ends o done s (here g c p time).within.b (empty g cards p past (fine g c) e) (is_err c.note_gap.result) (new g c) (out3 g c) (dev3 g c) (goes g c p time) noted_so
       (ap (λ (b : Beginning). b.run.unfound) (began g cards p past (fine g c)) ∙ began-unfound-two g cards p past ∙ sym (ap (λ (r : Run). r.unfound) c.note_gap.ensures.noted.run))
       (ap (λ (b : Beginning). b.run.next) (began g cards p past (fine g c)) ∙ began-next-two g cards p past ∙ sym (ap (λ (r : Run). r.next) c.note_gap.ensures.noted.run))
       (ap (λ (m : UnitFacts). m.limit) (stays g c) ∙ limit-two g cards p past e)
-      (begun-watched o c.args.rule (run g at) (mid g at) (new g c) c.mend.new.journal c.begin_span.ensures.begun limit (ap (λ (r : Run). r.watch) c.note_gap.ensures.noted.run ∙ (same-two g cards).1 ∙ (same-one g (driver g cards)).1)) (log_of (out g at)) (began-here g cards p past (fine g c));
+      (begun-watched o c.args.waking.rule (run g at) (mid g at) (new g c) c.mend.new.journal c.begin_span.ensures.begun limit (ap (λ (r : Run). r.watch) c.note_gap.ensures.noted.run ∙ (same-two g cards).1 ∙ (same-one g (driver g cards)).1)) (log_of (out g at)) (began-here g cards p past (fine g c));
   ringed =
       λ room o origin vehicle done s supply v r stay may number given values spans seats ringed counted off time.
       let cards = both g c in
@@ -1209,10 +1209,10 @@ returns-clause-promises g c = record {
       let stands_so = lit g cards p past (fine g c) in
       let x = here g c p time in
       let here_is : (two g cards).next ≡ s.number = x.within.next ∙ sym x.within.moment.number in
-      let same_gap : gap_of c.args.journal.kept s.number ≡ gap_of c.last_kept-kept.result (two g cards).next = ap (λ (n : ℕ). gap_of n s.number) (sym c.last_kept-kept.ensures.kept) ∙ ap (gap_of c.last_kept-kept.result) (sym here_is) in
+      let same_gap : gap_of c.args.waking.journal.kept s.number ≡ gap_of c.last_kept-kept.result (two g cards).next = ap (λ (n : ℕ). gap_of n s.number) (sym c.last_kept-kept.ensures.kept) ∙ ap (gap_of c.last_kept-kept.result) (sym here_is) in
       woken-all (is_err c.note_gap.result) o done s x.within.b.run.log (log_of (out g at)) (new g c) (log_of (out3 g c)) (dev3 g c) (began-here g cards p past (fine g c)) (ap (λ (m : UnitFacts). m.registration) (stays g c) ∙ vehicle-two g cards o vehicle)
       (gap-shown o done s (two g cards) (out2 g cards) (dev2 g cards) (dev3 g c) x (ungiven_of stands_so.span) stands_so.cabin (off-here g cards p past (fine g c)) (bare-here g cards p past (fine g c) e) (positive g at p) (gap_of c.last_kept-kept.result (two g cards).next)
-      (λ crew. some-list o done s supply v (dev0 g at) (mended g at) r may number given c.args.journal.kept evented (quiet g at) (is g at p).2 (woken g at p e).2 x.within.b.run.log (log-here g cards p past (fine g c)) (told-before g c p time) crew ∙ ap (λ (q : Option Span). gap_list q crew) same_gap)
+      (λ crew. some-list o done s supply v (dev0 g at) (mended g at) r may number given c.args.waking.journal.kept evented (quiet g at) (is g at p).2 (woken g at p e).2 x.within.b.run.log (log-here g cards p past (fine g c)) (told-before g c p time) crew ∙ ap (λ (q : Option Span). gap_list q crew) same_gap)
       (vehicle-two g cards o vehicle) (cards-here g cards p past (fine g c) speed_is vehicle shown)
       (is_err c.note_gap.result) (new g c) c.note_gap.new.breaks c.note_gap.ensures.noted.reach.0 c.note_gap.ensures.noted.reach.1 (c.note_gap.ensures.leaves.beside o done s (out2 g cards) x (comes g cards p past (fine g c))).0
       (λ fails. (subst (λ (f : Bool). GoesOnOrFails f o done s (In 0) [] (new g c) (out3 g c) (dev3 g c) x.within.b) fails (goes g c p time)).within.moment.up_to.uncut) c.note_gap.ensures.leaves.card_events);

@@ -60,8 +60,8 @@ off-requires-clause-small g c = let is = ap item_seconds c.in-Off.is in let smal
 
 pub off-requires-clause-room : goal.off-requires-clause-room
 off-requires-clause-room g c = λ lit.
-    let k : ℕ = insertions_in c.args.from c.args.to c.args.items.now in
-    let a : ℕ = c.args.to - c.args.from in
+    let k : ℕ = insertions_in c.args.due.from c.args.due.to c.args.due.items.now in
+    let a : ℕ = c.args.due.to - c.args.due.from in
     cut-room c.args.run.now c.args.outcome.now c.in-Off.seconds 0 k a
     (subst (λ (i : Item). HasRoom c.args.run.now c.args.outcome.now (item_seconds i) (off_count i) k a) c.in-Off.is c.requires.room) lit
 
@@ -90,8 +90,8 @@ pub returns-in-Off-clause-room : goal.returns-in-Off-clause-room
 returns-in-Off-clause-room g c = λ left offs insertions actions h some.
     let run = c.args.run.now in
     let o = c.args.outcome.now in
-    let k : ℕ = insertions_in c.args.from c.args.to c.args.items.now in
-    let a : ℕ = c.args.to - c.args.from in
+    let k : ℕ = insertions_in c.args.due.from c.args.due.to c.args.due.items.now in
+    let a : ℕ = c.args.due.to - c.args.due.from in
     let stand = c.requires.going.held.stand in
     let here = subst (λ (i : Item). HasRoom run o (item_seconds i + left) (off_count i + offs) (k + insertions) (a + actions)) c.in-Off.is h in
     subst (λ (r : Run). HasRoom r (record o { breaks = c.off.new.breaks }) left offs insertions actions) (sym c.off.ensures.run)
@@ -108,7 +108,7 @@ drive-requires-clause-small g c = let is = ap item_seconds c.in-Run.is in let sm
 
 pub drive-requires-clause-room : goal.drive-requires-clause-room
 drive-requires-clause-room g c =
-    subst (λ (i : Item). HasRoom c.args.run.now c.args.outcome.now (item_seconds i) (off_count i) (insertions_in c.args.from c.args.to c.args.items.now) (c.args.to - c.args.from)) c.in-Run.is c.requires.room
+    subst (λ (i : Item). HasRoom c.args.run.now c.args.outcome.now (item_seconds i) (off_count i) (insertions_in c.args.due.from c.args.due.to c.args.due.items.now) (c.args.due.to - c.args.due.from)) c.in-Run.is c.requires.room
 
 pub returns-in-Run-clause-gone : goal.returns-in-Run-clause-gone
 returns-in-Run-clause-gone g c =
@@ -122,8 +122,8 @@ pub returns-in-Run-clause-room : goal.returns-in-Run-clause-room
 returns-in-Run-clause-room g c = λ left offs insertions actions h.
     let run = c.args.run.now in
     let o = c.args.outcome.now in
-    let k : ℕ = insertions_in c.args.from c.args.to c.args.items.now in
-    let a : ℕ = c.args.to - c.args.from in
+    let k : ℕ = insertions_in c.args.due.from c.args.due.to c.args.due.items.now in
+    let a : ℕ = c.args.due.to - c.args.due.from in
     let here = subst (λ (i : Item). HasRoom run o (item_seconds i + left) (off_count i + offs) (k + insertions) (a + actions)) c.in-Run.is h in
     on_ok c.drive.result (λ well some. ok_gives c.drive.result (c.drive.ensures.room left offs insertions actions
     (room-less cuts_from run o (c.in-Run.seconds + left) (c.in-Run.seconds + left) (0 + offs) offs (k + insertions) (k + insertions) (a + actions) (a + actions) (omega arith) (omega arith) (omega arith) (omega arith) here)) well)
@@ -133,21 +133,21 @@ returns-in-Run-clause-room g c = λ left offs insertions actions h.
 pub returns-in-Act-clause-ringed : goal.returns-in-Act-clause-ringed
 returns-in-Act-clause-ringed g c = λ many o done few r time.
     let d : Devices = devices (g.M.Medium.state c.args.unit.now) (g.C.Chip.state c.args.card_a.now) (g.D.Chip.state c.args.card_b.now) in
-    let acts : List Action = actions_in (between c.args.from c.args.to c.args.items.now) in
+    let acts : List Action = actions_in (between c.args.due.from c.args.due.to c.args.due.items.now) in
     subst (λ (i : Item). RunRinged o (done ++ seconds_at c.args.run.now.next acts i) c.args.run.now c.args.outcome.now d) (sym c.in-Act.is)
     (subst (λ (ss : List TraceSecond). RunRinged o ss c.args.run.now c.args.outcome.now d) (sym (append-nil done)) r)
 
 pub returns-in-Off-clause-ringed : goal.returns-in-Off-clause-ringed
 returns-in-Off-clause-ringed g c = λ many o done few r time.
     let d : Devices = devices (g.M.Medium.state c.args.unit.now) (g.C.Chip.state c.args.card_a.now) (g.D.Chip.state c.args.card_b.now) in
-    let acts : List Action = actions_in (between c.args.from c.args.to c.args.items.now) in
+    let acts : List Action = actions_in (between c.args.due.from c.args.due.to c.args.due.items.now) in
     let out : Outcome = record c.args.outcome.now { breaks = c.off.new.breaks } in
     subst (λ (i : Item). RunRinged o (done ++ seconds_at c.args.run.now.next acts i) c.off.new.self out d) (sym c.in-Off.is)
     (off-ringed o done c.args.run.now c.args.outcome.now d r (λ lit. let h = c.requires.going.lit (ap is_lit lit) in (ungiven_of h.span, h.cabin)) c.in-Off.seconds (subst InRange c.in-Off.is c.requires.item).0 c.off.new.breaks c.off.ensures.breaks c.off.new.self c.off.ensures.run)
 
 pub returns-in-Run-clause-ringed : goal.returns-in-Run-clause-ringed
 returns-in-Run-clause-ringed g c = λ many o done few r time.
-    let acts : List Action = actions_in (between c.args.from c.args.to c.args.items.now) in
+    let acts : List Action = actions_in (between c.args.due.from c.args.due.to c.args.due.items.now) in
     subst (λ (i : Item). HasRunBy RunRinged c.drive.result o (done ++ seconds_at c.args.run.now.next acts i) c.drive.new.run c.drive.new.outcome (devices (g.M.Medium.state c.drive.new.unit) (g.C.Chip.state c.drive.new.card_a) (g.D.Chip.state c.drive.new.card_b))) (sym c.in-Run.is)
     (c.drive.ensures.ringed many (omega (arith, few, many)) o done r time)
 
@@ -156,21 +156,21 @@ returns-in-Run-clause-ringed g c = λ many o done few r time.
 pub returns-in-Act-clause-cards : goal.returns-in-Act-clause-cards
 returns-in-Act-clause-cards g c = λ many o done few r time.
     let d : Devices = devices (g.M.Medium.state c.args.unit.now) (g.C.Chip.state c.args.card_a.now) (g.D.Chip.state c.args.card_b.now) in
-    let acts : List Action = actions_in (between c.args.from c.args.to c.args.items.now) in
+    let acts : List Action = actions_in (between c.args.due.from c.args.due.to c.args.due.items.now) in
     subst (λ (i : Item). RunCarded o (done ++ seconds_at c.args.run.now.next acts i) c.args.run.now c.args.outcome.now d) (sym c.in-Act.is)
     (subst (λ (ss : List TraceSecond). RunCarded o ss c.args.run.now c.args.outcome.now d) (sym (append-nil done)) r)
 
 pub returns-in-Off-clause-cards : goal.returns-in-Off-clause-cards
 returns-in-Off-clause-cards g c = λ many o done few r time.
     let d : Devices = devices (g.M.Medium.state c.args.unit.now) (g.C.Chip.state c.args.card_a.now) (g.D.Chip.state c.args.card_b.now) in
-    let acts : List Action = actions_in (between c.args.from c.args.to c.args.items.now) in
+    let acts : List Action = actions_in (between c.args.due.from c.args.due.to c.args.due.items.now) in
     let out : Outcome = record c.args.outcome.now { breaks = c.off.new.breaks } in
     subst (λ (i : Item). RunCarded o (done ++ seconds_at c.args.run.now.next acts i) c.off.new.self out d) (sym c.in-Off.is)
     (off-carded o done c.args.run.now c.args.outcome.now d r c.requires.going.low (λ lit. let h = c.requires.going.lit (ap is_lit lit) in (ungiven_of h.span, h.cabin)) c.in-Off.seconds (subst InRange c.in-Off.is c.requires.item).0 c.off.new.breaks c.off.ensures.breaks c.off.new.self c.off.ensures.run)
 
 pub returns-in-Run-clause-cards : goal.returns-in-Run-clause-cards
 returns-in-Run-clause-cards g c = λ many o done few r time.
-    let acts : List Action = actions_in (between c.args.from c.args.to c.args.items.now) in
+    let acts : List Action = actions_in (between c.args.due.from c.args.due.to c.args.due.items.now) in
     subst (λ (i : Item). HasRunBy RunCarded c.drive.result o (done ++ seconds_at c.args.run.now.next acts i) c.drive.new.run c.drive.new.outcome (devices (g.M.Medium.state c.drive.new.unit) (g.C.Chip.state c.drive.new.card_a) (g.D.Chip.state c.drive.new.card_b))) (sym c.in-Run.is)
     (c.drive.ensures.cards many (omega (arith, few, many)) o done r time)
 
@@ -181,7 +181,7 @@ returns-in-Act-clause-goes g c = record {
   later = after-same (devices (g.M.Medium.state c.args.unit.now) (g.C.Chip.state c.args.card_a.now) (g.D.Chip.state c.args.card_b.now));
   calm = calm-same (devices (g.M.Medium.state c.args.unit.now) (g.C.Chip.state c.args.card_a.now) (g.D.Chip.state c.args.card_b.now));
   broke = broke-none c.args.outcome.now.breaks.items {old = (g.M.Medium.state c.args.unit.now)} {new = (g.M.Medium.state c.args.unit.now)} (omega arith);
-  most = writes-none (item_seconds c.args.item) (first_waiting c.args.item c.args.from c.args.to - c.args.from) (devices (g.M.Medium.state c.args.unit.now) (g.C.Chip.state c.args.card_a.now) (g.D.Chip.state c.args.card_b.now));
+  most = writes-none (item_seconds c.args.due.item) (first_waiting c.args.due.item c.args.due.from c.args.due.to - c.args.due.from) (devices (g.M.Medium.state c.args.unit.now) (g.C.Chip.state c.args.card_a.now) (g.D.Chip.state c.args.card_b.now));
 }
 
 pub returns-in-Off-clause-goes : goal.returns-in-Off-clause-goes
@@ -189,7 +189,7 @@ returns-in-Off-clause-goes g c = record {
   later = after-same (devices (g.M.Medium.state c.args.unit.now) (g.C.Chip.state c.args.card_a.now) (g.D.Chip.state c.args.card_b.now));
   calm = calm-told (devices (g.M.Medium.state c.args.unit.now) (g.C.Chip.state c.args.card_a.now) (g.D.Chip.state c.args.card_b.now)) _ (ap (λ (l : Listed Break). l.items) c.off.ensures.breaks) (off-calm _ _ _);
   broke = broke-behind _ {old = (g.M.Medium.state c.args.unit.now)} {new = (g.M.Medium.state c.args.unit.now)} (ap (λ (l : Listed Break). l.items) c.off.ensures.breaks) (off-uncut _ _ _) (omega arith);
-  most = writes-none (item_seconds c.args.item) (first_waiting c.args.item c.args.from c.args.to - c.args.from) (devices (g.M.Medium.state c.args.unit.now) (g.C.Chip.state c.args.card_a.now) (g.D.Chip.state c.args.card_b.now));
+  most = writes-none (item_seconds c.args.due.item) (first_waiting c.args.due.item c.args.due.from c.args.due.to - c.args.due.from) (devices (g.M.Medium.state c.args.unit.now) (g.C.Chip.state c.args.card_a.now) (g.D.Chip.state c.args.card_b.now));
 }
 
 pub returns-in-Run-clause-goes : goal.returns-in-Run-clause-goes
@@ -198,6 +198,6 @@ returns-in-Run-clause-goes g c = record {
   calm = c.drive.ensures.calm;
   broke = c.drive.ensures.broke;
   most =
-      subst (λ (i : Item). WritesFor (item_seconds i) (first_waiting i c.args.from c.args.to - c.args.from) (devices (g.M.Medium.state c.args.unit.now) (g.C.Chip.state c.args.card_a.now) (g.D.Chip.state c.args.card_b.now)) (devices (g.M.Medium.state c.drive.new.unit) (g.C.Chip.state c.drive.new.card_a) (g.D.Chip.state c.drive.new.card_b))) (sym c.in-Run.is)
-      (writes-more c.in-Run.seconds c.in-Run.seconds (c.args.to - c.args.from) (c.args.to + 1 - c.args.from) (devices (g.M.Medium.state c.args.unit.now) (g.C.Chip.state c.args.card_a.now) (g.D.Chip.state c.args.card_b.now)) (devices (g.M.Medium.state c.drive.new.unit) (g.C.Chip.state c.drive.new.card_a) (g.D.Chip.state c.drive.new.card_b)) (omega arith) (omega arith) c.drive.ensures.most);
+      subst (λ (i : Item). WritesFor (item_seconds i) (first_waiting i c.args.due.from c.args.due.to - c.args.due.from) (devices (g.M.Medium.state c.args.unit.now) (g.C.Chip.state c.args.card_a.now) (g.D.Chip.state c.args.card_b.now)) (devices (g.M.Medium.state c.drive.new.unit) (g.C.Chip.state c.drive.new.card_a) (g.D.Chip.state c.drive.new.card_b))) (sym c.in-Run.is)
+      (writes-more c.in-Run.seconds c.in-Run.seconds (c.args.due.to - c.args.due.from) (c.args.due.to + 1 - c.args.due.from) (devices (g.M.Medium.state c.args.unit.now) (g.C.Chip.state c.args.card_a.now) (g.D.Chip.state c.args.card_b.now)) (devices (g.M.Medium.state c.drive.new.unit) (g.C.Chip.state c.drive.new.card_a) (g.D.Chip.state c.drive.new.card_b)) (omega arith) (omega arith) c.drive.ensures.most);
 }

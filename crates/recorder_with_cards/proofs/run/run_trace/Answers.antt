@@ -4,24 +4,26 @@ use Rattle.trace_model.specs.declared.Item.{Item}
 use Rattle.trace_model.specs.Trace.{TraceSecond, seconds_of, number_after, item_seconds, total_seconds}
 use Rattle.run_acts.specs.Going.{largest_number, CardAt, IsFoundLater}
 use Rattle.tach_media.specs.Medium.{IsCoherent}
+use Rattle.tach_media.proofs.Runs.{on_ok}
 use Rattle.log_model.specs.declared.lines.Mark.{Mark}
 use Rattle.log_model.specs.declared.lines.Break.{Break}
 use Rattle.log_model.specs.declared.lines.Find.{Find}
 use Rattle.log_model.specs.declared.lines.Refused.{Refused}
 use Rattle.run_outcome.specs.Lines.{Listed}
 use Rattle.safety_model.specs.Safe.{Devices, card_of}
-use Rattle.safety_model.specs.Recording.{card_image}
+use Rattle.safety_model.specs.Recording.{Recording, card_image}
 use Rattle.run_crew.specs.Cards.{known_of as known_in}
 use Rattle.run_opening.specs.Begun.{known_of, RunIsOpened, IsRefusedBy as IsRefusedAs}
 use Rattle.run_opening.specs.Cards.{IsFoundOn}
 use Rattle.recorder_with_cards.specs.Carded.{RunCarded}
-use Rattle.recorder_with_cards.specs.Ends.{opened_with, origin_of}
+use Rattle.recorder_with_cards.specs.Ends.{opened_with, origin_of, recording_of}
+use Rattle.recorder_with_cards.proofs.Breakdowns.{are-counted}
 use Rattle.recorder_with_cards.specs.Recorded.{actions_in}
 use Rattle.recorder_with_cards.specs.Items.{between, insertions_in}
 use Rattle.recorder_with_cards.proofs.Waiting.{Waits, waits-none, waits-more, seconds-none, seconds-more, total-parts}
 use Rattle.recorder_with_cards.proofs.Again.{all-bytes}
 use Rattle.recorder_with_cards.proofs.Promised.{both, more-devices, chip_of, begins-with, promised, may-record, is-found, starts-carded}
-use Rattle.std.specs.Prelude.{IfErr}
+use Rattle.std.specs.Prelude.{IfErr, is_err}
 use Rattle.std.proofs.lemmas.Grind.{common_steps}
 use Rattle.run_opening.specs.Opening.{IsRefused}
 use Rattle.run_promise.specs.Between.{devices}
@@ -37,8 +39,8 @@ use Rattle.recorder_with_cards.proofs.Start.{if-err, none-yet, no-falls, no-seat
 use Rattle.run_minutes.proofs.Later.{after-then}
 use Rattle.recorder_with_cards.proofs.Later.{state-as-it-was}
 use Rattle.run_acts.specs.Recording.{log_of}
-use Rattle.run_outcome.proofs.Broken.{broke-none, broke-then, broke-all, broke-nothing, calm-all}
-use Rattle.run_minutes.proofs.Calm.{card-rests, calm-then, still-all}
+use Rattle.run_outcome.proofs.Broken.{broke-none, broke-then, broke-all, broke-nothing, calm-all, most-all}
+use Rattle.run_minutes.proofs.Calm.{calm-rests, calm-then, still-all, most-still}
 use Rattle.recorder_with_cards.proofs.Time.{after-time}
 use Rattle.recorder_with_cards.proofs.Writes.{writes-then, writes-more, waiting-on}
 use Rattle.recorder_with_cards.specs.Gone.{first_waiting}
@@ -89,7 +91,7 @@ loop-i-init g c =
       unfound = let none = c.new-run.ensures.starts.unfound in omega (arith, none);
       waits = waits-none c.args.trace.now.items;
       later = record { unit = state-as-it-was (g.U.Medium.state c.args.unit.now) (g.U.Medium.state c.judge.new.unit) c.judge.ensures.same.unit; card_a = state-as-it-was (g.C.Chip.state c.args.card_a.now) (g.C.Chip.state c.judge.new.card_a) c.judge.ensures.same.card_a; card_b = state-as-it-was (g.C.Chip.state c.args.card_b.now) (g.C.Chip.state c.judge.new.card_b) c.judge.ensures.same.card_b };
-      calm = record { card_a = card-rests refl (e.works.card_a.unbroken refl); card_b = card-rests refl (e.works.card_b.unbroken refl) };
+      calm = calm-rests (devices (g.U.Medium.state c.args.unit.now) (g.C.Chip.state c.args.card_a.now) (g.C.Chip.state c.args.card_b.now)) (devices (g.U.Medium.state c.judge.new.unit) (g.C.Chip.state c.judge.new.card_a) (g.C.Chip.state c.judge.new.card_b)) refl (e.works.card_a.unbroken refl) (e.works.card_b.unbroken refl);
       broke = broke-none c.args.outcome.now.breaks.items {old = (g.U.Medium.state c.args.unit.now)} {new = (g.U.Medium.state c.judge.new.unit)} (e.works.unit.unbroken refl);
       most =
           let u = c.judge.ensures.same.unit.clock in
@@ -270,23 +272,46 @@ returns-in_err-opened-clause-later g c = record { unit = state-as-it-was (g.U.Me
 
 -- ---- how often the unit broke down
 
-pub returns-clause-broke : goal.returns-clause-broke
-returns-clause-broke g c = broke-all (log_of c.loop-i.outcome) (ap (λ (l : Listed Break). l.items) c.requires.reserved.breaks) c.loop-i.invariant.later.unit.faults c.loop-i.invariant.broke
+pub returns-clause-breakdowns : goal.returns-clause-breakdowns
+returns-clause-breakdowns g c = record {
+  broke = broke-all (log_of c.loop-i.outcome) (ap (λ (l : Listed Break). l.items) c.requires.reserved.breaks) c.loop-i.invariant.later.unit.faults c.loop-i.invariant.broke;
+  calm = calm-all (log_of c.loop-i.outcome) (ap (λ (l : Listed Break). l.items) c.requires.reserved.breaks) c.loop-i.invariant.broke;
+  still = still-all (log_of c.loop-i.outcome) (ap (λ (l : Listed Break). l.items) c.requires.reserved.breaks) c.loop-i.invariant.calm;
+  told =
+      let none = ap (λ (l : Listed Break). l.items) c.requires.reserved.breaks in
+      record {
+        unit = λ low. most-all (log_of c.loop-i.outcome) none c.loop-i.invariant.broke low;
+        cards = λ low_a low_b. most-still (log_of c.loop-i.outcome) (devices (g.U.Medium.state c.args.unit.now) (g.C.Chip.state c.args.card_a.now) (g.C.Chip.state c.args.card_b.now)) (devices (g.U.Medium.state c.loop-i.unit) (g.C.Chip.state c.loop-i.card_a) (g.C.Chip.state c.loop-i.card_b)) none c.loop-i.invariant.calm low_a low_b;
+      };
+}
 
-pub returns-in_err-go_on-clause-broke : goal.returns-in_err-go_on-clause-broke
-returns-in_err-go_on-clause-broke g c =
-    let was = c.loop-i.invariant.later.unit.faults in
-    let more = c.in_err-go_on.ensures.goes.later.unit.faults in
-    broke-all (log_of c.go_on.new.outcome) (ap (λ (l : Listed Break). l.items) c.requires.reserved.breaks) (omega (arith, was, more)) (broke-then c.loop-i.invariant.broke c.in_err-go_on.ensures.goes.broke)
+pub returns-in_err-go_on-clause-breakdowns : goal.returns-in_err-go_on-clause-breakdowns
+returns-in_err-go_on-clause-breakdowns g c =
+    let failed : true ≡ is_err c.from_residual-in_err-go_on.result = search rules in
+    record {
+      broke =
+          let was = c.loop-i.invariant.later.unit.faults in
+          let more = c.in_err-go_on.ensures.goes.later.unit.faults in
+          broke-all (log_of c.go_on.new.outcome) (ap (λ (l : Listed Break). l.items) c.requires.reserved.breaks) (omega (arith, was, more)) (broke-then c.loop-i.invariant.broke c.in_err-go_on.ensures.goes.broke);
+      calm = on_ok c.from_residual-in_err-go_on.result (λ well. absurd (cc));
+      still = on_ok c.from_residual-in_err-go_on.result (λ well. absurd (cc));
+      told = on_ok c.from_residual-in_err-go_on.result (λ well. absurd (cc));
+    }
 
-pub returns-in_err-opened-clause-broke : goal.returns-in_err-opened-clause-broke
-returns-in_err-opened-clause-broke g c = broke-nothing (log_of c.args.outcome.now) (ap (λ (l : Listed Break). l.items) c.requires.reserved.breaks) c.judge.ensures.same.unit.faults c.judge.ensures.same.unit.breakdowns
+pub returns-in_err-opened-clause-breakdowns : goal.returns-in_err-opened-clause-breakdowns
+returns-in_err-opened-clause-breakdowns g c =
+    let failed : true ≡ is_err c.from_residual.result = search rules in
+    record {
+      broke = broke-nothing (log_of c.args.outcome.now) (ap (λ (l : Listed Break). l.items) c.requires.reserved.breaks) c.judge.ensures.same.unit.faults c.judge.ensures.same.unit.breakdowns;
+      calm = on_ok c.from_residual.result (λ well. absurd (cc));
+      still = on_ok c.from_residual.result (λ well. absurd (cc));
+      told = on_ok c.from_residual.result (λ well. absurd (cc));
+    }
 
-pub returns-clause-calm : goal.returns-clause-calm
-returns-clause-calm g c = calm-all (log_of c.loop-i.outcome) (ap (λ (l : Listed Break). l.items) c.requires.reserved.breaks) c.loop-i.invariant.broke
-
-pub returns-clause-still : goal.returns-clause-still
-returns-clause-still g c = still-all (log_of c.loop-i.outcome) (ap (λ (l : Listed Break). l.items) c.requires.reserved.breaks) c.loop-i.invariant.calm
+pub returns-clause-counted : goal.returns-clause-counted
+returns-clause-counted g c = λ x a b h time few.
+    let r : Recording = recording_of x a b c.args.trace.now.start c.args.trace.now.items c.loop-i.outcome in
+    are-counted _ r (devices (g.U.Medium.state c.args.unit.now) (g.C.Chip.state c.args.card_a.now) (g.C.Chip.state c.args.card_b.now)) (devices (g.U.Medium.state c.loop-i.unit) (g.C.Chip.state c.loop-i.card_a) (g.C.Chip.state c.loop-i.card_b)) (returns-clause-recorded g c x a b h time few).ends.caused.causes (returns-clause-breakdowns g c).told
 
 -- ---- its writes
 

@@ -1,4 +1,4 @@
-use Rattle.std.proofs.Common.{arith, ◌≡◌, ◌∙◌, ℕ, Bool, true, false, Option, Some, None, [], ◌∷◌, refl, ap, sym, subst, is_some, ◌≤◌, ◌+◌}
+use Rattle.std.proofs.Common.{arith, ◌≡◌, ◌∙◌, true, false, Option, Some, None, [], ◌∷◌, refl, ap, sym, subst, is_some}
 use Rattle.activity_codec.specs.declared.values.Slot.{Slot}
 use Rattle.trace_model.specs.declared.Card.{Card}
 use Rattle.trace_model.specs.declared.Card.TheVariants.{A, B}
@@ -6,15 +6,15 @@ use Rattle.tach_media.proofs.Runs.{on_ok, ok_gives, no_reads}
 use Rattle.card_slots.specs.Calls.{seat_in, card_in}
 use Rattle.run_crew.specs.declared.cards.Known.{Known}
 use Rattle.run_crew.specs.Cards.{session_of, known_of}
-use Rattle.run_crew.specs.Cabin.{number_of_seat, CabinIsSound}
+use Rattle.run_crew.specs.Cabin.{number_of_seat}
 use Rattle.log_model.specs.declared.lines.Break.{Break}
 use Rattle.run_outcome.specs.Lines.{Listed}
 use Rattle.run_acts.specs.declared.run.Run.{Run}
 use Rattle.run_minutes.specs.declared.keeper.Moment.{Moment}
 use Rattle.run_minutes.proofs.Fates.{no-lines}
-use Rattle.run_acts.specs.Acting.{now_moment, IsNotedIn, IsNotedOn, falls_by}
+use Rattle.run_acts.specs.Acting.{now_moment, IsNotedIn}
 use Rattle.run_acts.proofs.Cabins.{numbered-session}
-use Rattle.std.specs.Prelude.{is_err, Result}
+use Rattle.std.specs.Prelude.{is_err}
 use Rattle.run_acts.proofs.Comings.{leaves-more}
 use Rattle.run_acts.proofs.NoteRecorded.{noted-some, some-leaves}
 use Rattle.run_promise.specs.Between.{devices}
@@ -32,36 +32,21 @@ use Rattle.run_acts.proofs.CardPlaces.{places-self}
 use Rattle.run_minutes.proofs.Calm.{calm-same}
 use Rattle.run_acts.proofs.OneCard.{OneCard, unit-is, later-by, calm-by, known-noted, only-noted, more-noted, room-noted, calm-noted, held-noted, going-noted, none-there, on_a, on_b}
 use Rattle.run_minutes.specs.Later.{AreCalm, AreLater}
-use Rattle.card_layout.specs.declared.command.CardState.{CardState}
 use Rattle.run_crew.specs.declared.cards.Cards.{Cards}
-use Rattle.tach_media.specs.declared.fault.Failed.{Failed}
-use Rattle.tach_media.specs.Medium.{HasBroken, HasCause, State}
+use Rattle.tach_media.specs.Medium.{State}
 use Rattle.log_model.specs.Log.{In}
 use Rattle.run_acts.specs.ActsEvented.{NoteLeaves}
 use Rattle.run_acts.specs.NotedEvents.{NotesEvents}
 use Rattle.card_slots.specs.declared.seats.Seat.{Seat}
 use Rattle.run_devices.specs.Told.{arranged}
 use Rattle.device_rule.specs.Views.{other}
-use Rattle.run_acts.specs.Acts.{ShowsGapOn, UnitWrites, NotesInSession, StandsBehind}
-use Rattle.unit_notes.specs.declared.unit_event.UnitEvent.{UnitEvent}
+use Rattle.run_acts.specs.Acts.{NotesGapOn}
 use Rattle.run_acts.proofs.gap.note_in.Given.{Over}
 use Rattle.run_acts.proofs.gap.note_in.Goals.{In-Some-number_in, After-note_on, After-note_on-in-B}
 use Rattle.run_minutes.proofs.Writes.{wrote-none}
 use Rattle.run_acts.proofs.gap.note_in.Goals as goal
 
--- ---- what is known of the note on a card
-
-abbrev NotesThere : {S : Type 0} (state : S → State) (chip : S → CardState) (which : Card) (slot : Slot) (event : UnitEvent) (result : Result (Unit {0}) Failed) (old new : Run) (breaks after : Listed Break) (U V : State) (x y : S) → Type 0
-NotesThere state chip which slot event result old new breaks after U V x y = record {
-  noted : (fell : Bool) × IsNotedOn which slot (now_moment old) old new breaks after fell × HasBroken (state x) (state y) (falls_by fell) × HasCause (state x) (state y) fell × (is_err result ≡ true → fell ≡ true);
-  shows : ShowsGapOn which slot event (is_err result) old new breaks after U V (state x) (state y);
-  writes : UnitWrites U V;
-  known : NotesInSession (session_of old.keeper.cabin.cards which) (state x) (state y);
-  behind : StandsBehind which result old new U V (state x) (state y) (chip y);
-  stands : (from : ℕ) (leaving : Option Card) → CabinIsSound from leaving old.keeper.cabin → CabinIsSound from leaving new.keeper.cabin;
-  clock_card : (state x).clock ≤ (state y).clock;
-  most : (V.clock ≤ U.clock + 4) × ((state y).clock ≤ (state x).clock + 4);
-}
+-- ---- the note on a card
 
 -- one event is noted on it, and none on the other
 event-by : (card : Card) (seat : Option Seat) (event : CardEvent) (old new : Cards) (U V X Y Z : State) → card_in seat ≡ Some card → NotesOn false (session_of old card) (session_of new card) (event ∷ []) X Y → known_of new (other card) ≡ known_of old (other card)
@@ -80,26 +65,26 @@ places-by : (card : Card) (cards : Cards) (U V X Y Z : State) → LeavesPlaces (
 places-by A cards U V X Y Z mine = both-cards (λ k. LeavesPlaces (session_of cards k) (card_of (devices U X Z) k) (card_of (devices V Y Z) k)) mine (places-self (session_of cards B) Z)
 places-by B cards U V X Y Z mine = both-cards (λ k. LeavesPlaces (session_of cards k) (card_of (devices U Z X) k) (card_of (devices V Z Y) k)) (places-self (session_of cards A) Z) mine
 
-module _ (g : Over) (c : In-Some-number_in g) (k : OneCard c.in-Some.card (g.C.Chip.state c.args.card_a.now) (g.D.Chip.state c.args.card_b.now)) (e : NotesThere k.state k.chip k.which c.args.slot c.args.event.now k.result c.args.run.now k.new c.args.breaks.now k.breaks (g.M.Medium.state c.args.unit.now) k.unit k.before k.after) where
+module _ (g : Over) (c : In-Some-number_in g) (k : OneCard c.in-Some.card (g.C.Chip.state c.args.card_a.now) (g.D.Chip.state c.args.card_b.now)) (e : NotesGapOn k.which c.args.gap.slot c.args.gap.event k.result c.args.run.now k.new c.args.breaks.now k.breaks (g.M.Medium.state c.args.unit.now) k.unit (k.state k.before) (k.state k.after) (k.chip k.after)) where
   abbrev first : Devices
   first = devices (g.M.Medium.state c.args.unit.now) (g.C.Chip.state c.args.card_a.now) (g.D.Chip.state c.args.card_b.now)
 
   abbrev last : Devices
   last = arranged k.which k.unit (k.state k.after) k.beside
 
-  seat : card_in (seat_in c.args.run.now.keeper.cabin.slots.seats c.args.slot) ≡ Some k.which
+  seat : card_in (seat_in c.args.run.now.keeper.cabin.slots.seats c.args.gap.slot) ≡ Some k.which
   seat = let is : c.in-Some.card ≡ k.which = k.is in cc
 
   some : is_some (session_of c.args.run.now.keeper.cabin.cards k.which) ≡ true
   some =
-      let told : number_of_seat c.args.run.now.keeper.cabin.cards (seat_in c.args.run.now.keeper.cabin.slots.seats c.args.slot) ≡ Some c.in-Some-number_in.field-0 = cc in
-      numbered-session c.args.run.now.keeper.cabin.cards (seat_in c.args.run.now.keeper.cabin.slots.seats c.args.slot) k.which c.in-Some-number_in.field-0 seat told
+      let told : number_of_seat c.args.run.now.keeper.cabin.cards (seat_in c.args.run.now.keeper.cabin.slots.seats c.args.gap.slot) ≡ Some c.in-Some-number_in.field-0 = cc in
+      numbered-session c.args.run.now.keeper.cabin.cards (seat_in c.args.run.now.keeper.cabin.slots.seats c.args.gap.slot) k.which c.in-Some-number_in.field-0 seat told
 
   recorded : IsNoteRecorded (In 0) (is_err k.result) c.args.run.now k.new c.args.breaks.now k.breaks first last
   recorded =
       let lit = c.requires.going in
       subst (λ (m : Devices). IsNoteRecorded (In 0) (is_err k.result) c.args.run.now k.new c.args.breaks.now k.breaks m last) (sym (k.beside_it (g.M.Medium.state c.args.unit.now)))
-      (noted-some k.which c.args.slot (now_moment c.args.run.now) c.args.run.now c.args.breaks.now (g.M.Medium.state c.args.unit.now) k.unit (k.state k.before) (k.state k.after) k.beside
+      (noted-some k.which c.args.gap.slot (now_moment c.args.run.now) c.args.run.now c.args.breaks.now (g.M.Medium.state c.args.unit.now) k.unit (k.state k.before) (k.state k.after) k.beside
       (g.met.M.Medium.coherent c.args.unit.now) k.whole k.whole_after k.size some e.known.value seat refl refl lit.span lit.stands lit.next lit.cabin e.known.moments e.writes.journal
       (is_err k.result) e.behind.cause (λ fine. leaves-more (g.M.Medium.state c.args.unit.now) k.unit e.shows.rings) k.new k.breaks e.noted.0 e.noted.1 e.noted.2 e.noted.3)
 
@@ -107,14 +92,14 @@ module _ (g : Over) (c : In-Some-number_in g) (k : OneCard c.in-Some.card (g.C.C
   leaves =
       let lit = c.requires.going in
       subst (λ (m : Devices). NoteLeaves (is_err k.result) c.args.run.now c.args.breaks.now k.breaks m last) (sym (k.beside_it (g.M.Medium.state c.args.unit.now)))
-      (λ o done s out w power. some-leaves k.which c.args.slot (now_moment c.args.run.now) c.args.run.now c.args.breaks.now (g.M.Medium.state c.args.unit.now) k.unit (k.state k.before) (k.state k.after) k.beside
+      (λ o done s out w power. some-leaves k.which c.args.gap.slot (now_moment c.args.run.now) c.args.run.now c.args.breaks.now (g.M.Medium.state c.args.unit.now) k.unit (k.state k.before) (k.state k.after) k.beside
       (g.met.M.Medium.coherent c.args.unit.now) k.whole k.whole_after k.size some e.known.value seat refl refl lit.span lit.stands lit.next lit.cabin e.known.moments e.writes.journal
       (is_err k.result) e.behind.cause o done s out w (λ begins. power) s.actions ([], refl, refl) e.noted.0 k.new k.breaks e.noted.1 e.noted.2 e.noted.3)
 
-  noted-then : IsNotedIn (card_in (seat_in c.args.run.now.keeper.cabin.slots.seats c.args.slot)) c.args.slot (now_moment c.args.run.now) c.args.run.now k.new c.args.breaks.now k.breaks e.shows.events.fell
-  noted-then = subst (λ (o : Option Card). IsNotedIn o c.args.slot (now_moment c.args.run.now) c.args.run.now k.new c.args.breaks.now k.breaks e.shows.events.fell) (sym seat) (e.shows.events.noted, λ fell. some)
+  noted-then : IsNotedIn (card_in (seat_in c.args.run.now.keeper.cabin.slots.seats c.args.gap.slot)) c.args.gap.slot (now_moment c.args.run.now) c.args.run.now k.new c.args.breaks.now k.breaks e.shows.events.fell
+  noted-then = subst (λ (o : Option Card). IsNotedIn o c.args.gap.slot (now_moment c.args.run.now) c.args.run.now k.new c.args.breaks.now k.breaks e.shows.events.fell) (sym seat) (e.shows.events.noted, λ fell. some)
 
-  notes : NotesFall (λ fell. IsNotedIn (card_in (seat_in c.args.run.now.keeper.cabin.slots.seats c.args.slot)) c.args.slot (now_moment c.args.run.now) c.args.run.now k.new c.args.breaks.now k.breaks fell) c.args.run.now.next (is_err k.result) k.new first last
+  notes : NotesFall (λ fell. IsNotedIn (card_in (seat_in c.args.run.now.keeper.cabin.slots.seats c.args.gap.slot)) c.args.gap.slot (now_moment c.args.run.now) c.args.run.now k.new c.args.breaks.now k.breaks fell) c.args.run.now.next (is_err k.result) k.new first last
   notes = record {
     fell = e.shows.events.fell;
     noted = noted-then;
@@ -131,12 +116,12 @@ module _ (g : Over) (c : In-Some-number_in g) (k : OneCard c.in-Some.card (g.C.C
   calm : AreCalm c.args.breaks.now.items k.breaks.items first last
   calm =
       subst (λ (m : Devices). AreCalm c.args.breaks.now.items k.breaks.items m last) (sym (k.beside_it (g.M.Medium.state c.args.unit.now)))
-      (calm-by k.which (g.M.Medium.state c.args.unit.now) k.unit (k.state k.before) (k.state k.after) k.beside (calm-noted k.which c.args.slot (now_moment c.args.run.now) c.args.run.now k.new c.args.breaks.now k.breaks e.noted.0 e.noted.1 (k.state k.before) (k.state k.after) e.noted.3))
+      (calm-by k.which (g.M.Medium.state c.args.unit.now) k.unit (k.state k.before) (k.state k.after) k.beside (calm-noted k.which c.args.gap.slot (now_moment c.args.run.now) c.args.run.now k.new c.args.breaks.now k.breaks e.noted.0 e.noted.1 (k.state k.before) (k.state k.after) e.noted.3))
 
-  card-events : NotesOnCards false c.args.run.now.keeper.cabin.cards k.new.keeper.cabin.cards (on_seat (seat_in c.args.run.now.keeper.cabin.slots.seats c.args.slot) (card_entry c.args.event.now c.args.run.now.keeper.memory.registration)) first last
+  card-events : NotesOnCards false c.args.run.now.keeper.cabin.cards k.new.keeper.cabin.cards (on_seat (seat_in c.args.run.now.keeper.cabin.slots.seats c.args.gap.slot) (card_entry c.args.gap.event c.args.run.now.keeper.memory.registration)) first last
   card-events =
-      subst (λ (m : Devices). NotesOnCards false c.args.run.now.keeper.cabin.cards k.new.keeper.cabin.cards (on_seat (seat_in c.args.run.now.keeper.cabin.slots.seats c.args.slot) (card_entry c.args.event.now c.args.run.now.keeper.memory.registration)) m last) (sym (k.beside_it (g.M.Medium.state c.args.unit.now)))
-      (event-by k.which (seat_in c.args.run.now.keeper.cabin.slots.seats c.args.slot) (card_entry c.args.event.now c.args.run.now.keeper.memory.registration) c.args.run.now.keeper.cabin.cards k.new.keeper.cabin.cards (g.M.Medium.state c.args.unit.now) k.unit (k.state k.before) (k.state k.after) k.beside seat e.shows.card_events (known-noted k.which c.args.slot (now_moment c.args.run.now) c.args.run.now k.new c.args.breaks.now k.breaks e.noted.0 e.noted.1))
+      subst (λ (m : Devices). NotesOnCards false c.args.run.now.keeper.cabin.cards k.new.keeper.cabin.cards (on_seat (seat_in c.args.run.now.keeper.cabin.slots.seats c.args.gap.slot) (card_entry c.args.gap.event c.args.run.now.keeper.memory.registration)) m last) (sym (k.beside_it (g.M.Medium.state c.args.unit.now)))
+      (event-by k.which (seat_in c.args.run.now.keeper.cabin.slots.seats c.args.gap.slot) (card_entry c.args.gap.event c.args.run.now.keeper.memory.registration) c.args.run.now.keeper.cabin.cards k.new.keeper.cabin.cards (g.M.Medium.state c.args.unit.now) k.unit (k.state k.before) (k.state k.after) k.beside seat e.shows.card_events (known-noted k.which c.args.gap.slot (now_moment c.args.run.now) c.args.run.now k.new c.args.breaks.now k.breaks e.noted.0 e.noted.1))
 
   places : LeavePlaces c.args.run.now.keeper.cabin.cards first last
   places = subst (λ (m : Devices). LeavePlaces c.args.run.now.keeper.cabin.cards m last) (sym (k.beside_it (g.M.Medium.state c.args.unit.now))) (places-by k.which c.args.run.now.keeper.cabin.cards (g.M.Medium.state c.args.unit.now) k.unit (k.state k.before) (k.state k.after) k.beside e.shows.places)
@@ -164,7 +149,7 @@ module _ (g : Over) (c : After-note_on-in-B g) where
 pub returns-in-A-clause-going : goal.returns-in-A-clause-going
 returns-in-A-clause-going g c =
     let e = c.note_on.ensures in
-    on_ok c.note_on.result (λ well. going-noted A c.args.slot (now_moment c.args.run.now) c.args.run.now c.note_on.new.run c.args.breaks.now c.note_on.new.breaks c.note_on.ensures.noted.0 c.note_on.ensures.noted.1 (g.M.Medium.state c.args.unit.now) (g.M.Medium.state c.note_on.new.unit) (g.C.Chip.state c.args.card_a.now) (g.C.Chip.state c.note_on.new.card) (g.D.Chip.state c.args.card_b.now) (g.C.Chip.card c.args.card_a.now) (g.C.Chip.card c.note_on.new.card) (g.D.Chip.card c.args.card_b.now) c.requires.going (ok_gives c.note_on.result e.behind.ready well) e.behind.card (λ card h. ok_gives c.note_on.result (e.behind.rows card h) well) e.stands
+    on_ok c.note_on.result (λ well. going-noted A c.args.gap.slot (now_moment c.args.run.now) c.args.run.now c.note_on.new.run c.args.breaks.now c.note_on.new.breaks c.note_on.ensures.noted.0 c.note_on.ensures.noted.1 (g.M.Medium.state c.args.unit.now) (g.M.Medium.state c.note_on.new.unit) (g.C.Chip.state c.args.card_a.now) (g.C.Chip.state c.note_on.new.card) (g.D.Chip.state c.args.card_b.now) (g.C.Chip.card c.args.card_a.now) (g.C.Chip.card c.note_on.new.card) (g.D.Chip.card c.args.card_b.now) c.requires.going (ok_gives c.note_on.result e.behind.ready well) e.behind.card (λ card h. ok_gives c.note_on.result (e.behind.rows card h) well) e.stands
     (knows-left c.args.run.now.watch.newest (g.M.Medium.state c.args.unit.now) (g.M.Medium.state c.note_on.new.unit) (g.met.M.Medium.coherent c.args.unit.now) (g.met.M.Medium.coherent c.note_on.new.unit) c.requires.going.ready.unit_ready.works e.writes.speeds))
 
 pub returns-in-A-clause-recorded : goal.returns-in-A-clause-recorded
@@ -173,8 +158,8 @@ returns-in-A-clause-recorded g c = recorded g (there-a g c) (side-a g c) c.note_
 pub returns-in-A-clause-noted : goal.returns-in-A-clause-noted
 returns-in-A-clause-noted g c = record {
   fell = (c.note_on.ensures.shows.events.fell, noted-then g (there-a g c) (side-a g c) c.note_on.ensures, c.note_on.ensures.shows.events.failing);
-  run = only-noted A c.args.slot (now_moment c.args.run.now) c.args.run.now c.note_on.new.run c.args.breaks.now c.note_on.new.breaks c.note_on.ensures.noted.0 c.note_on.ensures.noted.1;
-  room = room-noted A c.args.slot (now_moment c.args.run.now) c.args.run.now c.note_on.new.run c.args.breaks.now c.note_on.new.breaks c.note_on.ensures.noted.0 c.note_on.ensures.noted.1 (some g (there-a g c) (side-a g c) c.note_on.ensures);
+  run = only-noted A c.args.gap.slot (now_moment c.args.run.now) c.args.run.now c.note_on.new.run c.args.breaks.now c.note_on.new.breaks c.note_on.ensures.noted.0 c.note_on.ensures.noted.1;
+  room = room-noted A c.args.gap.slot (now_moment c.args.run.now) c.args.run.now c.note_on.new.run c.args.breaks.now c.note_on.new.breaks c.note_on.ensures.noted.0 c.note_on.ensures.noted.1 (some g (there-a g c) (side-a g c) c.note_on.ensures);
 }
 
 pub returns-in-A-clause-leaves : goal.returns-in-A-clause-leaves
@@ -190,7 +175,7 @@ pub returns-in-A-clause-held : goal.returns-in-A-clause-held
 returns-in-A-clause-held g c = record {
   held =
       let e = c.note_on.ensures in
-      held-noted A c.args.slot (now_moment c.args.run.now) c.args.run.now c.note_on.new.run c.args.breaks.now c.note_on.new.breaks c.note_on.ensures.noted.0 c.note_on.ensures.noted.1 (g.M.Medium.state c.args.unit.now) (g.M.Medium.state c.note_on.new.unit) (g.C.Chip.state c.args.card_a.now) (g.C.Chip.state c.note_on.new.card) (g.D.Chip.state c.args.card_b.now) (g.C.Chip.card c.args.card_a.now) (g.C.Chip.card c.note_on.new.card) (g.D.Chip.card c.args.card_b.now) refl c.requires.held e.behind.unit e.behind.card e.behind.size e.stands;
+      held-noted A c.args.gap.slot (now_moment c.args.run.now) c.args.run.now c.note_on.new.run c.args.breaks.now c.note_on.new.breaks c.note_on.ensures.noted.0 c.note_on.ensures.noted.1 (g.M.Medium.state c.args.unit.now) (g.M.Medium.state c.note_on.new.unit) (g.C.Chip.state c.args.card_a.now) (g.C.Chip.state c.note_on.new.card) (g.D.Chip.state c.args.card_b.now) (g.C.Chip.card c.args.card_a.now) (g.C.Chip.card c.note_on.new.card) (g.D.Chip.card c.args.card_b.now) refl c.requires.held e.behind.unit e.behind.card e.behind.size e.stands;
   cause = c.note_on.ensures.behind.cause;
 }
 
@@ -198,14 +183,14 @@ pub returns-in-A-clause-goes : goal.returns-in-A-clause-goes
 returns-in-A-clause-goes g c = record {
   later = later g (there-a g c) (side-a g c) c.note_on.ensures;
   calm = calm g (there-a g c) (side-a g c) c.note_on.ensures;
-  more = more-noted A c.args.slot (now_moment c.args.run.now) c.args.run.now c.note_on.new.run c.args.breaks.now c.note_on.new.breaks c.note_on.ensures.noted.0 c.note_on.ensures.noted.1;
+  more = more-noted A c.args.gap.slot (now_moment c.args.run.now) c.args.run.now c.note_on.new.run c.args.breaks.now c.note_on.new.breaks c.note_on.ensures.noted.0 c.note_on.ensures.noted.1;
   most = record { unit = c.note_on.ensures.most.0; card_a = c.note_on.ensures.most.1; card_b = omega arith };
 }
 
 pub returns-in-B-clause-going : goal.returns-in-B-clause-going
 returns-in-B-clause-going g c =
     let e = c.note_on-in-B.ensures in
-    on_ok c.note_on-in-B.result (λ well. going-noted B c.args.slot (now_moment c.args.run.now) c.args.run.now c.note_on-in-B.new.run c.args.breaks.now c.note_on-in-B.new.breaks c.note_on-in-B.ensures.noted.0 c.note_on-in-B.ensures.noted.1 (g.M.Medium.state c.args.unit.now) (g.M.Medium.state c.note_on-in-B.new.unit) (g.D.Chip.state c.args.card_b.now) (g.D.Chip.state c.note_on-in-B.new.card) (g.C.Chip.state c.args.card_a.now) (g.D.Chip.card c.args.card_b.now) (g.D.Chip.card c.note_on-in-B.new.card) (g.C.Chip.card c.args.card_a.now) c.requires.going (ok_gives c.note_on-in-B.result e.behind.ready well) e.behind.card (λ card h. ok_gives c.note_on-in-B.result (e.behind.rows card h) well) e.stands
+    on_ok c.note_on-in-B.result (λ well. going-noted B c.args.gap.slot (now_moment c.args.run.now) c.args.run.now c.note_on-in-B.new.run c.args.breaks.now c.note_on-in-B.new.breaks c.note_on-in-B.ensures.noted.0 c.note_on-in-B.ensures.noted.1 (g.M.Medium.state c.args.unit.now) (g.M.Medium.state c.note_on-in-B.new.unit) (g.D.Chip.state c.args.card_b.now) (g.D.Chip.state c.note_on-in-B.new.card) (g.C.Chip.state c.args.card_a.now) (g.D.Chip.card c.args.card_b.now) (g.D.Chip.card c.note_on-in-B.new.card) (g.C.Chip.card c.args.card_a.now) c.requires.going (ok_gives c.note_on-in-B.result e.behind.ready well) e.behind.card (λ card h. ok_gives c.note_on-in-B.result (e.behind.rows card h) well) e.stands
     (knows-left c.args.run.now.watch.newest (g.M.Medium.state c.args.unit.now) (g.M.Medium.state c.note_on-in-B.new.unit) (g.met.M.Medium.coherent c.args.unit.now) (g.met.M.Medium.coherent c.note_on-in-B.new.unit) c.requires.going.ready.unit_ready.works e.writes.speeds))
 
 pub returns-in-B-clause-recorded : goal.returns-in-B-clause-recorded
@@ -214,8 +199,8 @@ returns-in-B-clause-recorded g c = recorded g (there-b g c) (side-b g c) c.note_
 pub returns-in-B-clause-noted : goal.returns-in-B-clause-noted
 returns-in-B-clause-noted g c = record {
   fell = (c.note_on-in-B.ensures.shows.events.fell, noted-then g (there-b g c) (side-b g c) c.note_on-in-B.ensures, c.note_on-in-B.ensures.shows.events.failing);
-  run = only-noted B c.args.slot (now_moment c.args.run.now) c.args.run.now c.note_on-in-B.new.run c.args.breaks.now c.note_on-in-B.new.breaks c.note_on-in-B.ensures.noted.0 c.note_on-in-B.ensures.noted.1;
-  room = room-noted B c.args.slot (now_moment c.args.run.now) c.args.run.now c.note_on-in-B.new.run c.args.breaks.now c.note_on-in-B.new.breaks c.note_on-in-B.ensures.noted.0 c.note_on-in-B.ensures.noted.1 (some g (there-b g c) (side-b g c) c.note_on-in-B.ensures);
+  run = only-noted B c.args.gap.slot (now_moment c.args.run.now) c.args.run.now c.note_on-in-B.new.run c.args.breaks.now c.note_on-in-B.new.breaks c.note_on-in-B.ensures.noted.0 c.note_on-in-B.ensures.noted.1;
+  room = room-noted B c.args.gap.slot (now_moment c.args.run.now) c.args.run.now c.note_on-in-B.new.run c.args.breaks.now c.note_on-in-B.new.breaks c.note_on-in-B.ensures.noted.0 c.note_on-in-B.ensures.noted.1 (some g (there-b g c) (side-b g c) c.note_on-in-B.ensures);
 }
 
 pub returns-in-B-clause-leaves : goal.returns-in-B-clause-leaves
@@ -231,7 +216,7 @@ pub returns-in-B-clause-held : goal.returns-in-B-clause-held
 returns-in-B-clause-held g c = record {
   held =
       let e = c.note_on-in-B.ensures in
-      held-noted B c.args.slot (now_moment c.args.run.now) c.args.run.now c.note_on-in-B.new.run c.args.breaks.now c.note_on-in-B.new.breaks c.note_on-in-B.ensures.noted.0 c.note_on-in-B.ensures.noted.1 (g.M.Medium.state c.args.unit.now) (g.M.Medium.state c.note_on-in-B.new.unit) (g.D.Chip.state c.args.card_b.now) (g.D.Chip.state c.note_on-in-B.new.card) (g.C.Chip.state c.args.card_a.now) (g.D.Chip.card c.args.card_b.now) (g.D.Chip.card c.note_on-in-B.new.card) (g.C.Chip.card c.args.card_a.now) refl c.requires.held e.behind.unit e.behind.card e.behind.size e.stands;
+      held-noted B c.args.gap.slot (now_moment c.args.run.now) c.args.run.now c.note_on-in-B.new.run c.args.breaks.now c.note_on-in-B.new.breaks c.note_on-in-B.ensures.noted.0 c.note_on-in-B.ensures.noted.1 (g.M.Medium.state c.args.unit.now) (g.M.Medium.state c.note_on-in-B.new.unit) (g.D.Chip.state c.args.card_b.now) (g.D.Chip.state c.note_on-in-B.new.card) (g.C.Chip.state c.args.card_a.now) (g.D.Chip.card c.args.card_b.now) (g.D.Chip.card c.note_on-in-B.new.card) (g.C.Chip.card c.args.card_a.now) refl c.requires.held e.behind.unit e.behind.card e.behind.size e.stands;
   cause = c.note_on-in-B.ensures.behind.cause;
 }
 
@@ -239,7 +224,7 @@ pub returns-in-B-clause-goes : goal.returns-in-B-clause-goes
 returns-in-B-clause-goes g c = record {
   later = later g (there-b g c) (side-b g c) c.note_on-in-B.ensures;
   calm = calm g (there-b g c) (side-b g c) c.note_on-in-B.ensures;
-  more = more-noted B c.args.slot (now_moment c.args.run.now) c.args.run.now c.note_on-in-B.new.run c.args.breaks.now c.note_on-in-B.new.breaks c.note_on-in-B.ensures.noted.0 c.note_on-in-B.ensures.noted.1;
+  more = more-noted B c.args.gap.slot (now_moment c.args.run.now) c.args.run.now c.note_on-in-B.new.run c.args.breaks.now c.note_on-in-B.new.breaks c.note_on-in-B.ensures.noted.0 c.note_on-in-B.ensures.noted.1;
   most = record { unit = c.note_on-in-B.ensures.most.0; card_a = omega arith; card_b = c.note_on-in-B.ensures.most.1 };
 }
 
@@ -259,7 +244,7 @@ pub returns-in_default-clause-noted : goal.returns-in_default-clause-noted
 returns-in_default-clause-noted g c = record {
   fell =
       let run = c.args.run.now in
-      (false, noted-not (card_in (seat_in run.keeper.cabin.slots.seats c.args.slot)) c.args.slot (now_moment run) run c.args.breaks.now, λ bad. bad);
+      (false, noted-not (card_in (seat_in run.keeper.cabin.slots.seats c.args.gap.slot)) c.args.gap.slot (now_moment run) run c.args.breaks.now, λ bad. bad);
   run = refl;
   room = (refl, omega arith);
 }
@@ -268,9 +253,9 @@ pub returns-in_default-clause-leaves : goal.returns-in_default-clause-leaves
 returns-in_default-clause-leaves g c = record {
   card_events =
       let run = c.args.run.now in
-      let seat = seat_in run.keeper.cabin.slots.seats c.args.slot in
-      let event : CardEvent = card_entry c.args.event.now run.keeper.memory.registration in
-      let none : card_in (seat_in run.keeper.cabin.slots.seats c.args.slot) ≡ None = sym c.card.ensures ∙ none-there c.card.result c.in_default.not-Some in
+      let seat = seat_in run.keeper.cabin.slots.seats c.args.gap.slot in
+      let event : CardEvent = card_entry c.args.gap.event run.keeper.memory.registration in
+      let none : card_in (seat_in run.keeper.cabin.slots.seats c.args.gap.slot) ≡ None = sym c.card.ensures ∙ none-there c.card.result c.in_default.not-Some in
       let d = devices (g.M.Medium.state c.args.unit.now) (g.C.Chip.state c.args.card_a.now) (g.D.Chip.state c.args.card_b.now) in
       λ card. on-other false seat event card (session_of run.keeper.cabin.cards card) (session_of run.keeper.cabin.cards card) (card_of d card) (seat-none seat card none) refl;
   places =
@@ -280,7 +265,7 @@ returns-in_default-clause-leaves g c = record {
       let run = c.args.run.now in
       record {
         fell = false;
-        noted = noted-not (card_in (seat_in run.keeper.cabin.slots.seats c.args.slot)) c.args.slot (now_moment run) run c.args.breaks.now;
+        noted = noted-not (card_in (seat_in run.keeper.cabin.slots.seats c.args.gap.slot)) c.args.gap.slot (now_moment run) run c.args.breaks.now;
         failing = λ bad. bad;
         notes = same-noted (g.M.Medium.state c.args.unit.now) (g.C.Chip.state c.args.card_a.now) (g.D.Chip.state c.args.card_b.now);
       };
@@ -306,7 +291,7 @@ pub returns-in_default-number_in-clause-noted : goal.returns-in_default-number_i
 returns-in_default-number_in-clause-noted g c = record {
   fell =
       let run = c.args.run.now in
-      (false, noted-not (card_in (seat_in run.keeper.cabin.slots.seats c.args.slot)) c.args.slot (now_moment run) run c.args.breaks.now, λ bad. bad);
+      (false, noted-not (card_in (seat_in run.keeper.cabin.slots.seats c.args.gap.slot)) c.args.gap.slot (now_moment run) run c.args.breaks.now, λ bad. bad);
   run = refl;
   room = (refl, omega arith);
 }
@@ -315,9 +300,9 @@ pub returns-in_default-number_in-clause-leaves : goal.returns-in_default-number_
 returns-in_default-number_in-clause-leaves g c = record {
   card_events =
       let run = c.args.run.now in
-      let seat = seat_in run.keeper.cabin.slots.seats c.args.slot in
-      let event : CardEvent = card_entry c.args.event.now run.keeper.memory.registration in
-      let none : number_of_seat run.keeper.cabin.cards (seat_in run.keeper.cabin.slots.seats c.args.slot) ≡ None = sym c.number_in.ensures ∙ none-there c.number_in.result c.in_default-number_in.not-Some in
+      let seat = seat_in run.keeper.cabin.slots.seats c.args.gap.slot in
+      let event : CardEvent = card_entry c.args.gap.event run.keeper.memory.registration in
+      let none : number_of_seat run.keeper.cabin.cards (seat_in run.keeper.cabin.slots.seats c.args.gap.slot) ≡ None = sym c.number_in.ensures ∙ none-there c.number_in.result c.in_default-number_in.not-Some in
       let d = devices (g.M.Medium.state c.args.unit.now) (g.C.Chip.state c.args.card_a.now) (g.D.Chip.state c.args.card_b.now) in
       let ready = c.requires.going.ready in
       λ card. bare-seat run.keeper.cabin.cards seat event ready.card_a.is_known ready.card_b.is_known none card (card_of d card);
@@ -328,7 +313,7 @@ returns-in_default-number_in-clause-leaves g c = record {
       let run = c.args.run.now in
       record {
         fell = false;
-        noted = noted-not (card_in (seat_in run.keeper.cabin.slots.seats c.args.slot)) c.args.slot (now_moment run) run c.args.breaks.now;
+        noted = noted-not (card_in (seat_in run.keeper.cabin.slots.seats c.args.gap.slot)) c.args.gap.slot (now_moment run) run c.args.breaks.now;
         failing = λ bad. bad;
         notes = same-noted (g.M.Medium.state c.args.unit.now) (g.C.Chip.state c.args.card_a.now) (g.D.Chip.state c.args.card_b.now);
       };

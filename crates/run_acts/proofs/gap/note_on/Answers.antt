@@ -69,11 +69,11 @@ module _ (g : Over) (c : After-tear g) where
   cause-bad : HasCause (g.C.Chip.state c.args.card.now) (g.C.Chip.state c.note_event_on.new.card) true
   cause-bad = subst (λ (b : Bool). HasCause (g.C.Chip.state c.args.card.now) (g.C.Chip.state c.note_event_on.new.card) b) (sym c.is_err.ensures.value ∙ c.if-is_err.true) c.note_event_on.ensures.cause
 
-  noted-fell : IsNotedOn c.args.which c.args.slot (now_moment c.args.run.now) c.args.run.now (record c.args.run.now { keeper = c.tear.new.self }) c.args.breaks.now c.tear.new.breaks true
+  noted-fell : IsNotedOn c.args.which c.args.gap.slot (now_moment c.args.run.now) c.args.run.now (record c.args.run.now { keeper = c.tear.new.self }) c.args.breaks.now c.tear.new.breaks true
   noted-fell = record {
     run = ap (λ (k : Keeper). record c.args.run.now { keeper = k })
         (subst (λ (m : Moment). c.tear.new.self ≡ record c.args.run.now.keeper { cabin = torn_out c.args.which m.second c.args.run.now.keeper.cabin }) c.moment-at.ensures (c.tear.ensures.torn.keeper ∙ ap (λ (b : Cabin). record c.args.run.now.keeper { cabin = b }) (torn-apart c.args.which c.moment-at.result.second c.args.run.now.keeper.cabin c.take.new.self c.take.ensures.left)));
-    told = subst (λ (m : Moment). c.tear.new.breaks ≡ with_lines (tear_of c.args.slot m ∷ []) c.args.breaks.now) c.moment-at.ensures c.tear.ensures.torn.told;
+    told = subst (λ (m : Moment). c.tear.new.breaks ≡ with_lines (tear_of c.args.gap.slot m ∷ []) c.args.breaks.now) c.moment-at.ensures c.tear.ensures.torn.told;
   }
 
 -- ---- it is noted, and the session given back
@@ -91,198 +91,178 @@ module _ (g : Over) (c : After-set_session g) where
   cause-well : HasCause (g.C.Chip.state c.args.card.now) (g.C.Chip.state c.note_event_on.new.card) false
   cause-well = subst (λ (b : Bool). HasCause (g.C.Chip.state c.args.card.now) (g.C.Chip.state c.note_event_on.new.card) b) went-well c.note_event_on.ensures.cause
 
-  noted-whole : IsNotedOn c.args.which c.args.slot (now_moment c.args.run.now) c.args.run.now (with_cabin (record c.args.run.now.keeper.cabin { cards = c.set_session.new.self }) c.args.run.now) c.args.breaks.now c.args.breaks.now false
+  noted-whole : IsNotedOn c.args.which c.args.gap.slot (now_moment c.args.run.now) c.args.run.now (with_cabin (record c.args.run.now.keeper.cabin { cards = c.set_session.new.self }) c.args.run.now) c.args.breaks.now c.args.breaks.now false
   noted-whole = record { run = ap (λ (q : Cards). with_cabin (record c.args.run.now.keeper.cabin { cards = q }) c.args.run.now) cards-back; told = no-lines c.args.breaks.now }
 
-pub returns-then-is_err-clause-noted : goal.returns-then-is_err-clause-noted
-returns-then-is_err-clause-noted g c =
-    let run = c.args.run.now in
-    let X = g.C.Chip.state c.args.card.now in
-    let Y = g.C.Chip.state c.note_event_on.new.card in
-    let cause = cause-bad g c in (
-      true,
-      noted-fell g c,
-      fell-broken X Y (session-works c.args.which run.keeper.cabin.cards (g.C.Chip.card c.args.card.now) X c.requires.card c.requires.session) cause,
-      cause,
-      λ _. refl,
-    )
+-- ---- so it is either way
 
-pub returns-then-is_err-clause-stands : goal.returns-then-is_err-clause-stands
-returns-then-is_err-clause-stands g c = λ from leaving h.
-    let run = c.args.run.now in
-    let at = c.moment-at.ensures in
-    let cabin = cabin-fell g c in
-    subst (λ (b : Cabin). CabinIsSound from leaving b) (sym cabin)
-    (torn-stands run.keeper.cabin c.args.which c.moment-at.result.second from leaving (subst (λ (m : Moment). run.keeper.cabin.slots.minute ≤ m.second / 60) (sym at) c.requires.minute) h)
-
-pub returns-clause-noted : goal.returns-clause-noted
-returns-clause-noted g c =
-    let X = g.C.Chip.state c.args.card.now in
-    let Y = g.C.Chip.state c.note_event_on.new.card in
-    let cause = cause-well g c in (
-      false,
-      noted-whole g c,
-      well-broken X Y cause,
-      cause,
-      λ bad. bad,
-    )
-
-pub returns-clause-stands : goal.returns-clause-stands
-returns-clause-stands g c = λ from leaving h.
-    let run = c.args.run.now in
-    let cards = cards-back g c in
-    subst (λ (q : Cards). CabinIsSound from leaving (record run.keeper.cabin { cards = q })) (sym cards) h
-
--- ---- the places of the card
-
-pub returns-then-is_err-clause-shows : goal.returns-then-is_err-clause-shows
-returns-then-is_err-clause-shows g c = record {
-  card_events =
+pub returns-then-is_err : goal.returns-then-is_err
+returns-then-is_err g c = record {
+  noted =
       let run = c.args.run.now in
-      let cards = run.keeper.cabin.cards in
       let X = g.C.Chip.state c.args.card.now in
       let Y = g.C.Chip.state c.note_event_on.new.card in
-      let sizes = sizes-fell g c in
-      let event : CardEvent = card_entry c.args.event.now run.keeper.memory.registration in
-      let same = entry-is c.args.event.now c.on_card-noted.result c.identity.result run.keeper.memory c.on_card-noted.ensures (ap (λ (i : Identity). i.registration) c.identity.ensures) in
+      let cause = cause-bad g c in (
+        true,
+        noted-fell g c,
+        fell-broken X Y (session-works c.args.which run.keeper.cabin.cards (g.C.Chip.card c.args.card.now) X c.requires.card c.requires.session) cause,
+        cause,
+        λ _. refl,
+      );
+  shows = record {
+    card_events =
+        let run = c.args.run.now in
+        let cards = run.keeper.cabin.cards in
+        let X = g.C.Chip.state c.args.card.now in
+        let Y = g.C.Chip.state c.note_event_on.new.card in
+        let sizes = sizes-fell g c in
+        let event : CardEvent = card_entry c.args.gap.event run.keeper.memory.registration in
+        let same = entry-is c.args.gap.event c.on_card-noted.result c.identity.result run.keeper.memory c.on_card-noted.ensures (ap (λ (i : Identity). i.registration) c.identity.ensures) in
+        let cabin = cabin-fell g c in
+        let gone : session_of c.tear.new.self.cabin.cards c.args.which ≡ None = ap (λ (b : Cabin). session_of b.cards c.args.which) cabin ∙ session-set c.args.which None cards in
+        let moments = subst (λ (v : CardEvent). LeavesOnly X Y (on.IsNotingEvent c.in-Ok.app v)) same c.note_event_on.ensures.moments in
+        subst (λ (o : Option Accepted). NotesOn false (session_of cards c.args.which) o (event ∷ []) X Y) (sym gone)
+        (on-session c.args.which cards c.in-Ok.app (g.C.Chip.card c.args.card.now) X Y None (event ∷ []) c.requires.card sizes c.requires.session
+        (noted-cut c.in-Ok.app event (plain-gap event c.requires.kind) X Y (g.met.C.Chip.coherent c.args.card.now) moments));
+    places =
+        let cards = c.args.run.now.keeper.cabin.cards in
+        let sizes = sizes-fell g c in
+        event-leaves c.args.which cards c.in-Ok.app c.on_card-noted.result (g.C.Chip.card c.args.card.now) (g.C.Chip.state c.args.card.now) (g.C.Chip.state c.note_event_on.new.card) (g.met.C.Chip.coherent c.args.card.now) c.requires.card sizes c.requires.session c.note_event_on.ensures.moments;
+    events =
+        let run = c.args.run.now in
+        let U = g.M.Medium.state c.args.unit.now in
+        let V = g.M.Medium.state c.tear.new.unit in
+        let X = g.C.Chip.state c.args.card.now in
+        let Y = g.C.Chip.state c.note_event_on.new.card in
+        let crew = crew_of c.tear.new.self.cabin in
+        let second : c.moment-at.result.second ≡ run.next = ap (λ (m : Moment). m.second) c.moment-at.ensures in
+        record {
+          fell = true;
+          noted = noted-fell g c;
+          failing = λ _. refl;
+          notes = one-noted U V X X Y Y (g.met.M.Medium.coherent c.args.unit.now) (g.met.M.Medium.coherent c.tear.new.unit) c.requires.ready.is_unit (entry_of CARD_FAULT run.next run.next crew crew) (is_err c.tear.result)
+              (λ well. subst (λ (n : ℕ). IfSome U.image (λ x. IfSome V.image (IsEventNoted CARD_FAULT (fault_of n crew) x))) second (ok_gives c.tear.result c.tear.ensures.leaves.noted well))
+              (subst (λ (n : ℕ). LeavesOnly U V (IsNotingEvent CARD_FAULT (fault_of n crew))) second c.tear.ensures.leaves.moments) c.tear.ensures.behind.cause.works;
+        };
+    rings =
+        rings-moments (g.M.Medium.state c.args.unit.now) (g.M.Medium.state c.tear.new.unit) (IsNotingEvent CARD_FAULT (fault_of c.moment-at.result.second (crew_of c.tear.new.self.cabin))) (g.met.M.Medium.coherent c.args.unit.now) c.tear.ensures.leaves.moments
+        (λ x n moment. table-outside CARD_FAULT x n moment.outside);
+  };
+  writes = record {
+    speeds = event-leaves-speeds CARD_FAULT (fault_of c.moment-at.result.second (crew_of c.tear.new.self.cabin)) (g.M.Medium.state c.args.unit.now) (g.M.Medium.state c.tear.new.unit) (g.met.M.Medium.coherent c.args.unit.now) c.tear.ensures.leaves.moments;
+    journal = first_of (search rules, grind (arith, common_steps));
+  };
+  known = record {
+    moments =
+        let cards = c.args.run.now.keeper.cabin.cards in
+        let is = sizes-fell g c in
+        noted-sizes c.args.which cards c.in-Ok.app (g.C.Chip.card c.args.card.now) (g.C.Chip.state c.args.card.now) (g.C.Chip.state c.note_event_on.new.card) c.requires.card is (weaken c.note_event_on.ensures.moments (λ x n told note. inl (c.on_card-noted.result, note)));
+    value = first_of (search rules, grind (arith, common_steps));
+  };
+  behind = record {
+    unit = first_of (search rules, grind (arith, common_steps));
+    ready = first_of (search rules, grind (arith, common_steps));
+    rows =
+        λ card h.
+        let cards = c.args.run.now.keeper.cabin.cards in
+        c.tear.ensures.behind.rows card (has-row cards c.take.new.self (g.M.Medium.state c.args.unit.now) (g.M.Medium.state c.args.unit.now) card
+        (ap (λ (q : Cards). (known_of q card).number) c.take.ensures.left ∙ number-set c.args.which card None cards)
+        (ap (λ (q : Cards). (known_of q card).row) c.take.ensures.left ∙ row-set c.args.which card None cards) (λ r n at. at) h);
+    card = first_of (search rules, grind (arith, common_steps));
+    size = first_of (search rules, grind (arith, common_steps));
+    cause = first_of (search rules, grind (arith, common_steps));
+  };
+  stands = λ from leaving h.
+      let run = c.args.run.now in
+      let at = c.moment-at.ensures in
       let cabin = cabin-fell g c in
-      let gone : session_of c.tear.new.self.cabin.cards c.args.which ≡ None = ap (λ (b : Cabin). session_of b.cards c.args.which) cabin ∙ session-set c.args.which None cards in
-      let moments = subst (λ (v : CardEvent). LeavesOnly X Y (on.IsNotingEvent c.in-Ok.app v)) same c.note_event_on.ensures.moments in
-      subst (λ (o : Option Accepted). NotesOn false (session_of cards c.args.which) o (event ∷ []) X Y) (sym gone)
-      (on-session c.args.which cards c.in-Ok.app (g.C.Chip.card c.args.card.now) X Y None (event ∷ []) c.requires.card sizes c.requires.session
-      (noted-cut c.in-Ok.app event (plain-gap event c.requires.kind) X Y (g.met.C.Chip.coherent c.args.card.now) moments));
-  places =
-      let cards = c.args.run.now.keeper.cabin.cards in
-      let sizes = sizes-fell g c in
-      event-leaves c.args.which cards c.in-Ok.app c.on_card-noted.result (g.C.Chip.card c.args.card.now) (g.C.Chip.state c.args.card.now) (g.C.Chip.state c.note_event_on.new.card) (g.met.C.Chip.coherent c.args.card.now) c.requires.card sizes c.requires.session c.note_event_on.ensures.moments;
-  events =
+      subst (λ (b : Cabin). CabinIsSound from leaving b) (sym cabin)
+      (torn-stands run.keeper.cabin c.args.which c.moment-at.result.second from leaving (subst (λ (m : Moment). run.keeper.cabin.slots.minute ≤ m.second / 60) (sym at) c.requires.minute) h);
+  clock_card = first_of (search rules, grind (arith, common_steps));
+  most = (c.tear.ensures.most, c.note_event_on.ensures.most);
+}
+
+pub returns : goal.returns
+returns g c = record {
+  noted =
+      let X = g.C.Chip.state c.args.card.now in
+      let Y = g.C.Chip.state c.note_event_on.new.card in
+      let cause = cause-well g c in (
+        false,
+        noted-whole g c,
+        well-broken X Y cause,
+        cause,
+        λ bad. bad,
+      );
+  shows = record {
+    card_events =
+        let run = c.args.run.now in
+        let before = run.keeper.cabin.cards in
+        let X = g.C.Chip.state c.args.card.now in
+        let Y = g.C.Chip.state c.note_event_on.new.card in
+        let sizes = sizes-back g c in
+        let event : CardEvent = card_entry c.args.gap.event run.keeper.memory.registration in
+        let same = entry-is c.args.gap.event c.on_card-noted.result c.identity.result run.keeper.memory c.on_card-noted.ensures (ap (λ (i : Identity). i.registration) c.identity.ensures) in
+        let cause = cause-well g c in
+        let cards = cards-back g c in
+        let moments = subst (λ (v : CardEvent). LeavesOnly X Y (on.IsNotingEvent c.in-Ok.app v)) same c.note_event_on.ensures.moments in
+        let noted = subst (λ (v : CardEvent). IfSome X.image (λ x. IfSome Y.image (on.IsEventNoted c.in-Ok.app v x))) same (ok_gives c.note_event_on.result c.note_event_on.ensures.noted (went-well g c)) in
+        let works = session-works c.args.which before (g.C.Chip.card c.args.card.now) X c.requires.card c.requires.session in
+        subst (λ (q : Cards). NotesOn false (session_of before c.args.which) (session_of q c.args.which) (event ∷ []) X Y) (sym cards)
+        (on-session c.args.which before c.in-Ok.app (g.C.Chip.card c.args.card.now) X Y (session_of before c.args.which) (event ∷ []) c.requires.card sizes c.requires.session
+        (subst (λ (b : Bool). NotesOnCard c.in-Ok.app (event ∷ []) (not b) X Y) (sym c.requires.session)
+        (noted-well c.in-Ok.app event (plain-gap event c.requires.kind) X Y (g.met.C.Chip.coherent c.args.card.now) (g.met.C.Chip.coherent c.note_event_on.new.card) works cause.works moments noted)));
+    places =
+        let cards = c.args.run.now.keeper.cabin.cards in
+        let sizes = sizes-back g c in
+        event-leaves c.args.which cards c.in-Ok.app c.on_card-noted.result (g.C.Chip.card c.args.card.now) (g.C.Chip.state c.args.card.now) (g.C.Chip.state c.note_event_on.new.card) (g.met.C.Chip.coherent c.args.card.now) c.requires.card sizes c.requires.session c.note_event_on.ensures.moments;
+    events =
+        let X = g.C.Chip.state c.args.card.now in
+        let Y = g.C.Chip.state c.note_event_on.new.card in
+        let U = g.M.Medium.state c.args.unit.now in
+        record {
+          fell = false;
+          noted = noted-whole g c;
+          failing = λ bad. bad;
+          notes = noted-any [] false (devices U X X) (devices U X X) (devices U X X) (devices U Y Y) refl refl (same-noted U X X);
+        };
+    rings = rings-left (g.M.Medium.state c.args.unit.now);
+  };
+  writes = record {
+    speeds = leaves-none (g.M.Medium.state c.args.unit.now);
+    journal = first_of (search rules, grind (arith, common_steps));
+  };
+  known = record {
+    moments =
+        let cards = c.args.run.now.keeper.cabin.cards in
+        let is = sizes-back g c in
+        noted-sizes c.args.which cards c.in-Ok.app (g.C.Chip.card c.args.card.now) (g.C.Chip.state c.args.card.now) (g.C.Chip.state c.note_event_on.new.card) c.requires.card is (weaken c.note_event_on.ensures.moments (λ x n told note. inl (c.on_card-noted.result, note)));
+    value = first_of (search rules, grind (arith, common_steps));
+  };
+  behind = record {
+    unit = first_of (search rules, grind (arith, common_steps));
+    ready = first_of (search rules, grind (arith, common_steps));
+    rows =
+        λ card h.
+        let cards = cards-back g c in
+        subst (λ (q : Cards). HasItsRow q (g.M.Medium.state c.args.unit.now) card) (sym cards) h;
+    card =
+        let run = c.args.run.now in
+        let next = g.C.Chip.card c.note_event_on.new.card in
+        let X = g.C.Chip.state c.args.card.now in
+        let Y = g.C.Chip.state c.note_event_on.new.card in
+        let cause = cause-well g c in
+        let is = sizes-back g c in
+        let cards = cards-back g c in
+        subst (λ (q : Cards). CardMayBeCalled (known_of q c.args.which) next Y) (sym cards)
+        (ready-again (known_of run.keeper.cabin.cards c.args.which) c.in-Ok.app (g.C.Chip.card c.args.card.now) next X Y c.requires.card is c.note_event_on.ensures.port cause.works);
+    size = first_of (search rules, grind (arith, common_steps));
+    cause = first_of (search rules, grind (arith, common_steps));
+  };
+  stands = λ from leaving h.
       let run = c.args.run.now in
-      let U = g.M.Medium.state c.args.unit.now in
-      let V = g.M.Medium.state c.tear.new.unit in
-      let X = g.C.Chip.state c.args.card.now in
-      let Y = g.C.Chip.state c.note_event_on.new.card in
-      let crew = crew_of c.tear.new.self.cabin in
-      let second : c.moment-at.result.second ≡ run.next = ap (λ (m : Moment). m.second) c.moment-at.ensures in
-      record {
-        fell = true;
-        noted = noted-fell g c;
-        failing = λ _. refl;
-        notes = one-noted U V X X Y Y (g.met.M.Medium.coherent c.args.unit.now) (g.met.M.Medium.coherent c.tear.new.unit) c.requires.ready.is_unit (entry_of CARD_FAULT run.next run.next crew crew) (is_err c.tear.result)
-            (λ well. subst (λ (n : ℕ). IfSome U.image (λ x. IfSome V.image (IsEventNoted CARD_FAULT (fault_of n crew) x))) second (ok_gives c.tear.result c.tear.ensures.leaves.noted well))
-            (subst (λ (n : ℕ). LeavesOnly U V (IsNotingEvent CARD_FAULT (fault_of n crew))) second c.tear.ensures.leaves.moments) c.tear.ensures.behind.cause.works;
-      };
-  rings =
-      rings-moments (g.M.Medium.state c.args.unit.now) (g.M.Medium.state c.tear.new.unit) (IsNotingEvent CARD_FAULT (fault_of c.moment-at.result.second (crew_of c.tear.new.self.cabin))) (g.met.M.Medium.coherent c.args.unit.now) c.tear.ensures.leaves.moments
-      (λ x n moment. table-outside CARD_FAULT x n moment.outside);
-}
-
-pub returns-then-is_err-clause-writes : goal.returns-then-is_err-clause-writes
-returns-then-is_err-clause-writes g c = record {
-  speeds = event-leaves-speeds CARD_FAULT (fault_of c.moment-at.result.second (crew_of c.tear.new.self.cabin)) (g.M.Medium.state c.args.unit.now) (g.M.Medium.state c.tear.new.unit) (g.met.M.Medium.coherent c.args.unit.now) c.tear.ensures.leaves.moments;
-  journal = first_of (search rules, grind (arith, common_steps));
-}
-
-pub returns-then-is_err-clause-known : goal.returns-then-is_err-clause-known
-returns-then-is_err-clause-known g c = record {
-  moments =
-      let cards = c.args.run.now.keeper.cabin.cards in
-      let is = sizes-fell g c in
-      noted-sizes c.args.which cards c.in-Ok.app (g.C.Chip.card c.args.card.now) (g.C.Chip.state c.args.card.now) (g.C.Chip.state c.note_event_on.new.card) c.requires.card is (weaken c.note_event_on.ensures.moments (λ x n told note. inl (c.on_card-noted.result, note)));
-  value = first_of (search rules, grind (arith, common_steps));
-}
-
-pub returns-then-is_err-clause-behind : goal.returns-then-is_err-clause-behind
-returns-then-is_err-clause-behind g c = record {
-  unit = first_of (search rules, grind (arith, common_steps));
-  ready = first_of (search rules, grind (arith, common_steps));
-  rows =
-      λ card h.
-      let cards = c.args.run.now.keeper.cabin.cards in
-      c.tear.ensures.behind.rows card (has-row cards c.take.new.self (g.M.Medium.state c.args.unit.now) (g.M.Medium.state c.args.unit.now) card
-      (ap (λ (q : Cards). (known_of q card).number) c.take.ensures.left ∙ number-set c.args.which card None cards)
-      (ap (λ (q : Cards). (known_of q card).row) c.take.ensures.left ∙ row-set c.args.which card None cards) (λ r n at. at) h);
-  card = first_of (search rules, grind (arith, common_steps));
-  size = first_of (search rules, grind (arith, common_steps));
-  cause = first_of (search rules, grind (arith, common_steps));
-}
-
-pub returns-clause-shows : goal.returns-clause-shows
-returns-clause-shows g c = record {
-  card_events =
-      let run = c.args.run.now in
-      let before = run.keeper.cabin.cards in
-      let X = g.C.Chip.state c.args.card.now in
-      let Y = g.C.Chip.state c.note_event_on.new.card in
-      let sizes = sizes-back g c in
-      let event : CardEvent = card_entry c.args.event.now run.keeper.memory.registration in
-      let same = entry-is c.args.event.now c.on_card-noted.result c.identity.result run.keeper.memory c.on_card-noted.ensures (ap (λ (i : Identity). i.registration) c.identity.ensures) in
-      let cause = cause-well g c in
       let cards = cards-back g c in
-      let moments = subst (λ (v : CardEvent). LeavesOnly X Y (on.IsNotingEvent c.in-Ok.app v)) same c.note_event_on.ensures.moments in
-      let noted = subst (λ (v : CardEvent). IfSome X.image (λ x. IfSome Y.image (on.IsEventNoted c.in-Ok.app v x))) same (ok_gives c.note_event_on.result c.note_event_on.ensures.noted (went-well g c)) in
-      let works = session-works c.args.which before (g.C.Chip.card c.args.card.now) X c.requires.card c.requires.session in
-      subst (λ (q : Cards). NotesOn false (session_of before c.args.which) (session_of q c.args.which) (event ∷ []) X Y) (sym cards)
-      (on-session c.args.which before c.in-Ok.app (g.C.Chip.card c.args.card.now) X Y (session_of before c.args.which) (event ∷ []) c.requires.card sizes c.requires.session
-      (subst (λ (b : Bool). NotesOnCard c.in-Ok.app (event ∷ []) (not b) X Y) (sym c.requires.session)
-      (noted-well c.in-Ok.app event (plain-gap event c.requires.kind) X Y (g.met.C.Chip.coherent c.args.card.now) (g.met.C.Chip.coherent c.note_event_on.new.card) works cause.works moments noted)));
-  places =
-      let cards = c.args.run.now.keeper.cabin.cards in
-      let sizes = sizes-back g c in
-      event-leaves c.args.which cards c.in-Ok.app c.on_card-noted.result (g.C.Chip.card c.args.card.now) (g.C.Chip.state c.args.card.now) (g.C.Chip.state c.note_event_on.new.card) (g.met.C.Chip.coherent c.args.card.now) c.requires.card sizes c.requires.session c.note_event_on.ensures.moments;
-  events =
-      let X = g.C.Chip.state c.args.card.now in
-      let Y = g.C.Chip.state c.note_event_on.new.card in
-      let U = g.M.Medium.state c.args.unit.now in
-      record {
-        fell = false;
-        noted = noted-whole g c;
-        failing = λ bad. bad;
-        notes = noted-any [] false (devices U X X) (devices U X X) (devices U X X) (devices U Y Y) refl refl (same-noted U X X);
-      };
-  rings = rings-left (g.M.Medium.state c.args.unit.now);
+      subst (λ (q : Cards). CabinIsSound from leaving (record run.keeper.cabin { cards = q })) (sym cards) h;
+  clock_card = first_of (search rules, grind (arith, common_steps));
+  most = (omega arith, c.note_event_on.ensures.most);
 }
-
-pub returns-clause-writes : goal.returns-clause-writes
-returns-clause-writes g c = record {
-  speeds = leaves-none (g.M.Medium.state c.args.unit.now);
-  journal = first_of (search rules, grind (arith, common_steps));
-}
-
-pub returns-clause-known : goal.returns-clause-known
-returns-clause-known g c = record {
-  moments =
-      let cards = c.args.run.now.keeper.cabin.cards in
-      let is = sizes-back g c in
-      noted-sizes c.args.which cards c.in-Ok.app (g.C.Chip.card c.args.card.now) (g.C.Chip.state c.args.card.now) (g.C.Chip.state c.note_event_on.new.card) c.requires.card is (weaken c.note_event_on.ensures.moments (λ x n told note. inl (c.on_card-noted.result, note)));
-  value = first_of (search rules, grind (arith, common_steps));
-}
-
-pub returns-clause-behind : goal.returns-clause-behind
-returns-clause-behind g c = record {
-  unit = first_of (search rules, grind (arith, common_steps));
-  ready = first_of (search rules, grind (arith, common_steps));
-  rows =
-      λ card h.
-      let cards = cards-back g c in
-      subst (λ (q : Cards). HasItsRow q (g.M.Medium.state c.args.unit.now) card) (sym cards) h;
-  card =
-      let run = c.args.run.now in
-      let next = g.C.Chip.card c.note_event_on.new.card in
-      let X = g.C.Chip.state c.args.card.now in
-      let Y = g.C.Chip.state c.note_event_on.new.card in
-      let cause = cause-well g c in
-      let is = sizes-back g c in
-      let cards = cards-back g c in
-      subst (λ (q : Cards). CardMayBeCalled (known_of q c.args.which) next Y) (sym cards)
-      (ready-again (known_of run.keeper.cabin.cards c.args.which) c.in-Ok.app (g.C.Chip.card c.args.card.now) next X Y c.requires.card is c.note_event_on.ensures.port cause.works);
-  size = first_of (search rules, grind (arith, common_steps));
-  cause = first_of (search rules, grind (arith, common_steps));
-}
-
--- ---- its writes
-
-pub returns-then-is_err-clause-most : goal.returns-then-is_err-clause-most
-returns-then-is_err-clause-most g c = (c.tear.ensures.most, c.note_event_on.ensures.most)
-
-pub returns-clause-most : goal.returns-clause-most
-returns-clause-most g c = (omega arith, c.note_event_on.ensures.most)

@@ -39,10 +39,10 @@ use Rattle.run_insertion.proofs.entering.accept.Goals as goal
 pub returns-in_default-clause-entered : goal.returns-in_default-clause-entered
 returns-in_default-clause-entered g c =
     let k = c.args.keeper.now in
-    let e = c.args.entering in
+    let e = c.args.beside.entering in
     let U = g.M.Medium.state c.args.unit.now in
     let W = g.M.Medium.state c.tear.new.unit in
-    let Z = g.D.Chip.state c.args.others.now in
+    let Z = g.D.Chip.state c.args.beside.others.now in
     let X = g.C.Chip.state c.args.card.now in
     let M = g.C.Chip.state c.wake.new.card in
     let keeper = c.tear.ensures.torn.keeper ∙ ap (λ (b : Cabin). record k { cabin = torn_out e.which e.at.second b }) c.measure.ensures.kept in
@@ -66,11 +66,11 @@ returns-in_default-clause-entered g c =
 pub returns-in-Ok-sizes-clause-entered : goal.returns-in-Ok-sizes-clause-entered
 returns-in-Ok-sizes-clause-entered g c =
     let k = c.args.keeper.now in
-    let e = c.args.entering in
+    let e = c.args.beside.entering in
     let app = c.in-Ok-sizes.app in
     let U = g.M.Medium.state c.args.unit.now in
     let W = g.M.Medium.state c.accept_by.new.unit in
-    let Z = g.D.Chip.state c.args.others.now in
+    let Z = g.D.Chip.state c.args.beside.others.now in
     let X = g.C.Chip.state c.args.card.now in
     let M = g.C.Chip.state c.wake.new.card in
     let Y = g.C.Chip.state c.accept_by.new.card in
@@ -91,12 +91,12 @@ returns-in-Ok-sizes-clause-entered g c =
 pub returns-in-Err-clause-entered : goal.returns-in-Err-clause-entered
 returns-in-Err-clause-entered g c =
     let k = c.args.keeper.now in
-    let e = c.args.entering in
+    let e = c.args.beside.entering in
     let o = c.args.outcome.now in
     let field = c.in-Err.field in
     let U = g.M.Medium.state c.args.unit.now in
     let W = g.M.Medium.state c.refuse.new.unit in
-    let Z = g.D.Chip.state c.args.others.now in
+    let Z = g.D.Chip.state c.args.beside.others.now in
     let X = g.C.Chip.state c.args.card.now in
     let M = g.C.Chip.state c.wake.new.card in
     let failed = is_err c.refuse.result in
@@ -131,7 +131,7 @@ pub returns-in_default-clause-in_time : goal.returns-in_default-clause-in_time
 returns-in_default-clause-in_time g c = inl c.wake.ensures.leaves
 
 pub returns-in-Ok-sizes-clause-in_time : goal.returns-in-Ok-sizes-clause-in_time
-returns-in-Ok-sizes-clause-in_time g c = woken-early c.args.entering (g.C.Chip.state c.args.card.now) (g.C.Chip.state c.wake.new.card) (g.C.Chip.state c.accept_by.new.card) (g.met.C.Chip.coherent c.wake.new.card) c.wake.ensures.leaves c.accept_by.ensures.in_time
+returns-in-Ok-sizes-clause-in_time g c = woken-early c.args.beside.entering (g.C.Chip.state c.args.card.now) (g.C.Chip.state c.wake.new.card) (g.C.Chip.state c.accept_by.new.card) (g.met.C.Chip.coherent c.wake.new.card) c.wake.ensures.leaves c.accept_by.ensures.in_time
 
 pub returns-in-Err-clause-in_time : goal.returns-in-Err-clause-in_time
 returns-in-Err-clause-in_time g c = inl c.wake.ensures.leaves
@@ -144,7 +144,7 @@ returns-in_default-clause-behind g c = record {
   rows =
       λ card h.
       let U = g.M.Medium.state c.args.unit.now in
-      c.tear.ensures.behind.rows card (subst (λ (b : Cabin). HasItsRow b.cards U card) (sym c.measure.ensures.kept) (row-measured c.args.entering.which (Err UNTOLD) c.args.keeper.now.cabin.cards U card h));
+      c.tear.ensures.behind.rows card (subst (λ (b : Cabin). HasItsRow b.cards U card) (sym c.measure.ensures.kept) (row-measured c.args.beside.entering.which (Err UNTOLD) c.args.keeper.now.cabin.cards U card h));
   stands = λ from le s. c.tear.ensures.stands from None (c.measure.ensures.stands from None s);
   cause = first_of (search rules, grind (arith, common_steps));
   card = first_of (search rules, grind (arith, common_steps));
@@ -154,7 +154,7 @@ returns-in_default-clause-behind g c = record {
 pub returns-in_default-clause-goes : goal.returns-in_default-clause-goes
 returns-in_default-clause-goes g c = record {
   later = let same = c.wake.ensures.clock in state-revived (g.C.Chip.state c.args.card.now) (g.C.Chip.state c.wake.new.card) _ (omega (arith, same)) c.in_default.ensures.cause;
-  calm = card-fell c.args.entering.slot c.args.entering.at (ap (λ (l : Listed Break). l.items) c.tear.ensures.torn.told);
+  calm = card-fell c.args.beside.entering.slot c.args.beside.entering.at (ap (λ (l : Listed Break). l.items) c.tear.ensures.torn.told) c.in_default.ensures.cause.breakdowns c.in_default.ensures.cause.once;
 }
 
 pub returns-in-Ok-sizes-clause-behind : goal.returns-in-Ok-sizes-clause-behind
@@ -163,7 +163,7 @@ returns-in-Ok-sizes-clause-behind g c = record {
   rows =
       λ card h.
       let U = g.M.Medium.state c.args.unit.now in
-      c.accept_by.ensures.behind.rows card (subst (λ (b : Cabin). HasItsRow b.cards U card) (sym c.measure-2.ensures.kept) (row-measured c.args.entering.which c.in-Ok.sizes c.args.keeper.now.cabin.cards U card h));
+      c.accept_by.ensures.behind.rows card (subst (λ (b : Cabin). HasItsRow b.cards U card) (sym c.measure-2.ensures.kept) (row-measured c.args.beside.entering.which c.in-Ok.sizes c.args.keeper.now.cabin.cards U card h));
   stands =
       λ from le s.
       c.accept_by.ensures.behind.stands from le (c.measure-2.ensures.stands from None s);
@@ -184,13 +184,13 @@ returns-in-Err-clause-behind g c = record {
   rows =
       λ card h.
       let U = g.M.Medium.state c.args.unit.now in
-      c.refuse.ensures.rows card (subst (λ (b : Cabin). HasItsRow b.cards U card) (sym c.measure-2.ensures.kept) (row-measured c.args.entering.which c.in-Ok.sizes c.args.keeper.now.cabin.cards U card h));
+      c.refuse.ensures.rows card (subst (λ (b : Cabin). HasItsRow b.cards U card) (sym c.measure-2.ensures.kept) (row-measured c.args.beside.entering.which c.in-Ok.sizes c.args.keeper.now.cabin.cards U card h));
   stands = λ from le s. c.measure-2.ensures.stands from None s;
   cause = first_of (search rules, grind (arith, common_steps));
   card =
-      let kept = c.measure-2.ensures.kept ∙ ap (λ (s : Result Application ℕ). with_sizes_of c.args.entering.which s c.args.keeper.now.cabin) c.in-Err.is in
-      subst (λ (b : Cabin). CardMayBeCalled (known_of b.cards c.args.entering.which) (g.C.Chip.card c.wake.new.card) (g.C.Chip.state c.wake.new.card)) (sym kept)
-      (unsized-ready c.args.entering.which c.args.keeper.now.cabin c.in-Err.field (g.C.Chip.card c.wake.new.card) (g.C.Chip.state c.wake.new.card) c.requires.may.come.bare);
+      let kept = c.measure-2.ensures.kept ∙ ap (λ (s : Result Application ℕ). with_sizes_of c.args.beside.entering.which s c.args.keeper.now.cabin) c.in-Err.is in
+      subst (λ (b : Cabin). CardMayBeCalled (known_of b.cards c.args.beside.entering.which) (g.C.Chip.card c.wake.new.card) (g.C.Chip.state c.wake.new.card)) (sym kept)
+      (unsized-ready c.args.beside.entering.which c.args.keeper.now.cabin c.in-Err.field (g.C.Chip.card c.wake.new.card) (g.C.Chip.state c.wake.new.card) c.requires.may.come.bare);
   size = first_of (search rules, grind (arith, common_steps));
 }
 

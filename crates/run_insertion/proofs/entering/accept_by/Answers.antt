@@ -33,14 +33,14 @@ module _ (g : Over) (c : After-enter g) where
   long : length c.args.keeper.now.memory.registration.0 ≡ 15
   long = subst (λ (i : Identity). length i.registration.0 ≡ 15) c.identity.ensures c.enter.ensures.long
 
-  roomy : image_size_of c.args.app ≤ (g.C.Chip.state c.args.card.now).size
-  roomy = omega (arith, largest_image c.args.app c.requires.card.port.good, c.requires.card.port.size)
+  roomy : image_size_of c.args.beside.app ≤ (g.C.Chip.state c.args.card.now).size
+  roomy = omega (arith, largest_image c.args.beside.app c.requires.card.port.good, c.requires.card.port.size)
 
   abbrev EntersBy : Identity → Result Entered NotEntered → Type 0
-  EntersBy i r = IsEntering c.args.app i.registration c.args.entering.odometer.0 c.args.entering.at.second (g.M.Medium.state c.args.unit.now) (g.M.Medium.state c.enter.new.unit) (g.C.Chip.state c.args.card.now) (g.C.Chip.state c.enter.new.card) r
+  EntersBy i r = IsEntering c.args.beside.app i.registration c.args.beside.entering.odometer.0 c.args.beside.entering.at.second (g.M.Medium.state c.args.unit.now) (g.M.Medium.state c.enter.new.unit) (g.C.Chip.state c.args.card.now) (g.C.Chip.state c.enter.new.card) r
 
   abbrev EntersNow : Result Entered NotEntered → Type 0
-  EntersNow r = IsEntering c.args.app c.args.keeper.now.memory.registration c.args.entering.odometer.0 c.args.entering.at.second (g.M.Medium.state c.args.unit.now) (g.M.Medium.state c.enter.new.unit) (g.C.Chip.state c.args.card.now) (g.C.Chip.state c.enter.new.card) r
+  EntersNow r = IsEntering c.args.beside.app c.args.keeper.now.memory.registration c.args.beside.entering.odometer.0 c.args.beside.entering.at.second (g.M.Medium.state c.args.unit.now) (g.M.Medium.state c.enter.new.unit) (g.C.Chip.state c.args.card.now) (g.C.Chip.state c.enter.new.card) r
 
 pub returns-in-Ok-clause-ended : goal.returns-in-Ok-clause-ended
 returns-in-Ok-clause-ended g c =
@@ -48,9 +48,9 @@ returns-in-Ok-clause-ended g c =
     let enters : EntersNow g p (Ok c.in-Ok.entered) = subst (λ (i : Identity). EntersBy g p i (Ok c.in-Ok.entered)) c.identity.ensures c.in-Ok.ensures.enters in
     let t = c.take_in.ensures.ended in (
       taken_as t.0 c.in-Ok.entered (g.C.Chip.state c.enter.new.card).clock t.1,
-      judged-taken c.args.app c.args.entering c.args.keeper.now c.args.noted.now c.args.outcome.now (g.M.Medium.state c.args.unit.now) (g.M.Medium.state c.enter.new.unit) (g.C.Chip.state c.args.card.now) (g.C.Chip.state c.enter.new.card) c.in-Ok.entered enters c.enter.ensures.card.leaves.later (is_err c.take_in.result) c.take_in.new.keeper c.take_in.new.noted c.take_in.new.outcome
+      judged-taken c.args.beside.app c.args.beside.entering c.args.keeper.now c.args.noted.now c.args.outcome.now (g.M.Medium.state c.args.unit.now) (g.M.Medium.state c.enter.new.unit) (g.C.Chip.state c.args.card.now) (g.C.Chip.state c.enter.new.card) c.in-Ok.entered enters c.enter.ensures.card.leaves.later (is_err c.take_in.result) c.take_in.new.keeper c.take_in.new.noted c.take_in.new.outcome
           (g.M.Medium.state c.take_in.new.unit) (g.C.Chip.state c.take_in.new.card) c.take_in.ensures.judged.low c.take_in.ensures.judged.sized t.0 t.1 t.2 t.3,
-      λ f w m named out low. taken-known c.args.app c.args.entering c.args.keeper.now (g.M.Medium.state c.args.unit.now) (g.M.Medium.state c.enter.new.unit) (g.C.Chip.state c.args.card.now) (g.C.Chip.state c.enter.new.card) (g.D.Chip.state c.args.others.now) (g.met.M.Medium.coherent c.args.unit.now) (g.met.M.Medium.coherent c.enter.new.unit) (g.met.C.Chip.coherent c.args.card.now) (g.met.C.Chip.coherent c.enter.new.card) c.requires.may.come.bare c.requires.sized (roomy g p) c.args.keeper.now.memory.registration (long g p) c.args.entering.odometer.0 (omega (arith, c.requires.may.last)) (Ok c.in-Ok.entered) enters f w m named out c.in-Ok.entered refl t.0 t.1 (is_err c.take_in.result) c.take_in.new.keeper (g.M.Medium.state c.take_in.new.unit) (g.C.Chip.state c.take_in.new.card) refl refl c.requires.may.come.second c.requires.card.works (enters.unit.cause refl).works (let later = t.3.later in omega (arith, later, low)) c.take_in.ensures.judged.most t.4,
+      λ f w m named out low. taken-known c.args.beside.app c.args.beside.entering c.args.keeper.now (g.M.Medium.state c.args.unit.now) (g.M.Medium.state c.enter.new.unit) (g.C.Chip.state c.args.card.now) (g.C.Chip.state c.enter.new.card) (g.D.Chip.state c.args.beside.others.now) (g.met.M.Medium.coherent c.args.unit.now) (g.met.M.Medium.coherent c.enter.new.unit) (g.met.C.Chip.coherent c.args.card.now) (g.met.C.Chip.coherent c.enter.new.card) c.requires.may.come.bare c.requires.sized (roomy g p) c.args.keeper.now.memory.registration (long g p) c.args.beside.entering.odometer.0 (omega (arith, c.requires.may.last)) (Ok c.in-Ok.entered) enters f w m named out c.in-Ok.entered refl t.0 t.1 (is_err c.take_in.result) c.take_in.new.keeper (g.M.Medium.state c.take_in.new.unit) (g.C.Chip.state c.take_in.new.card) refl refl c.requires.may.come.second c.requires.card.works (enters.unit.cause refl).works (let later = t.3.later in omega (arith, later, low)) c.take_in.ensures.judged.most t.4,
     )
 
 pub returns-in-Err-UnitFailed-clause-ended : goal.returns-in-Err-UnitFailed-clause-ended
@@ -59,8 +59,8 @@ returns-in-Err-UnitFailed-clause-ended g c =
     let is : c.in-Err-UnitFailed.field-0 ≡ UnitFailed = cc (c.in-Err-UnitFailed.field-0-is) in
     let enters : EntersNow g p (Err UnitFailed) = subst (λ (i : Identity). EntersBy g p i (Err UnitFailed)) c.identity.ensures (subst (λ (f : NotEntered). EntersBy g p c.identity.result (Err f)) is c.in-Err-UnitFailed.ensures.enters) in (
       Unasked,
-      judged-unasked c.args.app c.args.entering c.args.keeper.now c.args.noted.now c.args.outcome.now (g.M.Medium.state c.args.unit.now) (g.M.Medium.state c.enter.new.unit) (g.C.Chip.state c.args.card.now) (g.C.Chip.state c.enter.new.card) enters,
-      λ f w m named out low. unasked-known c.args.app c.args.entering c.args.keeper.now (g.M.Medium.state c.args.unit.now) (g.M.Medium.state c.enter.new.unit) (g.C.Chip.state c.args.card.now) (g.C.Chip.state c.enter.new.card) (g.D.Chip.state c.args.others.now) (g.met.M.Medium.coherent c.args.unit.now) (g.met.M.Medium.coherent c.enter.new.unit) (g.met.C.Chip.coherent c.args.card.now) (g.met.C.Chip.coherent c.enter.new.card) c.requires.may.come.bare c.requires.sized (roomy g p) c.args.keeper.now.memory.registration (long g p) c.args.entering.odometer.0 (omega (arith, c.requires.may.last)) (Err UnitFailed) enters f w m named out (λ never. never),
+      judged-unasked c.args.beside.app c.args.beside.entering c.args.keeper.now c.args.noted.now c.args.outcome.now (g.M.Medium.state c.args.unit.now) (g.M.Medium.state c.enter.new.unit) (g.C.Chip.state c.args.card.now) (g.C.Chip.state c.enter.new.card) enters,
+      λ f w m named out low. unasked-known c.args.beside.app c.args.beside.entering c.args.keeper.now (g.M.Medium.state c.args.unit.now) (g.M.Medium.state c.enter.new.unit) (g.C.Chip.state c.args.card.now) (g.C.Chip.state c.enter.new.card) (g.D.Chip.state c.args.beside.others.now) (g.met.M.Medium.coherent c.args.unit.now) (g.met.M.Medium.coherent c.enter.new.unit) (g.met.C.Chip.coherent c.args.card.now) (g.met.C.Chip.coherent c.enter.new.card) c.requires.may.come.bare c.requires.sized (roomy g p) c.args.keeper.now.memory.registration (long g p) c.args.beside.entering.odometer.0 (omega (arith, c.requires.may.last)) (Err UnitFailed) enters f w m named out (λ never. never),
     )
 
 pub returns-in-Err-CardFailed-clause-ended : goal.returns-in-Err-CardFailed-clause-ended
@@ -69,9 +69,9 @@ returns-in-Err-CardFailed-clause-ended g c =
     let is : c.in-Err-CardFailed.field-0 ≡ CardFailed = cc (c.in-Err-CardFailed.field-0-is) in
     let enters : EntersNow g p (Err CardFailed) = subst (λ (i : Identity). EntersBy g p i (Err CardFailed)) c.identity.ensures (subst (λ (f : NotEntered). EntersBy g p c.identity.result (Err f)) is c.in-Err-CardFailed.ensures.enters) in (
       Fell,
-      judged-fell c.args.app c.args.entering c.args.keeper.now c.args.noted.now c.args.outcome.now (g.M.Medium.state c.args.unit.now) (g.M.Medium.state c.enter.new.unit) (g.C.Chip.state c.args.card.now) (g.C.Chip.state c.enter.new.card) (is_err c.tear.result) c.tear.new.self c.tear.new.breaks (g.M.Medium.state c.tear.new.unit) c.requires.card.works enters c.tear.ensures.torn.keeper c.tear.ensures.torn.told
-          (fault-noted c.args.entering c.args.keeper.now c.tear.new.self c.tear.result c.tear.ensures.torn.keeper c.tear.ensures.leaves.noted c.tear.ensures.leaves.moments),
-      λ f w m named out low. fell-known c.args.app c.args.entering c.args.keeper.now (g.M.Medium.state c.args.unit.now) (g.M.Medium.state c.enter.new.unit) (g.C.Chip.state c.args.card.now) (g.C.Chip.state c.enter.new.card) (g.D.Chip.state c.args.others.now) (g.met.M.Medium.coherent c.args.unit.now) (g.met.M.Medium.coherent c.enter.new.unit) (g.met.C.Chip.coherent c.args.card.now) (g.met.C.Chip.coherent c.enter.new.card) c.requires.may.come.bare c.requires.sized (roomy g p) c.args.keeper.now.memory.registration (long g p) c.args.entering.odometer.0 (omega (arith, c.requires.may.last)) (Err CardFailed) enters f w m named out (is_err c.tear.result) (g.M.Medium.state c.tear.new.unit) (enters.unit.rests refl c.requires.ready.works).works c.tear.ensures.leaves.journal c.tear.ensures.behind.cause c.tear.new.self c.tear.ensures.torn.keeper,
+      judged-fell c.args.beside.app c.args.beside.entering c.args.keeper.now c.args.noted.now c.args.outcome.now (g.M.Medium.state c.args.unit.now) (g.M.Medium.state c.enter.new.unit) (g.C.Chip.state c.args.card.now) (g.C.Chip.state c.enter.new.card) (is_err c.tear.result) c.tear.new.self c.tear.new.breaks (g.M.Medium.state c.tear.new.unit) c.requires.card.works enters c.tear.ensures.torn.keeper c.tear.ensures.torn.told
+          (fault-noted c.args.beside.entering c.args.keeper.now c.tear.new.self c.tear.result c.tear.ensures.torn.keeper c.tear.ensures.leaves.noted c.tear.ensures.leaves.moments),
+      λ f w m named out low. fell-known c.args.beside.app c.args.beside.entering c.args.keeper.now (g.M.Medium.state c.args.unit.now) (g.M.Medium.state c.enter.new.unit) (g.C.Chip.state c.args.card.now) (g.C.Chip.state c.enter.new.card) (g.D.Chip.state c.args.beside.others.now) (g.met.M.Medium.coherent c.args.unit.now) (g.met.M.Medium.coherent c.enter.new.unit) (g.met.C.Chip.coherent c.args.card.now) (g.met.C.Chip.coherent c.enter.new.card) c.requires.may.come.bare c.requires.sized (roomy g p) c.args.keeper.now.memory.registration (long g p) c.args.beside.entering.odometer.0 (omega (arith, c.requires.may.last)) (Err CardFailed) enters f w m named out (is_err c.tear.result) (g.M.Medium.state c.tear.new.unit) (enters.unit.rests refl c.requires.ready.works).works c.tear.ensures.leaves.journal c.tear.ensures.behind.cause c.tear.new.self c.tear.ensures.torn.keeper,
     )
 
 pub returns-in-Err-NotValid-clause-ended : goal.returns-in-Err-NotValid-clause-ended
@@ -81,10 +81,10 @@ returns-in-Err-NotValid-clause-ended g c =
     let place = c.in-Err-NotValid.place in
     let is : c.in-Err-NotValid.field-0 ≡ NotValid fid place = cc (c.in-Err-NotValid.field-0-is) in
     let enters : EntersNow g p (Err (NotValid fid place)) = subst (λ (i : Identity). EntersBy g p i (Err (NotValid fid place))) c.identity.ensures (subst (λ (f : NotEntered). EntersBy g p c.identity.result (Err f)) is c.in-Err-NotValid.ensures.enters) in
-    let told = unfit-told c.args.entering c.args.outcome.now c.refuse.new.outcome _ fid _ place c.refuse.ensures.told (cc (c.in-Err-NotValid.fid-is)) (cc (c.in-Err-NotValid.place-is)) in (
+    let told = unfit-told c.args.beside.entering c.args.outcome.now c.refuse.new.outcome _ fid _ place c.refuse.ensures.told (cc (c.in-Err-NotValid.fid-is)) (cc (c.in-Err-NotValid.place-is)) in (
       Unfit fid place,
-      judged-unfit c.args.app c.args.entering c.args.keeper.now c.args.noted.now c.args.outcome.now (g.M.Medium.state c.args.unit.now) (g.M.Medium.state c.enter.new.unit) (g.C.Chip.state c.args.card.now) (g.C.Chip.state c.enter.new.card) (is_err c.refuse.result) fid place c.refuse.new.outcome (g.M.Medium.state c.refuse.new.unit) enters told c.refuse.ensures.notes,
-      λ f w m named out low. unfit-known c.args.app c.args.entering c.args.keeper.now (g.M.Medium.state c.args.unit.now) (g.M.Medium.state c.enter.new.unit) (g.C.Chip.state c.args.card.now) (g.C.Chip.state c.enter.new.card) (g.D.Chip.state c.args.others.now) (g.met.M.Medium.coherent c.args.unit.now) (g.met.M.Medium.coherent c.enter.new.unit) (g.met.C.Chip.coherent c.args.card.now) (g.met.C.Chip.coherent c.enter.new.card) c.requires.may.come.bare c.requires.sized (roomy g p) c.args.keeper.now.memory.registration (long g p) c.args.entering.odometer.0 (omega (arith, c.requires.may.last)) (Err (NotValid fid place)) enters f w m named out (is_err c.refuse.result) (g.M.Medium.state c.refuse.new.unit) (enters.unit.rests refl c.requires.ready.works).works c.refuse.ensures.journal c.refuse.ensures.cause fid place (λ never. never),
+      judged-unfit c.args.beside.app c.args.beside.entering c.args.keeper.now c.args.noted.now c.args.outcome.now (g.M.Medium.state c.args.unit.now) (g.M.Medium.state c.enter.new.unit) (g.C.Chip.state c.args.card.now) (g.C.Chip.state c.enter.new.card) (is_err c.refuse.result) fid place c.refuse.new.outcome (g.M.Medium.state c.refuse.new.unit) enters told c.refuse.ensures.notes,
+      λ f w m named out low. unfit-known c.args.beside.app c.args.beside.entering c.args.keeper.now (g.M.Medium.state c.args.unit.now) (g.M.Medium.state c.enter.new.unit) (g.C.Chip.state c.args.card.now) (g.C.Chip.state c.enter.new.card) (g.D.Chip.state c.args.beside.others.now) (g.met.M.Medium.coherent c.args.unit.now) (g.met.M.Medium.coherent c.enter.new.unit) (g.met.C.Chip.coherent c.args.card.now) (g.met.C.Chip.coherent c.enter.new.card) c.requires.may.come.bare c.requires.sized (roomy g p) c.args.keeper.now.memory.registration (long g p) c.args.beside.entering.odometer.0 (omega (arith, c.requires.may.last)) (Err (NotValid fid place)) enters f w m named out (is_err c.refuse.result) (g.M.Medium.state c.refuse.new.unit) (enters.unit.rests refl c.requires.ready.works).works c.refuse.ensures.journal c.refuse.ensures.cause fid place (λ never. never),
     )
 
 pub returns-in-Err-TimeOverlap-clause-ended : goal.returns-in-Err-TimeOverlap-clause-ended
@@ -94,11 +94,11 @@ returns-in-Err-TimeOverlap-clause-ended g c =
     let now = c.in-Err-TimeOverlap.field-0-1 in
     let is : c.in-Err-TimeOverlap.field-0 ≡ TimeOverlap stored now = cc (c.in-Err-TimeOverlap.field-0-is) in
     let enters : EntersNow g p (Err (TimeOverlap stored now)) = subst (λ (i : Identity). EntersBy g p i (Err (TimeOverlap stored now))) c.identity.ensures (subst (λ (f : NotEntered). EntersBy g p c.identity.result (Err f)) is c.in-Err-TimeOverlap.ensures.enters) in
-    let told = ahead-told c.args.entering c.args.outcome.now c.defer.new.outcome _ stored c.defer.ensures.told (cc (c.in-Err-TimeOverlap.stored-is)) in
-    let notes = ahead-noted c.args.entering c.args.keeper.now.cabin _ stored c.defer.ensures.notes (cc (c.in-Err-TimeOverlap.stored-is)) in (
+    let told = ahead-told c.args.beside.entering c.args.outcome.now c.defer.new.outcome _ stored c.defer.ensures.told (cc (c.in-Err-TimeOverlap.stored-is)) in
+    let notes = ahead-noted c.args.beside.entering c.args.keeper.now.cabin _ stored c.defer.ensures.notes (cc (c.in-Err-TimeOverlap.stored-is)) in (
       Ahead stored,
-      judged-ahead c.args.app c.args.entering c.args.keeper.now c.args.noted.now c.args.outcome.now (g.M.Medium.state c.args.unit.now) (g.M.Medium.state c.enter.new.unit) (g.C.Chip.state c.args.card.now) (g.C.Chip.state c.enter.new.card) (is_err c.defer.result) stored now (subst (λ (n : ℕ). n < 2 ^ 32) (cc (c.in-Err-TimeOverlap.stored-is)) c.defer.ensures.low) c.defer.new.outcome (g.M.Medium.state c.defer.new.unit) enters told notes,
-      λ f w m named out low. ahead-known c.args.app c.args.entering c.args.keeper.now (g.M.Medium.state c.args.unit.now) (g.M.Medium.state c.enter.new.unit) (g.C.Chip.state c.args.card.now) (g.C.Chip.state c.enter.new.card) (g.D.Chip.state c.args.others.now) (g.met.M.Medium.coherent c.args.unit.now) (g.met.M.Medium.coherent c.enter.new.unit) (g.met.C.Chip.coherent c.args.card.now) (g.met.C.Chip.coherent c.enter.new.card) c.requires.may.come.bare c.requires.sized (roomy g p) c.args.keeper.now.memory.registration (long g p) c.args.entering.odometer.0 (omega (arith, c.requires.may.last)) (Err (TimeOverlap stored now)) enters f w m named out (is_err c.defer.result) (g.M.Medium.state c.defer.new.unit) (enters.unit.rests refl c.requires.ready.works).works c.defer.ensures.journal c.defer.ensures.cause stored (λ never. never),
+      judged-ahead c.args.beside.app c.args.beside.entering c.args.keeper.now c.args.noted.now c.args.outcome.now (g.M.Medium.state c.args.unit.now) (g.M.Medium.state c.enter.new.unit) (g.C.Chip.state c.args.card.now) (g.C.Chip.state c.enter.new.card) (is_err c.defer.result) stored now (subst (λ (n : ℕ). n < 2 ^ 32) (cc (c.in-Err-TimeOverlap.stored-is)) c.defer.ensures.low) c.defer.new.outcome (g.M.Medium.state c.defer.new.unit) enters told notes,
+      λ f w m named out low. ahead-known c.args.beside.app c.args.beside.entering c.args.keeper.now (g.M.Medium.state c.args.unit.now) (g.M.Medium.state c.enter.new.unit) (g.C.Chip.state c.args.card.now) (g.C.Chip.state c.enter.new.card) (g.D.Chip.state c.args.beside.others.now) (g.met.M.Medium.coherent c.args.unit.now) (g.met.M.Medium.coherent c.enter.new.unit) (g.met.C.Chip.coherent c.args.card.now) (g.met.C.Chip.coherent c.enter.new.card) c.requires.may.come.bare c.requires.sized (roomy g p) c.args.keeper.now.memory.registration (long g p) c.args.beside.entering.odometer.0 (omega (arith, c.requires.may.last)) (Err (TimeOverlap stored now)) enters f w m named out (is_err c.defer.result) (g.M.Medium.state c.defer.new.unit) (enters.unit.rests refl c.requires.ready.works).works c.defer.ensures.journal c.defer.ensures.cause stored (λ never. never),
     )
 
 -- ---- the clocks
@@ -121,19 +121,19 @@ returns-in-Err-TimeOverlap-clause-clock g c = let same = c.in-Err-TimeOverlap.en
 -- ---- a card that was written told of no later time
 
 pub returns-in-Ok-clause-in_time : goal.returns-in-Ok-clause-in_time
-returns-in-Ok-clause-in_time g c = taken-early c.args.app c.args.entering (g.C.Chip.state c.args.card.now) (g.C.Chip.state c.take_in.new.card) c.requires.sized c.in-Ok.ensures.enters.accepted.valid
+returns-in-Ok-clause-in_time g c = taken-early c.args.beside.app c.args.beside.entering (g.C.Chip.state c.args.card.now) (g.C.Chip.state c.take_in.new.card) c.requires.sized c.in-Ok.ensures.enters.accepted.valid
 
 pub returns-in-Err-UnitFailed-clause-in_time : goal.returns-in-Err-UnitFailed-clause-in_time
-returns-in-Err-UnitFailed-clause-in_time g c = judged-early c.args.app c.args.entering (g.C.Chip.state c.args.card.now) (g.C.Chip.state c.enter.new.card) c.requires.sized c.enter.ensures.card.in_time
+returns-in-Err-UnitFailed-clause-in_time g c = judged-early c.args.beside.app c.args.beside.entering (g.C.Chip.state c.args.card.now) (g.C.Chip.state c.enter.new.card) c.requires.sized c.enter.ensures.card.in_time
 
 pub returns-in-Err-CardFailed-clause-in_time : goal.returns-in-Err-CardFailed-clause-in_time
-returns-in-Err-CardFailed-clause-in_time g c = judged-early c.args.app c.args.entering (g.C.Chip.state c.args.card.now) (g.C.Chip.state c.enter.new.card) c.requires.sized c.enter.ensures.card.in_time
+returns-in-Err-CardFailed-clause-in_time g c = judged-early c.args.beside.app c.args.beside.entering (g.C.Chip.state c.args.card.now) (g.C.Chip.state c.enter.new.card) c.requires.sized c.enter.ensures.card.in_time
 
 pub returns-in-Err-NotValid-clause-in_time : goal.returns-in-Err-NotValid-clause-in_time
-returns-in-Err-NotValid-clause-in_time g c = judged-early c.args.app c.args.entering (g.C.Chip.state c.args.card.now) (g.C.Chip.state c.enter.new.card) c.requires.sized c.enter.ensures.card.in_time
+returns-in-Err-NotValid-clause-in_time g c = judged-early c.args.beside.app c.args.beside.entering (g.C.Chip.state c.args.card.now) (g.C.Chip.state c.enter.new.card) c.requires.sized c.enter.ensures.card.in_time
 
 pub returns-in-Err-TimeOverlap-clause-in_time : goal.returns-in-Err-TimeOverlap-clause-in_time
-returns-in-Err-TimeOverlap-clause-in_time g c = judged-early c.args.app c.args.entering (g.C.Chip.state c.args.card.now) (g.C.Chip.state c.enter.new.card) c.requires.sized c.enter.ensures.card.in_time
+returns-in-Err-TimeOverlap-clause-in_time g c = judged-early c.args.beside.app c.args.beside.entering (g.C.Chip.state c.args.card.now) (g.C.Chip.state c.enter.new.card) c.requires.sized c.enter.ensures.card.in_time
 
 -- ---- the row that is told
 
@@ -141,8 +141,8 @@ pub take_in-requires-clause-row : goal.take_in-requires-clause-row
 take_in-requires-clause-row g c =
     let entered = c.in-Ok.entered in
     let number = card_number_bytes entered.look.number in
-    let told = option_map (λ (s : FullCardNumber). card_number_bytes s) (known_of c.args.keeper.now.cabin.cards (other c.args.entering.which)).number in
-    let spared : option_map (λ s. card_number_bytes s.now) c.as_ref.result ≡ told = search rules in
+    let told = option_map (λ (s : FullCardNumber). card_number_bytes s) (known_of c.args.keeper.now.cabin.cards (other c.args.beside.entering.which)).number in
+    let spared : option_map (λ (s : FullCardNumber). card_number_bytes s) c.of.result.now.number ≡ told = first_of (search rules, cc) in
     subst (λ (o : Option (List ℕ)). IfSome o (IsRowFor entered.row number told)) (sym (c.in-Ok.ensures.enters.unit.same refl))
     (subst (λ (o : Option (List ℕ)). IfSome (g.M.Medium.state c.args.unit.now).image (IsRowFor entered.row number o)) spared c.in-Ok.ensures.row.own)
 
@@ -198,7 +198,7 @@ returns-in-Err-CardFailed-clause-behind g c = record {
 pub returns-in-Err-CardFailed-clause-goes : goal.returns-in-Err-CardFailed-clause-goes
 returns-in-Err-CardFailed-clause-goes g c = record {
   later = state-by (g.C.Chip.state c.args.card.now) (g.C.Chip.state c.enter.new.card) _ c.enter.ensures.card.leaves.later c.in-Err-CardFailed.ensures.enters.cause;
-  calm = card-fell c.args.entering.slot c.args.entering.at (ap (λ (l : Listed Break). l.items) c.tear.ensures.torn.told);
+  calm = card-fell c.args.beside.entering.slot c.args.beside.entering.at (ap (λ (l : Listed Break). l.items) c.tear.ensures.torn.told) c.in-Err-CardFailed.ensures.enters.cause.breakdowns c.in-Err-CardFailed.ensures.enters.cause.once;
 }
 
 pub returns-in-Err-NotValid-clause-behind : goal.returns-in-Err-NotValid-clause-behind

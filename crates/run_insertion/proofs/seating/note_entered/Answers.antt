@@ -16,7 +16,7 @@ use Rattle.run_minutes.proofs.Calm.{card-beside}
 pub returns-in_err-note_moving-clause-noted : goal.returns-in_err-note_moving-clause-noted
 returns-in_err-note_moving-clause-noted g c =
     let k = c.args.keeper.now in
-    let e = c.args.entering in
+    let e = c.args.seated.entering in
     let U = g.M.Medium.state c.args.unit.now in
     let V = g.M.Medium.state c.note_moving.new.unit in
     let X = g.C.Chip.state c.args.card.now in
@@ -24,46 +24,46 @@ returns-in_err-note_moving-clause-noted g c =
     let Z = g.D.Chip.state c.args.others.now in
     let m = c.in_err-note_moving.ensures.noted in
     let failed : true ≡ is_err c.from_residual.result = search rules in
-    subst (λ (b : Bool). (fell : Bool) × IsNotedOn c.args.app c.args.session e b k c.note_moving.new.keeper c.args.breaks.now c.note_moving.new.breaks U V X Y fell × BooksNotes c.args.app e b k c.note_moving.new.keeper fell (arranged e.which U X Z) (arranged e.which V Y Z)) failed
-    (m.0, entered-cut c.args.app c.args.session e k c.note_moving.new.keeper c.args.breaks.now c.note_moving.new.breaks U V X Y m.0 c.if-entering-gt0.true m.1, m.2)
+    subst (λ (b : Bool). (fell : Bool) × IsNotedOn c.args.seated.app c.args.seated.unclosed e b k c.note_moving.new.keeper c.args.breaks.now c.note_moving.new.breaks U V X Y fell × BooksNotes c.args.seated.app e b k c.note_moving.new.keeper fell (arranged e.which U X Z) (arranged e.which V Y Z)) failed
+    (m.0, entered-cut c.args.seated.app c.args.seated.unclosed e k c.note_moving.new.keeper c.args.breaks.now c.note_moving.new.breaks U V X Y m.0 c.if-entering-gt0.true m.1, m.2)
 
 pub returns-then-session-eq0-clause-noted : goal.returns-then-session-eq0-clause-noted
 returns-then-session-eq0-clause-noted g c =
     let k = c.args.keeper.now in
-    let e = c.args.entering in
+    let e = c.args.seated.entering in
     let U = g.M.Medium.state c.args.unit.now in
     let X = g.C.Chip.state c.args.card.now in
     elim c.if-entering-gt0.branch [
       | then-entering-gt0+in_ok-note_moving w ↦ let m = w.in_ok-note_moving.ensures.noted in
           rw (w.keeper-is, w.breaks-is, w.unit-is, w.card-is) (
             m.0,
-            entered-closed c.args.app c.args.session e k w.note_moving.new.keeper c.args.breaks.now w.note_moving.new.breaks U (g.M.Medium.state w.note_moving.new.unit) X (g.C.Chip.state w.note_moving.new.card)
+            entered-closed c.args.seated.app c.args.seated.unclosed e k w.note_moving.new.keeper c.args.breaks.now w.note_moving.new.breaks U (g.M.Medium.state w.note_moving.new.unit) X (g.C.Chip.state w.note_moving.new.card)
                 m.0 w.if-entering-gt0.true c.if-session-eq0.true m.1,
             m.2,
           )
-      | else-entering-gt0 w ↦ rw (w.keeper-is, w.breaks-is, w.unit-is, w.card-is) (false, rests-closed c.args.app c.args.session e k c.args.breaks.now U X w.if-entering-gt0.false c.if-session-eq0.true, λ f wc a may. may.powered)
+      | else-entering-gt0 w ↦ rw (w.keeper-is, w.breaks-is, w.unit-is, w.card-is) (false, rests-closed c.args.seated.app c.args.seated.unclosed e k c.args.breaks.now U X w.if-entering-gt0.false c.if-session-eq0.true, λ f wc a may. may.powered)
     ]
 
 pub returns-clause-noted : goal.returns-clause-noted
 returns-clause-noted g c =
     let k = c.args.keeper.now in
-    let e = c.args.entering in
+    let e = c.args.seated.entering in
     let U = g.M.Medium.state c.args.unit.now in
     let X = g.C.Chip.state c.args.card.now in
     let Z = g.D.Chip.state c.args.others.now in
-    let next = unclosed-noted c.args.session e.at.second c.crew-crew.result k.cabin c.note_unclosed.result c.crew-crew.ensures c.note_unclosed.ensures.noted c.note_unclosed.ensures.moments in
+    let next = unclosed-noted c.args.seated.unclosed e.at.second c.crew-crew.result k.cabin c.note_unclosed.result c.crew-crew.ensures c.note_unclosed.ensures.noted c.note_unclosed.ensures.moments in
     elim c.if-entering-gt0.branch [
       | then-entering-gt0+in_ok-note_moving w ↦ let m = w.in_ok-note_moving.ensures.noted in
           rw (w.keeper-is, w.breaks-is, w.card-is) (
             m.0,
-            entered-unclosed c.args.app c.args.session e k w.note_moving.new.keeper c.args.breaks.now w.note_moving.new.breaks U (g.M.Medium.state w.note_moving.new.unit) X (g.C.Chip.state w.note_moving.new.card)
+            entered-unclosed c.args.seated.app c.args.seated.unclosed e k w.note_moving.new.keeper c.args.breaks.now w.note_moving.new.breaks U (g.M.Medium.state w.note_moving.new.unit) X (g.C.Chip.state w.note_moving.new.card)
                 m.0 w.if-entering-gt0.true (is_err c.note_unclosed.result) (g.M.Medium.state c.note_unclosed.new.unit) c.if-session-eq0.false m.1 (rw w.unit-is at next),
-            unclosed-carried c.args.app e k w.note_moving.new.keeper m.0 U (g.M.Medium.state w.note_moving.new.unit) (g.M.Medium.state c.note_unclosed.new.unit) X (g.C.Chip.state w.note_moving.new.card) Z (is_err c.note_unclosed.result) m.1.keeper
+            unclosed-carried c.args.seated.app e k w.note_moving.new.keeper m.0 U (g.M.Medium.state w.note_moving.new.unit) (g.M.Medium.state c.note_unclosed.new.unit) X (g.C.Chip.state w.note_moving.new.card) Z (is_err c.note_unclosed.result) m.1.keeper
                 (g.met.M.Medium.coherent w.note_moving.new.unit) m.2 (rw w.unit-is at c.note_unclosed.ensures.journal) (rw w.unit-is at c.note_unclosed.ensures.cause),
           )
       | else-entering-gt0 w ↦ rw (w.keeper-is, w.breaks-is, w.card-is) (
         false,
-        rests-unclosed c.args.app c.args.session e k c.args.breaks.now U (g.M.Medium.state c.note_unclosed.new.unit) X w.if-entering-gt0.false (is_err c.note_unclosed.result)
+        rests-unclosed c.args.seated.app c.args.seated.unclosed e k c.args.breaks.now U (g.M.Medium.state c.note_unclosed.new.unit) X w.if-entering-gt0.false (is_err c.note_unclosed.result)
             c.if-session-eq0.false (rw w.unit-is at next),
         λ f wc a may. noted-carried e.which f wc k.cabin.cards U (g.M.Medium.state c.note_unclosed.new.unit) X Z (is_err c.note_unclosed.result) may.found (g.met.M.Medium.coherent c.args.unit.now) may.powered
             (rw w.unit-is at c.note_unclosed.ensures.journal) (rw w.unit-is at c.note_unclosed.ensures.cause),
@@ -73,13 +73,13 @@ returns-clause-noted g c =
 pub returns-then-session-eq0-clause-timed : goal.returns-then-session-eq0-clause-timed
 returns-then-session-eq0-clause-timed g c = elim c.if-entering-gt0.branch [
   | then-entering-gt0+in_ok-note_moving w ↦ rw w.card-is w.in_ok-note_moving.ensures.timed
-  | else-entering-gt0 w ↦ rw w.card-is (λ f wc a may. beside-none f c.args.entering.which (g.C.Chip.state c.args.card.now))
+  | else-entering-gt0 w ↦ rw w.card-is (λ f wc a may. beside-none f c.args.seated.entering.which (g.C.Chip.state c.args.card.now))
 ]
 
 pub returns-clause-timed : goal.returns-clause-timed
 returns-clause-timed g c = elim c.if-entering-gt0.branch [
   | then-entering-gt0+in_ok-note_moving w ↦ rw w.card-is w.in_ok-note_moving.ensures.timed
-  | else-entering-gt0 w ↦ rw w.card-is (λ f wc a may. beside-none f c.args.entering.which (g.C.Chip.state c.args.card.now))
+  | else-entering-gt0 w ↦ rw w.card-is (λ f wc a may. beside-none f c.args.seated.entering.which (g.C.Chip.state c.args.card.now))
 ]
 
 -- ---- where no tear of a failed call is told no card has broken down

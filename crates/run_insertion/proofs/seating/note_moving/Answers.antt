@@ -18,57 +18,57 @@ use Rattle.log_model.specs.declared.lines.Break.{Break}
 use Rattle.run_insertion.proofs.seating.note_moving.Goals as goal
 
 pub note_event_on-requires-clause-port : goal.note_event_on-requires-clause-port
-note_event_on-requires-clause-port g c = c.requires.card.port c.args.app c.requires.sizes
+note_event_on-requires-clause-port g c = c.requires.card.port c.args.seated.app c.requires.sizes
 
 pub returns-in_err-note_driving-clause-noted : goal.returns-in_err-note_driving-clause-noted
 returns-in_err-note_driving-clause-noted g c =
     let k = c.args.keeper.now in
-    let e = c.args.entering in
+    let e = c.args.seated.entering in
     let U = g.M.Medium.state c.args.unit.now in
     let V = g.M.Medium.state c.note_driving.new.unit in
     let X = g.C.Chip.state c.args.card.now in
     let Z = g.D.Chip.state c.args.others.now in
     let failed : true ≡ is_err c.from_residual.result = search rules in
-    subst (λ (b : Bool). (fell : Bool) × IsMoved c.args.app e b k k c.args.breaks.now c.args.breaks.now U V X X fell × BooksNotes c.args.app e b k k fell (arranged e.which U X Z) (arranged e.which V X Z)) failed (
+    subst (λ (b : Bool). (fell : Bool) × IsMoved c.args.seated.app e b k k c.args.breaks.now c.args.breaks.now U V X X fell × BooksNotes c.args.seated.app e b k k fell (arranged e.which U X Z) (arranged e.which V X Z)) failed (
       false,
-      moved-cut c.args.app e k c.args.breaks.now U V X (one-note IsOnUnit IsComing (event_of INSERTION_WHILE_DRIVING e.at.second e.at.second k.cabin) (λ well. absurd (not_cut well)) c.note_driving.ensures.moments),
-      λ f w a m. booked.moved-cut f w c.args.app a e k U V X Z m (g.met.M.Medium.coherent c.args.unit.now) c.note_driving.ensures.journal c.in_err-note_driving.ensures.cause,
+      moved-cut c.args.seated.app e k c.args.breaks.now U V X (one-note IsOnUnit IsComing (event_of INSERTION_WHILE_DRIVING e.at.second e.at.second k.cabin) (λ well. absurd (not_cut well)) c.note_driving.ensures.moments),
+      λ f w a m. booked.moved-cut f w c.args.seated.app a e k U V X Z m (g.met.M.Medium.coherent c.args.unit.now) c.note_driving.ensures.journal c.in_err-note_driving.ensures.cause,
     )
 
 pub returns-in-Ok-clause-noted : goal.returns-in-Ok-clause-noted
 returns-in-Ok-clause-noted g c =
     let k = c.args.keeper.now in
-    let e = c.args.entering in (
+    let e = c.args.seated.entering in (
       false,
-      moved-kept c.args.app e k c.args.breaks.now (g.M.Medium.state c.args.unit.now) (g.M.Medium.state c.note_driving.new.unit) (g.C.Chip.state c.args.card.now) (g.C.Chip.state c.note_event_on.new.card) c.on_card-event.result
+      moved-kept c.args.seated.app e k c.args.breaks.now (g.M.Medium.state c.args.unit.now) (g.M.Medium.state c.note_driving.new.unit) (g.C.Chip.state c.args.card.now) (g.C.Chip.state c.note_event_on.new.card) c.on_card-event.result
           (event-is _ _ _ _ e c.crew.result c.on_card-event.ensures c.card_driving.ensures c.identity.ensures) c.note_event_on.ensures.moments c.note_event_on.ensures.most
           (one-note IsOnUnit IsComing (event_of INSERTION_WHILE_DRIVING e.at.second e.at.second k.cabin) (λ well. c.in_ok-note_driving.ensures.noted) c.note_driving.ensures.moments) c.in-Ok.ensures.noted c.in-Ok.ensures.cause,
-      λ f w a m. booked.moved-kept f w c.args.app a e k (g.M.Medium.state c.args.unit.now) (g.M.Medium.state c.note_driving.new.unit) (g.C.Chip.state c.args.card.now) (g.D.Chip.state c.args.others.now) m (g.met.M.Medium.coherent c.args.unit.now) c.note_driving.ensures.journal c.in_ok-note_driving.ensures.cause (g.met.M.Medium.coherent c.note_driving.new.unit) (g.met.C.Chip.coherent c.args.card.now) (g.C.Chip.state c.note_event_on.new.card) (g.met.C.Chip.coherent c.note_event_on.new.card) c.on_card-event.result c.note_event_on.ensures.moments c.requires.works c.in-Ok.ensures.cause (omega (arith, largest_image c.args.app (c.requires.card.port c.args.app c.requires.sizes).good, (c.requires.card.port c.args.app c.requires.sizes).size)),
+      λ f w a m. booked.moved-kept f w c.args.seated.app a e k (g.M.Medium.state c.args.unit.now) (g.M.Medium.state c.note_driving.new.unit) (g.C.Chip.state c.args.card.now) (g.D.Chip.state c.args.others.now) m (g.met.M.Medium.coherent c.args.unit.now) c.note_driving.ensures.journal c.in_ok-note_driving.ensures.cause (g.met.M.Medium.coherent c.note_driving.new.unit) (g.met.C.Chip.coherent c.args.card.now) (g.C.Chip.state c.note_event_on.new.card) (g.met.C.Chip.coherent c.note_event_on.new.card) c.on_card-event.result c.note_event_on.ensures.moments c.requires.works c.in-Ok.ensures.cause (omega (arith, largest_image c.args.seated.app (c.requires.card.port c.args.seated.app c.requires.sizes).good, (c.requires.card.port c.args.seated.app c.requires.sizes).size)),
     )
 
 pub returns-in-Err-clause-noted : goal.returns-in-Err-clause-noted
 returns-in-Err-clause-noted g c =
     let k = c.args.keeper.now in
-    let e = c.args.entering in (
+    let e = c.args.seated.entering in (
       true,
-      moved-torn c.args.app e k c.args.breaks.now (g.M.Medium.state c.args.unit.now) (g.M.Medium.state c.note_driving.new.unit) (g.C.Chip.state c.args.card.now) (g.C.Chip.state c.note_event_on.new.card) c.on_card-event.result
+      moved-torn c.args.seated.app e k c.args.breaks.now (g.M.Medium.state c.args.unit.now) (g.M.Medium.state c.note_driving.new.unit) (g.C.Chip.state c.args.card.now) (g.C.Chip.state c.note_event_on.new.card) c.on_card-event.result
           (event-is _ _ _ _ e c.crew.result c.on_card-event.ensures c.card_driving.ensures c.identity.ensures) c.note_event_on.ensures.moments c.note_event_on.ensures.most
           (one-note IsOnUnit IsComing (event_of INSERTION_WHILE_DRIVING e.at.second e.at.second k.cabin) (λ well. c.in_ok-note_driving.ensures.noted) c.note_driving.ensures.moments)
           (is_err c.tear.result) c.tear.new.self c.tear.new.breaks (g.M.Medium.state c.tear.new.unit) c.requires.works c.in-Err.ensures.cause c.tear.ensures.torn.keeper c.tear.ensures.torn.told
           (fault-noted e k c.tear.new.self c.tear.result c.tear.ensures.torn.keeper c.tear.ensures.leaves.noted c.tear.ensures.leaves.moments),
-      λ f w a m. booked.moved-torn f w c.args.app a e k (g.M.Medium.state c.args.unit.now) (g.M.Medium.state c.note_driving.new.unit) (g.C.Chip.state c.args.card.now) (g.D.Chip.state c.args.others.now) m (g.met.M.Medium.coherent c.args.unit.now) c.note_driving.ensures.journal c.in_ok-note_driving.ensures.cause (g.met.M.Medium.coherent c.note_driving.new.unit) (g.met.C.Chip.coherent c.args.card.now) (g.C.Chip.state c.note_event_on.new.card) (g.met.C.Chip.coherent c.note_event_on.new.card) c.on_card-event.result c.note_event_on.ensures.moments (is_err c.tear.result) c.tear.new.self (g.M.Medium.state c.tear.new.unit) c.tear.ensures.torn.keeper c.tear.ensures.leaves.journal c.tear.ensures.behind.cause,
+      λ f w a m. booked.moved-torn f w c.args.seated.app a e k (g.M.Medium.state c.args.unit.now) (g.M.Medium.state c.note_driving.new.unit) (g.C.Chip.state c.args.card.now) (g.D.Chip.state c.args.others.now) m (g.met.M.Medium.coherent c.args.unit.now) c.note_driving.ensures.journal c.in_ok-note_driving.ensures.cause (g.met.M.Medium.coherent c.note_driving.new.unit) (g.met.C.Chip.coherent c.args.card.now) (g.C.Chip.state c.note_event_on.new.card) (g.met.C.Chip.coherent c.note_event_on.new.card) c.on_card-event.result c.note_event_on.ensures.moments (is_err c.tear.result) c.tear.new.self (g.M.Medium.state c.tear.new.unit) c.tear.ensures.torn.keeper c.tear.ensures.leaves.journal c.tear.ensures.behind.cause,
     )
 
 -- ---- when the card was last used
 
 pub returns-in_err-note_driving-clause-timed : goal.returns-in_err-note_driving-clause-timed
-returns-in_err-note_driving-clause-timed g c = λ f w a m. beside-none f c.args.entering.which (g.C.Chip.state c.args.card.now)
+returns-in_err-note_driving-clause-timed g c = λ f w a m. beside-none f c.args.seated.entering.which (g.C.Chip.state c.args.card.now)
 
 pub returns-in-Ok-clause-timed : goal.returns-in-Ok-clause-timed
-returns-in-Ok-clause-timed g c = λ f w a m. booked.moved-timed f w c.args.app a c.args.entering c.args.keeper.now (g.M.Medium.state c.args.unit.now) (g.M.Medium.state c.note_driving.new.unit) (g.C.Chip.state c.args.card.now) (g.D.Chip.state c.args.others.now) m (g.met.M.Medium.coherent c.args.unit.now) c.note_driving.ensures.journal c.in_ok-note_driving.ensures.cause (g.met.M.Medium.coherent c.note_driving.new.unit) (g.met.C.Chip.coherent c.args.card.now) (g.C.Chip.state c.note_event_on.new.card) (g.met.C.Chip.coherent c.note_event_on.new.card) c.on_card-event.result c.note_event_on.ensures.moments
+returns-in-Ok-clause-timed g c = λ f w a m. booked.moved-timed f w c.args.seated.app a c.args.seated.entering c.args.keeper.now (g.M.Medium.state c.args.unit.now) (g.M.Medium.state c.note_driving.new.unit) (g.C.Chip.state c.args.card.now) (g.D.Chip.state c.args.others.now) m (g.met.M.Medium.coherent c.args.unit.now) c.note_driving.ensures.journal c.in_ok-note_driving.ensures.cause (g.met.M.Medium.coherent c.note_driving.new.unit) (g.met.C.Chip.coherent c.args.card.now) (g.C.Chip.state c.note_event_on.new.card) (g.met.C.Chip.coherent c.note_event_on.new.card) c.on_card-event.result c.note_event_on.ensures.moments
 
 pub returns-in-Err-clause-timed : goal.returns-in-Err-clause-timed
-returns-in-Err-clause-timed g c = λ f w a m. booked.moved-timed f w c.args.app a c.args.entering c.args.keeper.now (g.M.Medium.state c.args.unit.now) (g.M.Medium.state c.note_driving.new.unit) (g.C.Chip.state c.args.card.now) (g.D.Chip.state c.args.others.now) m (g.met.M.Medium.coherent c.args.unit.now) c.note_driving.ensures.journal c.in_ok-note_driving.ensures.cause (g.met.M.Medium.coherent c.note_driving.new.unit) (g.met.C.Chip.coherent c.args.card.now) (g.C.Chip.state c.note_event_on.new.card) (g.met.C.Chip.coherent c.note_event_on.new.card) c.on_card-event.result c.note_event_on.ensures.moments
+returns-in-Err-clause-timed g c = λ f w a m. booked.moved-timed f w c.args.seated.app a c.args.seated.entering c.args.keeper.now (g.M.Medium.state c.args.unit.now) (g.M.Medium.state c.note_driving.new.unit) (g.C.Chip.state c.args.card.now) (g.D.Chip.state c.args.others.now) m (g.met.M.Medium.coherent c.args.unit.now) c.note_driving.ensures.journal c.in_ok-note_driving.ensures.cause (g.met.M.Medium.coherent c.note_driving.new.unit) (g.met.C.Chip.coherent c.args.card.now) (g.C.Chip.state c.note_event_on.new.card) (g.met.C.Chip.coherent c.note_event_on.new.card) c.on_card-event.result c.note_event_on.ensures.moments
 
 -- ---- where no tear of a failed call is told no card has broken down
 
@@ -117,7 +117,7 @@ returns-in-Err-clause-behind g c = record {
 pub returns-in-Err-clause-goes : goal.returns-in-Err-clause-goes
 returns-in-Err-clause-goes g c = record {
   later = state-by (g.C.Chip.state c.args.card.now) (g.C.Chip.state c.note_event_on.new.card) _ c.note_event_on.ensures.moments.later c.in-Err.ensures.cause;
-  calm = card-fell c.args.entering.slot c.args.entering.at (ap (λ (l : Listed Break). l.items) c.tear.ensures.torn.told);
+  calm = card-fell c.args.seated.entering.slot c.args.seated.entering.at (ap (λ (l : Listed Break). l.items) c.tear.ensures.torn.told) c.in-Err.ensures.cause.breakdowns c.in-Err.ensures.cause.once;
 }
 
 -- ---- its writes

@@ -29,62 +29,62 @@ begin-requires-clause-ready g c = record {
 pub returns-clause-seated : goal.returns-clause-seated
 returns-clause-seated g c =
     let k = c.args.keeper.now in
-    let e = c.args.entering in
-    let insertion = insertion_of c.args.look.now e in (
+    let e = c.args.seating.entering in
+    let insertion = insertion_of c.args.seating.look e in (
       Some c.in_ok-entry.entry,
       record {
         by = ((c.in_ok-entry.ensures.below, c.in_ok-entry.ensures.index), search rules, search rules);
         notes = notes-then IsOnUnit IsComing (insertion-noted c.insertion_of.result insertion c.insertion_of.ensures (λ well. c.in_ok-entry.ensures.noted) c.note_insertion.ensures.moments)
-            (row-noted-so c.args.look.now.number e.at.second (known_of k.cabin.cards (other e.which)).number _ c.begin.result c.begin.ensures.leaves.begun c.begin.ensures.leaves.moments (search rules));
+            (row-noted-so c.args.seating.look.number e.at.second (known_of k.cabin.cards (other e.which)).number _ c.begin.result c.begin.ensures.leaves.begun c.begin.ensures.leaves.moments (search rules));
       },
     )
 
 pub returns-in_err-entry-clause-seated : goal.returns-in_err-entry-clause-seated
 returns-in_err-entry-clause-seated g c =
     let k = c.args.keeper.now in
-    let e = c.args.entering in
-    let insertion = insertion_of c.args.look.now e in
+    let e = c.args.seating.entering in
+    let insertion = insertion_of c.args.seating.look e in
     let failed : true ≡ is_err c.from_residual.result = search rules in
-    subst (λ (b : Bool). (entry : Option ℕ) × IsSeated c.args.look.now c.args.session c.args.row e b k k c.args.noted.now c.args.noted.now (g.M.Medium.state c.args.unit.now) (g.M.Medium.state c.note_insertion.new.unit) entry) failed (
+    subst (λ (b : Bool). (entry : Option ℕ) × IsSeated c.args.seating.look c.args.seating.session c.args.seating.row e b k k c.args.noted.now c.args.noted.now (g.M.Medium.state c.args.unit.now) (g.M.Medium.state c.note_insertion.new.unit) entry) failed (
       None,
       record { by = (refl, refl, refl); notes = insertion-noted c.insertion_of.result insertion c.insertion_of.ensures (λ well. absurd (not_cut well)) c.note_insertion.ensures.moments },
     )
 
 pub begin-requires-clause-row : goal.begin-requires-clause-row
 begin-requires-clause-row g c =
-    let number = card_number_bytes c.args.look.now.number in
-    let told = option_map (λ (s : FullCardNumber). card_number_bytes s) (known_of c.args.keeper.now.cabin.cards (other c.args.entering.which)).number in
-    let spared : told ≡ option_map (λ s. card_number_bytes s.now) c.as_ref.result = search rules in
-    subst (λ (o : Option (List ℕ)). IfSome (g.M.Medium.state c.note_insertion.new.unit).image (IsRowFor c.args.row number o)) spared
-    (row-for-noted (g.met.M.Medium.coherent c.args.unit.now) (g.met.M.Medium.coherent c.note_insertion.new.unit) c.requires.ready.works c.note_insertion.ensures.journal c.args.row number told c.requires.row)
+    let number = card_number_bytes c.args.seating.look.number in
+    let told = option_map (λ (s : FullCardNumber). card_number_bytes s) (known_of c.args.keeper.now.cabin.cards (other c.args.seating.entering.which)).number in
+    let spared : told ≡ option_map (λ (s : FullCardNumber). card_number_bytes s) c.of.result.now.number = first_of (search rules, cc) in
+    subst (λ (o : Option (List ℕ)). IfSome (g.M.Medium.state c.note_insertion.new.unit).image (IsRowFor c.args.seating.row number o)) spared
+    (row-for-noted (g.met.M.Medium.coherent c.args.unit.now) (g.met.M.Medium.coherent c.note_insertion.new.unit) c.requires.ready.works c.note_insertion.ensures.journal c.args.seating.row number told c.requires.row)
 
 pub returns-clause-booked : goal.returns-clause-booked
 returns-clause-booked g c = λ f w m.
     let k = c.args.keeper.now in
-    let e = c.args.entering in
+    let e = c.args.seating.entering in
     let U = g.M.Medium.state c.args.unit.now in
     let V = g.M.Medium.state c.note_insertion.new.unit in
     let W = g.M.Medium.state c.begin.new.unit in
     let X = g.C.Chip.state c.args.card.now in
     let Z = g.D.Chip.state c.args.others.now in
     let failed = is_err c.begin.result in
-    let booked = seat-carried f w k e c.args.look.now c.args.session c.args.row c.in_ok-entry.entry c.args.noted.now U V W X Z m (g.met.M.Medium.coherent c.args.unit.now) (g.met.M.Medium.coherent c.note_insertion.new.unit) c.note_insertion.ensures.journal c.in_ok-entry.ensures.cause
+    let booked = seat-carried f w k e c.args.seating.look c.args.seating.session c.args.seating.row c.in_ok-entry.entry c.args.noted.now U V W X Z m (g.met.M.Medium.coherent c.args.unit.now) (g.met.M.Medium.coherent c.note_insertion.new.unit) c.note_insertion.ensures.journal c.in_ok-entry.ensures.cause
     _ (search rules) failed c.begin.ensures.goes.cause c.begin.ensures.goes.tells c.begin.ensures.rules.holds c.begin.ensures.rules.mine c.begin.ensures.rules.others k.journal.kept in
-    let kept : c.accept.new.self ≡ seated c.args.look.now c.args.session c.args.row c.in_ok-entry.entry c.args.noted.now e k.cabin = search rules in
-    subst (λ (b : Cabin). IsCarriedOn failed f (carried_row failed c.args.session e k.journal.kept w) b.cards (arranged e.which W X Z)) (sym kept) booked
+    let kept : c.accept.new.self ≡ seated c.args.seating.look c.args.seating.session c.args.seating.row c.in_ok-entry.entry c.args.noted.now e k.cabin = search rules in
+    subst (λ (b : Cabin). IsCarriedOn failed f (carried_row failed c.args.seating.session e k.journal.kept w) b.cards (arranged e.which W X Z)) (sym kept) booked
 
 pub returns-in_err-entry-clause-booked : goal.returns-in_err-entry-clause-booked
 returns-in_err-entry-clause-booked g c = λ f w m.
     let k = c.args.keeper.now in
-    let e = c.args.entering in
+    let e = c.args.seating.entering in
     let U = g.M.Medium.state c.args.unit.now in
     let V = g.M.Medium.state c.note_insertion.new.unit in
     let X = g.C.Chip.state c.args.card.now in
     let Z = g.D.Chip.state c.args.others.now in
     let failed : true ≡ is_err c.from_residual.result = search rules in
-    subst (λ (b : Bool). IsCarriedOn b f (carried_row b c.args.session e k.journal.kept w) k.cabin.cards (arranged e.which V X Z)) failed
+    subst (λ (b : Bool). IsCarriedOn b f (carried_row b c.args.seating.session e k.journal.kept w) k.cabin.cards (arranged e.which V X Z)) failed
     (noted-carried e.which f (with_brought e.which k.journal.kept w) k.cabin.cards U V X Z true m.found (g.met.M.Medium.coherent c.args.unit.now)
-    (brought-powered f w k.cabin.cards e.which U X Z m.found e.at.second c.args.session.minute m.put.entered m.late m.powered k.journal.kept) c.note_insertion.ensures.journal c.in_err-entry.ensures.cause)
+    (brought-powered f w k.cabin.cards e.which U X Z m.found e.at.second c.args.seating.session.minute m.put.entered m.late m.powered k.journal.kept) c.note_insertion.ensures.journal c.in_err-entry.ensures.cause)
 
 pub returns-clause-behind : goal.returns-clause-behind
 returns-clause-behind g c = record {
@@ -97,15 +97,15 @@ returns-clause-behind g c = record {
       let V = g.M.Medium.state c.begin.new.unit in
       on_ok c.begin.result (λ well.
       subst (λ (b : Cabin). HasItsRow b.cards V card) (sym c.accept.ensures.kept)
-      (rows-seated c.args.entering.slot c.args.entering.which card c.args.look.now.number c.args.row _ c.args.keeper.now.cabin M V c.requires.low
+      (rows-seated c.args.seating.entering.slot c.args.seating.entering.which card c.args.seating.look.number c.args.seating.row _ c.args.keeper.now.cabin M V c.requires.low
       (ok_gives c.begin.result c.begin.ensures.stands.row well)
       (λ r n told had. ok_gives c.begin.result (c.begin.ensures.stands.spares r n (search (rules, told)) had) well)
       (has-row cards cards U M card refl refl (row-noted (g.met.M.Medium.coherent c.args.unit.now) (g.met.M.Medium.coherent c.note_insertion.new.unit) c.requires.ready.works c.note_insertion.ensures.journal) h)));
   row =
       let V = g.M.Medium.state c.begin.new.unit in
       on_ok c.begin.result (λ well.
-      subst (λ (b : Cabin). HasItsRow b.cards V c.args.entering.which) (sym c.accept.ensures.kept)
-      (row-seated c.args.entering.slot c.args.entering.which c.args.look.now.number c.args.row _ c.args.keeper.now.cabin V c.requires.low (ok_gives c.begin.result c.begin.ensures.stands.row well)));
+      subst (λ (b : Cabin). HasItsRow b.cards V c.args.seating.entering.which) (sym c.accept.ensures.kept)
+      (row-seated c.args.seating.entering.slot c.args.seating.entering.which c.args.seating.look.number c.args.seating.row _ c.args.keeper.now.cabin V c.requires.low (ok_gives c.begin.result c.begin.ensures.stands.row well)));
   -- its session was opened in this second's minute, and holds no entry by hand yet
   stands = λ from le late s. c.accept.ensures.stands from le (rw c.new.ensures (late, omega arith, inl refl)) s;
   cause = first_of (search rules, grind (arith, common_steps));

@@ -17,19 +17,19 @@ use Rattle.run_insertion.proofs.seating.take_in.Goals as goal
 pub returns-in_err-seat-clause-ended : goal.returns-in_err-seat-clause-ended
 returns-in_err-seat-clause-ended g c =
     let k = c.args.keeper.now in
-    let e = c.args.entering in
+    let e = c.args.found.entering in
     let o = c.args.outcome.now in
-    let entered = c.args.entered in
+    let entered = c.args.found.entered in
     let U = g.M.Medium.state c.args.unit.now in
     let V = g.M.Medium.state c.seat.new.unit in
     let X = g.C.Chip.state c.args.card.now in
-    let Z = g.D.Chip.state c.args.others.now in
+    let Z = g.D.Chip.state c.args.found.others.now in
     let s = c.in_err-seat.ensures.seated in
     let marked = subst (λ (t : ℕ). c.tell_replayed.new.marks ≡ and_marks (device_of e.which) t (last_of entered.owed.items entered.replayed) o.marks) c.clock-clock.ensures c.tell_replayed.ensures.told in
-    let t = taken-cut c.args.app e entered X.clock k c.args.noted.now o c.tell_replayed.new.marks c.find.new.finds marked c.find.ensures.told c.seat.new.keeper c.seat.new.noted U V X s.0 s.1 in
+    let t = taken-cut c.args.found.app e entered X.clock k c.args.noted.now o c.tell_replayed.new.marks c.find.new.finds marked c.find.ensures.told c.seat.new.keeper c.seat.new.noted U V X s.0 s.1 in
     let failed : true ≡ is_err c.from_residual.result = search rules in
     subst (λ (b : Bool). (fell : Bool) × (entry : Option ℕ) × IsEntry entry b U.image
-    × IsTaken c.args.app e b k c.seat.new.keeper c.args.noted.now c.seat.new.noted o (record o { marks = c.tell_replayed.new.marks; finds = c.find.new.finds }) U V X X (taken_as fell entered X.clock entry) × BooksTaken entered (taken_as fell entered X.clock entry) e b k c.seat.new.keeper U V X X Z) failed (
+    × IsTaken c.args.found.app e b k c.seat.new.keeper c.args.noted.now c.seat.new.noted o (record o { marks = c.tell_replayed.new.marks; finds = c.find.new.finds }) U V X X (taken_as fell entered X.clock entry) × BooksTaken entered (taken_as fell entered X.clock entry) e b k c.seat.new.keeper U V X X Z) failed (
       false,
       s.0,
       t.0,
@@ -44,22 +44,22 @@ returns-in_err-seat-clause-ended g c =
 pub returns-clause-ended : goal.returns-clause-ended
 returns-clause-ended g c =
     let k = c.args.keeper.now in
-    let e = c.args.entering in
+    let e = c.args.found.entering in
     let o = c.args.outcome.now in
-    let entered = c.args.entered in
+    let entered = c.args.found.entered in
     let U = g.M.Medium.state c.args.unit.now in
     let X = g.C.Chip.state c.args.card.now in
     let s = c.in_ok-seat.ensures.seated in
     let m = c.note_entered.ensures.noted in
     let marked = subst (λ (t : ℕ). c.tell_replayed.new.marks ≡ and_marks (device_of e.which) t (last_of entered.owed.items entered.replayed) o.marks) c.clock-clock.ensures c.tell_replayed.ensures.told in
-    let t = taken-on c.args.app e entered X.clock k c.args.noted.now o c.tell_replayed.new.marks c.find.new.finds marked c.find.ensures.told m.0 (is_err c.note_entered.result) c.seat.new.keeper c.note_entered.new.keeper c.seat.new.noted c.note_entered.new.breaks
+    let t = taken-on c.args.found.app e entered X.clock k c.args.noted.now o c.tell_replayed.new.marks c.find.new.finds marked c.find.ensures.told m.0 (is_err c.note_entered.result) c.seat.new.keeper c.note_entered.new.keeper c.seat.new.noted c.note_entered.new.breaks
     U (g.M.Medium.state c.seat.new.unit) (g.M.Medium.state c.note_entered.new.unit) X (g.C.Chip.state c.note_entered.new.card) s.0 s.1 m.1 in
-    let Z = g.D.Chip.state c.args.others.now in (
+    let Z = g.D.Chip.state c.args.found.others.now in (
       m.0,
       s.0,
       t.0,
       t.1,
-      taken-notes c.args.app e entered X.clock k c.args.noted.now m.0 (is_err c.note_entered.result) c.seat.new.keeper c.note_entered.new.keeper c.seat.new.noted U (g.M.Medium.state c.seat.new.unit) (g.M.Medium.state c.note_entered.new.unit)
+      taken-notes c.args.found.app e entered X.clock k c.args.noted.now m.0 (is_err c.note_entered.result) c.seat.new.keeper c.note_entered.new.keeper c.seat.new.noted U (g.M.Medium.state c.seat.new.unit) (g.M.Medium.state c.note_entered.new.unit)
           X (g.C.Chip.state c.note_entered.new.card) Z m.1.keeper s.0 s.1.by c.requires.session c.in_ok-seat.ensures.booked c.in_ok-seat.ensures.value m.2 c.note_entered.ensures.timed,
     )
 
@@ -68,10 +68,10 @@ returns-clause-ended g c =
 pub note_entered-requires-clause-card : goal.note_entered-requires-clause-card
 note_entered-requires-clause-card g c =
     let s = c.in_ok-seat.ensures.seated in
-    seated-ready c.args.entered.look c.args.entered.session c.args.entered.row c.args.entering false c.args.keeper.now c.seat.new.keeper c.args.noted.now c.seat.new.noted (g.M.Medium.state c.args.unit.now).image s.0 c.args.app (g.C.Chip.card c.args.card.now) (g.C.Chip.state c.args.card.now) s.1.by c.requires.come.bare c.requires.card.sizes c.requires.session c.requires.card.port c.requires.card.works
+    seated-ready c.args.found.entered.look c.args.found.entered.session c.args.found.entered.row c.args.found.entering false c.args.keeper.now c.seat.new.keeper c.args.noted.now c.seat.new.noted (g.M.Medium.state c.args.unit.now).image s.0 c.args.found.app (g.C.Chip.card c.args.card.now) (g.C.Chip.state c.args.card.now) s.1.by c.requires.come.bare c.requires.card.sizes c.requires.session c.requires.card.port c.requires.card.works
 
 pub returns-clause-row : goal.returns-clause-row
-returns-clause-row g c = if-any _ (c.note_entered.ensures.behind.rows c.args.entering.which c.in_ok-seat.ensures.behind.row)
+returns-clause-row g c = if-any _ (c.note_entered.ensures.behind.rows c.args.found.entering.which c.in_ok-seat.ensures.behind.row)
 
 -- ---- where no tear of a failed call is told no card has broken down
 
@@ -86,7 +86,7 @@ returns-in_err-seat-clause-behind g c = record {
   cause = first_of (search rules, grind (arith, common_steps));
   card =
       let s = c.in_err-seat.ensures.seated in
-      seated-ready c.args.entered.look c.args.entered.session c.args.entered.row c.args.entering true c.args.keeper.now c.seat.new.keeper c.args.noted.now c.seat.new.noted (g.M.Medium.state c.args.unit.now).image s.0 c.args.app (g.C.Chip.card c.args.card.now) (g.C.Chip.state c.args.card.now) s.1.by c.requires.come.bare c.requires.card.sizes c.requires.session c.requires.card.port c.requires.card.works;
+      seated-ready c.args.found.entered.look c.args.found.entered.session c.args.found.entered.row c.args.found.entering true c.args.keeper.now c.seat.new.keeper c.args.noted.now c.seat.new.noted (g.M.Medium.state c.args.unit.now).image s.0 c.args.found.app (g.C.Chip.card c.args.card.now) (g.C.Chip.state c.args.card.now) s.1.by c.requires.come.bare c.requires.card.sizes c.requires.session c.requires.card.port c.requires.card.works;
   size = first_of (search rules, grind (arith, common_steps));
 }
 
@@ -110,7 +110,7 @@ returns-clause-behind g c = record {
   stands =
       λ from le s.
       let t = c.in_ok-seat.ensures.seated in
-      let same = seated-minute c.args.entered.look c.args.entered.session c.args.entered.row c.args.entering false c.args.keeper.now c.seat.new.keeper c.args.noted.now c.seat.new.noted (g.M.Medium.state c.args.unit.now).image t.0 t.1.by in
+      let same = seated-minute c.args.found.entered.look c.args.found.entered.session c.args.found.entered.row c.args.found.entering false c.args.keeper.now c.seat.new.keeper c.args.noted.now c.seat.new.noted (g.M.Medium.state c.args.unit.now).image t.0 t.1.by in
       let early : c.args.keeper.now.cabin.slots.minute ≤ from = let minute = c.requires.come.minute in omega (arith, minute, le) in
       c.note_entered.ensures.behind.stands from (subst (λ (m : ℕ). m ≤ from) (sym same) early) (c.in_ok-seat.ensures.behind.stands from early le s);
   cause = first_of (search rules, grind (arith, common_steps));

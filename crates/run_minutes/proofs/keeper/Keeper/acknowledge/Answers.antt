@@ -18,7 +18,7 @@ use Rattle.run_minutes.proofs.keeper.Keeper.acknowledge.Goals as goal
 
 pub owe_to-requires-2-clause-row : goal.owe_to-requires-2-clause-row
 owe_to-requires-2-clause-row g c =
-    some-goes c.args.present.codriver (HasItsRow c.args.self.now.cabin.cards (g.M.Medium.state c.args.unit.now)) (HasItsRow c.owe_to.new.self.cabin.cards (g.M.Medium.state c.owe_to.new.unit))
+    some-goes c.args.said.present.codriver (HasItsRow c.args.self.now.cabin.cards (g.M.Medium.state c.args.unit.now)) (HasItsRow c.owe_to.new.self.cabin.cards (g.M.Medium.state c.owe_to.new.unit))
     (c.in_ok-owe_to.ensures.stands.rows refl) c.requires.rows.codriver
 
 -- ---- the unit failed as an entry was put
@@ -30,9 +30,9 @@ returns-in_err-owe_to-clause-booked g c = λ says.
     let U1 = g.M.Medium.state c.owe_to.new.unit in
     let X = g.C.Chip.state c.args.card_a.now in
     let Y = g.D.Chip.state c.args.card_b.now in
-    subst (λ (b : Bool). BooksOwed c.args.present c.args.minute.now b (told_with c.args.self.now c.args.marks.now) (told_with c.owe_to.new.self c.args.marks.now) (devices U X Y) (devices U1 X Y)) failed
-    (cut-first c.args.minute.now c.args.present says c.requires.apart (told_with c.args.self.now c.args.marks.now) (told_with c.owe_to.new.self c.args.marks.now) U U1 X Y
-    (put-at c.args.present.driver c.kept_in-driver.result.entry (entry_in c.args.minute.now Driver) true c.args.self.now.cabin.cards c.args.self.now.cabin.cards U U1 X Y (ap (λ (k : Kept). k.entry) c.kept_in-driver.ensures) refl c.in_err-owe_to.ensures.booked) c.in_err-owe_to.ensures.travelled)
+    subst (λ (b : Bool). BooksOwed c.args.said.present c.args.said.minute b (told_with c.args.self.now c.args.marks.now) (told_with c.owe_to.new.self c.args.marks.now) (devices U X Y) (devices U1 X Y)) failed
+    (cut-first c.args.said.minute c.args.said.present says c.requires.apart (told_with c.args.self.now c.args.marks.now) (told_with c.owe_to.new.self c.args.marks.now) U U1 X Y
+    (put-at c.args.said.present.driver c.kept_in-driver.result.entry (entry_in c.args.said.minute Driver) true c.args.self.now.cabin.cards c.args.self.now.cabin.cards U U1 X Y (ap (λ (k : Kept). k.entry) c.kept_in-driver.ensures) refl c.in_err-owe_to.ensures.booked) c.in_err-owe_to.ensures.travelled)
 
 pub returns-in_err-owe_to-2-clause-booked : goal.returns-in_err-owe_to-2-clause-booked
 returns-in_err-owe_to-2-clause-booked g c = λ says.
@@ -42,10 +42,10 @@ returns-in_err-owe_to-2-clause-booked g c = λ says.
     let U2 = g.M.Medium.state c.owe_to-2.new.unit in
     let X = g.C.Chip.state c.args.card_a.now in
     let Y = g.D.Chip.state c.args.card_b.now in
-    subst (λ (b : Bool). BooksOwed c.args.present c.args.minute.now b (told_with c.args.self.now c.args.marks.now) (told_with c.owe_to-2.new.self c.args.marks.now) (devices U X Y) (devices U2 X Y)) failed
-    (cut-second c.args.minute.now c.args.present says c.requires.apart (told_with c.args.self.now c.args.marks.now) (told_with c.owe_to-2.new.self c.args.marks.now) U U1 X Y
-    (put-at c.args.present.driver c.kept_in-driver.result.entry (entry_in c.args.minute.now Driver) false c.args.self.now.cabin.cards c.args.self.now.cabin.cards U U1 X Y (ap (λ (k : Kept). k.entry) c.kept_in-driver.ensures) refl c.in_ok-owe_to.ensures.booked) c.in_ok-owe_to.ensures.travelled U2
-    (put-at c.args.present.codriver c.kept_in-codriver.result.entry (entry_in c.args.minute.now CoDriver) true c.owe_to.new.self.cabin.cards c.args.self.now.cabin.cards U1 U2 X Y (ap (λ (k : Kept). k.entry) c.kept_in-codriver.ensures)
+    subst (λ (b : Bool). BooksOwed c.args.said.present c.args.said.minute b (told_with c.args.self.now c.args.marks.now) (told_with c.owe_to-2.new.self c.args.marks.now) (devices U X Y) (devices U2 X Y)) failed
+    (cut-second c.args.said.minute c.args.said.present says c.requires.apart (told_with c.args.self.now c.args.marks.now) (told_with c.owe_to-2.new.self c.args.marks.now) U U1 X Y
+    (put-at c.args.said.present.driver c.kept_in-driver.result.entry (entry_in c.args.said.minute Driver) false c.args.self.now.cabin.cards c.args.self.now.cabin.cards U U1 X Y (ap (λ (k : Kept). k.entry) c.kept_in-driver.ensures) refl c.in_ok-owe_to.ensures.booked) c.in_ok-owe_to.ensures.travelled U2
+    (put-at c.args.said.present.codriver c.kept_in-codriver.result.entry (entry_in c.args.said.minute CoDriver) true c.owe_to.new.self.cabin.cards c.args.self.now.cabin.cards U1 U2 X Y (ap (λ (k : Kept). k.entry) c.kept_in-codriver.ensures)
     (ap (λ (k : Keeper). k.cabin.cards) {y = c.args.self.now} c.in_ok-owe_to.ensures.same) c.in_err-owe_to-2.ensures.booked) c.in_err-owe_to-2.ensures.travelled)
 
 -- ---- or as it kept the minute
@@ -60,10 +60,10 @@ returns-in_err-commit-clause-booked g c = λ says.
     let X = g.C.Chip.state c.args.card_a.now in
     let Y = g.D.Chip.state c.args.card_b.now in
     let e = c.in_err-commit.ensures in
-    subst (λ (b : Bool). BooksOwed c.args.present c.args.minute.now b (told_with c.args.self.now c.args.marks.now) (told_with (record c.owe_to-2.new.self { journal = c.commit.new.journal }) c.args.marks.now) (devices U X Y) (devices V X Y)) failed
-    (kept-or-cut c.args.minute.now c.args.present says c.requires.apart (told_with c.args.self.now c.args.marks.now) (told_with (record c.owe_to-2.new.self { journal = c.commit.new.journal }) c.args.marks.now) U U1 X Y
-    (put-at c.args.present.driver c.kept_in-driver.result.entry (entry_in c.args.minute.now Driver) false c.args.self.now.cabin.cards c.args.self.now.cabin.cards U U1 X Y (ap (λ (k : Kept). k.entry) c.kept_in-driver.ensures) refl c.in_ok-owe_to.ensures.booked) c.in_ok-owe_to.ensures.travelled U2
-    (put-at c.args.present.codriver c.kept_in-codriver.result.entry (entry_in c.args.minute.now CoDriver) false c.owe_to.new.self.cabin.cards c.args.self.now.cabin.cards U1 U2 X Y (ap (λ (k : Kept). k.entry) c.kept_in-codriver.ensures)
+    subst (λ (b : Bool). BooksOwed c.args.said.present c.args.said.minute b (told_with c.args.self.now c.args.marks.now) (told_with (record c.owe_to-2.new.self { journal = c.commit.new.journal }) c.args.marks.now) (devices U X Y) (devices V X Y)) failed
+    (kept-or-cut c.args.said.minute c.args.said.present says c.requires.apart (told_with c.args.self.now c.args.marks.now) (told_with (record c.owe_to-2.new.self { journal = c.commit.new.journal }) c.args.marks.now) U U1 X Y
+    (put-at c.args.said.present.driver c.kept_in-driver.result.entry (entry_in c.args.said.minute Driver) false c.args.self.now.cabin.cards c.args.self.now.cabin.cards U U1 X Y (ap (λ (k : Kept). k.entry) c.kept_in-driver.ensures) refl c.in_ok-owe_to.ensures.booked) c.in_ok-owe_to.ensures.travelled U2
+    (put-at c.args.said.present.codriver c.kept_in-codriver.result.entry (entry_in c.args.said.minute CoDriver) false c.owe_to.new.self.cabin.cards c.args.self.now.cabin.cards U1 U2 X Y (ap (λ (k : Kept). k.entry) c.kept_in-codriver.ensures)
     (ap (λ (k : Keeper). k.cabin.cards) {y = c.args.self.now} c.in_ok-owe_to.ensures.same) c.in_ok-owe_to-2.ensures.booked) c.in_ok-owe_to-2.ensures.travelled V true
     (g.met.M.Medium.coherent c.owe_to-2.new.unit) (g.met.C.Chip.coherent c.args.card_a.now) (g.met.D.Chip.coherent c.args.card_b.now) e.goes.tells e.goes.cause e.rules.holds e.rules.first e.rules.second e.leaves.views e.leaves.travelled
     (ap (λ (k : Keeper). k.cabin.cards) (c.in_ok-owe_to-2.ensures.same ∙ c.in_ok-owe_to.ensures.same)))
@@ -79,9 +79,9 @@ returns-clause-booked g c = λ says.
     let X = g.C.Chip.state c.args.card_a.now in
     let Y = g.D.Chip.state c.args.card_b.now in
     let e = c.in_ok-commit.ensures in
-    kept-or-cut c.args.minute.now c.args.present says c.requires.apart (told_with c.args.self.now c.args.marks.now) (told_with (record c.owe_to-2.new.self { journal = c.commit.new.journal }) c.add.new.self) U U1 X Y
-    (put-at c.args.present.driver c.kept_in-driver.result.entry (entry_in c.args.minute.now Driver) false c.args.self.now.cabin.cards c.args.self.now.cabin.cards U U1 X Y (ap (λ (k : Kept). k.entry) c.kept_in-driver.ensures) refl c.in_ok-owe_to.ensures.booked) c.in_ok-owe_to.ensures.travelled U2
-    (put-at c.args.present.codriver c.kept_in-codriver.result.entry (entry_in c.args.minute.now CoDriver) false c.owe_to.new.self.cabin.cards c.args.self.now.cabin.cards U1 U2 X Y (ap (λ (k : Kept). k.entry) c.kept_in-codriver.ensures)
+    kept-or-cut c.args.said.minute c.args.said.present says c.requires.apart (told_with c.args.self.now c.args.marks.now) (told_with (record c.owe_to-2.new.self { journal = c.commit.new.journal }) c.add.new.self) U U1 X Y
+    (put-at c.args.said.present.driver c.kept_in-driver.result.entry (entry_in c.args.said.minute Driver) false c.args.self.now.cabin.cards c.args.self.now.cabin.cards U U1 X Y (ap (λ (k : Kept). k.entry) c.kept_in-driver.ensures) refl c.in_ok-owe_to.ensures.booked) c.in_ok-owe_to.ensures.travelled U2
+    (put-at c.args.said.present.codriver c.kept_in-codriver.result.entry (entry_in c.args.said.minute CoDriver) false c.owe_to.new.self.cabin.cards c.args.self.now.cabin.cards U1 U2 X Y (ap (λ (k : Kept). k.entry) c.kept_in-codriver.ensures)
     (ap (λ (k : Keeper). k.cabin.cards) {y = c.args.self.now} c.in_ok-owe_to.ensures.same) c.in_ok-owe_to-2.ensures.booked) c.in_ok-owe_to-2.ensures.travelled V false
     (g.met.M.Medium.coherent c.owe_to-2.new.unit) (g.met.C.Chip.coherent c.args.card_a.now) (g.met.D.Chip.coherent c.args.card_b.now) e.goes.tells e.goes.cause e.rules.holds e.rules.first e.rules.second e.leaves.views e.leaves.travelled
     (ap (λ (k : Keeper). k.cabin.cards) (c.in_ok-owe_to-2.ensures.same ∙ c.in_ok-owe_to.ensures.same))
@@ -101,16 +101,16 @@ returns-in_err-owe_to-2-clause-goes g c =
 pub returns-in_err-commit-clause-goes : goal.returns-in_err-commit-clause-goes
 returns-in_err-commit-clause-goes g c =
     let failed : true ≡ is_err c.from_residual-in_err-commit.result = search rules in
-    let km = kept_minute c.args.minute.now in
-    let n = c.args.minute.now.odometer.0 in
+    let km = kept_minute c.args.said.minute in
+    let n = c.args.said.minute.odometer.0 in
     unit-by failed (unit-then c.in_ok-owe_to.ensures.goes (unit-then c.in_ok-owe_to-2.ensures.goes
     (unit-moments true (g.M.Medium.state c.owe_to-2.new.unit) (g.M.Medium.state c.commit.new.unit) (IsKeeping km n) (g.met.M.Medium.coherent c.owe_to-2.new.unit) (g.met.M.Medium.coherent c.commit.new.unit) c.in_err-commit.ensures.leaves.moments
     (keeping-speeds km n) (λ x y h. keeping-nothing km n x y h) c.in_err-commit.ensures.goes.cause)))
 
 pub returns-clause-goes : goal.returns-clause-goes
 returns-clause-goes g c =
-    let km = kept_minute c.args.minute.now in
-    let n = c.args.minute.now.odometer.0 in
+    let km = kept_minute c.args.said.minute in
+    let n = c.args.said.minute.odometer.0 in
     unit-then c.in_ok-owe_to.ensures.goes (unit-then c.in_ok-owe_to-2.ensures.goes
     (unit-moments false (g.M.Medium.state c.owe_to-2.new.unit) (g.M.Medium.state c.commit.new.unit) (IsKeeping km n) (g.met.M.Medium.coherent c.owe_to-2.new.unit) (g.met.M.Medium.coherent c.commit.new.unit) c.in_ok-commit.ensures.leaves.moments
     (keeping-speeds km n) (λ x y h. keeping-nothing km n x y h) c.in_ok-commit.ensures.goes.cause))

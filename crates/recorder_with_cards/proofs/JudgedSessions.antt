@@ -1,0 +1,28 @@
+-- Which session a card that is judged may tell, by what the rings note of it.
+use Rattle.std.proofs.Common.{◌≡◌, ◌⊎◌, inl, inr, ⊎_elim, ℕ, List, [], filter}
+use Rattle.trace_model.specs.declared.Card.{Card}
+use Rattle.log_model.specs.declared.lines.Verdict.{Verdict}
+use Rattle.log_model.specs.Log.{RunLog, is_accepting}
+use Rattle.note_model.specs.Odometer.{SpanFrom}
+use Rattle.note_model.specs.Noted.{Acceptance}
+use Rattle.safety_model.specs.Safe.{Devices}
+use Rattle.run_promise.specs.Origin.{Origin}
+use Rattle.run_note_record.specs.OnCards.{CardsGo}
+use Rattle.run_note_record.specs.RingsSoFar.{HasMoreBreaks}
+use Rattle.run_note_record.specs.Sessions.{FailsIn, OpensIn}
+use Rattle.run_note_record.proofs.OnCards.{call-failed-more}
+use Rattle.run_note_record.proofs.Sessions.{go-more}
+use Rattle.recorder_with_cards.specs.JudgedRings.{JudgesIn}
+
+module _ (o : Origin) (spans : List SpanFrom) (d e : Devices) (log later : RunLog) (more : HasMoreBreaks log later) (a : Acceptance) (vs : List Verdict) (cards : CardsGo o spans (JudgesIn log a vs) d e) where
+  -- a later log knows of the failure
+  fails-later : (c : Card) (t : ℕ) → FailsIn log a.second c t → FailsIn later a.second c t
+  fails-later c t failing = (failing.0, call-failed-more log later more a.second failing.1)
+
+  -- it was not accepted
+  pub cards-fail : filter is_accepting vs ≡ [] → CardsGo o spans (FailsIn later a.second) d e
+  cards-fail none = go-more o spans (JudgesIn log a vs) (FailsIn later a.second) d e (λ c t may. ⊎_elim (λ own. absurd (own.1 none)) (λ failing. fails-later c t failing) may) cards
+
+  -- it was
+  pub cards-open : CardsGo o spans (OpensIn later a) d e
+  cards-open = go-more o spans (JudgesIn log a vs) (OpensIn later a) d e (λ c t may. ⊎_elim (λ own. inl (own.0, own.2)) (λ failing. inr (fails-later c t failing)) may) cards

@@ -1,0 +1,24 @@
+-- Which session the cards tell in Current_Usage behind a run with cards, whatever calls failed (profile).
+use Rattle.std.specs.Prelude.{List, ℕ}
+use Rattle.trace_model.specs.declared.Card.{Card}
+use Rattle.tach_media.specs.Medium.{State}
+use Rattle.card_image.specs.Own.{IsOwnValid}
+use Rattle.safety_model.specs.Recording.{Recording, card_image}
+use Rattle.safety_model.specs.Safe.{Devices, card_of}
+use Rattle.safety_model.specs.Side.{notes_in}
+use Rattle.run_note_record.specs.Sessions.{MayTell, session_told}
+
+-- an image of a card tells of no session, or of one that may be open behind what the run has noted: that of its image
+-- at the start, or of one of its acceptances, since it was last withdrawn in a second in which no call on the unit
+-- failed; or of a second no earlier than that in which a call failed
+abbrev pub TellsSession : Recording → Card → (x : List ℕ) → Type 0
+TellsSession r c x = MayTell r.log c (session_told (card_image r c) (card_image r c)) (notes_in r)
+    (session_told (card_image r c) x)
+
+-- so does each that a stop may leave of a card that was valid at the start
+abbrev pub KeepsSession : Recording → Card → State → Type 0
+KeepsSession r c card = IsOwnValid (card_image r c) → (x : List ℕ) → card.may_leave x → TellsSession r c x
+
+-- NO CARD TELLS OF A SESSION that was closed, nor of one that was not begun, whatever calls failed.
+abbrev pub TellTheirSessions : Recording → (now : Devices) → Type 0
+TellTheirSessions r now = (c : Card) → KeepsSession r c (card_of now c)

@@ -1,0 +1,9 @@
+-- How the session of a card goes on, by Current_Usage of its images (profile): over calls, whatever of them failed.
+use Rattle.std.specs.Prelude.{◌≡◌, ◌⊎◌, ℕ, List}
+use Rattle.card_layout.specs.declared.files.Application.{Application}
+use Rattle.card_image.specs.Fields.{session_time}
+
+-- THE SESSION OF AN IMAGE GOES ON, by these sizes: it is that of another image, or none, or one that may come
+abbrev pub SessionGoes : Application → (May : ℕ → Type 0) → (x y : List ℕ) → Type 0
+SessionGoes app May x y = (session_time app y ≡ session_time app x) ⊎ ((session_time app y ≡ 0)
+    ⊎ May (session_time app y))
