@@ -85,3 +85,12 @@ number-split text i value separator inside all is small some first here =
     let digits : take i text ≡ decimal value = spells (take i text) value all is small some first in
     let split : text ≡ take i text ++ separator ∷ drop (i + 1) text = sym (take-append-drop i text) ∙ rw (drop_more text i 0 inside, here) refl in
     split ∙ ap (λ (d : List ℕ). d ++ separator ∷ drop (i + 1) text) digits ∙ rw (take_rest text (i + 1)) refl
+
+-- ---- the word at the head of a text
+
+pub begins-run : (text : List ℕ) → 4 ≤ length text → get_or text 0 0 ≡ 114 → get_or text 1 0 ≡ 117 → get_or text 2 0 ≡ 110 → get_or text 3 0 ≡ 32 → text ≡ codes "run " ++ take (length text - 4) (drop 4 text)
+begins-run [] long r u n space = absurd (omega (arith, long))
+begins-run (a ∷ []) long r u n space = absurd (omega (arith, long))
+begins-run (a ∷ b ∷ []) long r u n space = absurd (omega (arith, long))
+begins-run (a ∷ b ∷ c ∷ []) long r u n space = absurd (omega (arith, long))
+begins-run (a ∷ b ∷ c ∷ d ∷ rest) long r u n space = rw (take_rest (a ∷ b ∷ c ∷ d ∷ rest) 4, r, u, n, space) refl

@@ -18,7 +18,6 @@ use crate::run_line::first_run;
 use std::alloc::Global;
 use tach_media::{Source, TakeFault, take_all};
 use text_fields::first_piece;
-use trace_model::Item;
 
 /// The most bytes of a source.
 const MOST_BYTES: u32 = 16777216;
@@ -89,7 +88,7 @@ fn take_line<'a>(reading: &mut Reading, text: &'a [u8]) -> Result<&'a [u8], Trac
 {
     if let Some(start) = reading.start {
         if let Some((seconds, speed, rest)) = first_run(text) {
-            reading.take_read(start, Item::Run { seconds, speed })?;
+            reading.take_run(start, seconds, speed)?;
             return Ok(rest);
         }
     }

@@ -32,7 +32,9 @@ impl Reading {
     ghost use Rattle.std.specs.Prelude.{◌^◌, ◌-◌, ◌≡◌, ◌+◌, ◌<◌, ℕ, List, [], ◌∷◌, ◌++◌, OnOk, IfErr, MatchResult};
     ghost use Rattle.std.specs.Prelude.{None as NoSecond, Some as Second, true};
     ghost use Rattle.trace_model.specs.declared.Item.{Item as Each};
-    ghost use Rattle.trace_text.specs.Line.{IsItem};
+    ghost use Rattle.trace_model.specs.declared.Item.TheVariants.{Run};
+    ghost use Rattle.trace_text.specs.Line.{IsItem, InRange};
+    ghost use Rattle.trace_text.specs.RunLines.{run_line};
     ghost use Rattle.trace_text.specs.Text.{counts, fields};
     ghost use Rattle.trace_text.specs.Trace.{IsTraceOf, put_in, added, waits};
     ghost use Rattle.trace_text.specs.Reading.{HasRead, HasTaken, IsFaultOf, IsFaultAt};
@@ -112,7 +114,7 @@ impl Reading {
     }
 
     /// Takes a line that was read as this item.
-    pub fn take_read(&mut self, start: u32, item: Item) -> Result<(), TraceFault>
+    fn take_read(&mut self, start: u32, item: Item) -> Result<(), TraceFault>
         requires lines { self.old.lines < 2 ^ 32 - 1 }
         requires later { self.old.start ≡ Second start }
         ensures ok { (lines : List (List ℕ)) (line : List ℕ) → counts line ≡ true
@@ -130,6 +132,27 @@ impl Reading {
         }
         self.waiting = waits_behind(item, number);
         self.lines = number;
+        Ok(())
+    }
+
+    /// Takes the `run` line of these seconds at this speed.
+    pub fn take_run(&mut self, start: u32, seconds: u32, speed: u8) -> Result<(), TraceFault>
+        requires lines { self.old.lines < 2 ^ 32 - 1 }
+        requires later { self.old.start ≡ Second start }
+        requires range { InRange (Run seconds speed) }
+        ensures ok { (lines : List (List ℕ)) → HasRead lines self.old
+            → OnOk result (HasRead (lines ++ run_line seconds speed ∷ []) self.new) }
+        ensures fault { (lines behind : List (List ℕ)) → HasRead lines self.old
+            → IfErr result (IsFaultOf self.old.form (lines ++ run_line seconds speed ∷ behind)) }
+        ensures form { self.new.form ≡ self.old.form }
+        ensures lines { OnOk result (self.new.lines ≡ self.old.lines + 1) }
+    {
+        let line = self.lines + 1;
+        if let Err(fault) = self.add(start, line, Item::Run { seconds, speed }) {
+            return Err(fault);
+        }
+        self.waiting = None;
+        self.lines = line;
         Ok(())
     }
 

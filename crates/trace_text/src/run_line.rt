@@ -6,7 +6,6 @@ ghost use Rattle.trace_text.specs.RunLines.{run_line};
 ghost use Rattle.trace_text.specs.Text.{text_lines};
 
 use crate::line::MOST;
-use text_fields::is_word;
 
 /// The bytes before the seconds.
 const WORD: usize = 4;
@@ -46,9 +45,8 @@ fn behind_run(text: &[u8]) -> Option<&[u8]>
     if text.len() < WORD {
         return None;
     }
-    let (word, rest) = text.split_at(WORD);
-    if is_word(word, b"run ") {
-        Some(rest)
+    if text[0] == b'r' && text[1] == b'u' && text[2] == b'n' && text[3] == b' ' {
+        Some(&text[WORD..])
     } else {
         None
     }
