@@ -1,5 +1,5 @@
 -- What a run of a trace without a card's line notes: no insertion and no place, and events of nobody.
-use Rattle.std.proofs.Common.{◌≡◌, ◌∙◌, ℕ, ◌+◌, Bool, true, false, cond, not, ◌&&◌, Option, Some, None, is_some, List, [], ◌∷◌, ◌++◌, length, map, refl, ap, sym, subst, arith, append-nil, length-append}
+use Rattle.std.proofs.Common.{◌≡◌, ◌∙◌, inl, inr, ℕ, ◌+◌, Bool, true, false, cond, not, ◌&&◌, Option, Some, None, is_some, List, [], ◌∷◌, ◌++◌, length, map, refl, ap, sym, subst, arith, append-nil, length-append}
 use Rattle.std.specs.Prelude.{◌==◌, nat_eq, flat_map, option_to_list}
 use Rattle.std.specs.List.{AllByRecursion}
 use Rattle.trace_model.specs.declared.Card.{Card}
@@ -18,7 +18,8 @@ use Rattle.event_model.specs.Places.{place_of, day_place}
 use Rattle.note_model.specs.Done.{CarriedOut, Done, carried_from, done_by, done_from, done_of, course_powered}
 use Rattle.note_model.specs.Noted.{Note, accepted_at, noted_by, noted_in, notes_of}
 use Rattle.note_model.specs.Rings.{Stand, AreNoFewer, RingShows}
-use Rattle.note_model.specs.Tables.{held_in, held_of, number_or_none, HasRest, IsNotedAt, AreNoted}
+use Rattle.note_model.specs.Tables.{held_in, held_of, number_or_none, HasRest, IsNotedAt}
+use Rattle.note_model.specs.Unsure.{IsNotedSo, AreNotedBut}
 use Rattle.run_unit_course.specs.Turn.{IsSelection, empty_slots}
 use Rattle.unit_events.specs.Plain.{nobody, driver_seconds, speed_seconds, bare_event, over_event, gap_event, bares_in, overs_in, last_in, gap_between, gaps_in, plain_events, OnlySelect}
 use Rattle.tacho.specs.Alone.{ShowsOld}
@@ -152,7 +153,12 @@ module _ (first number : Card → List ℕ) (e : Event) (none : IsNobodys e) whe
   at-any old new None (Some i) h = h
   at-any old new None None h = h
 
-pub noted-any : (first number : Card → List ℕ) (old new : List (List ℕ)) (events : List Event) → AreNobodys events → AreNoted first old events new → AreNoted number old events new
-noted-any first number old new [] none h = h
-noted-any first number old new (e ∷ events) none (next, one, rest) =
-    (next, at-any first number e none.0 old next (place_of e.kind (map (held_in e.kind) old) (held_of e)) (day_place e.kind (map (held_in e.kind) old) (held_of e)) one, noted-any first number next new events none.1 rest)
+one-any : (first number : Card → List ℕ) (b : Bool) (old : List (List ℕ)) (e : Event) (new : List (List ℕ)) → AreNobodys (e ∷ []) → IsNotedSo first b old e new → IsNotedSo number b old e new
+one-any first number true old e new none h = at-any first number e none.0 old new (place_of e.kind (map (held_in e.kind) old) (held_of e)) (day_place e.kind (map (held_in e.kind) old) (held_of e)) h
+one-any first number false old e new none (inl h) = inl (at-any first number e none.0 old new (place_of e.kind (map (held_in e.kind) old) (held_of e)) (day_place e.kind (map (held_in e.kind) old) (held_of e)) h)
+one-any first number false old e new none (inr other) = inr other
+
+pub but-any : (first number : Card → List ℕ) (sure : Event → Bool) (old new : List (List ℕ)) (events : List Event) → AreNobodys events → AreNotedBut first sure old events new → AreNotedBut number sure old events new
+but-any first number sure old new [] none h = h
+but-any first number sure old new (e ∷ events) none (next, one, rest) =
+    (next, one-any first number (sure e) old e next (none.0, tt) one, but-any first number sure next new events none.1 rest)

@@ -1,6 +1,5 @@
 -- WHAT A RUN WITH CARDS PROMISES is what a run on the unit alone promises, where its trace has no card's line.
-use Rattle.std.proofs.Common.{◌≡◌, ◌∙◌, ℕ, cond, List, [], ◌∷◌, refl, ap, sym, subst}
-use Rattle.std.specs.Prelude.{nat_eq}
+use Rattle.std.proofs.Common.{◌≡◌, ◌∙◌, ℕ, List, ap, sym, subst}
 use Rattle.trace_model.specs.declared.Card.{Card}
 use Rattle.trace_model.specs.declared.Card.TheVariants.{A as OfA, B as OfB}
 use Rattle.trace_model.specs.declared.Item.{Item}
@@ -12,24 +11,22 @@ use Rattle.log_model.specs.Log.{RunLog}
 use Rattle.log_model.specs.Course.{ToldSecond, Visit, went}
 use Rattle.log_model.specs.Spans.{spans_of}
 use Rattle.log_model.specs.Causes.{HasCauses, device_of}
-use Rattle.event_model.specs.declared.kinds.TheConstants.{OVER_SPEEDING}
 use Rattle.event_model.specs.Events.{Event, Tearing, events_of}
 use Rattle.history_model.specs.Minutes.{HistoryMinute}
 use Rattle.history_model.specs.Presence.{Start}
 use Rattle.message_model.specs.Records.{insertion_ring, unit_place_ring}
-use Rattle.unit_model.specs.declared.layout.TheConstants.{SPEED_LIMIT, FIRST_OVER, OVER_COUNT}
+use Rattle.unit_model.specs.declared.layout.TheConstants.{SPEED_LIMIT}
 use Rattle.unit_model.specs.Image.{recorded, last_kept, number_of}
 use Rattle.unit_model.specs.Versions.{rule_of}
 use Rattle.card_image.specs.Own.{own_number, IsOwnValid}
 use Rattle.safety_model.specs.Recording.{Recording, card_image, start_of, history_of as history_in, lost_of as lost_in}
 use Rattle.safety_model.specs.Unit.{UnitSafe, HasEachDecided, IsFilled}
-use Rattle.safety_model.specs.Side.{first_begin as first_in}
 use Rattle.note_model.specs.Noted.{insertions_of, places_of}
-use Rattle.note_model.specs.Tables.{table_in, AreNoted}
+use Rattle.note_model.specs.Tables.{table_in}
 use Rattle.unit_events.specs.Plain.{IsWithoutCards, OnlySelect}
-use Rattle.unit_events.specs.Noted.{are_sure}
-use Rattle.unit_events.specs.Shown.{first_begin, first_on, count_on, ShowsRun}
 use Rattle.unit_events.proofs.Bridge.{events-plain}
+use Rattle.run_events.specs.Shown.{is_sure_by, ShowsSince}
+use Rattle.run_events.proofs.Shows.{shown-as}
 use Rattle.unit_rule.proofs.OtherRows.{owes-still}
 use Rattle.run_promise.specs.Between.{devices}
 use Rattle.run_outcome.specs.declared.outcome.Outcome.{Outcome}
@@ -39,14 +36,9 @@ use Rattle.recorder_with_cards.specs.LastKept.{TellsLast}
 use Rattle.tacho.specs.Blank.{no_image}
 use Rattle.tacho.specs.Alone.{IsForUnit, NoVerdict, history_of, lost_of, IsAlone}
 use Rattle.tacho.proofs.Cardless.{AreCardless, cardless, plain-told}
-use Rattle.tacho.proofs.AloneLog.{trace-selects, no-failed-tears, without-cards, caused-alone, unit-history-any, with-lost-any}
+use Rattle.tacho.proofs.AloneLog.{trace-selects, without-cards, caused-alone, unit-history-any, with-lost-any}
 use Rattle.tacho.proofs.NoCard.{no-valid}
-use Rattle.tacho.proofs.AloneNoted.{notes-nothing, shows-old, AreNobodys, nobodys-events, noted-any}
-
--- the begin of the first of some events, by both definitions
-first-same : (es : List Event) → first_in es ≡ first_begin es
-first-same [] = refl
-first-same (e ∷ es) = refl
+use Rattle.tacho.proofs.AloneNoted.{notes-nothing, shows-old, AreNobodys, nobodys-events, but-any}
 
 module _ (x : List ℕ) (start : ℕ) (items : List Item) (out : Outcome) (U V A B C D : State) (for_unit : IsForUnit items)
     (h : EndsTrace x no_image no_image start items out (devices U A B) (devices V C D)) where
@@ -88,18 +80,16 @@ module _ (x : List ℕ) (start : ℕ) (items : List Item) (out : Outcome) (U V A
     nobodys : (kind : ℕ) → AreNobodys (s-events kind)
     nobodys kind = subst AreNobodys (sym (events-plain log bare ss selects kind (number_of x SPEED_LIMIT) (h.side y left).events.sessions (h.side y left).events.tearing)) (nobodys-events kind (number_of x SPEED_LIMIT) log (spans_of told))
 
-    events-alone : ShowsRun number x log ss sessions t y
+    events-alone : ShowsSince number log x (λ kind. events_of kind (number_of x SPEED_LIMIT) sessions t log ss) y
     events-alone =
-        let s = (h.side y left).events in
+        let s = (h.side y left).events.events in
         record {
-          events = λ kind there sure.
-              subst (λ (es : List Event). AreNoted number (table_in kind x) es (table_in kind y)) (same kind)
-              (noted-any (λ c. own_number (card_image r c)) number (table_in kind x) (table_in kind y) (s-events kind) (nobodys kind) (s.events kind there (ap (are_sure log) (same kind) ∙ sure)));
-          first_over = λ sure.
-              s.first_over (ap (are_sure log) (same OVER_SPEEDING) ∙ sure)
-              ∙ ap (λ (n : ℕ). cond (nat_eq (number_of x FIRST_OVER) 0) n (number_of x FIRST_OVER)) (first-same (s-events OVER_SPEEDING))
-              ∙ ap (first_on (number_of x FIRST_OVER)) (same OVER_SPEEDING);
-          over_count = λ sure. s.over_count (ap (are_sure log) (same OVER_SPEEDING) ∙ sure) ∙ ap (count_on (number_of x OVER_COUNT)) (same OVER_SPEEDING);
+          events = shown-as number (is_sure_by log) s-events (λ kind. events_of kind (number_of x SPEED_LIMIT) sessions t log ss) x y (λ kind there. same kind) (record {
+            tables = λ kind there. but-any (λ c. own_number (card_image r c)) number (is_sure_by log) (table_in kind x) (table_in kind y) (s-events kind) (nobodys kind) (s.events.tables kind there);
+            first = s.events.first;
+            count = s.events.count;
+          });
+          few = s.few;
         }
 
   module _ (cards : Start) where
@@ -133,7 +123,7 @@ module _ (x : List ℕ) (start : ℕ) (items : List Item) (out : Outcome) (U V A
       last = safe-same.1;
       complete = h.ends.caused.complete.unit;
       whole = λ none.
-          let w = h.ends.whole (none, no-failed-tears _ _ _ ss log selects h.ends.caused.causes) in (
+          let w = h.ends.whole none in (
             subst (HasEachDecided (rule_of x) told) history-same w.decided,
             λ y left. subst (λ (is : List HistoryMinute). IsFilled (recorded x) is y) history-same (w.unit y left),
           );

@@ -1,16 +1,18 @@
 -- How a trace with cards ends that is recorded on the unit and both cards.
-use Rattle.std.proofs.Common.{◌≡◌, ◌∙◌, ◌≤◌, ◌^◌, ◌⊎◌, inl, inr, ⊎_elim, ℕ, true, refl, sym, subst, arith, List, [], length, Some}
-use Rattle.tach_media.specs.Medium.{State, Rose, HasBroken}
+use Rattle.std.proofs.Common.{◌≡◌, ◌∙◌, ◌≤◌, ◌<◌, ◌^◌, ◌⊎◌, inl, inr, ⊎_elim, ℕ, true, refl, sym, subst, arith, List, [], length, Some}
+use Rattle.tach_media.specs.Medium.{State, Rose, HasBroken, last_count}
 use Rattle.run_promise.specs.Between.{devices}
 use Rattle.run_model.specs.declared.Device.{Device}
 use Rattle.run_model.specs.declared.Device.TheVariants.{Unit as OfUnit, CardA, CardB}
-use Rattle.log_model.specs.Causes.{cuts, tears}
-use Rattle.safety_model.specs.Safe.{breakdowns_of}
+use Rattle.trace_model.specs.declared.Card.{Card}
+use Rattle.log_model.specs.Causes.{device_of, cuts, tears}
+use Rattle.safety_model.specs.Safe.{card_of, breakdowns_of}
 use Rattle.recorder_with_cards.specs.Words.{AreAfter, log_of, IsFoundLater, HaveTime}
 use Rattle.trace_model.specs.declared.Card.TheVariants.{A, B}
 use Rattle.trace_model.specs.declared.Item.{Item}
 use Rattle.trace_model.specs.Trace.{total_seconds}
 use Rattle.recorder_with_cards.specs.Writes.{WritesFor}
+use Rattle.recorder_with_cards.specs.Breakdowns.{BreakdownsAreTold}
 use Rattle.trace_text.specs.declared.lines_trace.Form.TheVariants.{Whole}
 use Rattle.trace_text.specs.Judged.{IsTraceText}
 use Rattle.run_opening.specs.declared.fault.RunFault.{RunFault}
@@ -18,7 +20,8 @@ use Rattle.run_opening.specs.declared.fault.RunFault.TheVariants as run
 use Rattle.tacho.specs.Alone.{IsForUnit}
 use Rattle.recorder_with_cards.specs.Gone.{IsRefusedBy as IsRefusedAt}
 use Rattle.recorder_with_cards.proofs.WholeOdometer.{all-there}
-use Rattle.recorder_with_cards.specs.Ends.{BeginAs, MayRecord, EndsTrace, IsKeptFrom}
+use Rattle.recorder_with_cards.proofs.Breakdowns.{are-counted}
+use Rattle.recorder_with_cards.specs.Ends.{recording_of, BeginAs, MayRecord, EndsTrace, IsKeptFrom}
 use Rattle.run_outcome.specs.declared.outcome.Outcome.{Outcome}
 use Rattle.tacho.specs.declared.end.Fault.{Fault}
 use Rattle.tacho.specs.declared.end.Fault.TheVariants.{WriteFault, MediumFault}
@@ -28,7 +31,7 @@ use Rattle.tacho.specs.Outcomes.{IsEmpty, IsRun, IsRefusal, SourceTells, refusal
 use Rattle.tacho.specs.CardsRecorded.{devices_of, StartWith, AreSound, HaveCounts, HaveLongTime, IsRefusedInOpening, EndsWithCards}
 use Rattle.tacho.proofs.Recordings.{none-bad, run-refusal, refused-no-run}
 use Rattle.tacho.proofs.UnitRuns.{run-done}
-use Rattle.tacho.proofs.Unbroken.{none-failed, unbroken-log}
+use Rattle.tacho.proofs.Unbroken.{none-failed, unbroken-log, cut-none, torn-none}
 
 -- no fault has a cause where nothing failed and the trace may be recorded
 none-caused : (old new : Outside) (x a b : List ℕ) (start : ℕ) (fault : RunFault) → AreSound old new → MayRecord x a b start → IsKeptFrom x a b start (devices_of old) (devices_of new) fault → ⊥
@@ -79,6 +82,11 @@ none-broke old new sound later OfUnit = ⊎_elim (λ rose. absurd (sound.unit ro
 none-broke old new sound later CardA = ⊎_elim (λ rose. absurd (sound.card_a rose)) (λ same. same) later.card_a.unbroken
 none-broke old new sound later CardB = ⊎_elim (λ rose. absurd (sound.card_b rose)) (λ same. same) later.card_b.unbroken
 
+-- so it is of a card
+card-unbroken : (old new : Outside) → AreAfter (devices_of old) (devices_of new) → (c : Card) → (Rose (card_of (devices_of old) c).faults (card_of (devices_of new) c).faults → ⊥) → breakdowns_of (devices_of new) (device_of c) ≡ breakdowns_of (devices_of old) (device_of c)
+card-unbroken old new later A sound = ⊎_elim (λ rose. absurd (sound rose)) (λ same. same) later.card_a.unbroken
+card-unbroken old new later B sound = ⊎_elim (λ rose. absurd (sound rose)) (λ same. same) later.card_b.unbroken
+
 module _ (old new : Outside) (outcome : Outcome) (start : ℕ) (items : List Item) (not_unit : IsForUnit items → ⊥)
     (later : AreAfter (devices_of old) (devices_of new)) (broke : HasBroken old.unit new.unit (length (cuts true (log_of outcome)))) (writes : WritesFor (total_seconds items) (length items) (devices_of old) (devices_of new))
     (short : total_seconds items ≤ 2 ^ 32) (few : length items ≤ 2 ^ 32)
@@ -95,6 +103,9 @@ module _ (old new : Outside) (outcome : Outcome) (start : ℕ) (items : List Ite
 
   writes-by : (s : ℕ) (is : List Item) → SourceTells old s is → WritesFor (total_seconds is) (length is) (devices_of old) (devices_of new)
   writes-by s is told = subst (λ (l : List Item). WritesFor (total_seconds l) (length l) (devices_of old) (devices_of new)) (same-trace s is told).1 writes
+
+  uncut-by : (Rose old.unit.faults new.unit.faults → ⊥) → old.unit.breakdowns < last_count → cuts true (log_of outcome) ≡ []
+  uncut-by sound low = cut-none old.unit new.unit (log_of outcome) later.unit.unbroken broke sound low
 
   not-unit : (s : ℕ) (is : List Item) → SourceTells old s is → IsForUnit is → ⊥
   not-unit s is told for = not_unit (subst IsForUnit (sym (same-trace s is told).1) for)
@@ -115,13 +126,17 @@ module _ (old new : Outside) (outcome : Outcome) (start : ℕ) (items : List Ite
     time = λ s is told. time-left;
     calm = λ ran. absurd (refused-no-run (refusal_of_run fault) (run-refusal fault) ran);
     still = λ ran. absurd (refused-no-run (refusal_of_run fault) (run-refusal fault) ran);
+    told = λ ran. absurd (refused-no-run (refusal_of_run fault) (run-refusal fault) ran);
+    counted = λ s is x a b starts ran. absurd (refused-no-run (refusal_of_run fault) (run-refusal fault) ran);
     early = λ s is told ref. record {
       by = fault;
       is = refl;
       when = subst (λ (t : ℕ). IsRefusedInOpening t (devices_of old) (devices_of new) outcome fault ⊎ IsFoundLater fault) (same-trace s is told).0 when;
     };
     unbroken = λ s is x a b starts sound counts. unbroken-log (log_of outcome) (refused x a b starts.begins starts.clocks).1.breaks;
-    whole = λ s is x a b starts sound counts ran. absurd (refused-no-run (refusal_of_run fault) (run-refusal fault) ran);
+    uncut = uncut-by;
+    untorn = λ s is x a b starts ran c sound low. absurd (refused-no-run (refusal_of_run fault) (run-refusal fault) ran);
+    whole = λ s is x a b starts uncut ran. absurd (refused-no-run (refusal_of_run fault) (run-refusal fault) ran);
   }
     where
       kept-from : (s : ℕ) (is : List Item) (x a b : List ℕ) → StartWith x a b s is old new → IsKeptFrom x a b s (devices_of old) (devices_of new) fault
@@ -132,8 +147,9 @@ module _ (old new : Outside) (outcome : Outcome) (start : ℕ) (items : List Ite
   pub cards-run : ((x a b : List ℕ) → BeginAs x a b (devices_of old) → HaveTime (devices_of new) → EndsTrace x a b start items outcome (devices_of old) (devices_of new))
       → ((x a b : List ℕ) → BeginAs x a b (devices_of old) → MayRecord x a b start) → (cuts true (log_of outcome) ≡ [] → new.unit.breakdowns ≡ old.unit.breakdowns)
       → (tears true (log_of outcome) ≡ [] → (new.card_a.memory.breakdowns ≡ old.card_a.memory.breakdowns) × (new.card_b.memory.breakdowns ≡ old.card_b.memory.breakdowns))
+      → BreakdownsAreTold (log_of outcome) (devices_of old) (devices_of new)
       → (fault : Fault) → IsRun fault → (fault ≡ WriteFault → Rose old.sink.faults new.sink.faults) → EndsWithCards old new outcome fault
-  cards-run recorded begun calm still fault ran rose = record {
+  cards-run recorded begun calm still told fault ran rose = record {
     with_cards = not-unit;
     run = λ s is x a b starts done. recorded-as s is x a b starts;
     refused = λ s is x a b starts ref. absurd (refused-no-run fault ref ran);
@@ -146,9 +162,14 @@ module _ (old new : Outside) (outcome : Outcome) (start : ℕ) (items : List Ite
     time = λ s is told. time-left;
     calm = λ done. calm;
     still = λ done. still;
+    told = λ done. told;
+    counted = λ s is x a b starts done. are-counted _ (recording_of x a b s is outcome) (devices_of old) (devices_of new) (recorded-as s is x a b starts).ends.caused.causes told;
     early = λ s is told ref. absurd (refused-no-run fault ref ran);
     unbroken = unbroken-as;
-    whole = λ s is x a b starts sound counts done. all-there x a b s is outcome (devices_of old) (devices_of new) (recorded-as s is x a b starts) (unbroken-as s is x a b starts sound counts);
+    uncut = uncut-by;
+    untorn = λ s is x a b starts done c sound low. inr
+        (torn-none _ (breakdowns_of (devices_of old)) (breakdowns_of (devices_of new)) _ (log_of outcome) c low (card-unbroken old new later c sound) (recorded-as s is x a b starts).ends.caused.causes);
+    whole = λ s is x a b starts uncut done. all-there x a b s is outcome (devices_of old) (devices_of new) (recorded-as s is x a b starts) uncut;
   }
     where
       recorded-as : (s : ℕ) (is : List Item) (x a b : List ℕ) → StartWith x a b s is old new → EndsTrace x a b s is outcome (devices_of old) (devices_of new)

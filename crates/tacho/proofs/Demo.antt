@@ -23,10 +23,10 @@ use Rattle.unit_download.specs.declared.fault.DownloadFault.TheVariants as downl
 use Rattle.unit_download.specs.Ending.{has_failed, IfBad}
 use Rattle.trace_text.specs.declared.drawn_trace.TheConstants.{PARTS, DAYS, DAY_SECONDS, FIRST_SECOND}
 use Rattle.trace_text.specs.Demo.{starts, part_of, parts_of, day_of, days_of, demo_items}
-use Rattle.trace_text.proofs.Groups.{length-starts}
+use Rattle.trace_text.proofs.Groups.{length-starts, demo-whole}
 use Rattle.tacho.specs.declared.anew.AnewFault.{AnewFault}
 use Rattle.tacho.specs.declared.anew.AnewFault.TheVariants.{Unmade, Kept}
-use Rattle.tacho.specs.Anew.{MayBeAnew, EndsAnew, IsFailed, IsFailure}
+use Rattle.tacho.specs.Anew.{MayBeAnew, EndsAnew, WritesAnew, IsFailed, IsFailure}
 use Rattle.tacho.proofs.Recordings.{none-bad}
 use Rattle.tacho.proofs.DemoRead.{is-read, anew-read}
 use Rattle.unit_download.specs.declared.measuring.FileSize.{FileSize}
@@ -38,7 +38,7 @@ use Rattle.tacho.specs.declared.forms.Form.TheVariants.{Demo}
 use Rattle.tacho.specs.End.{end_of, ended_by}
 use Rattle.tacho.specs.Outside.{Outside, memory_of}
 use Rattle.tacho.specs.Outcomes.{IsEmpty, IsRun}
-use Rattle.tacho.specs.CardsRecorded.{devices_of, AreSound}
+use Rattle.tacho.specs.CardsRecorded.{devices_of, AreSound, HaveLongTime}
 use Rattle.tacho.specs.Formatting.{card_image, unit_image}
 use Rattle.tacho.specs.Program.{Ends, HasCauses}
 use Rattle.tacho.specs.Demo.{demo_text, refusal_anew, refusal_of_file, IsDemoEnd, StartAnew, IsDemonstrated, EndsDemo}
@@ -154,10 +154,23 @@ unread-unfinished seed old new outcome unit b u download.Changed sound memory be
 unread-unfinished seed old new outcome unit b u download.WriteFault sound memory before whole reads bad changed recorded told = memory refl
 unread-unfinished seed old new outcome unit b u download.Memory sound memory before whole reads bad changed recorded told = memory refl
 
+-- and so no clock comes to its end
+demo-time : (seed : ℕ) (old new : Devices) → WritesAnew (total_seconds (demo_items seed)) (length (demo_items seed)) old new → HaveLongTime old → HaveTime new
+demo-time seed old new few long =
+    let seconds = demo-whole seed in
+    let items = items-few seed in
+    record {
+      unit = (let a = few.unit in let b = long.unit in omega (arith, a, b, seconds, items));
+      card_a = (let a = few.card_a in let b = long.card_a in omega (arith, a, b, seconds, items));
+      card_b = (let a = few.card_b in let b = long.card_b in omega (arith, a, b, seconds, items));
+    }
+
 -- THERE WAS NO MEMORY, before a device was used
-pub demo-memory : (seed : ℕ) (old new : Outside) (outcome : Outcome) → new.sink.held ≡ old.sink.held → IsEmpty outcome → EndsDemo seed old new outcome Memory
-demo-memory seed old new outcome sink empty = record {
+pub demo-memory : (seed : ℕ) (old new : Outside) (outcome : Outcome) → new.sink.held ≡ old.sink.held → IsEmpty outcome → WritesAnew (total_seconds (demo_items seed)) (length (demo_items seed)) (devices_of old) (devices_of new) → EndsDemo seed old new outcome Memory
+demo-memory seed old new outcome sink empty few = record {
   ends = tt;
+  writes = few;
+  time = λ long. demo-time seed (devices_of old) (devices_of new) (few) long;
   run = λ b starts is. absurd is;
   put_down = λ b starts. inr empty;
   printed = λ is. absurd (cc);
@@ -169,9 +182,11 @@ demo-memory seed old new outcome sink empty = record {
 
 -- THE DEVICES WERE NOT MADE NEW, or the trace was kept from being recorded
 pub demo-refused : (seed : ℕ) (old new : Outside) (outcome : Outcome) (fault : AnewFault) → new.sink.held ≡ old.sink.held → ((b : List ℕ) → StartAnew b old new → IsEmpty outcome)
-    → IsFailed fault (devices_of old) (devices_of new) → ((b : List ℕ) → StartAnew b old new → MayRecord (unit_image VEHICLE) (card_image CARD) b FIRST_SECOND → IsFailure fault) → EndsDemo seed old new outcome (refusal_anew fault)
-demo-refused seed old new outcome fault sink empty failed only = record {
+    → IsFailed fault (devices_of old) (devices_of new) → ((b : List ℕ) → StartAnew b old new → MayRecord (unit_image VEHICLE) (card_image CARD) b FIRST_SECOND → IsFailure fault) → WritesAnew (total_seconds (demo_items seed)) (length (demo_items seed)) (devices_of old) (devices_of new) → EndsDemo seed old new outcome (refusal_anew fault)
+demo-refused seed old new outcome fault sink empty failed only few = record {
   ends = anew-ends fault;
+  writes = few;
+  time = λ long. demo-time seed (devices_of old) (devices_of new) (few) long;
   run = λ b starts is. absurd (anew-refused fault is);
   put_down = λ b starts. inr (empty b starts);
   printed = λ is. absurd (anew-refused fault (subst IsRun (sym is) tt));
@@ -190,14 +205,23 @@ recorded-so seed old new outcome unit failed reads recorded b starts =
     anew-read (unit_image VEHICLE) (card_image CARD) b FIRST_SECOND (demo_items seed) outcome (devices_of old) unit new.unit new.card_a.memory new.card_b.memory is
     (recorded b starts.may (record { unit = omega (arith, starts.clocks.unit, is.clock); card_a = starts.clocks.card_a; card_b = starts.clocks.card_b }))
 
+-- so many writes began till then, and no more
+written-so : (seed : ℕ) (old new : Outside) (unit : State) (failed : Bool) → ReadsIfAny unit new.unit failed → WritesAnew (total_seconds (demo_items seed)) (length (demo_items seed)) (devices_of old) (devices unit new.card_a.memory new.card_b.memory) → WritesAnew (total_seconds (demo_items seed)) (length (demo_items seed)) (devices_of old) (devices_of new)
+written-so seed old new unit failed reads few =
+    let is = is-read unit new.unit failed reads in
+    record { unit = (let same = is.clock in let most = few.unit in omega (arith, same, most)); card_a = few.card_a; card_b = few.card_b }
+
 -- THE UNIT WAS NOT DOWNLOADED
 pub demo-unread : (seed : ℕ) (old new : Outside) (outcome : Outcome) (unit : State) (fault : DownloadFault) → new.sink.held ≡ old.sink.held → ReadsIfAny unit new.unit (has_failed {T = FileSize} (Err fault))
     → ((b : List ℕ) → MayBeAnew b (devices_of old) → HaveTime (devices unit new.card_a.memory new.card_b.memory) → EndsAnew (unit_image VEHICLE) (card_image CARD) b FIRST_SECOND (demo_items seed) outcome (devices_of old) (devices unit new.card_a.memory new.card_b.memory))
     → (fault ≡ download.Changed → IfSome unit.image (λ x. ⊥))
     → old.unit.faults ≤ unit.faults → IsCoherent new.unit → IfBad fault (λ place. IfSome unit.image (λ x. first_bad_place x ≡ Some place))
+    → WritesAnew (total_seconds (demo_items seed)) (length (demo_items seed)) (devices_of old) (devices unit new.card_a.memory new.card_b.memory)
     → EndsDemo seed old new outcome (refusal_of_file fault)
-demo-unread seed old new outcome unit fault sink reads recorded changed before whole bad = record {
+demo-unread seed old new outcome unit fault sink reads recorded changed before whole bad few = record {
   ends = file-ends fault;
+  writes = written-so seed old new unit (has_failed {T = FileSize} (Err fault)) reads few;
+  time = λ long. demo-time seed (devices_of old) (devices_of new) (written-so seed old new unit (has_failed {T = FileSize} (Err fault)) reads few) long;
   run = λ b starts is. absurd (file-refused fault is);
   put_down = λ b starts. inl (recorded-so seed old new outcome unit (has_failed {T = FileSize} (Err fault)) reads recorded b starts);
   printed = λ is. absurd (file-refused fault (subst IsRun (sym is) tt));
@@ -218,9 +242,12 @@ pub demo-done : {T : Type 0} (seed : ℕ) (old new : Outside) (outcome : Outcome
     → OnOk r (Appends old.sink.held new.sink.held (demo_text outcome size))
     → IfErr r (λ fault. (fault ≡ WriteFault) × AppendsFront old.sink.held new.sink.held (demo_text outcome size))
     → IfErr r (λ fault. Rose old.sink.faults new.sink.faults)
+    → WritesAnew (total_seconds (demo_items seed)) (length (demo_items seed)) (devices_of old) (devices unit new.card_a.memory new.card_b.memory)
     → EndsDemo seed old new outcome (end_of r)
-demo-done seed old new outcome unit size (Ok u) reads recorded measured appends front rose = record {
+demo-done seed old new outcome unit size (Ok u) reads recorded measured appends front rose few = record {
   ends = tt;
+  writes = written-so seed old new unit false reads few;
+  time = λ long. demo-time seed (devices_of old) (devices_of new) (written-so seed old new unit false reads few) long;
   run = λ b starts is. recorded-so seed old new outcome unit false reads recorded b starts;
   put_down = λ b starts. inl (recorded-so seed old new outcome unit false reads recorded b starts);
   printed = λ is. record { size = size; puts = appends; measured = subst (λ (image : Option (List ℕ)). IfSome image (λ x. IsSizeOf x size)) (sym (same-image unit new.unit false refl reads)) measured };
@@ -229,9 +256,11 @@ demo-done seed old new outcome unit size (Ok u) reads recorded measured appends 
   changed = λ is. absurd (cc);
   finishes = λ b v starts sound memory may told. refl;
 }
-demo-done seed old new outcome unit size (Err fault) reads recorded measured appends front rose =
+demo-done seed old new outcome unit size (Err fault) reads recorded measured appends front rose few =
     subst (λ (f : Fault). EndsDemo seed old new outcome f) (sym front.0) (record {
       ends = tt;
+      writes = written-so seed old new unit false reads few;
+      time = λ long. demo-time seed (devices_of old) (devices_of new) (written-so seed old new unit false reads few) long;
       run = λ b starts is. recorded-so seed old new outcome unit false reads recorded b starts;
       put_down = λ b starts. inl (recorded-so seed old new outcome unit false reads recorded b starts);
       printed = λ is. absurd (cc);
@@ -294,6 +323,10 @@ as-demo seed x a b start items out old now image first all h =
     subst (λ (l : List Item). EndsAnew x (card_image CARD) b FIRST_SECOND l out old now) all
     (subst (λ (n : ℕ). EndsAnew x (card_image CARD) b n items out old now) first
     (subst (λ (l : List ℕ). EndsAnew x l b start items out old now) image h))
+
+-- so many writes began as the demonstration takes
+pub writes-demo : (seed : ℕ) (items : List Item) (old now : Devices) → items ≡ demo_items seed → WritesAnew (total_seconds items) (length items) old now → WritesAnew (total_seconds (demo_items seed)) (length (demo_items seed)) old now
+writes-demo seed items old now all few = subst (λ (l : List Item). WritesAnew (total_seconds l) (length l) old now) all few
 
 -- so the call ends that was asked for it
 pub demo-ends : {T : Type 0} (seed : ℕ) (old new : Outside) (outcome : Outcome) (r : Result T Fault) → EndsDemo seed old new outcome (end_of r) → HasCauses old new (end_of r) → Ends (Some (Demo seed)) old new (ended_by outcome (end_of r))

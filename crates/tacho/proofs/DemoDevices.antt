@@ -46,15 +46,17 @@ card-new image old new whole size behind is tells settled =
     one-only image new (some-tells image old.image new.image (put 0 image) is tells (λ x at. let long = whole.sized x at in put-whole image x (omega (arith, long, size, behind)))) settled
 
 -- so the run promises what it does from then on
-pub ends-anew : (x a b : List ℕ) (start : ℕ) (items : List Item) (out : Outcome) (U V X Y Z : State) (now : Devices) → U.clock ≤ V.clock → X.clock ≤ Y.clock → V.breakdowns ≡ U.breakdowns → Y.breakdowns ≡ X.breakdowns → V.clock ≤ now.unit.clock → Y.clock ≤ now.card_a.clock →
+pub ends-anew : (x a b : List ℕ) (start : ℕ) (items : List Item) (out : Outcome) (U V X Y Z : State) (now : Devices) → U.clock ≤ V.clock → X.clock ≤ Y.clock → V.breakdowns ≡ U.breakdowns → Y.breakdowns ≡ X.breakdowns → V.clock ≤ now.unit.clock → Y.clock ≤ now.card_a.clock → V.clock ≤ U.clock + 10324 → Y.clock ≤ X.clock + 101 →
     WritesFor (total_seconds items) (length items) (devices V Y Z) now → EndsTrace x a b start items out (devices V Y Z) now → EndsAnew x a b start items out (devices U X Z) now
-ends-anew x a b start items out U V X Y Z now unit card unit_same card_same before before_card most h = record {
+ends-anew x a b start items out U V X Y Z now unit card unit_same card_same before before_card made made_card most h = record {
   unit_clock = V.clock;
   card_clock = Y.clock;
   unit_later = unit;
   card_later = card;
   unit_before = before;
   card_before = before_card;
+  unit_made = made;
+  card_made = made_card;
   ends = ends-by x a b start items out (devices V Y Z) (began_at V.clock Y.clock (devices U X Z)) now refl clocks broken h;
   writes = record { unit = most.unit; card_a = most.card_a; card_b = most.card_b };
 }

@@ -1,5 +1,7 @@
 -- A run's promise goes by the clocks and the breakdowns of the devices as it began, and by nothing else of them.
-use Rattle.std.proofs.Common.{◌≡◌, ◌∙◌, inl, inr, ⊎_elim, ℕ, List, sym, subst, ◌⊎◌}
+use Rattle.std.proofs.Common.{◌≡◌, ◌∙◌, inl, inr, ⊎_elim, ℕ, ◌<◌, List, sym, subst, ◌⊎◌}
+use Rattle.tach_media.specs.Medium.{last_count}
+use Rattle.event_model.specs.Events.{seen_of}
 use Rattle.trace_model.specs.declared.Card.{Card}
 use Rattle.trace_model.specs.declared.Card.TheVariants.{A, B}
 use Rattle.trace_model.specs.declared.Item.{Item}
@@ -25,6 +27,8 @@ use Rattle.recorder_with_cards.specs.Side.{ShowsSide, HasComeBefore, TellsAtStar
 use Rattle.recorder_with_cards.specs.KeptAfter.{TellsKept}
 use Rattle.recorder_with_cards.specs.LastKept.{TellsLast}
 use Rattle.recorder_with_cards.specs.CardEvents.{ShowsItsEvents}
+use Rattle.recorder_with_cards.specs.Stays.{NothingFailedOn}
+use Rattle.recorder_with_cards.specs.Words.{accepted_on, AreUses}
 
 module _ (x a b : List ℕ) (start : ℕ) (items : List Item) (out : Outcome) (p q now : Devices) (unit : p.unit.clock ≡ q.unit.clock) (cards : (c : Card) → (card_of p c).clock ≡ (card_of q c).clock) (broken : (device : Device) → breakdowns_of p device ≡ breakdowns_of q device) where
   abbrev r : Recording
@@ -52,10 +56,27 @@ module _ (x a b : List ℕ) (start : ℕ) (items : List Item) (out : Outcome) (p
           tearing = was.tearing;
           are_torn = was.are_torn;
           events = was.events;
-          first_over = was.first_over;
-          over_count = was.over_count;
         };
   }
+
+  -- no call has failed on a card, by either
+  none-failed : (c : Card) → NothingFailedOn r c q → NothingFailedOn r c p
+  none-failed c on = record {
+    uncut = on.uncut;
+    untorn = on.untorn;
+    low = ⊎_elim (λ none. inl none) (λ below. inr (subst (λ (n : ℕ). n < last_count) (sym (broken (device_of c))) below)) on.low;
+  }
+
+  events-by : (c : Card) → ShowsItsEvents r c p (card_of now c) → ShowsItsEvents r c q (card_of now c)
+  events-by c h valid =
+      let s = h valid in
+      record {
+        uses = s.uses;
+        are = subst (λ (n : ℕ). AreUses ((card_of now c).left_since n) s.uses (accepted_on c (seen_of r.log r.trace))) (cards c) s.are;
+        exact = s.exact;
+        left = λ on. s.left (none-failed c on);
+        shows = s.shows;
+      }
 
   -- the unit's part of the theorem, with the last-kept minutes
   safe-by : (s : UnitSafe (recorded r.unit) (history_of r) (lost_of r) out.marks.items p.unit.clock now.unit) → TellsLast (last_kept r.unit) s →
@@ -91,15 +112,17 @@ module _ (x a b : List ℕ) (start : ℕ) (items : List Item) (out : Outcome) (p
     };
     side = λ y left. side-by y (h.side y left);
     written = h.written;
-    stays = h.stays;
+    stays = λ c on. h.stays c (none-failed c on);
+    both = h.both;
     kept = subst (λ (n : ℕ). TellsKept r n now.unit) unit h.kept;
     last = (safe-by h.ends.safe.unit h.last).1;
     dense = h.dense;
     holders = λ c. subst (λ (n : ℕ). KeepsHolder r c n (card_of now c)) (cards c) (h.holders c);
     vehicles = λ c. subst (λ (n : ℕ). KeepsVehicles r c n (card_of now c)) (cards c) (h.vehicles c);
     measures = h.measures;
+    sessions = h.sessions;
     places = h.places;
-    cards = λ c. subst (λ (n : ℕ). ShowsItsEvents r c n (card_of now c)) (cards c) (h.cards c);
+    cards = λ c. events-by c (h.cards c);
     rows = subst (λ (n : ℕ). (y : List ℕ) → now.unit.left_since n y → KeepsRows r.unit r.card_a r.card_b y) unit h.rows;
     again = λ u ca cb left left_a left_b.
         h.again u ca cb (subst (λ (n : ℕ). now.unit.left_since n u) (sym unit) left) (subst (λ (n : ℕ). now.card_a.left_since n ca) (sym (cards A)) left_a) (subst (λ (n : ℕ). now.card_b.left_since n cb) (sym (cards B)) left_b);

@@ -28,7 +28,7 @@ use Rattle.run_promise.specs.Whole.{IsFull}
 use Rattle.log_model.specs.declared.lines.Break.{Break}
 use Rattle.log_model.specs.declared.lines.Break.TheVariants.{Cut, Tear}
 use Rattle.run_outcome.specs.declared.outcome.Outcome.{Outcome}
-use Rattle.recorder_with_cards.specs.Words.{ShowsStays}
+use Rattle.recorder_with_cards.specs.Words.{ShowsStays, vehicle_of}
 use Rattle.recorder_with_cards.specs.Ends.{recording_of, EndsTrace}
 use Rattle.run_speeds.specs.Speeds.{LeavesSpeeds}
 use Rattle.run_speeds.specs.Spans.{blocks_by, is_sure_block}
@@ -162,8 +162,6 @@ module _ (U V : State) (is : IsRead U V) where
             tearing = was.tearing;
             are_torn = was.are_torn;
             events = was.events;
-            first_over = was.first_over;
-            over_count = was.over_count;
           };
     }
 
@@ -206,28 +204,48 @@ module _ (U V : State) (is : IsRead U V) where
             odometer = λ y left. h.ends.odometer y (now-back y left);
             days = λ y left. h.ends.days y (now-back y left);
             words = λ y left. h.ends.words y (now-back y left);
-            whole = λ nothing. let w = h.ends.whole nothing in
-                record { decided = w.decided; unit = λ y left. w.unit y (now-back y left); card = λ c u valid accepted y left. full-read c y (λ on. w.card c u valid accepted y on) left };
+            whole = λ uncut. let w = h.ends.whole uncut in
+                record { decided = w.decided; unit = λ y left. w.unit y (now-back y left); card = λ c u untorn valid accepted y left. full-read c y (λ on. w.card c u untorn valid accepted y on) left };
           };
           side = λ y left. side-read y (h.side y (now-back y left));
           written = λ c valid y left. h.written c valid y (card-back c y left);
-          stays = λ none.
-              let s = h.stays none in
+          stays = λ c on.
+              let s = h.stays c on in
               record {
-                vehicle = s.vehicle;
-                says = s.says;
                 stays = s.stays;
-                only = s.only;
-                shows = λ c valid. subst (λ (x : State). ShowsStays s.vehicle (card_image r c) (s.stays c) x) (same-card c) (s.shows c valid);
-                closed = s.closed;
-                entered = s.entered;
-                words = s.words;
-                odometers = s.odometers;
-                owes = s.owes;
-                acknowledged = s.acknowledged;
                 since = s.since;
+                others = s.others;
+                only = s.only;
                 judged = s.judged;
+                entered = s.entered;
+                theirs = s.theirs;
                 verdicts = s.verdicts;
+                shows = λ valid. subst (λ (x : State). ShowsStays (vehicle_of r.unit) (card_image r c) s.stays x) (same-card c) (s.shows valid);
+                closed = s.closed;
+                words = s.words;
+                acknowledged = s.acknowledged;
+                odometers = s.odometers;
+              };
+          both = λ none.
+              let s = h.both none in
+              record {
+                own = λ c. record {
+                  stays = (s.own c).stays;
+                  since = (s.own c).since;
+                  others = (s.own c).others;
+                  only = (s.own c).only;
+                  judged = (s.own c).judged;
+                  entered = (s.own c).entered;
+                  theirs = (s.own c).theirs;
+                  verdicts = (s.own c).verdicts;
+                  shows = λ valid. subst (λ (x : State). ShowsStays (vehicle_of r.unit) (card_image r c) (s.own c).stays x) (same-card c) ((s.own c).shows valid);
+                  closed = (s.own c).closed;
+                  words = (s.own c).words;
+                  acknowledged = (s.own c).acknowledged;
+                  odometers = (s.own c).odometers;
+                };
+                judged = s.judged;
+                owes = s.owes;
                 befores = record { comings = s.befores.comings; lines = s.befores.lines; merged = s.befores.merged; tells = λ dense y left. s.befores.tells dense y (now-back y left) };
               };
           rows = λ y left. h.rows y (back p.unit.clock y before left);
@@ -239,8 +257,9 @@ module _ (U V : State) (is : IsRead U V) where
           holders = λ c valid y left. h.holders c valid y (told-back c y left);
           vehicles = λ c valid y left. h.vehicles c valid y (told-back c y left);
           measures = record { spans = h.measures.spans; are_spans = h.measures.are_spans; measures = λ c valid y left. h.measures.measures c valid y (card-back c y left) };
+          sessions = λ c valid y left. h.sessions c valid y (card-back c y left);
           places = record { spans = h.places.spans; are_spans = h.places.are_spans; shows = λ c valid y left. h.places.shows c valid y (card-back c y left) };
-          cards = λ c. subst (λ (s : State). ShowsItsEvents r c (card_of p c).clock s) (same-card c) (h.cards c);
+          cards = λ c. subst (λ (s : State). ShowsItsEvents r c p s) (same-card c) (h.cards c);
         }
 
 -- and so it is of what was recorded on new devices
@@ -252,6 +271,8 @@ anew-read x a b start items out old U V Y Z is h = record {
   card_later = h.card_later;
   unit_before = omega (arith, h.unit_before, is.clock);
   card_before = h.card_before;
+  unit_made = h.unit_made;
+  card_made = h.card_made;
   ends = ends-read U V is x a b start items out (began_at h.unit_clock h.card_clock old) Y Z h.unit_before h.ends;
   writes = record { unit = (let most = h.writes.unit in omega (arith, most, is.clock)); card_a = h.writes.card_a; card_b = h.writes.card_b };
 }

@@ -59,14 +59,14 @@ leaves-blank old new R later = record {
 
 -- a call that fails has broken it for good
 pub blank-broken : (old : Bool) → HasCause (blank_state old) (blank_state true) true
-blank-broken true = record { works = refl; broken = λ is. refl; faults = lit≤ tt; fault = λ is. lit≤ tt; breakdowns = lit≤ tt; breaks = λ works is. lit≤ tt; unbroken = λ no. absurd (cc); already = λ is. refl }
-blank-broken false = record { works = refl; broken = λ is. refl; faults = lit≤ tt; fault = λ is. lit≤ tt; breakdowns = lit≤ tt; breaks = λ works is. lit≤ tt; unbroken = λ no. absurd (cc); already = λ is. absurd (cc) }
+blank-broken true = record { works = refl; broken = λ is. refl; faults = lit≤ tt; fault = λ is. lit≤ tt; breakdowns = lit≤ tt; breaks = λ works is. lit≤ tt; unbroken = λ no. absurd (cc); already = λ is. refl; once = λ low. lit≤ tt }
+blank-broken false = record { works = refl; broken = λ is. refl; faults = lit≤ tt; fault = λ is. lit≤ tt; breakdowns = lit≤ tt; breaks = λ works is. lit≤ tt; unbroken = λ no. absurd (cc); already = λ is. absurd (cc); once = λ low. absurd (omega (arith, low)) }
 
 blank-works : HasCause (blank_state false) (blank_state false) false
-blank-works = record { works = refl; broken = λ is. absurd (cc); faults = lit≤ tt; fault = λ no. absurd (cc); breakdowns = lit≤ tt; breaks = λ works no. absurd (cc); unbroken = λ is. refl; already = λ is. refl }
+blank-works = record { works = refl; broken = λ is. absurd (cc); faults = lit≤ tt; fault = λ no. absurd (cc); breakdowns = lit≤ tt; breaks = λ works no. absurd (cc); unbroken = λ is. refl; already = λ is. refl; once = λ low. lit≤ tt }
 
 pub blank-revived : (broken failed : Bool) → broken ≡ failed → HasCause (revivable (blank_state broken)) (blank_state broken) failed
-blank-revived true true is = record { works = refl; broken = λ no. refl; faults = lit≤ tt; fault = λ same. lit≤ tt; breakdowns = lit≤ tt; breaks = λ works same. lit≤ tt; unbroken = λ no. absurd (cc); already = λ no. refl }
+blank-revived true true is = record { works = refl; broken = λ no. refl; faults = lit≤ tt; fault = λ same. lit≤ tt; breakdowns = lit≤ tt; breaks = λ works same. lit≤ tt; unbroken = λ no. absurd (cc); already = λ no. refl; once = λ low. lit≤ tt }
 blank-revived false false is = blank-works
 blank-revived true false is = absurd (cc)
 blank-revived false true is = absurd (cc)

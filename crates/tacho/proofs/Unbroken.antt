@@ -1,10 +1,11 @@
 -- Where no device broke down, the log has no failed cut and no failed tear.
-use Rattle.std.proofs.Common.{◌≡◌, ◌∙◌, ◌<◌, ◌^◌, ◌-◌, ◌++◌, ℕ, true, false, List, [], ◌∷◌, length, filter, map, flat_map, refl, ap, arith, inl, inr}
+use Rattle.std.proofs.Common.{◌≡◌, ◌∙◌, ◌⊎◌, ⊎_elim, ◌<◌, ◌^◌, ◌-◌, ◌++◌, ℕ, true, false, List, [], ◌∷◌, length, filter, map, flat_map, refl, ap, arith, inl, inr}
 use Rattle.activity_codec.specs.declared.values.Slot.{Slot}
 use Rattle.activity_codec.specs.declared.values.Slot.TheVariants.{Driver, CoDriver}
 use Rattle.trace_model.specs.declared.Card.{Card}
 use Rattle.trace_model.specs.declared.Card.TheVariants.{A, B}
 use Rattle.trace_model.specs.Trace.{TraceSecond}
+use Rattle.tach_media.specs.Medium.{State, Rose, HasBroken, last_count}
 use Rattle.run_model.specs.declared.Device.{Device}
 use Rattle.run_model.specs.declared.Device.TheVariants.{Unit as Recorder}
 use Rattle.log_model.specs.declared.lines.Break.{Break}
@@ -59,6 +60,19 @@ no-tears log (Cut second kept failed begun ∷ bs) none = no-tears log bs none
 no-tears log (Tear second slot true begun late ∷ bs) none = absurd (let e : places (Tear second slot true begun late) ++ flat_map places (tears true (record log { breaks = bs })) ≡ [] = none in let f = (both-empty (places (Tear second slot true begun late)) (flat_map places (tears true (record log { breaks = bs }))) e).0 in cc)
 no-tears log (Tear second slot false begun late ∷ bs) none = no-tears log bs none
 
+-- a unit on which no call failed told no failed cut
+pub cut-none : (old new : State) (log : RunLog) → Rose old.faults new.faults ⊎ (new.breakdowns ≡ old.breakdowns) → HasBroken old new (length (cuts true log)) → (Rose old.faults new.faults → ⊥) → old.breakdowns < last_count → cuts true log ≡ []
+cut-none old new log unbroken broke sound low =
+    let same : new.breakdowns ≡ old.breakdowns = ⊎_elim (λ rose. absurd (sound rose)) (λ is. is) unbroken in
+    let few = broke.breakdowns in
+    none-long (cuts true log) (omega (arith, same, few, low))
+
+-- and a card that has not broken down was not torn out
+pub torn-none : (IsVerdict : Card → ℕ → Verdict → Type 0) (before now : Device → ℕ) (ss : List TraceSecond) (log : RunLog) (card : Card) → before (device_of card) < 2 ^ 64 - 1 → now (device_of card) ≡ before (device_of card)
+    → HasCauses IsVerdict before now ss log → filter (same_card card) (cards_torn (went log ss).told) ≡ []
+torn-none IsVerdict before now ss log card low same c =
+    none-long (filter (same_card card) (cards_torn (went log ss).told)) (risen-none (length (filter (same_card card) (cards_torn (went log ss).told))) (before (device_of card)) (now (device_of card)) low same (c.torn_cards card))
+
 -- NO BREAKDOWN, SO NO FAILED BREAK
 pub none-failed : (IsVerdict : Card → ℕ → Verdict → Type 0) (before now : Device → ℕ) (ss : List TraceSecond) (log : RunLog) → ((device : Device) → before device < 2 ^ 64 - 1) → ((device : Device) → now device ≡ before device)
     → HasCauses IsVerdict before now ss log → (cuts true log ≡ []) × (tears true log ≡ [])
@@ -68,7 +82,7 @@ none-failed IsVerdict before now ss log low same c = (
 )
   where
     of : (card : Card) → filter (same_card card) (cards_torn (went log ss).told) ≡ []
-    of card = none-long (filter (same_card card) (cards_torn (went log ss).told)) (risen-none (length (filter (same_card card) (cards_torn (went log ss).told))) (before (device_of card)) (now (device_of card)) (low (device_of card)) (same (device_of card)) (c.torn_cards card))
+    of card = torn-none IsVerdict before now ss log card (low (device_of card)) (same (device_of card)) c
 
     none : torn_of (went log ss).told ≡ []
     none = none-torn (went log ss).told (no-cards (cards_torn (went log ss).told) (of A) (of B))

@@ -1,7 +1,7 @@
 -- How a trace without a card's line ends that is recorded on the unit alone.
-use Rattle.std.proofs.Common.{◌≡◌, ◌∙◌, ◌≤◌, ◌<◌, ◌⊎◌, ℕ, ◌+◌, ◌*◌, ◌/◌, inl, inr, ⊎_elim, refl, ap, sym, subst, arith, true, List, [], length, Option, Some, None}
+use Rattle.std.proofs.Common.{◌≡◌, ◌∙◌, ◌≤◌, ◌<◌, ◌⊎◌, ℕ, ◌+◌, ◌^◌, ◌*◌, ◌/◌, inl, inr, ⊎_elim, refl, ap, sym, subst, arith, true, List, [], length, Option, Some, None}
 use Rattle.std.specs.Prelude.{IfSome, is_some}
-use Rattle.tach_media.specs.Medium.{State, IsCoherent, LeavesOnly, Unchanged, Rose, HasBroken, last_count}
+use Rattle.tach_media.specs.Medium.{State, IsCoherent, LeavesOnly, Unchanged, Rose, HasBroken, HasBrokenAtMost, last_count}
 use Rattle.run_model.specs.declared.Device.{Device}
 use Rattle.run_model.specs.declared.Device.TheVariants.{Unit as OfUnit, CardA, CardB}
 use Rattle.trace_model.specs.declared.Item.{Item}
@@ -55,7 +55,8 @@ refused-on-unit start before after U V by empty refused = ⊎_elim (λ h. inl (h
 -- THE RUN WAS REFUSED by the unit
 module _ (old new : Outside) (outcome : Outcome) (start : ℕ) (items : List Item)
     (whole : IsCoherent old.unit) (whole_new : IsCoherent new.unit) (for_unit : IsForUnit items)
-    (is_read : (text : List ℕ) (s : ℕ) (is : List Item) → old.source.left ≡ Some text → IsTraceText Whole text s is → (start ≡ s) × (items ≡ is)) where
+    (is_read : (text : List ℕ) (s : ℕ) (is : List Item) → old.source.left ≡ Some text → IsTraceText Whole text s is → (start ≡ s) × (items ≡ is))
+    (short : total_seconds items ≤ 2 ^ 32) (few : length items ≤ 2 ^ 32) where
   only-lines : (s : ℕ) (is : List Item) → SourceTells old s is → IsForUnit is
   only-lines s is told = subst IsForUnit (is_read told.text s is told.told told.trace).1 for_unit
 
@@ -66,6 +67,9 @@ module _ (old new : Outside) (outcome : Outcome) (start : ℕ) (items : List Ite
 
   writes-by : new.unit.clock ≤ old.unit.clock + (187 * total_seconds items + 102 * length items) → (s : ℕ) (is : List Item) → SourceTells old s is → new.unit.clock ≤ old.unit.clock + (187 * total_seconds is + 102 * length is)
   writes-by writes s is told = subst (λ (l : List Item). new.unit.clock ≤ old.unit.clock + (187 * total_seconds l + 102 * length l)) (is_read told.text s is told.told told.trace).1 writes
+
+  time-by : new.unit.clock ≤ old.unit.clock + (187 * total_seconds items + 102 * length items) → (s : ℕ) (is : List Item) → SourceTells old s is → old.unit.clock < 2 ^ 63 → new.unit.clock < last_count
+  time-by writes s is told long = omega (arith, writes, long, short, few)
 
   pub unit-refused : (fault : RunFault) → IsUnitFault old.unit new.unit fault → HasBroken old.unit new.unit (length (cuts true (log_of outcome))) → new.unit.clock ≤ old.unit.clock + (187 * total_seconds items + 102 * length items)
       → (IsUnitRefused start old.unit new.unit fault × LeavesOnly old.unit new.unit Unchanged × IsEmpty outcome) ⊎ IsFoundLater fault
@@ -84,7 +88,9 @@ module _ (old new : Outside) (outcome : Outcome) (start : ℕ) (items : List Ite
     finds_clock_back = λ s is x told starts sound decodes back. absurd (sound.unit of_unit.1);
     broke = broke;
     writes = writes-by writes;
+    time = time-by writes;
     calm = λ no. absurd no;
+    told = λ no. absurd no;
     early = λ s is told ref. record { by = (run.MediumFault device); is = refl; when = on-read (run.MediumFault device) when s is told };
     unbroken = λ s is x told starts sound counts. unbroken-log (log_of outcome) (refused x starts.alone starts.clock).2.breaks;
     whole = λ s is x told starts sound counts no. absurd no;
@@ -105,7 +111,9 @@ module _ (old new : Outside) (outcome : Outcome) (start : ℕ) (items : List Ite
         finds_clock_back = λ s is x told starts sound decodes back. absurd (none-bad x place decodes (bad x starts));
         broke = broke;
         writes = writes-by writes;
+        time = time-by writes;
         calm = λ no. absurd no;
+        told = λ no. absurd no;
         early = λ s is told ref. record { by = (run.BadUnit place); is = refl; when = on-read (run.BadUnit place) when s is told };
         unbroken = λ s is x told starts sound counts. unbroken-log (log_of outcome) (refused x starts.alone starts.clock).2.breaks;
         whole = λ s is x told starts sound counts no. absurd no;
@@ -138,7 +146,9 @@ module _ (old new : Outside) (outcome : Outcome) (start : ℕ) (items : List Ite
             ap (λ (k : ℕ). ClockBack k second) (sym kept_is) ∙ ap (ClockBack (last_kept x)) (w ∙ same);
         broke = broke;
         writes = writes-by writes;
+        time = time-by writes;
         calm = λ no. absurd no;
+        told = λ no. absurd no;
         early = λ s is told ref. record { by = (run.ClockBack kept second); is = refl; when = on-read (run.ClockBack kept second) when s is told };
         unbroken = λ s is x told starts sound counts. unbroken-log (log_of outcome) (refused x starts.alone starts.clock).2.breaks;
         whole = λ s is x told starts sound counts no. absurd no;
@@ -185,12 +195,13 @@ run-done old new LinkEnded is rose sound = absurd is
 -- THE RUN IS DONE
 pub unit-run : (old new : Outside) (outcome : Outcome) (start : ℕ) (items : List Item) → IsForUnit items
     → ((text : List ℕ) (s : ℕ) (is : List Item) → old.source.left ≡ Some text → IsTraceText Whole text s is → (start ≡ s) × (items ≡ is))
+    → total_seconds items ≤ 2 ^ 32 → length items ≤ 2 ^ 32
     → ((x : List ℕ) → StartsAs x old.unit → new.unit.clock < last_count → IsRecorded x start items old.unit.clock outcome new.unit)
     → ((x : List ℕ) → StartsAs x old.unit → new.unit.clock < last_count → IsCaused old new start items outcome)
     → ((x : List ℕ) → StartsAs x old.unit → Decodes x × (last_kept x < start / 60))
-    → HasBroken old.unit new.unit (length (cuts true (log_of outcome))) → new.unit.clock ≤ old.unit.clock + (187 * total_seconds items + 102 * length items) → (cuts true (log_of outcome) ≡ [] → new.unit.breakdowns ≡ old.unit.breakdowns) → Rose old.unit.faults new.unit.faults ⊎ (new.unit.breakdowns ≡ old.unit.breakdowns) → new.card_a.memory ≡ old.card_a.memory → new.card_b.memory ≡ old.card_b.memory
+    → HasBroken old.unit new.unit (length (cuts true (log_of outcome))) → new.unit.clock ≤ old.unit.clock + (187 * total_seconds items + 102 * length items) → (cuts true (log_of outcome) ≡ [] → new.unit.breakdowns ≡ old.unit.breakdowns) → HasBrokenAtMost old.unit new.unit (length (cuts true (log_of outcome))) → Rose old.unit.faults new.unit.faults ⊎ (new.unit.breakdowns ≡ old.unit.breakdowns) → new.card_a.memory ≡ old.card_a.memory → new.card_b.memory ≡ old.card_b.memory
     → (fault : Fault) → IsRun fault → (fault ≡ WriteFault → Rose old.sink.faults new.sink.faults) → EndsOnUnit old new outcome fault
-unit-run old new outcome start items for_unit is_read recorded caused begun broke writes calm unit_unbroken same_a same_b fault ran rose = record {
+unit-run old new outcome start items for_unit is_read short few recorded caused begun broke writes calm told unit_unbroken same_a same_b fault ran rose = record {
   for_unit = λ s is told. subst IsForUnit (is_read told.text s is told.told told.trace).1 for_unit;
   only = λ device is. absurd (subst IsRun is ran);
   run = λ s is x told starts done. of_trace s is x (is_read told.text s is told.told told.trace) (recorded x starts.alone starts.clock);
@@ -203,7 +214,9 @@ unit-run old new outcome start items for_unit is_read recorded caused begun brok
   finds_clock_back = λ s is x told starts sound decodes back. absurd (not_back s x (is_read told.text s is told.told told.trace).0 (begun x starts.alone).1 back);
   broke = broke;
   writes = λ s is told. subst (λ (l : List Item). new.unit.clock ≤ old.unit.clock + (187 * total_seconds l + 102 * length l)) (is_read told.text s is told.told told.trace).1 writes;
+  time = λ s is told long. omega (arith, writes, long, short, few);
   calm = λ done. calm;
+  told = λ done. told;
   early = λ s is told ref. absurd (refused-no-run fault ref ran);
   unbroken = λ s is x told starts sound counts. unbroken_as x starts sound counts;
   whole = λ s is x told starts sound counts done cards. there s is x (of_trace s is x (is_read told.text s is told.told told.trace) (recorded x starts.alone starts.clock)) (unbroken_as x starts sound counts).0 cards;

@@ -1,5 +1,5 @@
 -- How `upgrade` ends, by what its calls answered.
-use Rattle.std.proofs.Common.{◌≡◌, ◌≤◌, inl, inr, refl, sym, ap, subst, ℕ, Bool, true, false, Some}
+use Rattle.std.proofs.Common.{◌≡◌, ◌≤◌, ◌+◌, inl, inr, refl, sym, ap, subst, ℕ, Bool, true, false, Some}
 use Rattle.std.specs.Prelude.{Result, Ok, Err, OnOk, IfErr, IfSome}
 use Rattle.std.specs.Io.KnownBytes.{Appends}
 use Rattle.tach_media.specs.Medium.{State, LeavesOnly, HasCause, Rose}
@@ -19,53 +19,57 @@ use Rattle.tacho.specs.Program.{Ends, Spares}
 use Rattle.tacho.specs.Upgrading.{upgrade_line, IsUpgradeEnd, IsUpgraded, EndsUpgrade}
 
 -- the unit failed
-pub upgrade-failed : (old new : State) (sink : SinkTold) → LeavesOnly old new IsUpgrading → HasCause old new true → EndsUpgrade old new sink sink (MediumFault OfUnit)
-upgrade-failed old new sink moments cause = record {
+pub upgrade-failed : (old new : State) (sink : SinkTold) → LeavesOnly old new IsUpgrading → HasCause old new true → new.clock ≤ old.clock + 2 → EndsUpgrade old new sink sink (MediumFault OfUnit)
+upgrade-failed old new sink moments cause few = record {
   ends = refl;
   done = λ is. absurd (cc);
   front = λ is. absurd (cc);
   bad_unit = λ place is. absurd (cc);
   moments = moments;
+  writes = few;
   cause = cause;
   write_fault = λ is. absurd (cc);
   finishes = λ no_unit no_sink. absurd (no_unit (cause.fault refl));
 }
 
 -- it is bad
-pub upgrade-bad : (old new : State) (sink : SinkTold) (place : ℕ) → LeavesOnly old new IsUpgrading → HasCause old new false → IfSome old.image (λ x. first_bad_place x ≡ Some place) → new.clock ≡ old.clock
+pub upgrade-bad : (old new : State) (sink : SinkTold) (place : ℕ) → LeavesOnly old new IsUpgrading → HasCause old new false → IfSome old.image (λ x. first_bad_place x ≡ Some place) → new.clock ≡ old.clock → new.clock ≤ old.clock + 2
     → EndsUpgrade old new sink sink (BadUnit place)
-upgrade-bad old new sink place moments cause bad clock = record {
+upgrade-bad old new sink place moments cause bad clock few = record {
   ends = tt;
   done = λ is. absurd (cc);
   front = λ is. absurd (cc);
   bad_unit = λ p is. let e : place ≡ p = cc in (subst (λ (q : ℕ). IfSome old.image (λ x. first_bad_place x ≡ Some q)) e bad, clock);
   moments = moments;
+  writes = few;
   cause = cause;
   write_fault = λ is. absurd (cc);
   finishes = λ no_unit no_sink. inr (place, refl);
 }
 
 -- it is upgraded, and the line was printed or the sink failed
-pub upgrade-done : {T : Type 0} (newly : Bool) (old new : State) (before after : SinkTold) (r : Result T Fault) → LeavesOnly old new IsUpgrading → HasCause old new false → IsUpgraded newly old new
+pub upgrade-done : {T : Type 0} (newly : Bool) (old new : State) (before after : SinkTold) (r : Result T Fault) → LeavesOnly old new IsUpgrading → HasCause old new false → new.clock ≤ old.clock + 2 → IsUpgraded newly old new
     → OnOk r (Appends before.held after.held (upgrade_line newly)) → IfErr r (λ fault. (fault ≡ WriteFault) × AppendsFront before.held after.held (upgrade_line newly)) → IfErr r (λ fault. Rose before.faults after.faults)
     → EndsUpgrade old new before after (end_of r)
-upgrade-done newly old new before after (Ok u) moments cause upgraded appends front rose = record {
+upgrade-done newly old new before after (Ok u) moments cause few upgraded appends front rose = record {
   ends = tt;
   done = λ is. (newly, upgraded, appends);
   front = λ is. absurd (cc);
   bad_unit = λ place is. absurd (cc);
   moments = moments;
+  writes = few;
   cause = cause;
   write_fault = λ is. absurd (cc);
   finishes = λ no_unit no_sink. inl refl;
 }
-upgrade-done newly old new before after (Err fault) moments cause upgraded appends front rose =
+upgrade-done newly old new before after (Err fault) moments cause few upgraded appends front rose =
     subst (λ (f : Fault). EndsUpgrade old new before after f) (sym front.0) (record {
       ends = tt;
       done = λ is. absurd (cc);
       front = λ is. (newly, upgraded, front.1);
       bad_unit = λ place is. absurd (cc);
       moments = moments;
+      writes = few;
       cause = cause;
       write_fault = λ is. rose;
       finishes = λ no_unit no_sink. absurd (no_sink rose);

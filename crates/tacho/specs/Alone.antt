@@ -1,5 +1,6 @@
 -- A run of a trace without a card's line (profile): it uses no card, and its unit is safe, whatever the cards bring.
-use Rattle.std.specs.Prelude.{◌≡◌, ◌⊎◌, ℕ, Bool, true, false, IsTrue, List, [], is_some}
+use Rattle.std.specs.Prelude.{◌≡◌, ◌⊎◌, ◌<◌, ◌≤◌, ℕ, Bool, true, false, IsTrue, List, [], is_some, length}
+use Rattle.std.specs.Prelude.{Result, IfErr, OnOk}
 use Rattle.std.specs.List.{AllByRecursion}
 use Rattle.trace_model.specs.declared.Card.{Card}
 use Rattle.trace_model.specs.declared.Action.TheVariants.{Select, Insert, Withdraw, Tear, Place, Manual}
@@ -9,17 +10,18 @@ use Rattle.trace_model.specs.Trace.{seconds_of}
 use Rattle.minute_model.specs.declared.Rule.{Rule}
 use Rattle.run_model.specs.declared.Device.{Device}
 use Rattle.run_model.specs.declared.Device.TheVariants.{Unit as OfUnit, CardA, CardB}
-use Rattle.tach_media.specs.Medium.{State, Rose, LeavesOnly, Unchanged}
+use Rattle.tach_media.specs.Medium.{State, HasBroken, HasBrokenAtMost, Rose, LeavesOnly, Unchanged, last_count}
 use Rattle.log_model.specs.declared.lines.Verdict.{Verdict}
 use Rattle.log_model.specs.Course.{ToldSecond, Visit, went}
 use Rattle.log_model.specs.Causes.{cuts, device_of}
-use Rattle.event_model.specs.Events.{Tearing}
+use Rattle.event_model.specs.Events.{Tearing, events_of}
 use Rattle.history_model.specs.Minutes.{HistoryMinute}
 use Rattle.history_model.specs.Presence.{Start}
 use Rattle.history_model.specs.History.{unit_history, with_lost}
 use Rattle.gated_ring.specs.Ring.{Shape, IsDense, ring_list}
 use Rattle.message_model.specs.Records.{insertion_ring, unit_place_ring}
-use Rattle.unit_model.specs.Image.{recorded, last_kept, odometer_at}
+use Rattle.unit_model.specs.declared.layout.TheConstants.{SPEED_LIMIT}
+use Rattle.unit_model.specs.Image.{recorded, last_kept, odometer_at, number_of}
 use Rattle.unit_model.specs.Versions.{rule_of}
 use Rattle.safety_model.specs.Unit.{UnitSafe, HasEachDecided, IsFilled, issued_bytes, marks_of}
 use Rattle.note_model.specs.Odometer.{SpanFrom, AreSpansFrom, MayStore}
@@ -28,11 +30,11 @@ use Rattle.unit_rule.specs.Odometer.{OdometerSafe}
 use Rattle.unit_rule.specs.OtherRows.{OwesStill}
 use Rattle.unit_minutes.specs.DayOdometers.{RecordsDay}
 use Rattle.run_promise.specs.Days.{HasWords, IsBegunIn}
-use Rattle.unit_events.specs.Shown.{ShowsRun}
+use Rattle.run_events.specs.Shown.{ShowsSince}
 use Rattle.run_opening.specs.declared.fault.RunFault.{RunFault}
 use Rattle.run_opening.specs.declared.fault.RunFault.TheVariants.{MediumFault, BadUnit, ClockBack, SameCard}
 use Rattle.run_opening.specs.Units.{IsUnitRefused}
-use Rattle.recorder_with_cards.specs.Words.{log_of, IsFoundLater}
+use Rattle.recorder_with_cards.specs.Words.{log_of, largest_number, IsFoundLater}
 use Rattle.run_speeds.specs.Speeds.{HasSpeedRing, HasSpeeds}
 use Rattle.run_speeds.specs.Spans.{blocks_by, is_sure_block}
 use Rattle.run_outcome.specs.declared.outcome.Outcome.{Outcome}
@@ -123,10 +125,11 @@ pub record IsAlone (cards : Start) (x : List ℕ) (start : ℕ) (items : List It
   -- and its days have, up to its last-kept minute, the words of the start with just the new ones of the minutes that it
   -- has
   pub words : (y : List ℕ) → unit.may_leave y → HasWords (recording_of x no_image no_image start items o) y
-  -- of each type of event none of which was noted in a second in which a call on the unit failed, each image that a
-  -- stop may leave holds those of the run; so it is with the first over speeding and their number
+  -- each image that a stop may leave holds the events of the run: one that was noted in a second in which a call on the
+  -- unit failed frees the one place that it takes, and no other; so it is with the first over speeding and their number
   pub events : (number : Card → List ℕ) (sessions : ℕ → Visit → ℕ) (t : Tearing) (y : List ℕ) → unit.may_leave y
-      → ShowsRun number x (log_of o) (seconds_of start items) sessions t y
+      → ShowsSince number (log_of o) x
+      (λ kind. events_of kind (number_of x SPEED_LIMIT) sessions t (log_of o) (seconds_of start items)) y
   -- the rings of insertions and places show what they showed
   pub insertions : (y : List ℕ) → unit.may_leave y → ShowsOld insertion_ring x y
   pub places : (y : List ℕ) → unit.may_leave y → ShowsOld unit_place_ring x y
@@ -160,3 +163,23 @@ IsUnitFault old new (SameCard number) = ⊥
 abbrev pub IsRefusedAlone : (start : ℕ) → (before after : Outcome) → (old new : State) → RunFault → Type 0
 IsRefusedAlone start before after old new
     fault = (IsUnitRefused start old new fault × LeavesOnly old new Unchanged × (after ≡ before)) ⊎ IsFoundLater fault
+
+-- ---- what its call says of failures
+
+-- BREAKDOWNS OF THE UNIT ARE TOLD: each cut that a failed call made is one more; and where none has cut the power of a
+-- run that is recorded, it has not broken down, nor where no call on it failed; and it has not more often than those
+-- cuts
+pub record TellsUnitBreakdowns (result : Result (Unit {0}) RunFault) (after : Outcome) (U V : State) : Type 0 where
+  pub broke : HasBroken U V (length (cuts true (log_of after)))
+  pub calm : OnOk result (cuts true (log_of after) ≡ [] → V.breakdowns ≡ U.breakdowns)
+  pub told : OnOk result (HasBrokenAtMost U V (length (cuts true (log_of after))))
+  pub unbroken : Rose U.faults V.faults ⊎ (V.breakdowns ≡ U.breakdowns)
+
+-- A REFUSAL IS TOLD: it is the unit's, and came in the opening, as the unit was, or of a unit that was read anew at a
+-- power-on; over a unit that began with one image and whose clock does not run out it came in the opening
+pub record TellsRefusal (result : Result (Unit {0}) RunFault) (start : ℕ) (items : List Item) (before after : Outcome)
+    (U V : State) : Type 0 where
+  pub fault : IfErr result (IsUnitFault U V)
+  pub early : IfErr result (IsRefusedAlone start before after U V)
+  pub refused : IfErr result (λ f. (x : List ℕ) → StartsAs x U → V.clock < last_count → length items ≤ largest_number
+      → IsUnitRefused start U V f × LeavesOnly U V Unchanged × (after ≡ before))

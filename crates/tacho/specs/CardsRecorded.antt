@@ -2,15 +2,17 @@
 use Rattle.std.specs.Prelude.{◌≡◌, ◌⊎◌, ◌<◌, ◌^◌, ℕ, true, List, [], length}
 use Rattle.tach_media.specs.Medium.{Rose, HasBroken, last_count}
 use Rattle.run_model.specs.declared.Device.{Device}
-use Rattle.log_model.specs.Causes.{cuts, tears}
-use Rattle.safety_model.specs.Safe.{Devices, breakdowns_of}
+use Rattle.trace_model.specs.declared.Card.{Card}
+use Rattle.log_model.specs.Causes.{device_of, cuts, tears}
+use Rattle.safety_model.specs.Safe.{Devices, card_of, breakdowns_of}
 use Rattle.run_promise.specs.Between.{devices}
-use Rattle.run_promise.specs.Whole.{NothingFailed}
+use Rattle.run_promise.specs.Whole.{NothingFailed, IsUntorn}
 use Rattle.recorder_with_cards.specs.Words.{HaveTime, AreAfter, log_of, IsFoundLater}
 use Rattle.run_opening.specs.Opening.{IsRefused, IsAsItWas}
 use Rattle.run_opening.specs.declared.fault.RunFault.{RunFault}
 use Rattle.tacho.specs.Alone.{IsForUnit}
 use Rattle.recorder_with_cards.specs.Whole.{IsAllThere}
+use Rattle.recorder_with_cards.specs.Breakdowns.{BreakdownsAreTold, BreakdownsAreCounted}
 use Rattle.recorder_with_cards.specs.Ends.{recording_of, BeginAs, MayRecord, EndsTrace, IsKeptFrom}
 use Rattle.run_outcome.specs.declared.outcome.Outcome.{Outcome}
 use Rattle.trace_model.specs.declared.Item.{Item}
@@ -111,14 +113,28 @@ pub record EndsWithCards (old new : Outside) (outcome : Outcome) (fault : Fault)
   pub still : IsRun fault → tears true (log_of outcome) ≡ []
       → (new.card_a.memory.breakdowns ≡ old.card_a.memory.breakdowns)
       × (new.card_b.memory.breakdowns ≡ old.card_b.memory.breakdowns)
+  -- Nor has a device broken down then more often than the log tells.
+  pub told : IsRun fault → BreakdownsAreTold (log_of outcome) (devices_of old) (devices_of new)
+  -- So each has broken down just as often as it is told: the unit by cuts, and each card by itself by tears.
+  pub counted : (start : ℕ) (items : List Item) (unit card_a card_b : List ℕ)
+      → StartWith unit card_a card_b start items old new → IsRun fault
+      → BreakdownsAreCounted (recording_of unit card_a card_b start items outcome) (devices_of old) (devices_of new)
   -- Where nothing failed, no call has cut the power or torn out a card.
   pub unbroken : (start : ℕ) (items : List Item) (unit card_a card_b : List ℕ)
       → StartWith unit card_a card_b start items old new → AreSound old new
       → HaveCounts (devices_of old) → NothingFailed (log_of outcome)
-  -- WHERE NOTHING FAILED, EVERY MINUTE IS THERE: each decided one stands in the history, the unit has all of it in its
-  -- newest days, with each whole kilometre, and a card that was accepted all of its entries, retained, but those behind
-  -- whose minute a `tear` line pulled it out.
+  -- So it is of each device by itself: where no call on the unit failed, none has cut the power; and where none failed
+  -- on a card, none has torn it out.
+  pub uncut : (Rose old.unit.faults new.unit.faults → ⊥) → old.unit.breakdowns < last_count
+      → cuts true (log_of outcome) ≡ []
+  pub untorn : (start : ℕ) (items : List Item) (unit card_a card_b : List ℕ)
+      → StartWith unit card_a card_b start items old new → IsRun fault → (c : Card)
+      → (Rose (card_of (devices_of old) c).faults (card_of (devices_of new) c).faults → ⊥)
+      → breakdowns_of (devices_of old) (device_of c) < last_count
+      → IsUntorn (recording_of unit card_a card_b start items outcome) c
+  -- WHERE NO FAILED CALL HAS CUT THE POWER, EVERY MINUTE IS THERE: each decided one stands in the history, the unit has
+  -- all of it in its newest days, with each whole kilometre, and a card that was accepted, and that no failed call has
+  -- torn out, all of its entries, retained, but those behind whose minute a `tear` line pulled it out.
   pub whole : (start : ℕ) (items : List Item) (unit card_a card_b : List ℕ)
-      → StartWith unit card_a card_b start items old new → AreSound old new
-      → HaveCounts (devices_of old) → IsRun fault
+      → StartWith unit card_a card_b start items old new → cuts true (log_of outcome) ≡ [] → IsRun fault
       → IsAllThere (recording_of unit card_a card_b start items outcome) (devices_of new)

@@ -1,6 +1,6 @@
 -- How `demo` ends: a unit and a card are made new, a demonstration is recorded on them, and the unit is downloaded
 -- (profile).
-use Rattle.std.specs.Prelude.{◌≡◌, ◌⊎◌, ℕ, List, ◌++◌, codes, Some, IfSome}
+use Rattle.std.specs.Prelude.{◌≡◌, ◌⊎◌, ℕ, List, ◌++◌, codes, length, Some, IfSome}
 use Rattle.std.specs.Io.KnownBytes.{Appends, Keeps}
 use Rattle.tach_media.specs.Medium.{State}
 use Rattle.tach_media.specs.Streams.{AppendsFront}
@@ -10,11 +10,12 @@ use Rattle.recorder_with_cards.specs.Ends.{MayRecord}
 use Rattle.run_outcome.specs.declared.outcome.Outcome.{Outcome}
 use Rattle.unit_download.specs.declared.fault.DownloadFault.{DownloadFault}
 use Rattle.unit_download.specs.declared.fault.DownloadFault.TheVariants as download
+use Rattle.trace_model.specs.Trace.{total_seconds}
 use Rattle.trace_text.specs.declared.drawn_trace.TheConstants.{FIRST_SECOND}
 use Rattle.trace_text.specs.Demo.{demo_items}
 use Rattle.tacho.specs.declared.anew.AnewFault.{AnewFault}
 use Rattle.tacho.specs.declared.anew.AnewFault.TheVariants.{Unmade, Kept}
-use Rattle.tacho.specs.Anew.{MayBeAnew, EndsAnew}
+use Rattle.tacho.specs.Anew.{MayBeAnew, EndsAnew, WritesAnew}
 use Rattle.unit_download.specs.declared.measuring.FileSize.{FileSize}
 use Rattle.unit_download.specs.Measures.{IsSizeOf}
 use Rattle.tacho.specs.declared.demo_command.TheConstants.{VEHICLE, CARD}
@@ -24,7 +25,7 @@ use Rattle.tacho.specs.declared.end.Fault.TheVariants.{MediumFault, Memory, BadF
 use Rattle.tacho.specs.declared.end.Fault.TheVariants.{LinkEnded}
 use Rattle.tacho.specs.Outside.{Outside}
 use Rattle.tacho.specs.Outcomes.{IsEmpty, IsRun, refusal_of_run, count_line, outcome_text}
-use Rattle.tacho.specs.CardsRecorded.{devices_of, AreSound}
+use Rattle.tacho.specs.CardsRecorded.{devices_of, AreSound, HaveLongTime}
 use Rattle.tacho.specs.Formatting.{card_image, unit_image}
 
 -- THE SEVEN LINES: those of the outcome, the bytes of the unit's file, and its messages of a day
@@ -81,6 +82,10 @@ pub record EndsDemo (seed : ℕ) (old new : Outside) (outcome : Outcome) (fault 
   -- And however it ends, it was recorded so, or nothing is put down.
   pub put_down : (card_b : List ℕ) → StartAnew card_b old new
       → IsDemonstrated seed card_b old new outcome ⊎ IsEmpty outcome
+  -- Whatever fails, so many writes began at most on each device.
+  pub writes : WritesAnew (total_seconds (demo_items seed)) (length (demo_items seed)) (devices_of old) (devices_of new)
+  -- So a clock comes to its end in no demonstration that it began in its lower half.
+  pub time : HaveLongTime (devices_of old) → HaveTime (devices_of new)
   -- Done: exactly the seven lines were printed; at a write fault a front of them; and else nothing.
   pub printed : fault ≡ Done → TellsDemo (Appends old.sink.held new.sink.held) outcome new.unit
   pub front : fault ≡ WriteFault → TellsDemo (AppendsFront old.sink.held new.sink.held) outcome new.unit

@@ -1,5 +1,5 @@
 -- How a device is made new (profile).
-use Rattle.std.specs.Prelude.{◌≡◌, ◌⊎◌, ◌<◌, false, ℕ, option_map, List, [], ◌∷◌, ◌++◌, codes}
+use Rattle.std.specs.Prelude.{◌≡◌, ◌⊎◌, ◌<◌, ◌≤◌, ◌+◌, false, ℕ, option_map, List, [], ◌∷◌, ◌++◌, codes}
 use Rattle.std.specs.Io.KnownBytes.{Appends}
 use Rattle.tach_media.specs.Medium.{State, LeavesOnly, IsSettled, HasCause, Rose, last_count}
 use Rattle.tach_media.specs.Streams.{AppendsFront}
@@ -75,8 +75,12 @@ pub record EndsIssue (device : Device) (identity : CardIdentity) (old new : Card
   pub made : EndsFormat device (card_image identity) (IsIssuing (card_image identity)) old.memory new.memory before
       after fault
   pub state : (fault ≡ Memory → ⊥) → new.state ≡ just_issued
+  -- so many writes begin at most, whatever fails
+  pub writes : new.memory.clock ≤ old.memory.clock + 101
 
 -- How `format unit` ends: the unit is made new, of an identity. It takes no memory.
 pub record EndsMaking (identity : Identity) (old new : State) (before after : SinkTold) (fault : Fault) : Type 0 where
   pub made : EndsFormat OfUnit (unit_image identity) (IsFormatting (unit_image identity)) old new before after fault
   pub no_memory : fault ≡ Memory → ⊥
+  -- so many writes begin at most, whatever fails
+  pub writes : new.clock ≤ old.clock + 10324

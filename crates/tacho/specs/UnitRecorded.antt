@@ -1,6 +1,6 @@
 -- How a trace without a card's line is recorded on the unit alone (profile).
-use Rattle.std.specs.Prelude.{◌≡◌, ◌⊎◌, ℕ, ◌+◌, ◌*◌, ◌/◌, ◌<◌, ◌≤◌, true, Some, List, [], length}
-use Rattle.tach_media.specs.Medium.{State, Rose, HasBroken, LeavesOnly, Unchanged, last_count}
+use Rattle.std.specs.Prelude.{◌≡◌, ◌⊎◌, ℕ, ◌+◌, ◌*◌, ◌/◌, ◌^◌, ◌<◌, ◌≤◌, true, Some, List, [], length}
+use Rattle.tach_media.specs.Medium.{State, Rose, HasBroken, HasBrokenAtMost, LeavesOnly, Unchanged, last_count}
 use Rattle.run_model.specs.declared.Device.{Device}
 use Rattle.run_model.specs.declared.Device.TheVariants.{Unit as OfUnit}
 use Rattle.log_model.specs.Causes.{HasCauses, cuts}
@@ -110,6 +110,9 @@ pub record EndsOnUnit (old new : Outside) (outcome : Outcome) (fault : Fault) : 
   -- So many writes began at most on the unit, by the seconds of the trace and by its items.
   pub writes : (start : ℕ) (items : List Item) → SourceTells old start items
       → new.unit.clock ≤ old.unit.clock + (187 * total_seconds items + 102 * length items)
+  -- So its clock comes to its end in no run that it began in its lower half.
+  pub time : (start : ℕ) (items : List Item) → SourceTells old start items → old.unit.clock < 2 ^ 63
+      → new.unit.clock < last_count
   -- Whatever the unit tells, a refusal came in the opening, with the unit as it was and no outcome, or of a unit that
   -- was read anew at a power-on.
   pub early : (start : ℕ) (items : List Item) → SourceTells old start items → IsRefusal fault
@@ -118,6 +121,8 @@ pub record EndsOnUnit (old new : Outside) (outcome : Outcome) (fault : Fault) : 
   pub broke : HasBroken old.unit new.unit (length (cuts true (log_of outcome)))
   -- And where the trace was recorded and no failed call has cut the power, the unit has not broken down.
   pub calm : IsRun fault → cuts true (log_of outcome) ≡ [] → new.unit.breakdowns ≡ old.unit.breakdowns
+  -- Nor has it broken down then more often than failed calls have cut the power.
+  pub told : IsRun fault → HasBrokenAtMost old.unit new.unit (length (cuts true (log_of outcome)))
   -- Where nothing failed, no call has cut the power.
   pub unbroken : (start : ℕ) (items : List Item) (x : List ℕ) → SourceTells old start items → Starts x old.unit new.unit
       → IsSound old new → HaveCounts old

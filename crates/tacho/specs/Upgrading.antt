@@ -1,6 +1,6 @@
 -- How `upgrade` ends (profile): a unit of version 1 gets version 2 with the amended rule of minutes.
-use Rattle.std.specs.Prelude.{◌≡◌, ◌⊎◌, ◌<◌, if◌then◌else◌, ℕ, Bool, true, false, Some, IfSome, option_map, List, []}
-use Rattle.std.specs.Prelude.{◌∷◌, ◌++◌, codes}
+use Rattle.std.specs.Prelude.{◌≡◌, ◌⊎◌, ◌<◌, ◌≤◌, ◌+◌, if◌then◌else◌, ℕ, Bool, true, false, Some, IfSome, option_map}
+use Rattle.std.specs.Prelude.{List, [], ◌∷◌, ◌++◌, codes}
 use Rattle.std.specs.Io.KnownBytes.{Appends}
 use Rattle.tach_media.specs.Medium.{State, LeavesOnly, IsSettled, HasCause, Rose, last_count}
 use Rattle.tach_media.specs.Streams.{AppendsFront}
@@ -49,6 +49,8 @@ pub record EndsUpgrade (old new : State) (before after : SinkTold) (fault : Faul
   -- what a stop leaves, at each moment and at the end, decodes: it has the old version, or version 2 with the amended
   -- rule, and no minute, no owed row and no ring is another
   pub moments : LeavesOnly old new IsUpgrading
+  -- at most two writes begin, whatever fails
+  pub writes : new.clock ≤ old.clock + 2
   -- when the unit fails, and when the sink
   pub cause : HasCause old new (is_medium_fault fault)
   pub write_fault : fault ≡ WriteFault → Rose before.faults after.faults

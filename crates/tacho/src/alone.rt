@@ -1,17 +1,16 @@
 //! A trace without a card's line is recorded on the unit alone.
-ghost use Rattle.std.specs.Prelude.{◌≡◌, ◌⊎◌, ◌+◌, ◌*◌, ◌/◌, ◌≤◌, ◌<◌, ℕ, List, [], true, false, length, OnOk, IfErr};
-ghost use Rattle.tach_media.specs.Medium.{HasBroken, LeavesOnly, Unchanged, Rose, last_count};
-ghost use Rattle.log_model.specs.Causes.{HasCauses, cuts};
+ghost use Rattle.std.specs.Prelude.{◌≡◌, ◌+◌, ◌*◌, ◌/◌, ◌≤◌, ◌<◌, ℕ, List, true, false, length, OnOk};
+ghost use Rattle.tach_media.specs.Medium.{last_count};
+ghost use Rattle.log_model.specs.Causes.{HasCauses};
 ghost use Rattle.trace_model.specs.Trace.{seconds_of, total_seconds};
 ghost use Rattle.trace_text.specs.Trace.{IsWellFormed};
 ghost use Rattle.history_model.specs.Presence.{Start};
 ghost use Rattle.unit_model.specs.Decoding.{Decodes};
 ghost use Rattle.unit_model.specs.Image.{IsUnit, last_kept};
 ghost use Rattle.run_outcome.specs.Room.{IsReserved};
-ghost use Rattle.run_opening.specs.Units.{IsUnitRefused};
 ghost use Rattle.recorder_with_cards.specs.Words.{log_of, largest_number};
-ghost use Rattle.tacho.specs.Alone.{needs_no_card, IsForUnit, NoVerdict, counts, StartsAs, IsAlone, IsUnitFault};
-ghost use Rattle.tacho.specs.Alone.{IsRefusedAlone};
+ghost use Rattle.tacho.specs.Alone.{needs_no_card, IsForUnit, NoVerdict, counts, StartsAs, IsAlone};
+ghost use Rattle.tacho.specs.Alone.{TellsRefusal, TellsUnitBreakdowns};
 
 use crate::blank::no_card;
 use recorder_with_cards::{RunFault, run_trace};
@@ -73,23 +72,14 @@ pub fn record_alone<U: Medium>(
     ensures most { (U.state unit.new).clock ≤ (U.state unit.old).clock
         + (187 * total_seconds trace.now.items + 102 * length trace.now.items) }
     // Each cut that a failed call made is a breakdown of the unit more; and where none has cut the power of a run that
-    // is recorded, it has not broken down, nor where no call on it failed.
-    ensures broke { HasBroken (U.state unit.old) (U.state unit.new) (length (cuts true (log_of outcome.new))) }
-    ensures calm { OnOk result (cuts true (log_of outcome.new) ≡ []
-        → (U.state unit.new).breakdowns ≡ (U.state unit.old).breakdowns) }
-    ensures unbroken { Rose (U.state unit.old).faults (U.state unit.new).faults
-        ⊎ ((U.state unit.new).breakdowns ≡ (U.state unit.old).breakdowns) }
+    // is recorded, it has not broken down, nor where no call on it failed. Nor has it more often than those cuts.
+    ensures breakdowns { TellsUnitBreakdowns result outcome.new (U.state unit.old) (U.state unit.new) }
     // A run that is recorded began on a unit that decodes, in a later minute than its last-kept one; and what keeps one
     // from being recorded is the unit, in the opening, as it was, or read anew at a power-on.
     ensures begun { (x : List ℕ) → StartsAs x (U.state unit.old)
         → OnOk result (Decodes x × (last_kept x < trace.now.start / 60)) }
-    ensures fault { IfErr result (IsUnitFault (U.state unit.old) (U.state unit.new)) }
-    ensures early { IfErr result (IsRefusedAlone trace.now.start outcome.old outcome.new (U.state unit.old)
-        (U.state unit.new)) }
-    ensures refused { IfErr result (λ fault. (x : List ℕ) → StartsAs x (U.state unit.old) → (U.state unit.new).clock
-        < last_count → length trace.now.items ≤ largest_number
-        → IsUnitRefused trace.now.start (U.state unit.old) (U.state unit.new) fault
-        × LeavesOnly (U.state unit.old) (U.state unit.new) Unchanged × (outcome.new ≡ outcome.old)) }
+    ensures refusal { TellsRefusal result trace.now.start trace.now.items outcome.old outcome.new (U.state unit.old)
+        (U.state unit.new) }
     ensures unit { IsUnit (U.state unit.new) }
 {
     let mut card_a = no_card();

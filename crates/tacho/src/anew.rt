@@ -2,12 +2,13 @@
 ghost use Rattle.std.specs.Prelude.{◌≡◌, ◌≤◌, ℕ, List, OnOk, IfErr, length};
 ghost use Rattle.card_layout.specs.declared.files.TheConstants.{LARGEST_IMAGE};
 ghost use Rattle.unit_model.specs.Image.{IsUnit};
+ghost use Rattle.trace_model.specs.Trace.{total_seconds};
 ghost use Rattle.trace_text.specs.Trace.{IsWellFormed};
 ghost use Rattle.run_outcome.specs.Room.{IsReserved};
 ghost use Rattle.run_promise.specs.Between.{devices};
 ghost use Rattle.recorder_with_cards.specs.Words.{HaveTime, largest_number};
 ghost use Rattle.recorder_with_cards.specs.Ends.{MayRecord};
-ghost use Rattle.tacho.specs.Anew.{unit_image, MayBeAnew, EndsAnew, IsFailed, IsFailure};
+ghost use Rattle.tacho.specs.Anew.{unit_image, MayBeAnew, EndsAnew, WritesAnew, IsFailed, IsFailure};
 
 use recorder_with_cards::{RunFault, run_trace};
 use run_model::Device;
@@ -69,6 +70,9 @@ pub fn run_anew<U: Medium, C: Chip>(
         (devices (U.state unit.new) (C.state card_a.new) (C.state card_b.new))) }
     ensures faults { (U.state unit.old).faults ≤ (U.state unit.new).faults }
     ensures unit { IsUnit (U.state unit.new) }
+    ensures most { WritesAnew (total_seconds trace.now.items) (length trace.now.items)
+        (devices (U.state unit.old) (C.state card_a.old) (C.state card_b.old))
+        (devices (U.state unit.new) (C.state card_a.new) (C.state card_b.new)) }
 {
     if format_unit(unit, vehicle).is_err() {
         return Err(AnewFault::Unmade(Device::Unit));

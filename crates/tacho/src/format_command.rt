@@ -1,5 +1,5 @@
 //! The commands `format a`, `format b` and `format unit`: a device is made new.
-ghost use Rattle.std.specs.Prelude.{◌≡◌, ◌≢◌, ◌≤◌, Err, OnOk, IfErr};
+ghost use Rattle.std.specs.Prelude.{◌≡◌, ◌≢◌, ◌≤◌, ◌+◌, Err, OnOk, IfErr};
 ghost use Rattle.std.specs.Io.KnownBytes.{Appends};
 ghost use Rattle.tach_media.specs.Medium.{Rose};
 ghost use Rattle.tach_media.specs.Streams.{AppendsFront};
@@ -33,6 +33,7 @@ pub fn format_card<K: Sink, C: Chip>(
         (record { held = K.held sink.new; faults = K.faults sink.new }) (end_of result) }
     ensures state { result ≢ Err Fault.Memory → C.card card.new ≡ just_issued }
     ensures memory { result ≡ Err Fault.Memory → card.new ≡ card.old }
+    ensures writes { (C.state card.new).clock ≤ (C.state card.old).clock + 101 }
     ensures nothing { IfErr result (λ fault. fault ≢ Fault.WriteFault → sink.new ≡ sink.old) }
     ensures counts { K.faults sink.old ≤ K.faults sink.new }
 {
@@ -57,6 +58,7 @@ pub fn make_unit<K: Sink, U: Medium>(
         (record { held = K.held sink.old; faults = K.faults sink.old })
         (record { held = K.held sink.new; faults = K.faults sink.new }) (end_of result) }
     ensures some { end_of result ≢ Fault.Memory }
+    ensures writes { (U.state unit.new).clock ≤ (U.state unit.old).clock + 10324 }
     ensures nothing { IfErr result (λ fault. fault ≢ Fault.WriteFault → sink.new ≡ sink.old) }
     ensures counts { K.faults sink.old ≤ K.faults sink.new }
 {

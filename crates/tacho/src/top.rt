@@ -39,22 +39,36 @@ use unit_download::{Wire, download};
 
 /// Does what the words ask for.
 ///
-/// `minutes` reads a trace from the source, and writes the view text of its decided minutes, no card present, to the
-/// sink; `minutes 2009` the same by the amended rule. `record` reads a trace, records it on the unit and the cards, and
-/// writes five lines of counts to the sink; a trace without a card's line is recorded on the unit alone. `serve`
-/// answers the frames among the bytes of the source by the messages of the unit, and writes the answers to the sink;
-/// `serve --hex` the same of lines of hexadecimal digits; `serve packets` answers packets, and `download packets` asks
-/// by them, and writes the unit's file to the file. `download` downloads the unit, and writes its file, message by
-/// message, to the sink; `download noisy X` the same over a link that loses, repeats and delays. `view` reads a unit
-/// file or a card file from the source, and writes the view text of its minutes or entries to the sink. `match` reads a
-/// unit file and a card file from the source, and writes whether the card's entries stand in the unit file to the sink;
-/// `match all` all that differ. `card a` and `card b` read the card by its commands, and write its card file to the
-/// sink. `demo X` makes the unit and card a new, records a demonstration on the unit and the cards, downloads the unit,
-/// and writes seven lines of counts to the sink. `format a` and `format b` issue the card anew, of the largest sizes,
-/// `format unit` makes the unit new; they write `formatted` to the sink. `upgrade` gives the unit version 2 with the
-/// amended rule of minutes, and writes `upgraded`, or `already 2` where the unit had it. `state` reads the unit and the
-/// cards, and writes what they tell of themselves, a line each. No other device is used than the form's. `help` and
-/// `--help` write the forms to the sink, a line each, and `--version` the version.
+/// Of a trace, which it reads from the source:
+/// - `minutes` writes the view text of its decided minutes, no card present, to the sink; `minutes 2009` the same by
+///   the amended rule.
+/// - `record` records it on the unit and the cards, and writes five lines of counts to the sink; a trace without a
+///   card's line is recorded on the unit alone.
+///
+/// Of a unit or a card:
+/// - `serve` answers the frames among the bytes of the source by the messages of the unit, and writes the answers to
+///   the sink; `serve --hex` the same of lines of hexadecimal digits; `serve packets` answers packets.
+/// - `download` downloads the unit, and writes its file, message by message, to the sink; `download noisy X` the same
+///   over a link that loses, repeats and delays; `download packets` asks by packets, and writes the unit's file to the
+///   file.
+/// - `card a` and `card b` read the card by its commands, and write its card file to the sink.
+/// - `state` reads the unit and the cards, and writes what they tell of themselves, a line each.
+/// - `format a` and `format b` issue the card anew, of the largest sizes, `format unit` makes the unit new; they write
+///   `formatted` to the sink. `upgrade` gives the unit version 2 with the amended rule of minutes, and writes
+///   `upgraded`, or `already 2` where the unit had it.
+/// - `demo X` makes the unit and card a new, records a demonstration on the unit and the cards, downloads the unit, and
+///   writes seven lines of counts to the sink.
+///
+/// Of a unit file or a card file, which it reads from the source, to the sink:
+/// - `view` writes the view text of its minutes or entries, `view manual` that of the entries by hand of a card file;
+///   `totals` the hours of each day, `chart` a picture of its days, `show` all that stands in it as JSON, `speeds` the
+///   speed of each minute of a unit file. With `last N` each but `view manual` is of the last days alone (`speeds`: of
+///   the last minutes).
+/// - `match` reads a unit file and a card file, and writes whether the card's entries stand in the unit file; `match
+///   all` all that differ.
+///
+/// No other device is used than the form's. `help` and `--help` write the forms to the sink, a line each, and
+/// `--version` the version.
 pub fn tacho<S: Peer<K>, K: Sink, F: Sink, U: Medium, C: Chip>(
     alloc: Global,
     words: &Words,

@@ -34,26 +34,29 @@ returns-clause-begun g c = λ x alone.
     let begins = begins-alone x (g.U.Medium.state c.args.unit.now) c.no_card-card_a.result.medium.broken c.no_card-card_b.result.medium.broken (g.met.U.Medium.coherent c.args.unit.now) alone in
     on_ok_weaker c.run_trace.result (λ may. (may.decodes, may.later)) (c.run_trace.ensures.begun x no_image no_image begins)
 
-pub returns-clause-unbroken : goal.returns-clause-unbroken
-returns-clause-unbroken g c = c.run_trace.ensures.later.unit.unbroken
+pub returns-clause-breakdowns : goal.returns-clause-breakdowns
+returns-clause-breakdowns g c = record {
+  broke = c.run_trace.ensures.breakdowns.broke;
+  calm = c.run_trace.ensures.breakdowns.calm;
+  told = on_ok_weaker c.run_trace.result (λ told. told.unit) c.run_trace.ensures.breakdowns.told;
+  unbroken = c.run_trace.ensures.later.unit.unbroken;
+}
 
-pub returns-clause-early : goal.returns-clause-early
-returns-clause-early g c =
-    IfErr-weaker c.run_trace.result _ _ (λ fault is. refused-alone c.args.trace.now.start (g.U.Medium.state c.args.unit.now) (g.U.Medium.state c.run_trace.new.unit) c.no_card-card_a.result.medium.broken c.no_card-card_b.result.medium.broken c.run_trace.new.card_a.medium.broken c.run_trace.new.card_b.medium.broken
-    c.no_card-card_a.ensures c.no_card-card_b.ensures c.args.outcome.now c.run_trace.new.outcome fault is) c.run_trace.ensures.refused
-
-pub returns-clause-fault : goal.returns-clause-fault
-returns-clause-fault g c =
-    IfErr-weaker c.run_trace.result _ _
-    (λ fault is. of-unit-alone c.args.trace.now.start c.args.outcome.now c.run_trace.new.outcome (g.U.Medium.state c.args.unit.now) (g.U.Medium.state c.run_trace.new.unit) fault
-    (refused-alone c.args.trace.now.start (g.U.Medium.state c.args.unit.now) (g.U.Medium.state c.run_trace.new.unit) c.no_card-card_a.result.medium.broken c.no_card-card_b.result.medium.broken c.run_trace.new.card_a.medium.broken c.run_trace.new.card_b.medium.broken
-    c.no_card-card_a.ensures c.no_card-card_b.ensures c.args.outcome.now c.run_trace.new.outcome fault is)) c.run_trace.ensures.refused
-
-pub returns-clause-refused : goal.returns-clause-refused
-returns-clause-refused g c =
-    refused-by c.args.trace.now.start (g.U.Medium.state c.args.unit.now) (g.U.Medium.state c.run_trace.new.unit) c.no_card-card_a.result.medium.broken c.no_card-card_b.result.medium.broken c.run_trace.new.card_a.medium.broken c.run_trace.new.card_b.medium.broken
-    c.no_card-card_a.ensures c.no_card-card_b.ensures c.run_trace.result _ c.args.outcome.now c.run_trace.new.outcome
-    (g.met.U.Medium.coherent c.args.unit.now) (g.met.U.Medium.coherent c.run_trace.new.unit) c.run_trace.ensures.fault
+pub returns-clause-refusal : goal.returns-clause-refusal
+returns-clause-refusal g c = record {
+  fault =
+      IfErr-weaker c.run_trace.result _ _
+      (λ fault is. of-unit-alone c.args.trace.now.start c.args.outcome.now c.run_trace.new.outcome (g.U.Medium.state c.args.unit.now) (g.U.Medium.state c.run_trace.new.unit) fault
+      (refused-alone c.args.trace.now.start (g.U.Medium.state c.args.unit.now) (g.U.Medium.state c.run_trace.new.unit) c.no_card-card_a.result.medium.broken c.no_card-card_b.result.medium.broken c.run_trace.new.card_a.medium.broken c.run_trace.new.card_b.medium.broken
+      c.no_card-card_a.ensures c.no_card-card_b.ensures c.args.outcome.now c.run_trace.new.outcome fault is)) c.run_trace.ensures.refused;
+  early =
+      IfErr-weaker c.run_trace.result _ _ (λ fault is. refused-alone c.args.trace.now.start (g.U.Medium.state c.args.unit.now) (g.U.Medium.state c.run_trace.new.unit) c.no_card-card_a.result.medium.broken c.no_card-card_b.result.medium.broken c.run_trace.new.card_a.medium.broken c.run_trace.new.card_b.medium.broken
+      c.no_card-card_a.ensures c.no_card-card_b.ensures c.args.outcome.now c.run_trace.new.outcome fault is) c.run_trace.ensures.refused;
+  refused =
+      refused-by c.args.trace.now.start (g.U.Medium.state c.args.unit.now) (g.U.Medium.state c.run_trace.new.unit) c.no_card-card_a.result.medium.broken c.no_card-card_b.result.medium.broken c.run_trace.new.card_a.medium.broken c.run_trace.new.card_b.medium.broken
+      c.no_card-card_a.ensures c.no_card-card_b.ensures c.run_trace.result _ c.args.outcome.now c.run_trace.new.outcome
+      (g.met.U.Medium.coherent c.args.unit.now) (g.met.U.Medium.coherent c.run_trace.new.unit) c.run_trace.ensures.fault;
+}
 
 pub returns-clause-most : goal.returns-clause-most
 returns-clause-most g c = c.run_trace.ensures.most.unit

@@ -65,7 +65,7 @@ returns-clause-recorded g c = λ b may time few.
     (ok_gives c.format_unit.result c.format_unit.ensures.formatted formed) (ok_gives c.format_unit.result c.format_unit.ensures.settled formed then_.unit)
     (ok_gives c.issue.result c.issue.ensures.written issued) (ok_gives c.issue.result c.issue.ensures.settled issued then_.card_a) in
     ends-anew (unit_image c.args.vehicle.now) c.args.image.now b c.args.trace.now.start c.args.trace.now.items c.run_trace.new.outcome U V X Y Z (devices (g.U.Medium.state c.run_trace.new.unit) (g.C.Chip.state c.run_trace.new.card_a) (g.C.Chip.state c.run_trace.new.card_b))
-    c.format_unit.ensures.moments.later c.issue.ensures.moments.later (unit_cause.unbroken refl) (card_cause.unbroken refl) e.later.unit.clock e.later.card_a.clock e.most
+    c.format_unit.ensures.moments.later c.issue.ensures.moments.later (unit_cause.unbroken refl) (card_cause.unbroken refl) e.later.unit.clock e.later.card_a.clock c.format_unit.ensures.most (let few = c.issue.ensures.few in let long = c.requires.image in omega (arith, few, long)) e.most
     (e.recorded (unit_image c.args.vehicle.now) c.args.image.now b begins time few)
 
 -- ---- how often the unit has failed
@@ -75,3 +75,31 @@ returns-in-Err-clause-faults g c = let made = c.format_unit.ensures.cause.faults
 
 pub returns-clause-faults : goal.returns-clause-faults
 returns-clause-faults g c = let made = c.format_unit.ensures.cause.faults in let run = c.in_default.ensures.later.unit.faults in omega (arith, made, run)
+
+-- ---- how many writes began
+
+pub returns-then-is_err-clause-most : goal.returns-then-is_err-clause-most
+returns-then-is_err-clause-most g c = let made = c.format_unit.ensures.most in record { unit = omega (arith, made); card_a = omega arith; card_b = omega arith }
+
+pub returns-then-is_err-2-clause-most : goal.returns-then-is_err-2-clause-most
+returns-then-is_err-2-clause-most g c =
+    let made = c.format_unit.ensures.most in
+    let few = c.issue.ensures.few in
+    let long = c.requires.image in
+    record { unit = omega (arith, made); card_a = omega (arith, few, long); card_b = omega arith }
+
+pub returns-in-Err-clause-most : goal.returns-in-Err-clause-most
+returns-in-Err-clause-most g c =
+    let made = c.format_unit.ensures.most in
+    let few = c.issue.ensures.few in
+    let long = c.requires.image in
+    let run = c.in-Err.ensures.most in
+    record { unit = (let most = run.unit in omega (arith, made, most)); card_a = (let most = run.card_a in omega (arith, few, long, most)); card_b = run.card_b }
+
+pub returns-clause-most : goal.returns-clause-most
+returns-clause-most g c =
+    let made = c.format_unit.ensures.most in
+    let few = c.issue.ensures.few in
+    let long = c.requires.image in
+    let run = c.in_default.ensures.most in
+    record { unit = (let most = run.unit in omega (arith, made, most)); card_a = (let most = run.card_a in omega (arith, few, long, most)); card_b = run.card_b }

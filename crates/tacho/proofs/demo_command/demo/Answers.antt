@@ -4,7 +4,7 @@ use Rattle.tacho.specs.declared.end.Fault.TheVariants.{WriteFault}
 use Rattle.tacho.specs.Outcomes.{IsEmpty}
 use Rattle.tacho.proofs.Formats.{largest-size}
 use Rattle.tacho.proofs.Recordings.{reserved-empty}
-use Rattle.tacho.proofs.Demo.{items-few, demo-memory, demo-refused, demo-unread, demo-done, unread-causes, anew-causes, printed-causes, as-demo, first-of}
+use Rattle.tacho.proofs.Demo.{items-few, demo-memory, demo-refused, demo-unread, demo-done, unread-causes, anew-causes, printed-causes, as-demo, writes-demo, first-of}
 use Rattle.tacho.proofs.demo_command.demo.Goals as goal
 
 pub run_anew-requires-clause-image : goal.run_anew-requires-clause-image
@@ -17,7 +17,8 @@ returns-in-Err-clause-ends g c =
     (demo-refused c.args.seed _ _ c.run_anew.new.outcome c.in-Err.fault refl
     (λ b starts. subst IsEmpty (sym (e.nothing b starts.may starts.clocks (rw c.in-Ok.ensures.items (items-few c.args.seed)))) (reserved-empty c.in-Ok.trace.items c.in-Ok-reserve.reserved c.in-Ok-reserve.ensures))
     e.failed
-    (λ b starts may. e.kept b starts.may starts.clocks (rw c.in-Ok.ensures.items (items-few c.args.seed)) (rw (c.as_slice.ensures.value ∙ c.in-Ok-blank_card.ensures.image, c.in-Ok.ensures.start) may)))
+    (λ b starts may. e.kept b starts.may starts.clocks (rw c.in-Ok.ensures.items (items-few c.args.seed)) (rw (c.as_slice.ensures.value ∙ c.in-Ok-blank_card.ensures.image, c.in-Ok.ensures.start) may))
+    (writes-demo c.args.seed c.in-Ok.trace.items _ _ c.in-Ok.ensures.items e.most))
 
 pub returns-in-Err-measure-clause-ends : goal.returns-in-Err-measure-clause-ends
 returns-in-Err-measure-clause-ends g c =
@@ -27,7 +28,8 @@ returns-in-Err-measure-clause-ends g c =
     (demo-unread c.args.seed _ _ c.run_anew.new.outcome (g.U.Medium.state c.run_anew.new.unit) c.in-Err-measure.fault refl f.unit
     (λ b may time. as-demo c.args.seed _ c.as_slice.result.now b c.in-Ok.trace.start c.in-Ok.trace.items c.run_anew.new.outcome _ _ (c.as_slice.ensures.value ∙ c.in-Ok-blank_card.ensures.image) c.in-Ok.ensures.start c.in-Ok.ensures.items
     (e.recorded b may time (rw c.in-Ok.ensures.items (items-few c.args.seed))))
-    (λ is. f.changed (ap Err is)) e.faults (g.met.U.Medium.coherent c.measure.new.unit) f.bad)
+    (λ is. f.changed (ap Err is)) e.faults (g.met.U.Medium.coherent c.measure.new.unit) f.bad
+    (writes-demo c.args.seed c.in-Ok.trace.items _ _ c.in-Ok.ensures.items e.most))
 
 pub returns-in-Err-measure-clause-causes : goal.returns-in-Err-measure-clause-causes
 returns-in-Err-measure-clause-causes g c =
@@ -49,20 +51,21 @@ returns-clause-ends g c =
     (λ b may time. as-demo c.args.seed _ c.as_slice.result.now b c.in-Ok.trace.start c.in-Ok.trace.items c.run_anew.new.outcome _ _ (c.as_slice.ensures.value ∙ c.in-Ok-blank_card.ensures.image) c.in-Ok.ensures.start c.in-Ok.ensures.items
     (e.recorded b may time (rw c.in-Ok.ensures.items (items-few c.args.seed))))
     f.measured c.print_demo.ensures.ok c.print_demo.ensures.err c.print_demo.ensures.cause
+    (writes-demo c.args.seed c.in-Ok.trace.items _ _ c.in-Ok.ensures.items e.most)
 
 -- ---- there was no memory
 
 pub returns-in_default-clause-ends : goal.returns-in_default-clause-ends
-returns-in_default-clause-ends g c = demo-memory c.args.seed _ _ c.args.outcome.now refl c.requires.empty
+returns-in_default-clause-ends g c = demo-memory c.args.seed _ _ c.args.outcome.now refl c.requires.empty (record { unit = omega arith; card_a = omega arith; card_b = omega arith })
 
 pub returns-in_default-reserve-clause-ends : goal.returns-in_default-reserve-clause-ends
-returns-in_default-reserve-clause-ends g c = demo-memory c.args.seed _ _ c.args.outcome.now refl c.requires.empty
+returns-in_default-reserve-clause-ends g c = demo-memory c.args.seed _ _ c.args.outcome.now refl c.requires.empty (record { unit = omega arith; card_a = omega arith; card_b = omega arith })
 
 pub returns-in_default-blank_card-clause-ends : goal.returns-in_default-blank_card-clause-ends
-returns-in_default-blank_card-clause-ends g c = demo-memory c.args.seed _ _ c.args.outcome.now refl c.requires.empty
+returns-in_default-blank_card-clause-ends g c = demo-memory c.args.seed _ _ c.args.outcome.now refl c.requires.empty (record { unit = omega arith; card_a = omega arith; card_b = omega arith })
 
 pub returns-then-is_err-clause-ends : goal.returns-then-is_err-clause-ends
-returns-then-is_err-clause-ends g c = demo-memory c.args.seed _ _ c.args.outcome.now refl c.requires.empty
+returns-then-is_err-clause-ends g c = demo-memory c.args.seed _ _ c.args.outcome.now refl c.requires.empty (record { unit = omega arith; card_a = omega arith; card_b = omega arith })
 
 pub returns-in_default-with_capacity-clause-ends : goal.returns-in_default-with_capacity-clause-ends
-returns-in_default-with_capacity-clause-ends g c = demo-memory c.args.seed _ _ c.args.outcome.now refl c.requires.empty
+returns-in_default-with_capacity-clause-ends g c = demo-memory c.args.seed _ _ c.args.outcome.now refl c.requires.empty (record { unit = omega arith; card_a = omega arith; card_b = omega arith })

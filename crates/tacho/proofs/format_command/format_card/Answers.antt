@@ -1,4 +1,4 @@
-use Rattle.std.proofs.Common.{◌∙◌, List, ℕ, Bool, subst, sym, arith}
+use Rattle.std.proofs.Common.{◌≡◌, ◌∙◌, List, ℕ, length, Bool, subst, sym, arith}
 use Rattle.tach_media.specs.Medium.{HasCause}
 use Rattle.tacho.specs.Formatting.{EndsFormat, IsIssuing}
 use Rattle.tacho.specs.Outside.{SinkTold}
@@ -35,3 +35,17 @@ returns-clause-ends g c =
     (issue-done c.args.device c.as_slice.result.now old new (g.met.C.Chip.coherent c.args.card.now) (omega (arith, c.as_slice.ensures.len, c.in-Ok.ensures.size, largest-size)) c.requires
     before after c.print_formatted.result c.issue.ensures.moments (of-ok c.issue.result fine c.issue.ensures.written) (of-ok c.issue.result fine c.issue.ensures.settled) cause
     c.print_formatted.ensures.ok c.print_formatted.ensures.err c.print_formatted.ensures.cause)
+
+-- ---- its writes
+
+pub returns-then-is_err-clause-writes : goal.returns-then-is_err-clause-writes
+returns-then-is_err-clause-writes g c =
+    let long : length c.as_slice.result.now ≡ 24959 = omega (arith, c.as_slice.ensures.len, c.in-Ok.ensures.size, largest-size) in
+    let few = c.issue.ensures.few in
+    omega (arith, long, few)
+
+pub returns-clause-writes : goal.returns-clause-writes
+returns-clause-writes g c =
+    let long : length c.as_slice.result.now ≡ 24959 = omega (arith, c.as_slice.ensures.len, c.in-Ok.ensures.size, largest-size) in
+    let few = c.issue.ensures.few in
+    omega (arith, long, few)

@@ -27,3 +27,11 @@ returns-clause-ends g c =
     (of-ok c.format_unit.result fine c.format_unit.ensures.formatted) (of-ok c.format_unit.result fine c.format_unit.ensures.settled)
     (subst (λ (f : Bool). HasCause old new f) fine c.format_unit.ensures.cause)
     c.print_formatted.ensures.ok c.print_formatted.ensures.err c.print_formatted.ensures.cause
+
+-- ---- its writes
+
+pub returns-then-is_err-clause-writes : goal.returns-then-is_err-clause-writes
+returns-then-is_err-clause-writes g c = c.format_unit.ensures.most
+
+pub returns-clause-writes : goal.returns-clause-writes
+returns-clause-writes g c = c.format_unit.ensures.most
