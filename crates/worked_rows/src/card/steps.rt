@@ -15,7 +15,10 @@ use activity_codec::{Activity, Entry, Pick, Slot};
 use card_commands::read_sizes;
 use card_layout::{Application, LARGEST_IMAGE};
 use card_session::{CardSession, Kept};
-use device_calls::{NotEntered, begin, enter, keep_on_card, keep_on_unit, leave, mend};
+use device_calls::{
+    BothSaid, CardInsertion, NewRow, NotEntered, Said, begin, enter, keep_on_card, keep_on_unit,
+    leave, mend,
+};
 use hand_model::Held;
 use std::alloc::Global;
 use std::rt::HostRuntime;
@@ -183,11 +186,13 @@ fn put_in<M: Medium, C: Chip, D: Chip>(
         card,
         other,
         Card::A,
-        app,
-        TimeReal(second),
-        &REGISTRATION,
-        Odometer(odometer),
-        None,
+        CardInsertion {
+            app,
+            time: TimeReal(second),
+            registration: REGISTRATION,
+            odometer: Odometer(odometer),
+            spared: None,
+        },
     )?;
     let number = entered.look.number;
     let row = entered.row;
@@ -197,10 +202,12 @@ fn put_in<M: Medium, C: Chip, D: Chip>(
         card,
         other,
         Card::A,
-        &number,
-        second,
-        row,
-        None,
+        NewRow {
+            number,
+            session: second,
+            index: row,
+            spared: None,
+        },
     )?;
     Ok(Drive {
         journal,
@@ -248,14 +255,20 @@ fn keep<M: Medium, C: Chip, D: Chip>(
         &mut drive.journal,
         card,
         other,
-        Card::A,
-        &drive.number,
-        drive.row,
-        said,
-        Card::B,
-        &OTHER,
-        0,
-        None,
+        BothSaid {
+            one: Said {
+                card: Card::A,
+                number: drive.number,
+                row: drive.row,
+                entry: said,
+            },
+            two: Said {
+                card: Card::B,
+                number: OTHER,
+                row: 0,
+                entry: None,
+            },
+        },
         &minute,
     )?;
     if step.keeps {
@@ -297,7 +310,6 @@ fn bring<M: Medium, C: Chip>(
         drive.app,
         &mut drive.session,
         &mut drive.held,
-        Card::A,
         &kept,
     )?;
     Ok(())
