@@ -1,11 +1,12 @@
 -- Worked rows of the auxiliary records: a short drive with a card, and a run with a cut.
-use Rattle.std.proofs.Common.{◌≡◌, ℕ, true, false, cond, nat_eq, Option, None, Some, List, [], ◌∷◌, ◌++◌, map, refl}
+use Rattle.std.proofs.Common.{◌≡◌, inl, inr, ℕ, true, false, cond, nat_eq, Option, None, Some, List, [], ◌∷◌, ◌++◌, map, refl}
 use Rattle.activity_codec.specs.declared.values.Slot.TheVariants.{Driver}
 use Rattle.trace_model.specs.declared.Card.{Card}
 use Rattle.trace_model.specs.declared.Card.TheVariants.{A}
 use Rattle.trace_model.specs.declared.Action.{Action}
 use Rattle.trace_model.specs.declared.Action.TheVariants.{Insert, Withdraw, Place}
 use Rattle.trace_model.specs.Trace.{TraceSecond}
+use Rattle.unit_model.specs.Ring.{Shape, taken}
 use Rattle.log_model.specs.declared.lines.Break.TheVariants.{Cut, Tear}
 use Rattle.log_model.specs.declared.lines.Find.{Find}
 use Rattle.log_model.specs.declared.lines.Verdict.{Verdict}
@@ -16,6 +17,7 @@ use Rattle.log_model.specs.Spans.{spans_of}
 use Rattle.note_model.specs.Done.{done_of, has_failed_in}
 use Rattle.note_model.specs.Noted.{Accepts, Withdraws, Enters, notes_of, insertions_of}
 use Rattle.note_model.specs.Odometer.{driven_before, odometer_before}
+use Rattle.note_model.specs.Rings.{LiesAhead}
 use Rattle.note_model.specs.Tables.{table_of}
 use Rattle.event_model.specs.Events.{Event, Tearing, seen_of, events_of}
 use Rattle.note_model.specs.Events.{noting_second}
@@ -125,3 +127,20 @@ places_begin = refl
 
 entry_sizes : map (λ (kind : ℕ). (table_of kind).width) (0x01 ∷ 0x07 ∷ 0x40 ∷ []) ≡ 83 ∷ 31 ∷ 82 ∷ []
 entry_sizes = refl
+
+-- a ring of four places with a gap at the third, and the newest entry at the second: the next one comes to the gap, and
+-- the oldest stands one place further ahead; the first place lies two ahead, round the end
+abbrev four : Shape
+four = record { base = 0; width = 4; count = 4; pointer_width = 1; gate = 0 }
+
+abbrev gapped : List ℕ
+gapped = 1 ∷ 0 ∷ 0 ∷ 0 ∷ 1 ∷ 0 ∷ 0 ∷ 0 ∷ 1 ∷ 0 ∷ 0 ∷ 0 ∷ 0 ∷ 0 ∷ 0 ∷ 0 ∷ 1 ∷ []
+
+gap_is_next : taken four gapped ≡ 2
+gap_is_next = refl
+
+oldest_is_ahead : LiesAhead four (taken four gapped) 1 3
+oldest_is_ahead = inl refl
+
+first_is_ahead : LiesAhead four (taken four gapped) 2 0
+first_is_ahead = inr refl

@@ -1,10 +1,10 @@
 -- What the rings of insertions and places of a unit show of a run (profile).
-use Rattle.std.specs.Prelude.{◌≡◌, ◌⊎◌, ℕ, ◌+◌, ◌≤◌, Bool, true, false, not, Option, Some, None, List, [], ◌∷◌, ◌++◌}
-use Rattle.std.specs.Prelude.{length, filter, if◌then◌else◌}
+use Rattle.std.specs.Prelude.{◌≡◌, ◌⊎◌, ℕ, ◌+◌, ◌<◌, ◌≤◌, Bool, true, false, not, Option, Some, None, List, [], ◌∷◌}
+use Rattle.std.specs.Prelude.{◌++◌, length, filter, if◌then◌else◌, Contains}
 use Rattle.card_layout.specs.Fields.{field_at, number_in}
 use Rattle.activity_codec.specs.Words.{slot_number}
 use Rattle.trace_model.specs.declared.Card.{Card}
-use Rattle.unit_model.specs.Ring.{Shape, ring_list, IsDense}
+use Rattle.unit_model.specs.Ring.{Shape, PointsInside, indices, ring_list, taken, IsDense}
 use Rattle.log_model.specs.Log.{RunLog}
 use Rattle.message_model.specs.Records.{insertion_widths, place_widths}
 use Rattle.note_model.specs.Done.{has_failed_in}
@@ -29,13 +29,33 @@ Stand is_sure Is (n ∷ notes) entries =
 abbrev pub unsure_count : {N : Type 0} → (N → Bool) → List N → ℕ
 unsure_count is_sure notes = length (filter (λ n. not (is_sure n)) notes)
 
--- a ring shows no fewer entries than at the start, but for one for each note that is not sure
-abbrev pub AreNoFewer : {N : Type 0} → Shape → (N → Bool) → List N → (start x : List ℕ) → Type 0
-AreNoFewer r is_sure notes start x = length (ring_list r start) ≤ length (ring_list r x) + unsure_count is_sure notes
+-- an index lies so many places ahead of another, round the end
+abbrev pub LiesAhead : Shape → (from places at : ℕ) → Type 0
+LiesAhead r from places at = (at ≡ from + places) ⊎ (at + r.count ≡ from + places)
+
+-- a ring that so many entries did not bring round: the index that the next one takes lies no more places ahead of the
+-- one that it was at the start
+abbrev pub HasTurned : Shape → (entries : ℕ) → (start x : List ℕ) → Type 0
+HasTurned r entries start x = entries < r.count
+    → (places : ℕ) × (places ≤ entries) × LiesAhead r (taken r start) places (taken r x)
+
+-- each entry that stood at the start at none of so many places, from the next one on, stands still, at its index
+abbrev pub FarOnesStand : Shape → (entries : ℕ) → (start x : List ℕ) → Type 0
+FarOnesStand r entries start x = (places at : ℕ) → entries ≤ places → places < r.count
+    → LiesAhead r (taken r start) places at → Contains (indices r start) at → Contains (indices r x) at
+
+-- A RING LOSES NO OTHERS, whether it had a gap at the start or none: it shows no fewer entries than then, but for one
+-- for each note that is not sure (`many`); and each note brings it on by one place at most (`turned`), and takes no
+-- entry but that which stood there, if one did (`far`).
+pub record AreNoFewer {N : Type 0} (r : Shape) (is_sure : N → Bool) (notes : List N) (start x : List ℕ) : Type 0 where
+  pub begins : PointsInside r start
+  pub many : length (ring_list r start) ≤ length (ring_list r x) + unsure_count is_sure notes
+  pub turned : HasTurned r (length notes) start x
+  pub far : FarOnesStand r (length notes) start x
 
 -- A RING SHOWS what it showed at the start and entries that stand for the notes. Some are gone at its old end, but no
--- more than entries came, or notes are not sure; and of a ring that was dense at the start only where it is full, or
--- lacks one entry.
+-- more than entries came, or notes are not sure, and none but of the places that these take, from the next one on
+-- (`few`); and of a ring that was dense at the start only where it is full, or lacks one entry.
 pub record RingShows {N : Type 0} (r : Shape) (is_sure : N → Bool) (Is : N → List ℕ → Type 0) (notes : List N)
     (start x : List ℕ) : Type 0 where
   pub more : List (List ℕ)

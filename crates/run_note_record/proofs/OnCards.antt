@@ -19,7 +19,7 @@ use Rattle.safety_model.specs.Safe.{Devices, card_of}
 use Rattle.run_rings.specs.Carried.{RingKeeps}
 use Rattle.run_rings.proofs.Carried.{carries-none, carries-same, carries-more, carries-maybe}
 use Rattle.run_rings.proofs.Standing.{stand-one, stand-unsure}
-use Rattle.run_rings.proofs.Few.{as-many, added-long, adding-long, few-start, few-go, few-as, few-more, few-unsure}
+use Rattle.run_rings.proofs.Few.{ring-stays, ring-takes, ring-may, few-start, few-go, few-as, few-more, few-unsure}
 use Rattle.run_note_record.specs.Origin.{Origin}
 use Rattle.card_layout.specs.declared.files.Application.{Application}
 use Rattle.card_image.specs.Own.{own_sizes}
@@ -44,7 +44,7 @@ maybe r start x y head sure Is notes n was full is unsure (inl same) = record {
   more = was.more;
   carries = subst (λ (z : List ℕ). RingKeeps r start z was.more) (sym same) was.carries;
   stand = stand-unsure sure Is notes was.more n was.stand unsure;
-  few = few-unsure r sure notes n start x y unsure (adding-long r head x y was.carries.points (inl same)) was.few;
+  few = few-unsure r sure notes n start x y unsure (ring-may r head x y was.carries.points (inl same)) was.few;
 }
 maybe r start x y head sure Is notes n was full is unsure (inr moment) = ⊎_elim
     (λ carries. record { more = was.more; carries = carries; stand = stand-unsure sure Is notes was.more n was.stand unsure; few = few })
@@ -57,7 +57,7 @@ maybe r start x y head sure Is notes n was full is unsure (inr moment) = ⊎_eli
     (carries-maybe r start x was.more was.carries head y moment)
   where
     few : AreNoFewer r sure (notes ++ n ∷ []) start y
-    few = few-unsure r sure notes n start x y unsure (adding-long r head x y was.carries.points (inr moment)) was.few
+    few = few-unsure r sure notes n start x y unsure (ring-may r head x y was.carries.points (inr moment)) was.few
 
 all-filter : {X : Type 0} (P : X → Type 0) (f : X → Bool) (xs : List X) → AllByRecursion P xs → AllByRecursion P (filter f xs)
 all-filter P f [] all = tt
@@ -126,7 +126,7 @@ places-none o log spans d start c has x left = record {
   more = [];
   carries = subst (λ (y : List ℕ). RingKeeps (places_in (card_image o.recording c)) (card_image o.recording c) y []) (sym (start c x left)) (carries-none (places_in (card_image o.recording c)) (card_image o.recording c) has.ring);
   stand = refl;
-  few = few-start (places_in (card_image o.recording c)) (is_sure_on log) (card_image o.recording c) x (start c x left);
+  few = few-start (places_in (card_image o.recording c)) (is_sure_on log) (card_image o.recording c) x has.ring (start c x left);
 }
 
 -- NONE IS CALLED
@@ -165,9 +165,9 @@ places-go o log later spans now notes d e fell same stays v c has y left =
       more = was.more;
       carries = carries-same (places_in (card_image o.recording c)) (card_image o.recording c) w.0 was.more was.carries has.shape y w.2;
       stand = stand-as (is_sure_on log) (is_sure_on later) (IsPlaceOn spans) (IsPlaceOn now) (places_on c (places_of notes)) was.more weaker was.stand;
-      few = few-go (places_in (card_image o.recording c)) (is_sure_on log) (is_sure_on later) (places_on c (places_of notes)) (places_on c (places_of notes)) (card_image o.recording c) w.0 y
+      few = few-go (places_in (card_image o.recording c)) (is_sure_on log) (is_sure_on later) (places_on c (places_of notes)) (card_image o.recording c) w.0 y
           (unsure-as (is_sure_on log) (is_sure_on later) (IsPlaceOn spans) (IsPlaceOn now) (places_on c (places_of notes)) weaker)
-          (as-many (places_in (card_image o.recording c)) has.shape w.0 y w.2 was.carries.points) was.few;
+          (ring-stays (places_in (card_image o.recording c)) has.shape w.0 y w.2 was.carries.points) was.few;
     }
 
 -- a note that is no place
@@ -180,7 +180,7 @@ places-beside o log spans notes n d e none stays v c has y left =
       more = was.more;
       carries = carries-same (places_in (card_image o.recording c)) (card_image o.recording c) w.0 was.more was.carries has.shape y w.2;
       stand = was.stand;
-      few = few-as (places_in (card_image o.recording c)) (is_sure_on log) (places_on c (places_of notes)) (card_image o.recording c) w.0 y (as-many (places_in (card_image o.recording c)) has.shape w.0 y w.2 was.carries.points) was.few;
+      few = few-as (places_in (card_image o.recording c)) (is_sure_on log) (places_on c (places_of notes)) (card_image o.recording c) w.0 y (ring-stays (places_in (card_image o.recording c)) has.shape w.0 y w.2 was.carries.points) was.few;
     })
 
 -- A PLACE IS NOTED, or may be
@@ -206,7 +206,7 @@ module _ (o : Origin) (log : RunLog) (spans : List SpanFrom) (notes : List Note)
         more = was.more;
         carries = carries-same (places_in (image c)) (image c) w.0 was.more was.carries has.shape y w.2;
         stand = was.stand;
-        few = few-as (places_in (image c)) (is_sure_on log) (front c) (image c) w.0 y (as-many (places_in (image c)) has.shape w.0 y w.2 was.carries.points) was.few;
+        few = few-as (places_in (image c)) (is_sure_on log) (front c) (image c) w.0 y (ring-stays (places_in (image c)) has.shape w.0 y w.2 was.carries.points) was.few;
       })
 
   by-image : (c : Card) (x y : List ℕ) → Shows c (front c) x → TakesPlace log p own (image c) x y → Shows c (front c ++ p ∷ []) y
@@ -214,7 +214,7 @@ module _ (o : Origin) (log : RunLog) (spans : List SpanFrom) (notes : List Note)
     more = was.more ++ own ∷ [];
     carries = subst (λ (l : List ℕ). RingKeeps (places_in (image c)) (image c) y (was.more ++ l ∷ [])) (whole-head (places_in (image c)) x (taken (places_in (image c)) x) own full) (carries-more (places_in (image c)) (image c) x was.more was.carries own y added);
     stand = stand-one (is_sure_on log) (IsPlaceOn spans) (front c) was.more p own was.stand is;
-    few = few-more (places_in (image c)) (is_sure_on log) (front c) p (image c) x y (added-long (places_in (image c)) own x y was.carries.points added) was.few;
+    few = few-more (places_in (image c)) (is_sure_on log) (front c) p (image c) x y (ring-takes (places_in (image c)) own x y was.carries.points added) was.few;
   }
   by-image c x y was (inr (unsure, moment)) = maybe (places_in (image c)) (image c) x y own (is_sure_on log) (IsPlaceOn spans) (front c) p was full is (ap not unsure) moment
 

@@ -24,7 +24,7 @@ use Rattle.run_rings.specs.Carried.{RingKeeps}
 use Rattle.run_rings.proofs.Carried.{carries-none, carries-same, carries-more}
 use Rattle.run_rings.proofs.Indices.{index-stays, lies-next, lies-first}
 use Rattle.run_rings.proofs.Standing.{stand-one}
-use Rattle.run_rings.proofs.Few.{as-many, added-long, few-start, few-go, few-as, few-more}
+use Rattle.run_rings.proofs.Few.{ring-stays, ring-takes, few-start, few-go, few-as, few-more}
 use Rattle.run_note_record.specs.Origin.{Origin}
 use Rattle.run_note_record.specs.Beside.{HaveLeftMore}
 use Rattle.run_note_record.specs.Ringed.{holder_in, TellsIn, IsInsertionIn, IsPlaceIn, sure_insertion, sure_place, ShowsNotes, Seating, one_behind, LiesBehind, StandsAt, IsSeated, ShowsInsertions, Ringed, GoOn, NoRingIsWritten, RingsStay, FewerSit, IsAddedAt, MayBeAdded, Since}
@@ -52,10 +52,10 @@ Writes R d e = (y : List ℕ) → e.unit.may_leave y → (x : List ℕ) × d.uni
 pub none-noted : (d : Devices) → NoRingIsWritten d
 none-noted d o log spans start cards = record {
   insertions = λ ring x left. record {
-    shows = record { more = []; carries = subst (λ (y : List ℕ). RingKeeps insertion_ring o.origin.recording.unit y []) (sym (start x left)) (carries-none insertion_ring o.origin.recording.unit ring); stand = refl; few = few-start insertion_ring (sure_insertion o.origin log spans) o.origin.recording.unit x (start x left) };
+    shows = record { more = []; carries = subst (λ (y : List ℕ). RingKeeps insertion_ring o.origin.recording.unit y []) (sym (start x left)) (carries-none insertion_ring o.origin.recording.unit ring); stand = refl; few = few-start insertion_ring (sure_insertion o.origin log spans) o.origin.recording.unit x ring (start x left) };
     seated = λ c. tt;
   };
-  places = λ ring x left. record { more = []; carries = subst (λ (y : List ℕ). RingKeeps unit_place_ring o.origin.recording.unit y []) (sym (start x left)) (carries-none unit_place_ring o.origin.recording.unit ring); stand = refl; few = few-start unit_place_ring (sure_place o.origin log spans) o.origin.recording.unit x (start x left) };
+  places = λ ring x left. record { more = []; carries = subst (λ (y : List ℕ). RingKeeps unit_place_ring o.origin.recording.unit y []) (sym (start x left)) (carries-none unit_place_ring o.origin.recording.unit ring); stand = refl; few = few-start unit_place_ring (sure_place o.origin log spans) o.origin.recording.unit x ring (start x left) };
   on_cards = places-none o.origin log spans d cards;
   vehicles = vehicles-none o.origin spans d cards;
   sessions = sessions-none o.origin log d cards;
@@ -192,9 +192,9 @@ rings-stay d e o log later spans now notes seats v stays more cards on = record 
           more = was.shows.more;
           carries = carries-same insertion_ring o.origin.recording.unit w.0 was.shows.more was.shows.carries insertion_shape y w.2.insertions;
           stand = stand-as (sure_insertion o.origin log spans) (sure_insertion o.origin later now) (IsInsertionIn o log spans d) (IsInsertionIn o later now e) (insertions_of notes) was.shows.more (insertions-weaker o log later spans now notes d e more on) was.shows.stand;
-          few = few-go insertion_ring (sure_insertion o.origin log spans) (sure_insertion o.origin later now) (insertions_of notes) (insertions_of notes) o.origin.recording.unit w.0 y
+          few = few-go insertion_ring (sure_insertion o.origin log spans) (sure_insertion o.origin later now) (insertions_of notes) o.origin.recording.unit w.0 y
               (unsure-as (sure_insertion o.origin log spans) (sure_insertion o.origin later now) (IsInsertionIn o log spans d) (IsInsertionIn o later now e) (insertions_of notes) (insertions-weaker o log later spans now notes d e more on))
-              (as-many insertion_ring insertion_shape w.0 y w.2.insertions was.shows.carries.points) was.shows.few;
+              (ring-stays insertion_ring insertion_shape w.0 y w.2.insertions was.shows.carries.points) was.shows.few;
         };
         seated = λ c. seated-as o log later spans now notes d e more on c (seats c) was.shows.more w.0 y (is.1, taken_elsewhere insertion_ring insertion_shape w.0 y w.2.insertions was.shows.carries.points) (was.seated c);
       };
@@ -204,9 +204,9 @@ rings-stay d e o log later spans now notes seats v stays more cards on = record 
         more = was.more;
         carries = carries-same unit_place_ring o.origin.recording.unit w.0 was.more was.carries place_shape y w.2.places;
         stand = stand-as (sure_place o.origin log spans) (sure_place o.origin later now) (IsPlaceIn o.origin log spans) (IsPlaceIn o.origin later now) (places_of notes) was.more (places-weaker o log later spans now notes d e more on) was.stand;
-        few = few-go unit_place_ring (sure_place o.origin log spans) (sure_place o.origin later now) (places_of notes) (places_of notes) o.origin.recording.unit w.0 y
+        few = few-go unit_place_ring (sure_place o.origin log spans) (sure_place o.origin later now) (places_of notes) o.origin.recording.unit w.0 y
             (unsure-as (sure_place o.origin log spans) (sure_place o.origin later now) (IsPlaceIn o.origin log spans) (IsPlaceIn o.origin later now) (places_of notes) (places-weaker o log later spans now notes d e more on))
-            (as-many unit_place_ring place_shape w.0 y w.2.places was.carries.points) was.few;
+            (ring-stays unit_place_ring place_shape w.0 y w.2.places was.carries.points) was.few;
       };
   on_cards = places-go o.origin log later spans now notes d e on.fell on.places cards.places v.on_cards;
   vehicles = vehicles-go o.origin spans now d e on.reads cards.vehicles v.vehicles;
@@ -247,7 +247,7 @@ place-noted d e o log spans notes seats v more p head added full is own long on 
           stand = subst (λ (l : List InsertionNote). Stand (sure_insertion o.origin log spans) (IsInsertionIn o log spans e) l was.shows.more) (sym notes-same)
               (stand-as (sure_insertion o.origin log spans) (sure_insertion o.origin log spans) (IsInsertionIn o log spans d) (IsInsertionIn o log spans e) (insertions_of notes) was.shows.more (insertions-weaker o log log spans spans notes d e more (go-on log spans notes)) was.shows.stand);
           few = subst (λ (l : List InsertionNote). AreNoFewer insertion_ring (sure_insertion o.origin log spans) l o.origin.recording.unit y) (sym notes-same)
-              (few-as insertion_ring (sure_insertion o.origin log spans) (insertions_of notes) o.origin.recording.unit w.0 y (as-many insertion_ring insertion_shape w.0 y bytes was.shows.carries.points) was.shows.few);
+              (few-as insertion_ring (sure_insertion o.origin log spans) (insertions_of notes) o.origin.recording.unit w.0 y (ring-stays insertion_ring insertion_shape w.0 y bytes was.shows.carries.points) was.shows.few);
         };
         seated = λ c. subst (λ (l : List InsertionNote). IfSome (seats c) (λ s. IsSeated (sure_insertion o.origin log spans) (IsInsertionIn o log spans e) c s l was.shows.more y)) (sym notes-same)
             (seated-as o log log spans spans notes d e more (go-on log spans notes) c (seats c) was.shows.more w.0 y (same.1, taken_elsewhere insertion_ring insertion_shape w.0 y bytes was.shows.carries.points) (was.seated c));
@@ -260,7 +260,7 @@ place-noted d e o log spans notes seats v more p head added full is own long on 
         stand = subst (λ (l : List PlaceNote). Stand (sure_place o.origin log spans) (IsPlaceIn o.origin log spans) l (was.more ++ head ∷ [])) (sym (places-more notes (Enters p)))
             (stand-one (sure_place o.origin log spans) (IsPlaceIn o.origin log spans) (places_of notes) was.more p head was.stand is);
         few = subst (λ (l : List PlaceNote). AreNoFewer unit_place_ring (sure_place o.origin log spans) l o.origin.recording.unit y) (sym (places-more notes (Enters p)))
-            (few-more unit_place_ring (sure_place o.origin log spans) (places_of notes) p o.origin.recording.unit w.0 y (added-long unit_place_ring head w.0 y was.carries.points w.2) was.few);
+            (few-more unit_place_ring (sure_place o.origin log spans) (places_of notes) p o.origin.recording.unit w.0 y (ring-takes unit_place_ring head w.0 y was.carries.points w.2) was.few);
       };
   on_cards = places-taken o.origin log spans notes p own d e long on taken_ v.on_cards;
   vehicles = vehicles-go o.origin spans spans d e (λ k is. is) goes v.vehicles;
@@ -282,7 +282,7 @@ place-broken d e o log spans notes seats v more p head adding full is has own lo
           stand = subst (λ (l : List InsertionNote). Stand (sure_insertion o.origin log spans) (IsInsertionIn o log spans e) l was.shows.more) (sym notes-same)
               (stand-as (sure_insertion o.origin log spans) (sure_insertion o.origin log spans) (IsInsertionIn o log spans d) (IsInsertionIn o log spans e) (insertions_of notes) was.shows.more (insertions-weaker o log log spans spans notes d e more (go-on log spans notes)) was.shows.stand);
           few = subst (λ (l : List InsertionNote). AreNoFewer insertion_ring (sure_insertion o.origin log spans) l o.origin.recording.unit y) (sym notes-same)
-              (few-as insertion_ring (sure_insertion o.origin log spans) (insertions_of notes) o.origin.recording.unit w.0 y (as-many insertion_ring insertion_shape w.0 y bytes was.shows.carries.points) was.shows.few);
+              (few-as insertion_ring (sure_insertion o.origin log spans) (insertions_of notes) o.origin.recording.unit w.0 y (ring-stays insertion_ring insertion_shape w.0 y bytes was.shows.carries.points) was.shows.few);
         };
         seated = λ c. tt;
       };
@@ -360,7 +360,7 @@ insertion-noted d e o log spans notes seats now v more a cards head index added 
           stand = subst (λ (l : List InsertionNote). Stand (sure_insertion o.origin log spans) (IsInsertionIn o log spans e) l (was.shows.more ++ head ∷ [])) (sym are)
               (stand-one (sure_insertion o.origin log spans) (IsInsertionIn o log spans e) (insertions_of notes) was.shows.more (record { accepted = a; withdrawn = None }) head stands is);
           few = subst (λ (l : List InsertionNote). AreNoFewer insertion_ring (sure_insertion o.origin log spans) l o.origin.recording.unit y) (sym are)
-              (few-more insertion_ring (sure_insertion o.origin log spans) (insertions_of notes) (record { accepted = a; withdrawn = None }) o.origin.recording.unit w.0 y (added-long insertion_ring head w.0 y points w.2.0) was.shows.few);
+              (few-more insertion_ring (sure_insertion o.origin log spans) (insertions_of notes) (record { accepted = a; withdrawn = None }) o.origin.recording.unit w.0 y (ring-takes insertion_ring head w.0 y points w.2.0) was.shows.few);
         };
         seated = λ c. subst (λ (l : List InsertionNote). IfSome (now c) (λ s. IsSeated (sure_insertion o.origin log spans) (IsInsertionIn o log spans e) c s l (was.shows.more ++ head ∷ []) y)) (sym are) (⊎_elim
             (λ other. subst (λ (q : Option Seating). IfSome q (λ s. IsSeated (sure_insertion o.origin log spans) (IsInsertionIn o log spans e) c s (insertions_of notes ++ record { accepted = a; withdrawn = None } ∷ []) (was.shows.more ++ head ∷ []) y)) (sym other.1)
@@ -402,7 +402,7 @@ insertion-noted d e o log spans notes seats now v more a cards head index added 
         more = was.more;
         carries = carries-same unit_place_ring o.origin.recording.unit w.0 was.more was.carries place_shape y bytes;
         stand = was.stand;
-        few = few-as unit_place_ring (sure_place o.origin log spans) (places_of notes) o.origin.recording.unit w.0 y (as-many unit_place_ring place_shape w.0 y bytes was.carries.points) was.few;
+        few = few-as unit_place_ring (sure_place o.origin log spans) (places_of notes) o.origin.recording.unit w.0 y (ring-stays unit_place_ring place_shape w.0 y bytes was.carries.points) was.few;
       });
   on_cards = places-beside o.origin log spans notes (Accepts a) d e refl cards.places v.on_cards;
   vehicles = vehicles-go o.origin spans spans d e (λ k is. is) cards.vehicles v.vehicles;
@@ -430,7 +430,7 @@ insertion-broken d e o log spans notes seats v more a cards head adding full is 
         more = was.more;
         carries = carries-same unit_place_ring o.origin.recording.unit w.0 was.more was.carries place_shape y bytes;
         stand = was.stand;
-        few = few-as unit_place_ring (sure_place o.origin log spans) (places_of notes) o.origin.recording.unit w.0 y (as-many unit_place_ring place_shape w.0 y bytes was.carries.points) was.few;
+        few = few-as unit_place_ring (sure_place o.origin log spans) (places_of notes) o.origin.recording.unit w.0 y (ring-stays unit_place_ring place_shape w.0 y bytes was.carries.points) was.few;
       });
   on_cards = places-beside o.origin log spans notes (Accepts a) d e refl cards.places v.on_cards;
   vehicles = vehicles-go o.origin spans spans d e (λ k is. is) cards.vehicles v.vehicles;

@@ -14,7 +14,7 @@ use Rattle.tacho_types.specs.Numbers.{time_bytes, odometer_bytes}
 use Rattle.trace_model.specs.declared.Card.{Card}
 use Rattle.trace_model.specs.declared.Card.TheVariants.{A, B}
 use Rattle.gated_ring.specs.Ring.{PointsInside, size_of, place_of, pointer, next, is_there, indices, ring_list, entry_at, taken}
-use Rattle.gated_ring.specs.Change.{IsSet}
+use Rattle.gated_ring.specs.Change.{SameOthers, IsSet}
 use Rattle.gated_ring.proofs.Elsewhere.{ring_outside, ring_elsewhere, taken_elsewhere}
 use Rattle.gated_ring.proofs.Listing.{few_indices}
 use Rattle.message_model.specs.Records.{insertion_widths, insertion_ring, unit_place_ring}
@@ -30,7 +30,7 @@ use Rattle.run_rings.specs.Carried.{RingKeeps}
 use Rattle.run_rings.proofs.Carried.{same-parts, carries-same, carries-changed, carries-gone, entry-was}
 use Rattle.run_rings.proofs.Indices.{index-alone, index-itself}
 use Rattle.run_rings.proofs.Standing.{stand-append, withdrawal-of-last}
-use Rattle.run_rings.proofs.Few.{as-many, as-many-at, few-as, few-changed}
+use Rattle.run_rings.proofs.Few.{RingStays, ring-same, ring-stays, few-as, few-changed}
 use Rattle.run_note_record.specs.Beside.{HaveLeftMore}
 use Rattle.run_note_record.specs.Ringed.{holder_in, TellsIn, Each, HasSameRings, IsInsertionIn, IsPlaceIn, sure_insertion, sure_place, ShowsNotes, Seating, LiesBehind, StandsAt, IsSeated, Ringed, IsWithdrawnAt, MayBeWithdrawn, Since}
 use Rattle.run_note_record.specs.OnCards.{CardsStay}
@@ -243,22 +243,25 @@ module _ (sure : InsertionNote → Bool) (Is : InsertionNote → List ℕ → Ty
       (splits sits.older sits.own sits.newer at.older at.own at.newer (sym sits.notes_are ∙ at.notes_are))
 
 -- as many are not sure
-withdrawn-few : (sure : InsertionNote → Bool) (notes older : List InsertionNote) (own out : InsertionNote) (newer : List InsertionNote) → notes ≡ older ++ own ∷ newer → (start x y : List ℕ) → sure own ≡ sure out → length (ring_list insertion_ring x) ≤ length (ring_list insertion_ring y) →
+withdrawn-few : (sure : InsertionNote → Bool) (notes older : List InsertionNote) (own out : InsertionNote) (newer : List InsertionNote) → notes ≡ older ++ own ∷ newer → (start x y : List ℕ) → sure own ≡ sure out → RingStays insertion_ring x y →
     AreNoFewer insertion_ring sure notes start x → AreNoFewer insertion_ring sure (older ++ out ∷ newer) start y
-withdrawn-few sure notes older own out newer are start x y same long few =
-    few-changed insertion_ring sure older own out newer start x y same long (subst (λ (l : List InsertionNote). AreNoFewer insertion_ring sure l start x) are few)
+withdrawn-few sure notes older own out newer are start x y same stays few =
+    few-changed insertion_ring sure older own out newer start x y same stays (subst (λ (l : List InsertionNote). AreNoFewer insertion_ring sure l start x) are few)
 
 -- ---- the ring
 
--- the next entry comes where it would
-withdrawn-turn : (i : ℕ) (time : TimeReal) (odometer : Odometer) (x y : List ℕ) → IsWithdrawn i time odometer x y → PointsInside insertion_ring x → taken insertion_ring y ≡ taken insertion_ring x
-withdrawn-turn i time odometer x y w points =
-    ap (λ (p : ℕ). cond (is_there insertion_ring y p) (next insertion_ring p) p) w.pointer_is
+-- the next entry comes where it would: pointer and gates are as they were
+stays-turned : (i : ℕ) (x y : List ℕ) → PointsInside insertion_ring x → pointer insertion_ring y ≡ pointer insertion_ring x → SameOthers insertion_ring i x y → is_there insertion_ring y i ≡ is_there insertion_ring x i → taken insertion_ring y ≡ taken insertion_ring x
+stays-turned i x y points same others own =
+    ap (λ (p : ℕ). cond (is_there insertion_ring y p) (next insertion_ring p) p) same
     ∙ ap (λ (b : Bool). cond b (next insertion_ring (pointer insertion_ring x)) (pointer insertion_ring x)) (there (nat_eq (pointer insertion_ring x) i) refl)
   where
     there : (b : Bool) → nat_eq (pointer insertion_ring x) i ≡ b → is_there insertion_ring y (pointer insertion_ring x) ≡ is_there insertion_ring x (pointer insertion_ring x)
-    there true is = subst (λ (j : ℕ). is_there insertion_ring y j ≡ is_there insertion_ring x j) (sym (eqb-true (pointer insertion_ring x) i is)) w.there
-    there false is = (w.others (pointer insertion_ring x) points (eqb-false (pointer insertion_ring x) i is)).1
+    there true is = subst (λ (j : ℕ). is_there insertion_ring y j ≡ is_there insertion_ring x j) (sym (eqb-true (pointer insertion_ring x) i is)) own
+    there false is = (others (pointer insertion_ring x) points (eqb-false (pointer insertion_ring x) i is)).1
+
+withdrawn-turn : (i : ℕ) (time : TimeReal) (odometer : Odometer) (x y : List ℕ) → IsWithdrawn i time odometer x y → PointsInside insertion_ring x → taken insertion_ring y ≡ taken insertion_ring x
+withdrawn-turn i time odometer x y w points = stays-turned i x y points w.pointer_is w.others w.there
 
 carried : (start x y : List ℕ) (ms : List (List ℕ)) (h : RingKeeps insertion_ring start x ms) (s : Seating) (olders : List (List ℕ)) (entry : List ℕ) (newers : List (List ℕ)) → ms ≡ olders ++ entry ∷ newers → length newers ≡ s.behind →
     StandsAt s x ⊎ (insertion_ring.count ≤ s.behind) → (time : TimeReal) (odometer : Odometer) →
@@ -302,7 +305,7 @@ withdrawal-noted d e o log spans notes seats now v more cards w s at below time 
           stand = subst (λ (l : List InsertionNote). Stand (sure_insertion o.origin log spans) (IsInsertionIn o log spans e) l (sits.olders ++ with_withdrawal time odometer sits.entry ∷ sits.newers)) (sym are)
               (stands-now (sure_insertion o.origin log spans) (IsInsertionIn o log spans e) w.card s (insertions_of notes) was.shows.more i.0 y sits w.second (with_withdrawal time odometer sits.entry) is ring-now.0);
           few = subst (λ (l : List InsertionNote). AreNoFewer insertion_ring (sure_insertion o.origin log spans) l o.origin.recording.unit y) (sym are)
-              (withdrawn-few (sure_insertion o.origin log spans) (insertions_of notes) sits.older sits.own (record sits.own { withdrawn = Some w.second }) sits.newer sits.notes_are o.origin.recording.unit i.0 y refl (as-many-at insertion_ring i.0 y ring-now.0.0) was.shows.few);
+              (withdrawn-few (sure_insertion o.origin log spans) (insertions_of notes) sits.older sits.own (record sits.own { withdrawn = Some w.second }) sits.newer sits.notes_are o.origin.recording.unit i.0 y refl ring-now.0 was.shows.few);
         };
         seated = λ c. ⊎_elim
             (λ other. subst (λ (q : Option Seating). IfSome q (λ t. IsSeated (sure_insertion o.origin log spans) (IsInsertionIn o log spans e) c t (insertions_of (notes ++ Withdraws w ∷ [])) (sits.olders ++ with_withdrawal time odometer sits.entry ∷ sits.newers) y)) (sym other.1)
@@ -319,7 +322,7 @@ withdrawal-noted d e o log spans notes seats now v more cards w s at below time 
         more = was.more;
         carries = carries-same unit_place_ring o.origin.recording.unit i.0 was.more was.carries place_shape y (places-same i.0 y s below time odometer i.2);
         stand = was.stand;
-        few = few-as unit_place_ring (sure_place o.origin log spans) (places_of notes) o.origin.recording.unit i.0 y (as-many unit_place_ring place_shape i.0 y (places-same i.0 y s below time odometer i.2) was.carries.points) was.few;
+        few = few-as unit_place_ring (sure_place o.origin log spans) (places_of notes) o.origin.recording.unit i.0 y (ring-stays unit_place_ring place_shape i.0 y (places-same i.0 y s below time odometer i.2) was.carries.points) was.few;
       });
   on_cards = places-beside o.origin log spans notes (Withdraws w) d e refl cards.places v.on_cards;
   vehicles = vehicles-go o.origin spans spans d e (λ k is. is) cards.vehicles v.vehicles;
@@ -369,7 +372,7 @@ withdrawal-broken d e o log spans notes seats v more cards w s at below time odo
         more = was.more;
         carries = carries-same unit_place_ring o.origin.recording.unit i.0 was.more was.carries place_shape y (places-same i.0 y i.2);
         stand = was.stand;
-        few = few-as unit_place_ring (sure_place o.origin log spans) (places_of notes) o.origin.recording.unit i.0 y (as-many unit_place_ring place_shape i.0 y (places-same i.0 y i.2) was.carries.points) was.few;
+        few = few-as unit_place_ring (sure_place o.origin log spans) (places_of notes) o.origin.recording.unit i.0 y (ring-stays unit_place_ring place_shape i.0 y (places-same i.0 y i.2) was.carries.points) was.few;
       });
   on_cards = places-beside o.origin log spans notes (Withdraws w) d e refl cards.places v.on_cards;
   vehicles = vehicles-go o.origin spans spans d e (λ k is. is) cards.vehicles v.vehicles;
@@ -389,26 +392,26 @@ withdrawal-broken d e o log spans notes seats v more cards w s at below time odo
       carries = subst (λ (z : List ℕ). RingKeeps insertion_ring o.origin.recording.unit z (sits.olders ++ sits.entry ∷ sits.newers)) (sym same) (subst (λ (l : List (List ℕ)). RingKeeps insertion_ring o.origin.recording.unit x l) sits.more_are h);
       stand = stands-now (sure_insertion o.origin log spans) (IsInsertionIn o log spans e) w.card s (insertions_of notes) ms x x sits w.second sits.entry
           (insertion-unwritten log spans (holder_in o.origin) (TellsIn o e sits.own.accepted.second) sits.own sits.entry sits.is w.second time odometer second stood time_fits odometer_fits sits.stays has) (refl, refl);
-      few = withdrawn-few (sure_insertion o.origin log spans) (insertions_of notes) sits.older sits.own (record sits.own { withdrawn = Some w.second }) sits.newer sits.notes_are o.origin.recording.unit x y refl (let is : length (ring_list insertion_ring y) ≡ length (ring_list insertion_ring x) = ap (λ (z : List ℕ). length (ring_list insertion_ring z)) same in omega (arith, is)) few;
+      few = withdrawn-few (sure_insertion o.origin log spans) (insertions_of notes) sits.older sits.own (record sits.own { withdrawn = Some w.second }) sits.newer sits.notes_are o.origin.recording.unit x y refl (ring-same insertion_ring x y same) few;
     }
     by x y ms h few sits (inl (inr (inl set), lt)) = record {
       more = sits.olders ++ put out_place (time_bytes time) sits.entry ∷ sits.newers;
       carries = timed-now o.origin.recording.unit x y ms h s sits.olders sits.entry sits.newers sits.more_are sits.behind sits.there time set lt;
       stand = stands-now (sure_insertion o.origin log spans) (IsInsertionIn o log spans e) w.card s (insertions_of notes) ms x x sits w.second (put out_place (time_bytes time) sits.entry)
           (insertion-timed log spans (holder_in o.origin) (TellsIn o e sits.own.accepted.second) sits.own sits.entry sits.is w.second time odometer second stood time_fits odometer_fits sits.stays has) (refl, refl);
-      few = withdrawn-few (sure_insertion o.origin log spans) (insertions_of notes) sits.older sits.own (record sits.own { withdrawn = Some w.second }) sits.newer sits.notes_are o.origin.recording.unit x y refl (as-many-at insertion_ring x y (set.indices_are h.points)) few;
+      few = withdrawn-few (sure_insertion o.origin log spans) (insertions_of notes) sits.older sits.own (record sits.own { withdrawn = Some w.second }) sits.newer sits.notes_are o.origin.recording.unit x y refl (set.indices_are h.points, stays-turned s.index x y h.points set.pointer_is set.others set.there) few;
     }
     by x y ms h few sits (inl (inr (inr whole), lt)) = record {
       more = sits.olders ++ with_withdrawal time odometer sits.entry ∷ sits.newers;
       carries = (carried o.origin.recording.unit x y ms h s sits.olders sits.entry sits.newers sits.more_are sits.behind sits.there time odometer (inl (whole, lt))).1;
       stand = stands-now (sure_insertion o.origin log spans) (IsInsertionIn o log spans e) w.card s (insertions_of notes) ms x x sits w.second (with_withdrawal time odometer sits.entry)
           (insertion-withdrawn log spans (holder_in o.origin) (TellsIn o e sits.own.accepted.second) sits.own sits.entry sits.is w.second time odometer second stood time_fits odometer_fits) (refl, refl);
-      few = withdrawn-few (sure_insertion o.origin log spans) (insertions_of notes) sits.older sits.own (record sits.own { withdrawn = Some w.second }) sits.newer sits.notes_are o.origin.recording.unit x y refl (as-many-at insertion_ring x y (whole.indices_are h.points)) few;
+      few = withdrawn-few (sure_insertion o.origin log spans) (insertions_of notes) sits.older sits.own (record sits.own { withdrawn = Some w.second }) sits.newer sits.notes_are o.origin.recording.unit x y refl (whole.indices_are h.points, withdrawn-turn s.index time odometer x y whole h.points) few;
     }
     by x y ms h few sits (inr (same, many)) = record {
       more = sits.olders ++ with_withdrawal time odometer sits.entry ∷ sits.newers;
       carries = (carried o.origin.recording.unit x y ms h s sits.olders sits.entry sits.newers sits.more_are sits.behind sits.there time odometer (inr (same, many))).1;
       stand = stands-now (sure_insertion o.origin log spans) (IsInsertionIn o log spans e) w.card s (insertions_of notes) ms x x sits w.second (with_withdrawal time odometer sits.entry)
           (insertion-withdrawn log spans (holder_in o.origin) (TellsIn o e sits.own.accepted.second) sits.own sits.entry sits.is w.second time odometer second stood time_fits odometer_fits) (refl, refl);
-      few = withdrawn-few (sure_insertion o.origin log spans) (insertions_of notes) sits.older sits.own (record sits.own { withdrawn = Some w.second }) sits.newer sits.notes_are o.origin.recording.unit x y refl (as-many insertion_ring insertion_shape x y same.insertions h.points) few;
+      few = withdrawn-few (sure_insertion o.origin log spans) (insertions_of notes) sits.older sits.own (record sits.own { withdrawn = Some w.second }) sits.newer sits.notes_are o.origin.recording.unit x y refl (ring-stays insertion_ring insertion_shape x y same.insertions h.points) few;
     }

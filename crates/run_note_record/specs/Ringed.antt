@@ -18,7 +18,8 @@ use Rattle.note_model.specs.Done.{has_failed_in}
 use Rattle.note_model.specs.Odometer.{SpanFrom, odometer_at}
 use Rattle.note_model.specs.Noted.{Acceptance, Withdrawal, InsertionNote, PlaceNote, Note, Accepts, Withdraws, Enters}
 use Rattle.note_model.specs.Noted.{insertions_of, places_of}
-use Rattle.note_model.specs.Rings.{Holder, Stand, RingShows, IsInsertion, IsPlace, is_sure_insertion, is_sure_place}
+use Rattle.note_model.specs.Rings.{Holder, Stand, RingShows, LiesAhead, IsInsertion, IsPlace, is_sure_insertion}
+use Rattle.note_model.specs.Rings.{is_sure_place}
 use Rattle.safety_model.specs.Recording.{Recording, card_image, told_of}
 use Rattle.safety_model.specs.Safe.{Devices, card_of}
 use Rattle.safety_model.specs.Side.{holder_of, IsPrevious, TellsVehicle}
@@ -98,7 +99,7 @@ Each Is (n ∷ notes) (e ∷ entries) = Is n e × Each Is notes entries
 
 -- an index lies so many places behind another, round a ring
 abbrev pub LiesBehind : Shape → (index places at : ℕ) → Type 0
-LiesBehind r index places at = (at ≡ index + places) ⊎ (at + r.count ≡ index + places)
+LiesBehind r index places at = LiesAhead r index places at
 
 -- an entry stands at its index, with so many behind it, and the next one comes behind these
 abbrev pub StandsAt : Seating → List ℕ → Type 0

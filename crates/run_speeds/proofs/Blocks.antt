@@ -1,15 +1,16 @@
 -- Calls that carry a block more, if there is one.
-use Rattle.std.proofs.Common.{◌≡◌, ◌∙◌, inl, inr, ℕ, ◌+◌, ◌≤◌, Bool, true, false, not, Option, Some, None, IfSome, is_some, List, [], ◌∷◌, ◌++◌, length, refl, sym, ap, subst, arith, append-nil, append_assoc}
+use Rattle.std.proofs.Common.{◌≡◌, ◌∙◌, inl, inr, ℕ, ◌+◌, ◌≤◌, Bool, true, false, cond, not, filter, Option, Some, None, IfSome, is_some, List, [], ◌∷◌, ◌++◌, length, refl, sym, ap, subst, arith, append-nil, append_assoc}
 use Rattle.std.specs.Prelude.{option_to_list}
 use Rattle.std.specs.List.{AllByRecursion}
 use Rattle.tach_media.specs.Medium.{State, IsCoherent, LeavesOnly}
 use Rattle.gated_ring.specs.Change.{IsAdding, IsAdded}
-use Rattle.note_model.specs.Rings.{Stand}
+use Rattle.note_model.specs.Rings.{Stand, unsure_count}
+use Rattle.run_rings.proofs.Few.{few-go, few-unsure}
 use Rattle.run_rings.proofs.Standing.{stand-unsure}
 use Rattle.speed_model.specs.declared.block.Block.{Block}
 use Rattle.speed_model.specs.Blocks.{block_bytes}
 use Rattle.speed_model.specs.Stored.{speed_ring}
-use Rattle.run_speeds.specs.Speeds.{IsBlock, CarriesBlocks, HasSpeeds, LeavesSpeeds, CarriesBlock}
+use Rattle.run_speeds.specs.Speeds.{IsBlock, none_sure, CarriesBlocks, HasSpeeds, LeavesSpeeds, CarriesBlock}
 use Rattle.run_speeds.proofs.Speeds.{speeds-on, speeds-added, speeds-broken}
 
 no : true ≡ false → ⊥
@@ -33,7 +34,9 @@ module _ (is_sure : Block → Bool) (start : List ℕ) (began : ℕ) (blocks : L
         let s = h.since x at in
         record { front = s.front; rest = s.rest ++ b ∷ []; are = sym (append_assoc s.front s.rest (b ∷ [])) ∙ ap (λ (l : List Block). l ++ b ∷ []) s.are; carries = s.carries };
     now = λ x at. let o = h.now x at in record { more = o.more; stand = stand-unsure is_sure IsBlock blocks o.more b o.stand unsure; carries = o.carries };
-    newest = λ sure x at. absurd (no (sym (all-last (λ (d : Block). is_sure d ≡ true) blocks b sure) ∙ unsure));
+    far = λ x at. few-unsure speed_ring none_sure blocks b start x x refl (inl (refl, refl)) (h.far x at);
+    few = λ x at. few-unsure speed_ring is_sure blocks b start x x unsure (inl (refl, refl)) (h.few x at);
+    newest = λ dense sure x at. absurd (no (sym (all-last (λ (d : Block). is_sure d ≡ true) blocks b sure) ∙ unsure));
   }
 
   -- no block more is the same blocks
@@ -100,6 +103,17 @@ module _ (is_sure fewer : Block → Bool) (less : (b : Block) → is_sure b ≡ 
       by true is = is
       by false is = absurd (no (sym sure ∙ less b is))
 
+  unsure-fewer : (blocks : List Block) → unsure_count is_sure blocks ≤ unsure_count fewer blocks
+  unsure-fewer [] = omega arith
+  unsure-fewer (b ∷ blocks) = by (is_sure b) (fewer b) (less b) (unsure-fewer blocks)
+    where
+      by : (p q : Bool) → (p ≡ false → q ≡ false) → unsure_count is_sure blocks ≤ unsure_count fewer blocks
+          → length (cond (not p) (b ∷ filter (λ n. not (is_sure n)) blocks) (filter (λ n. not (is_sure n)) blocks)) ≤ length (cond (not q) (b ∷ filter (λ n. not (fewer n)) blocks) (filter (λ n. not (fewer n)) blocks))
+      by true true is le = le
+      by true false is le = omega (arith, le)
+      by false true is le = absurd (no (is refl))
+      by false false is le = omega (arith, le)
+
   carried-fewer : (start : List ℕ) (blocks : List Block) (x : List ℕ) → CarriesBlocks is_sure start blocks x → CarriesBlocks fewer start blocks x
   carried-fewer start blocks x o = record { more = o.more; stand = stand-fewer blocks o.more o.stand; carries = o.carries }
 
@@ -108,5 +122,7 @@ module _ (is_sure fewer : Block → Bool) (less : (b : Block) → is_sure b ≡ 
     later = h.later;
     since = λ x at. let s = h.since x at in record { front = s.front; rest = s.rest; are = s.are; carries = carried-fewer start s.front x s.carries };
     now = λ x at. carried-fewer start blocks x (h.now x at);
-    newest = λ sure x at. h.newest (all-weaker (λ (b : Block). fewer b ≡ true) (λ (b : Block). is_sure b ≡ true) sure-more blocks sure) x at;
+    far = h.far;
+    few = λ x at. few-go speed_ring is_sure fewer blocks start x x (unsure-fewer blocks) (refl, refl) (h.few x at);
+    newest = λ dense sure x at. h.newest dense (all-weaker (λ (b : Block). fewer b ≡ true) (λ (b : Block). is_sure b ≡ true) sure-more blocks sure) x at;
   }

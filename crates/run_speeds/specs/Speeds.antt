@@ -5,7 +5,7 @@ use Rattle.std.specs.List.{AllByRecursion}
 use Rattle.card_layout.specs.Images.{bytes_at}
 use Rattle.tach_media.specs.Medium.{State}
 use Rattle.gated_ring.specs.Ring.{PointsInside, IsDense, size_of}
-use Rattle.note_model.specs.Rings.{Stand}
+use Rattle.note_model.specs.Rings.{Stand, AreNoFewer}
 use Rattle.run_rings.specs.Carried.{RingKeeps}
 use Rattle.speed_model.specs.declared.block.Block.{Block}
 use Rattle.speed_model.specs.Blocks.{block_bytes}
@@ -15,13 +15,17 @@ use Rattle.speed_model.specs.Stored.{speed_ring, HoldsNewest}
 abbrev pub IsBlock : Block → List ℕ → Type 0
 IsBlock b e = e ≡ block_bytes b
 
--- the ring of an image is dense, and its pointer an index
+-- the pointer of an image's ring is an index
 abbrev pub HasSpeedRing : List ℕ → Type 0
-HasSpeedRing x = PointsInside speed_ring x × IsDense speed_ring x
+HasSpeedRing x = PointsInside speed_ring x
+
+-- as if none of the blocks were sure
+abbrev pub none_sure : Block → Bool
+none_sure b = false
 
 module _ (is_sure : Block → Bool) (start : List ℕ) where
   -- AN IMAGE CARRIES THESE BLOCKS behind those of the start, but for some that are not sure; blocks are gone only at
-  -- the old end of a ring that is full, or lacks one
+  -- the old end, and of a ring that was dense at the start only where it is full, or lacks one
   pub record CarriesBlocks (blocks : List Block) (x : List ℕ) : Type 0 where
     pub more : List (List ℕ)
     pub stand : Stand is_sure IsBlock blocks more
@@ -39,12 +43,16 @@ module _ (is_sure : Block → Bool) (start : List ℕ) where
   AreSure blocks = AllByRecursion (λ b. is_sure b ≡ true) blocks
 
   -- A UNIT CARRIES THE BLOCKS OF A RUN so far: each image that a stop might have left since it began carries the first
-  -- of them, each that it may leave now all of them; and where each is sure, that is the newest 1440.
+  -- of them, each that it may leave now all of them; each block took the next place of the ring, whether it had a gap
+  -- or none, so of those of the start none is gone but of these places (`far`, `few`); and where each is sure and the
+  -- ring was dense at the start, that is the newest 1440.
   pub record HasSpeeds (began : ℕ) (blocks : List Block) (unit : State) : Type 0 where
     pub later : began ≤ unit.clock
     pub since : (x : List ℕ) → unit.left_since began x → CarriesSome blocks x
     pub now : (x : List ℕ) → unit.may_leave x → CarriesBlocks blocks x
-    pub newest : AreSure blocks → (x : List ℕ) → unit.may_leave x → HoldsNewest start x blocks
+    pub far : (x : List ℕ) → unit.left_since began x → AreNoFewer speed_ring none_sure blocks start x
+    pub few : (x : List ℕ) → unit.may_leave x → AreNoFewer speed_ring is_sure blocks start x
+    pub newest : IsDense speed_ring start → AreSure blocks → (x : List ℕ) → unit.may_leave x → HoldsNewest start x blocks
 
 -- ---- all other calls
 

@@ -11,7 +11,7 @@ ghost use Rattle.run_speeds.specs.Speeds.{HasSpeedRing, HasSpeeds, HasSameSpeeds
 
 use tach_media::Medium;
 
-/// A unit that begins with one image, whose ring is dense, carries no block of the run yet.
+/// A unit that begins with one image carries no block of the run yet.
 pub fn a_run_begins_with_no_block<M: Medium>(unit: &M)
     ensures { (is_sure : Block → Bool) (start : List ℕ) (began : ℕ) → HasSpeedRing start
         → began ≤ (M.state unit.now).clock → ((x : List ℕ) → (M.state unit.now).may_leave x → x ≡ start) →

@@ -6,6 +6,7 @@ pub mod Pieces
 pub mod Beginning
 pub mod Known
 mod Worked
+mod Least
 pub mod Standing
 mod Finding
 mod Counting

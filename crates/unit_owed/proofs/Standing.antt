@@ -9,15 +9,19 @@ use Rattle.unit_model.specs.Image.{last_kept}
 use Rattle.unit_model.specs.Decoding.{cell_minute}
 use Rattle.unit_model.specs.Cells.{minute_kept}
 use Rattle.unit_owed.specs.Owed.{Cell, OwedRow, rows_in, row_in, cell_in, session_in, number_in, is_row_of, row_index, entry_of, holds, counts, counted, cell_entries, in_order, owed_of, owed_to}
-use Rattle.unit_owed.specs.Rows.{begun_index, or_else, empty_index, spared_index, least, IsPutting, IsPuttingCell, IsRowBeginning, IsTaken}
-use Rattle.unit_owed.specs.Standing.{IsKept, AreKept, AreLow, IsStanding, RowStands, HasOneEmpty, IsTakenFor, HasOne, RowsGoOn, AreMended, IsOneOf, IsOwedStill, HasLostRow}
+use Rattle.unit_owed.specs.Rows.{begun_index, or_else, empty_index, spared_index, is_this_row, least, IsPutting, IsPuttingCell, IsRowBeginning, IsTaken}
+use Rattle.unit_owed.specs.Standing.{IsKept, AreKept, AreLow, IsStanding, RowStands, HasOneEmpty, IsTakenFor, HasOne, IsLost, IsGone, HasTwo, IsOthers, LoseFew, RowsGoOn, AreMended, IsOneOf, IsOwedStill, HasLostRow}
 use Rattle.unit_owed.proofs.Putting.{found_passes, found_below, find_below, and_both}
 use Rattle.unit_owed.proofs.Taking.{begun_is}
 use Rattle.unit_owed.proofs.Beginning.{eq_cases, find_at, find_before, find_none}
+use Rattle.unit_owed.proofs.Least.{least-is}
 use Rattle.unit_owed.proofs.Mending.{HasRowsKept, kept_low, minute_is, not_counted, session_same, number_stays, row_kept, all_kept}
 
 some_is : (a b : ℕ) → Some a ≡ Some b → a ≡ b
 some_is a b is = cc
+
+some-none : (r : ℕ) → Some r ≡ None → ⊥
+some-none r is = cc
 
 list-is : (n m : List ℕ) → Some n ≡ Some m → n ≡ m
 list-is n m is = cc
@@ -27,6 +31,9 @@ never is = cc
 
 zero_of : (a : ℕ) → (a == 0) ≡ true → a ≡ 0
 zero_of a is = grind (arith, nat_tests)
+
+same_of : (a b : ℕ) → (a == b) ≡ true → a ≡ b
+same_of a b is = grind (arith, nat_tests)
 
 zero_true : (a : ℕ) → a ≡ 0 → (a == 0) ≡ true
 zero_true a is = grind (arith, nat_tests)
@@ -96,11 +103,16 @@ low-kept first last (w ∷ was) (n ∷ now) k low = (by k.0.1, low-kept first la
 -- ---- the steps
 
 module _ (mine : List ℕ → Type 0) (x : List ℕ) where
+  -- at the start none is lost
+  none-lost : (r : ℕ) → IsLost mine x (rows_in x) r → ⊥
+  none-lost r l = ⊎_elim (λ empty. l.filled empty) (λ his. l.others (subst mine (sym his) l.taken.whose)) l.taken.now
+
   pub goes-start : RowsGoOn mine x (rows_in x) (last_kept x)
   goes-start = record {
     on = omega arith;
     each = λ r below. inl (refl, record { session = refl; cells = kept-all (last_kept x) (row_in (rows_in x) r).cells; low = inl refl });
     once = λ number his r s low few one two. inr (one, two);
+    few = record { three = λ r s t l m n. absurd (none-lost r l); two = λ r s l m. absurd (none-lost r l); least = λ r s l low o. absurd (none-lost r l) };
   }
 
   -- a row that is as it was
@@ -111,6 +123,29 @@ module _ (mine : List ℕ → Type 0) (x : List ℕ) where
     now = ⊎_elim (λ empty. inl (session ∙ empty)) (λ his. inr (number ∙ his)) t.now;
     may = t.may;
   }
+
+  -- one that is lost was so before
+  lost-same : (old new : List ℕ) (r : ℕ) → session_in new r ≡ session_in old r → number_in new r ≡ number_in old r → IsLost mine x new r → IsLost mine x old r
+  lost-same old new r session number l = record { below = l.below; filled = l.filled; others = l.others; taken = taken-same new old r (sym session) (sym number) l.taken }
+
+  others-same : (old new : List ℕ) (r : ℕ) → session_in new r ≡ session_in old r → number_in new r ≡ number_in old r → IsOthers mine new r → IsOthers mine old r
+  others-same old new r session number o = (λ empty. o.0 (session ∙ empty), λ his. o.1 (subst mine (sym number) his))
+
+  few-same : (old new : List ℕ) → ((r : ℕ) → r < 8 → (session_in new r ≡ session_in old r) × (number_in new r ≡ number_in old r)) → LoseFew mine x old → LoseFew mine x new
+  few-same old new same few = record { three = λ r s t l m n. few.three r s t (back r l) (gone s m) (gone t n); two = λ r s l m. few.two r s (back r l) (gone s m); least = least-same }
+    where
+      back : (r : ℕ) → IsLost mine x new r → IsLost mine x old r
+      back r l = let here = same r l.below in lost-same old new r here.0 here.1 l
+
+      gone : (r : ℕ) → IsGone mine x new r → IsGone mine x old r
+      gone r (inl empty) = inl empty
+      gone r (inr l) = inr (back r l)
+
+      least-same : (r s : ℕ) → IsLost mine x new r → s < 8 → IsOthers mine new s → session_in (rows_in x) r ≤ session_in new s
+      least-same r s l low o =
+          let here = same s low in
+          let le = few.least r s (back r l) low (others-same old new s here.0 here.1 o) in
+          subst (λ (t : ℕ). session_in (rows_in x) r ≤ t) (sym here.0) le
 
   row-same : (old new : List ℕ) (r last : ℕ) → number_in new r ≡ number_in old r → row_in new r ≡ row_in old r → RowStands x old last r ⊎ IsTakenFor mine x old r → RowStands x new last r ⊎ IsTakenFor mine x new r
   row-same old new r last number row (inl stands) = inl (number ∙ stands.0, subst (λ (o : OwedRow). IsStanding (last_kept x) last (row_in (rows_in x) r) o) (sym row) stands.1)
@@ -125,7 +160,7 @@ module _ (mine : List ℕ → Type 0) (x : List ℕ) where
 
   -- A KEEP: the rows stay, and the last-kept minute may be a later one, where each row that stands was mended
   pub goes-kept : (rows : List ℕ) (last later : ℕ) → RowsGoOn mine x rows last → AreMended mine x rows → last ≤ later → RowsGoOn mine x rows later
-  goes-kept rows last later goes mended le = record { on = omega (arith, goes.on, le); each = λ r below. by r (goes.each r below) (mended r below); once = goes.once }
+  goes-kept rows last later goes mended le = record { on = omega (arith, goes.on, le); each = λ r below. by r (goes.each r below) (mended r below); once = goes.once; few = goes.few }
     where
       by : (r : ℕ) → RowStands x rows last r ⊎ IsTakenFor mine x rows r → AreLow (last_kept x) (row_in rows r).cells ⊎ IsTakenFor mine x rows r → RowStands x rows later r ⊎ IsTakenFor mine x rows r
       by r (inl stands) (inl low) = inl (stands.0, record { session = stands.1.session; cells = stands.1.cells; low = inr low })
@@ -144,7 +179,7 @@ module _ (mine : List ℕ → Type 0) (x : List ℕ) where
     low-still r below = low-kept (last_kept x) (last_kept p) (row_in (rows_in p) r).cells (row_in (rows_in c) r).cells (row_kept p c kept r below)
 
     pub goes-mending : RowsGoOn mine x (rows_in c) (last_kept c)
-    goes-mending = record { on = omega (arith, goes.on, mark); each = λ r below. by r below (goes.each r below); once = λ number his. once-same (rows_in p) (rows_in c) same-row number (goes.once number his) }
+    goes-mending = record { on = omega (arith, goes.on, mark); each = λ r below. by r below (goes.each r below); once = λ number his. once-same (rows_in p) (rows_in c) same-row number (goes.once number his); few = few-same (rows_in p) (rows_in c) (λ r below. (session_same p c kept r below, number_stays p c kept r below)) goes.few }
       where
         by : (r : ℕ) → r < 8 → RowStands x (rows_in p) (last_kept p) r ⊎ IsTakenFor mine x (rows_in p) r → RowStands x (rows_in c) (last_kept c) r ⊎ IsTakenFor mine x (rows_in c) r
         by r below (inl stands) = inl (
@@ -187,6 +222,12 @@ begun-cases : (o p q : Option ℕ) (k : ℕ) → or_else o (or_else p q) ≡ Som
 begun-cases (Some r) p q k is = inl is
 begun-cases None (Some r) q k is = inr (refl, inl is)
 begun-cases None None q k is = inr (refl, inr refl)
+
+-- the one with the least session time, where it comes from there
+least-of : (o p q : Option ℕ) (k : ℕ) → or_else o (or_else p q) ≡ Some k → o ≡ None → p ≡ None → q ≡ Some k
+least-of (Some r) p q k is none full = absurd (some-none r none)
+least-of None (Some r) q k is none full = absurd (some-none r full)
+least-of None None q k is none full = is
 
 module _ (a b : Option (List ℕ)) (x number : List ℕ) (whose : IsOneOf a b number) (p c : List ℕ) (goes : RowsGoOn (IsOneOf a b) x (rows_in p) (last_kept p)) where
   abbrev Goes : List ℕ → Type 0
@@ -237,11 +278,15 @@ module _ (a b : Option (List ℕ)) (x number : List ℕ) (whose : IsOneOf a b nu
     put-taken r at (inl stands) = record { number = number; whose = whose; now = inr (own-is r at); may = inl (subst (IsOneOf a b) (sym (own-was r at) ∙ stands.0) whose) }
     put-taken r at (inr t) = record { number = number; whose = whose; now = inr (own-is r at); may = t.may }
 
+    put-same : (r : ℕ) → r < 8 → (session_in (rows_in c) r ≡ session_in (rows_in p) r) × (number_in (rows_in c) r ≡ number_in (rows_in p) r)
+    put-same r below = ⊎_elim (λ at. (own-session r at, own-is r at ∙ sym (own-was r at))) (λ other. let same = is.rows r below other in (ap (λ (o : OwedRow). o.session) same.1, same.0)) (either r)
+
     pub goes-put : Goes c
     goes-put = subst (λ (n : ℕ). RowsGoOn (IsOneOf a b) x (rows_in c) n) (sym mark) (record {
       on = goes.on;
       each = λ r below. ⊎_elim (λ at. inr (put-taken r at (goes.each r below))) (λ other. let same = is.rows r below other in row-same (IsOneOf a b) x (rows_in p) (rows_in c) r (last_kept p) same.0 same.1 (goes.each r below)) (either r);
       once = λ n his. once-same (IsOneOf a b) x (rows_in p) (rows_in c) put-row n (goes.once n his);
+      few = few-same (IsOneOf a b) x (rows_in p) (rows_in c) put-same goes.few;
     })
 
     pub mended-put : AreMended (IsOneOf a b) x (rows_in p) → AreMended (IsOneOf a b) x (rows_in c)
@@ -279,7 +324,7 @@ module _ (a b : Option (List ℕ)) (x number : List ℕ) (whose : IsOneOf a b nu
         ⊎_elim (λ same. same) (λ both. absurd (row-some one.0 (rows_in x) r both.0 empty)) (goes.once one.0 one.1 r s below few one.3 there)
 
   -- ITS ROW IS BEGUN, at each moment
-  module _ (session : ℕ) (spared : Option (List ℕ)) (mark : last_kept c ≡ last_kept p) (is : IsRowBeginning number session spared p c) where
+  module _ (session : ℕ) (spared : Option (List ℕ)) (spare : (n : List ℕ) → spared ≡ Some n → IsOneOf a b n) (mark : last_kept c ≡ last_kept p) (is : IsRowBeginning number session spared p c) where
     abbrev k : ℕ
     k = (begun_is number spared (rows_in p)).0
 
@@ -347,11 +392,157 @@ module _ (a b : Option (List ℕ)) (x number : List ℕ) (whose : IsOneOf a b nu
           by r s below few here there (inr first) (inl second) = turned r s (subst (λ (q : ℕ). AreOne n q r) (sym second) (with-own n r below first (subst (λ (q : ℕ). is_row_of n (rows_in c) q ≡ true) second there) here))
           by r s below few here there (inr first) (inr second) = goes.once n one r s below few (sym (begun-row n r below first) ∙ here) (sym (begun-row n s few second) ∙ there)
 
+    -- ---- which are lost
+
+    abbrev Lost : List ℕ → ℕ → Type 0
+    Lost y r = IsLost (IsOneOf a b) x (rows_in y) r
+
+    abbrev Gone : List ℕ → ℕ → Type 0
+    Gone y r = IsGone (IsOneOf a b) x (rows_in y) r
+
+    -- it has no row, none is empty, and the row that it takes stands
+    abbrev IsFull : Type 0
+    IsFull = (row_index number (rows_in p) ≡ None) × (empty_index (rows_in p) ≡ None) × (session_in (rows_in p) k ≡ session_in (rows_in x) k)
+
+    lost-before : (r : ℕ) → r ≢ k → Lost c r → Lost p r
+    lost-before r differ l = let same = beside r l.below differ in lost-same (IsOneOf a b) x (rows_in p) (rows_in c) r (ap (λ (o : OwedRow). o.session) same.1) same.0 l
+
+    -- this row was lost before, or it is taken where none is empty
+    lost-now : Lost c k → Lost p k ⊎ IsFull
+    lost-now l = by (goes.each k below_k)
+      where
+        full-by : RowStands x (rows_in p) (last_kept p) k → (row_index number (rows_in p) ≡ Some k) ⊎ ((row_index number (rows_in p) ≡ None) × ((empty_index (rows_in p) ≡ Some k) ⊎ (empty_index (rows_in p) ≡ None))) → IsFull
+        full-by stands (inl own) = absurd (l.others (subst (IsOneOf a b) (sym (row-number number (rows_in p) k (passes k own)) ∙ stands.0) whose))
+        full-by stands (inr (none, inl empty)) = absurd (l.filled (sym stands.1.session ∙ zero_of (session_in (rows_in p) k) (found_passes (λ (r : ℕ). session_in (rows_in p) r == 0) (range_with_len 0 8) k empty)))
+        full-by stands (inr (none, inr full)) = (none, full, stands.1.session)
+
+        by : RowStands x (rows_in p) (last_kept p) k ⊎ Taken p k → Lost p k ⊎ IsFull
+        by (inl stands) = inr (full-by stands from)
+        by (inr t) = inl (record { below = below_k; filled = l.filled; others = l.others; taken = t })
+
+    -- then two that were lost are one: each is the other number's
+    lost-its : IsFull → (r : ℕ) → Lost p r → (n : List ℕ) × IsOneOf a b n × (n ≢ number) × (is_row_of n (rows_in p) r ≡ true)
+    lost-its new r l = ⊎_elim (λ gone. absurd (some new.0 new.1 r l.below gone)) (λ is. named is) l.taken.now
+      where
+        named : number_in (rows_in p) r ≡ l.taken.number → (n : List ℕ) × IsOneOf a b n × (n ≢ number) × (is_row_of n (rows_in p) r ≡ true)
+        named is =
+            let there : is_row_of l.taken.number (rows_in p) r ≡ true = row-there l.taken.number (rows_in p) r (some new.0 new.1 r l.below) is in
+            (l.taken.number, l.taken.whose, λ same. never (sym (subst (λ (n : List ℕ). is_row_of n (rows_in p) r ≡ true) same there) ∙ none-its new.0 r l.below), there)
+
+    -- and one that was empty
+    gone-its : IsFull → (r : ℕ) → Gone p r → (n : List ℕ) × IsOneOf a b n × (n ≢ number) × (is_row_of n (rows_in p) r ≡ true)
+    gone-its new r (inl empty) = its new.0 new.1 r empty.0 empty.1
+    gone-its new r (inr l) = lost-its new r l
+
+    gone-below : (r : ℕ) → Gone p r → r < 8
+    gone-below r (inl empty) = empty.0
+    gone-below r (inr l) = l.below
+
+    -- at the start it was none's of these
+    gone-none : (n : List ℕ) (r : ℕ) → IsOneOf a b n → Gone p r → is_row_of n (rows_in x) r ≡ true → ⊥
+    gone-none n r one (inl empty) his = row-some n (rows_in x) r his empty.1
+    gone-none n r one (inr l) his = l.others (subst (IsOneOf a b) (sym (row-number n (rows_in x) r his)) one)
+
+    gone-one : IsFull → (r s : ℕ) → Gone p r → Gone p s → r ≡ s
+    gone-one new r s l m =
+        let one = gone-its new r l in
+        let two = gone-its new s m in
+        let there : is_row_of one.0 (rows_in p) s ≡ true = subst (λ (n : List ℕ). is_row_of n (rows_in p) s ≡ true) (other-one new.0 new.1 two.0 one.0 two.1 one.1 two.2 one.2) two.3 in
+        ⊎_elim (λ same. same) (λ both. absurd (gone-none one.0 r one.1 l both.0)) (goes.once one.0 one.1 r s (gone-below r l) (gone-below s m) one.3 there)
+
+    gone-two : IsFull → (r : ℕ) → Gone p r → HasTwo (IsOneOf a b)
+    gone-two new r l = let one = gone-its new r l in record { first = one.0; second = number; one = one.1; other = whose; differ = one.2 }
+
+    gone-before : (r : ℕ) → r ≢ k → Gone c r → Gone p r
+    gone-before r differ (inl empty) = inl empty
+    gone-before r differ (inr l) = inr (lost-before r differ l)
+
+    lost-here : (q : ℕ) → q ≡ k → Lost c q → Lost p q ⊎ IsFull
+    lost-here q is lost = ⊎_elim (λ before. inl (subst (Lost p) (sym is) before)) (λ new. inr new) (lost-now (subst (Lost c) is lost))
+
+    gone-here : (q : ℕ) → q ≡ k → Gone c q → Gone p q ⊎ IsFull
+    gone-here q is (inl empty) = inl (inl empty)
+    gone-here q is (inr l) = ⊎_elim (λ before. inl (inr before)) (λ new. inr new) (lost-here q is l)
+
+    begun-three : (r s t : ℕ) → Lost c r → Gone c s → Gone c t → (r ≡ k) ⊎ (r ≢ k) → (s ≡ k) ⊎ (s ≢ k) → (t ≡ k) ⊎ (t ≢ k) → (r ≡ s) ⊎ ((r ≡ t) ⊎ (s ≡ t))
+    begun-three r s t l m n (inl one) (inl two) third = inl (one ∙ sym two)
+    begun-three r s t l m n (inl one) (inr two) (inl three) = inr (inl (one ∙ sym three))
+    begun-three r s t l m n (inr one) (inl two) (inl three) = inr (inr (two ∙ sym three))
+    begun-three r s t l m n (inl one) (inr two) (inr three) =
+        let at_s = gone-before s two m in
+        let at_t = gone-before t three n in
+        ⊎_elim (λ before. goes.few.three r s t before at_s at_t) (λ new. inr (inr (gone-one new s t at_s at_t))) (lost-here r one l)
+    begun-three r s t l m n (inr one) (inl two) (inr three) =
+        let at_r = lost-before r one l in
+        let at_t = gone-before t three n in
+        ⊎_elim (λ before. goes.few.three r s t at_r before at_t) (λ new. inr (inl (gone-one new r t (inr at_r) at_t))) (gone-here s two m)
+    begun-three r s t l m n (inr one) (inr two) (inl three) =
+        let at_r = lost-before r one l in
+        let at_s = gone-before s two m in
+        ⊎_elim (λ before. goes.few.three r s t at_r at_s before) (λ new. inl (gone-one new r s (inr at_r) at_s)) (gone-here t three n)
+    begun-three r s t l m n (inr one) (inr two) (inr three) = goes.few.three r s t (lost-before r one l) (gone-before s two m) (gone-before t three n)
+
+    begun-two : (r s : ℕ) → Lost c r → Gone c s → (r ≡ k) ⊎ (r ≢ k) → (s ≡ k) ⊎ (s ≢ k) → (r ≡ s) ⊎ HasTwo (IsOneOf a b)
+    begun-two r s l m (inl one) (inl two) = inl (one ∙ sym two)
+    begun-two r s l m (inl one) (inr two) =
+        let at_s = gone-before s two m in
+        ⊎_elim (λ before. goes.few.two r s before at_s) (λ new. inr (gone-two new s at_s)) (lost-here r one l)
+    begun-two r s l m (inr one) (inl two) =
+        let at_r = lost-before r one l in
+        ⊎_elim (λ before. goes.few.two r s at_r before) (λ new. inr (gone-two new r (inr at_r))) (gone-here s two m)
+    begun-two r s l m (inr one) (inr two) = goes.few.two r s (lost-before r one l) (gone-before s two m)
+
+    -- then it is the one with the least session time, and the spared row is one's of these
+    spared-not : (s : ℕ) → (IsOneOf a b (number_in (rows_in p) s) → ⊥) → is_this_row (spared_index spared (rows_in p)) s ≡ false
+    spared-not s others = by spared refl
+      where
+        not-this : (n : List ℕ) → spared ≡ Some n → (q : Option ℕ) → row_index n (rows_in p) ≡ q → is_this_row q s ≡ false
+        not-this n told None none = refl
+        not-this n told (Some t) at = here (t == s) refl
+          where
+            here : (d : Bool) → (t == s) ≡ d → d ≡ false
+            here true same =
+                let this_one : is_row_of n (rows_in p) s ≡ true = found_passes (is_row_of n (rows_in p)) (range_with_len 0 8) s (at ∙ ap (λ (m : ℕ). Some m) (same_of t s same)) in
+                absurd (others (subst (IsOneOf a b) (sym (row-number n (rows_in p) s this_one)) (spare n told)))
+            here false other = refl
+
+        by : (o : Option (List ℕ)) → spared ≡ o → is_this_row (spared_index o (rows_in p)) s ≡ false
+        by None none = refl
+        by (Some n) told = not-this n told (row_index n (rows_in p)) refl
+
+    least-new : IsFull → (s : ℕ) → s < 8 → (IsOneOf a b (number_in (rows_in p) s) → ⊥) → session_in (rows_in x) k ≤ session_in (rows_in p) s
+    least-new new s low others =
+        let le = least-is (rows_in p) (spared_index spared (rows_in p)) k (least-of (row_index number (rows_in p)) (empty_index (rows_in p)) (least (rows_in p) (spared_index spared (rows_in p))) k this new.0 new.1) s low (spared-not s others) in
+        subst (λ (t : ℕ). t ≤ session_in (rows_in p) s) new.2 le
+
+    begun-least : Taken c k → (r s : ℕ) → Lost c r → s < 8 → IsOthers (IsOneOf a b) (rows_in c) s → session_in (rows_in x) r ≤ session_in (rows_in c) s
+    begun-least t r s l low o = ⊎_elim (λ at. absurd (not-taken at)) (λ differ. beside-it differ) (eq_cases s k)
+      where
+        not-taken : s ≡ k → ⊥
+        not-taken at = ⊎_elim (λ empty. o.0 (subst (λ (m : ℕ). session_in (rows_in c) m ≡ 0) (sym at) empty)) (λ his. o.1 (subst (λ (m : ℕ). IsOneOf a b (number_in (rows_in c) m)) (sym at) (subst (IsOneOf a b) (sym his) t.whose))) t.now
+
+        beside-it : s ≢ k → session_in (rows_in x) r ≤ session_in (rows_in c) s
+        beside-it differ =
+            let same = beside s low differ in
+            let session : session_in (rows_in c) s ≡ session_in (rows_in p) s = ap (λ (o : OwedRow). o.session) same.1 in
+            let was = others-same (IsOneOf a b) x (rows_in p) (rows_in c) s session same.0 o in
+            subst (λ (m : ℕ). session_in (rows_in x) r ≤ m) (sym session) (⊎_elim
+            (λ at. ⊎_elim (λ before. goes.few.least r s before low was) (λ new. subst (λ (m : ℕ). session_in (rows_in x) m ≤ session_in (rows_in p) s) (sym at) (least-new new s low was.1)) (lost-here r at l))
+            (λ apart. goes.few.least r s (lost-before r apart l) low was) (eq_cases r k))
+
+    begun-few : Taken c k → LoseFew (IsOneOf a b) x (rows_in c)
+    begun-few taken = record {
+      three = λ r s t l m n. begun-three r s t l m n (eq_cases r k) (eq_cases s k) (eq_cases t k);
+      two = λ r s l m. begun-two r s l m (eq_cases r k) (eq_cases s k);
+      least = begun-least taken;
+    }
+
     pub goes-begun : Goes c
     goes-begun = ⊎_elim (λ same. subst Goes (sym same) goes) (λ own. subst (λ (n : ℕ). RowsGoOn (IsOneOf a b) x (rows_in c) n) (sym mark) (record {
       on = goes.on;
       each = λ r below. ⊎_elim (λ is_k. inr (subst (Taken c) (sym is_k) own.0)) (λ other. let same = beside r below other in row-same (IsOneOf a b) x (rows_in p) (rows_in c) r (last_kept p) same.0 same.1 (goes.each r below)) (eq_cases r k);
       once = begun-once own.1;
+      few = begun-few own.0;
     })) own-row
 
     pub mended-begun : AreMended (IsOneOf a b) x (rows_in p) → AreMended (IsOneOf a b) x (rows_in c)
@@ -365,8 +556,28 @@ goes-for mine his x rows last one other goes = record {
   on = goes.on;
   each = λ r below. ⊎_elim (λ stands. inl stands) (λ t. inr (by r t)) (goes.each r below);
   once = λ n is. goes.once n (other n is);
+  few = record {
+    three = λ r s t l m n. goes.few.three r s t (back r l) (gone s m) (gone t n);
+    two = λ r s l m. ⊎_elim (λ same. inl same) (λ t. inr (as_his t)) (goes.few.two r s (back r l) (gone s m));
+    least = λ r s l low o. goes.few.least r s (back r l) low (o.0, λ is. o.1 (one (number_in rows s) is));
+  };
 }
   where
+    back : (r : ℕ) → IsLost his x rows r → IsLost mine x rows r
+    back r l = record {
+      below = l.below;
+      filled = l.filled;
+      others = λ is. l.others (one (number_in (rows_in x) r) is);
+      taken = record { number = l.taken.number; whose = other l.taken.number l.taken.whose; now = l.taken.now; may = ⊎_elim (λ own. inl (other (number_in (rows_in x) r) own)) (λ free. inr free) l.taken.may };
+    }
+
+    gone : (r : ℕ) → IsGone his x rows r → IsGone mine x rows r
+    gone r (inl empty) = inl empty
+    gone r (inr l) = inr (back r l)
+
+    as_his : HasTwo mine → HasTwo his
+    as_his t = record { first = t.first; second = t.second; one = one t.first t.one; other = one t.second t.other; differ = t.differ }
+
     by : (r : ℕ) → IsTakenFor mine x rows r → IsTakenFor his x rows r
     by r t = record { number = t.number; whose = one t.number t.whose; now = t.now; may = ⊎_elim (λ own. inl (one (number_in (rows_in x) r) own)) (λ free. inr free) t.may }
 

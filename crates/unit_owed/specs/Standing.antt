@@ -1,6 +1,6 @@
 -- The owed rows of an image as a run goes on from another one, in which rows are begun and entries put for some numbers
 -- alone (profile).
-use Rattle.std.specs.Prelude.{◌≡◌, ◌⊎◌, ℕ, ◌<◌, ◌≤◌, true, List, [], ◌∷◌, Option, Some}
+use Rattle.std.specs.Prelude.{◌≡◌, ◌≢◌, ◌⊎◌, ℕ, ◌<◌, ◌≤◌, true, List, [], ◌∷◌, Option, Some}
 use Rattle.std.specs.List.{AllByRecursion}
 use Rattle.unit_model.specs.Image.{last_kept}
 use Rattle.unit_owed.specs.Owed.{Cell, OwedRow, rows_in, session_in, number_in, row_in, is_row_of, owed_to}
@@ -49,12 +49,45 @@ abbrev pub HasOne : (number start rows : List ℕ) → Type 0
 HasOne number start rows = (r s : ℕ) → r < 8 → s < 8 → is_row_of number rows r ≡ true → is_row_of number rows s ≡ true →
     (r ≡ s) ⊎ ((is_row_of number (rows_in start) r ≡ true) × (is_row_of number (rows_in start) s ≡ true))
 
+-- A ROW OF ANOTHER IS LOST: it was not empty, and no number of some had it, and it was taken for one of these.
+pub record IsLost (mine : List ℕ → Type 0) (start rows : List ℕ) (r : ℕ) : Type 0 where
+  pub below : r < 8
+  pub filled : session_in (rows_in start) r ≢ 0
+  pub others : mine (number_in (rows_in start) r) → ⊥
+  pub taken : IsTakenFor mine start rows r
+
+-- a row was empty, or is lost
+abbrev pub IsGone : (mine : List ℕ → Type 0) → (start rows : List ℕ) → (r : ℕ) → Type 0
+IsGone mine start rows r = ((r < 8) × (session_in (rows_in start) r ≡ 0)) ⊎ IsLost mine start rows r
+
+-- there are two of these numbers
+pub record HasTwo (mine : List ℕ → Type 0) : Type 0 where
+  pub first : List ℕ
+  pub second : List ℕ
+  pub one : mine first
+  pub other : mine second
+  pub differ : first ≢ second
+
+-- it is not empty, and no number of some has it
+abbrev pub IsOthers : (mine : List ℕ → Type 0) → (rows : List ℕ) → (r : ℕ) → Type 0
+IsOthers mine rows r = (session_in rows r ≢ 0) × (mine (number_in rows r) → ⊥)
+
+-- FEW ARE LOST, with those that were empty no more than there are numbers of some: of three two are one, and where there
+-- is one number alone two are one. And none of them had a later session than a row that another has still.
+pub record LoseFew (mine : List ℕ → Type 0) (start rows : List ℕ) : Type 0 where
+  pub three : (r s t : ℕ) → IsLost mine start rows r → IsGone mine start rows s → IsGone mine start rows t
+      → (r ≡ s) ⊎ ((r ≡ t) ⊎ (s ≡ t))
+  pub two : (r s : ℕ) → IsLost mine start rows r → IsGone mine start rows s → (r ≡ s) ⊎ HasTwo mine
+  pub least : (r s : ℕ) → IsLost mine start rows r → s < 8 → IsOthers mine rows s
+      → session_in (rows_in start) r ≤ session_in rows s
+
 -- THE ROWS GO ON from those of an image: each stands as it stood, or was taken for a number of some, of which none has
--- taken two.
+-- taken two; and of those of others few are lost.
 pub record RowsGoOn (mine : List ℕ → Type 0) (start rows : List ℕ) (last : ℕ) : Type 0 where
   pub on : last_kept start ≤ last
   pub each : (r : ℕ) → r < 8 → RowStands start rows last r ⊎ IsTakenFor mine start rows r
   pub once : (number : List ℕ) → mine number → HasOne number start rows
+  pub few : LoseFew mine start rows
 
 -- and no cell of one that stands is later than the last-kept minute was
 abbrev pub AreMended : (mine : List ℕ → Type 0) → (start rows : List ℕ) → Type 0

@@ -1,5 +1,5 @@
 -- The owed rows go on from the start's, over each step of a unit.
-use Rattle.std.proofs.Common.{◌≡◌, ℕ, ◌+◌, ◌-◌, ◌≤◌, List, Option, ap, subst, sym, ◌∙◌, arith}
+use Rattle.std.proofs.Common.{◌≡◌, ℕ, ◌+◌, ◌-◌, ◌≤◌, List, Option, Some, ap, subst, sym, ◌∙◌, arith}
 use Rattle.activity_codec.specs.declared.entries.Entry.{Entry}
 use Rattle.tach_media.specs.Medium.{bytes_at}
 use Rattle.unit_model.specs.declared.layout.TheConstants.{FIRST_OVER, OWED, DAYS}
@@ -68,8 +68,8 @@ module _ (s : Started) (number : List ℕ) (whose : IsCards s number) (p c : Lis
     λ goes low. mended-put s.number_a s.number_b s.image number whose p c goes e mark is low,
   )
 
-  pub rows-begun : (session : ℕ) (spared : Option (List ℕ)) → IsRowBeginning number session spared p c → AreRowsOn s p c
-  rows-begun session spared is = (
-    λ goes. goes-begun s.number_a s.number_b s.image number whose p c goes session spared mark is,
-    λ goes low. mended-begun s.number_a s.number_b s.image number whose p c goes session spared mark is low,
+  pub rows-begun : (session : ℕ) (spared : Option (List ℕ)) → ((n : List ℕ) → spared ≡ Some n → IsCards s n) → IsRowBeginning number session spared p c → AreRowsOn s p c
+  rows-begun session spared spare is = (
+    λ goes. goes-begun s.number_a s.number_b s.image number whose p c goes session spared spare mark is,
+    λ goes low. mended-begun s.number_a s.number_b s.image number whose p c goes session spared spare mark is low,
   )
