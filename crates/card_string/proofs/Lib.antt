@@ -11,6 +11,7 @@ pub mod Clear
 pub mod Lists
 pub mod SameBook
 pub mod Deeds
+pub mod MadeSince
 pub mod Replayed
 pub mod Unclosed
 pub mod Inserted

@@ -1,5 +1,6 @@
 -- What sessions have made of a card's days and of its vehicle entries since an image of it, deed by deed (profile).
-use Rattle.std.specs.Prelude.{◌≡◌, ℕ, List, [], ◌∷◌, ◌++◌}
+use Rattle.std.specs.Prelude.{◌≡◌, ℕ, ◌<◌, List, [], ◌∷◌, ◌++◌}
+use Rattle.std.specs.List.{AllByRecursion}
 use Rattle.activity_codec.specs.declared.values.Activity.{Activity}
 use Rattle.activity_codec.specs.declared.entries.Entry.{Entry}
 use Rattle.activity_codec.specs.declared.entries.Manual.{Manual}
@@ -94,3 +95,23 @@ pub record IsMadeOf (size : ℕ) (start : Book) (more all : List Entry) (b : Boo
 -- have.
 pub record IsMade (app : Application) (image : List ℕ) (more all : List Entry) (x : List ℕ) : Type 0 where
   pub deeds : IsMadeOf app.activity (book_of app image) more all (book_of app x)
+
+-- ---- since a minute
+
+-- it keeps none but of a later minute
+abbrev pub IsLaterStep : (minute : ℕ) → Step → Type 0
+IsLaterStep minute (Done (Keep k)) = minute < k.entry.minute
+IsLaterStep minute (Done (Enter h)) = Unit {0}
+IsLaterStep minute (Done (Close act)) = Unit {0}
+IsLaterStep minute (Done Cut) = Unit {0}
+IsLaterStep minute (Broken (Keep k)) = minute < k.entry.minute
+IsLaterStep minute (Broken (Enter h)) = Unit {0}
+IsLaterStep minute (Broken (Close act)) = Unit {0}
+IsLaterStep minute (Broken Cut) = Unit {0}
+
+-- ONE IMAGE IS MADE OF ANOTHER since a minute: its days, with their words and distances, and its vehicle entries, by
+-- keeps of later minutes, entries by hand, closings and cuts, each done or broken off.
+pub record IsMadeSince (app : Application) (minute : ℕ) (z x : List ℕ) : Type 0 where
+  pub steps : List Step
+  pub later : AllByRecursion (IsLaterStep minute) steps
+  pub made : MadeBy app.activity steps (book_of app z) (book_of app x)

@@ -59,10 +59,10 @@ held-later f hd c b y z X later h = record {
 
 module _ (f : Found) (w : RunLedger) (cards : Cards) (c : Card) (U V X Y : State) (found : AreFoundCards f cards) (whole : IsCoherent U) (now : ℕ) (a : Accepted) (valid : IsOwnValid (found_of f c).image) (out : w.standing c ≡ Out) (put : IsPutIn (found_of f c) (w.hands c) c w.book now a.session X)
     (p : DevicesPowered f w cards (arranged c U X Y)) (late : w.due ≤ now / 60) (number : List ℕ) (spared : Option (List ℕ)) (failed : Bool)
-    (holds : (s : Started) (due : ℕ) (b : Book) (marks : List Mark) → IsCards s number → UnitFollowsBook s due b marks U → UnitFollowsBook s due b marks V)
+    (holds : (s : Started) (due : ℕ) (b : Book) (marks : List Mark) → IsCards s number → ((n : List ℕ) → spared ≡ Some n → IsCards s n) → UnitFollowsBook s due b marks U → UnitFollowsBook s due b marks V)
     (mine : (r : Both) (s : Started) (due : ℕ) (b : Book) (marks : List Mark) (newest : ℕ) → number ≡ number_of r c → UnitFollowsBook s due b marks U → due ≤ now / 60 → CardHolds r c b Out [] [] U X → IsEntered (opened r c).start (opened r c).began now newest (card_seen X) → IsRowTaken r c b now newest failed V X)
     (others : (r : Both) (s : Started) (due : ℕ) (b : Book) (marks : List Mark) (z : Standing) (m d : List Entry) → number ≡ number_of r c → spared ≡ Some (number_of r (other c)) → CardHolds r (other c) b z m d U Y → IsKeptUp r (other c) b z m d failed V Y)
-    (tells : is_some V.image ≡ is_some U.image) (named : number ≡ (found_of f c).number) (spares : IsOwnValid (found_of f (other c)).image → spared ≡ Some (found_of f (other c)).number) where
+    (tells : is_some V.image ≡ is_some U.image) (named : number ≡ (found_of f c).number) (spares : IsOwnValid (found_of f (other c)).image → spared ≡ Some (found_of f (other c)).number) (spare : (n : List ℕ) → spared ≡ Some n → IsCards f.unit n) where
   parts : AreParts f w cards c U X Y
   parts = parts-of f w cards c U X Y p
 
@@ -70,7 +70,7 @@ module _ (f : Found) (w : RunLedger) (cards : Cards) (c : Card) (U V X Y : State
   one = subst (λ (z : Standing). CardLit f w.book z (w.hands c) (w.firsts c) (w.brought c) (session_of cards c) c U X) out (parts.mine valid)
 
   unit-after : UnitFollowsBook (once_mended f.unit) w.due w.book w.marks V
-  unit-after = holds (once_mended f.unit) w.due w.book w.marks (subst (IsCards f.unit) (sym named) (found.own c valid)) parts.unit.unit
+  unit-after = holds (once_mended f.unit) w.due w.book w.marks (subst (IsCards f.unit) (sym named) (found.own c valid)) spare parts.unit.unit
 
   taken : IsRowTaken (both_of f found.two) c w.book now a.session.minute failed V X
   taken = mine (both_of f found.two) (once_mended f.unit) w.due w.book w.marks a.session.minute (named ∙ number-as f found.two c) parts.unit.unit late (as-steps f found.two c w.book Out [] [] U X one.rule) (entered-as f found.two c now a.session.minute X put.entered)

@@ -1,5 +1,5 @@
 -- A card is put in: what is carried stands at each exit, and of a card that is accepted its session and its string are known.
-use Rattle.std.proofs.Common.{◌≡◌, ◌≢◌, ◌⊎◌, inl, inr, ⊎_elim, ℕ, zero, suc, max, ◌/◌, ◌^◌, ◌<◌, ◌≤◌, Bool, true, false, cond, Option, Some, None, IfSome, List, [], ◌∷◌, ◌++◌, length, All, Contains, refl, ap, subst, ◌∙◌, sym, arith}
+use Rattle.std.proofs.Common.{◌≡◌, ◌-◌, ◌+◌, ◌≢◌, ◌⊎◌, inl, inr, ⊎_elim, ℕ, zero, suc, max, ◌/◌, ◌^◌, ◌<◌, ◌≤◌, Bool, true, false, cond, Option, Some, None, IfSome, List, [], ◌∷◌, ◌++◌, length, All, Contains, refl, ap, subst, ◌∙◌, sym, arith}
 use Rattle.std.specs.Prelude.{nat_eq, not, IfOk, Result, Ok}
 use Rattle.std.proofs.lemmas.Bool.Decides.{nat_tests}
 use Rattle.std.proofs.lemmas.List.{append-nil}
@@ -65,7 +65,7 @@ use Rattle.device_calls.specs.Entering.{owed_on, card_failed, IsEntering, IsAcce
 use Rattle.device_calls.specs.Rule.{opened, card_seen}
 use Rattle.device_calls.proofs.Enters.{unit-read, entering-rule, entered-answer, entering-moments}
 use Rattle.device_calls.proofs.Inserted.{inserting_open, inserting_shut}
-use Rattle.device_calls.proofs.OnCard.{AnyStep, own-is, session-is}
+use Rattle.device_calls.proofs.OnCard.{AnyStep, own-is, session-is, mark-is}
 use Rattle.device_calls.proofs.Passed.{valid-days}
 use Rattle.device_calls.proofs.PutIn.{number_told}
 use Rattle.card_validity.specs.Judged.{IsLook}
@@ -75,6 +75,7 @@ use Rattle.run_crew.specs.declared.cards.Cards.{Cards}
 use Rattle.run_crew.specs.Cards.{session_of}
 use Rattle.unit_rule.specs.Rule.{once_mended}
 use Rattle.run_promise.specs.Found.{CardFound, Found, found_of, unit_seen, AnyKept}
+use Rattle.unit_rule.specs.Cards.{mark_writes, IsPromptOn}
 use Rattle.run_promise.specs.Cards.{brought_by, IsCardHeld, HandMarksHold}
 use Rattle.run_promise.specs.Between.{RunLedger}
 use Rattle.run_promise.proofs.OwedRises.{owed-rises}
@@ -94,6 +95,7 @@ use Rattle.run_devices.proofs.Begun.{number-as}
 use Rattle.run_devices.proofs.Left.{own-sizes-same, newest-low}
 use Rattle.run_devices.proofs.Marked.{marked-powered}
 use Rattle.run_devices.proofs.Replayed.{lacks-all, holds-any, replays, replayed-goes, replayed-minute, shut-holds, shut-goes}
+use Rattle.card_string.proofs.MadeSince.{insert_since}
 
 -- ---- small facts
 
@@ -494,6 +496,9 @@ module _ (f : Found) (w : RunLedger) (c : Card) (U V X Y : State) (two : f.card_
   so : IsPutSo told-u.0 told-x.0 told-u.1 told-x.1
   so = put-so told-u.0 told-x.0 told-u.1 told-x.1
 
+  inserts : LeavesOnly X Y (λ x y. IsCardInserting (own_sizes (found_of f c).image) registration odometer (owed_on (own_sizes (found_of f c).image) told-u.0 x) now x y)
+  inserts = at_image (λ u. LeavesOnly X Y (λ x y. IsCardInserting (own_sizes (found_of f c).image) registration odometer (owed_on (own_sizes (found_of f c).image) u x) now x y)) told-u.1 enters.moments
+
   pub entered-lit : CardLit f w.book Out (w.hands c) (w.firsts c) ks None c V Y
   entered-lit = record {
     rule = rule-after;
@@ -506,7 +511,18 @@ module _ (f : Found) (w : RunLedger) (c : Card) (U V X Y : State) (two : f.card_
   }
 
   pub entered-marks : MarksLit f w c X → MarksLit f w c Y
-  entered-marks h = marks-on (found_of f c) c w.book w.marks X Y whole so.views h
+  entered-marks h =
+      let app : Application = own_sizes (found_of f c).image in
+      let u = told-u.0 in
+      let x = told-x.0 in
+      ⊎_elim
+      (λ read. marks-on (found_of f c) c w.book w.marks Unchanged X Y whole read (λ n a y t le never. absurd never) so.views h)
+      (λ put. marks-on (found_of f c) c w.book w.marks (IsCardInserting app registration odometer (owed_on app u x) now) X Y whole put.2
+      (λ n a y t le k. insert_since n app sound registration long odometer now (owed_on app u x) put.1.0 a y (omega (arith, room, whole.sized a t)) (omega (arith, le, mark-at a t)) k) so.views h)
+      (entering-moments app registration odometer now U V X Y answer u x enters told-u.1 told-x.1)
+    where
+      mark-at : (a : List ℕ) → X.image ≡ Some a → (own_view a).mark ≡ end_mark (own_sizes (found_of f c).image) a
+      mark-at a t = ap (λ (v : CardView). v.mark) (own-is (own_sizes (found_of f c).image) a (one.held.now a (whole.is_left a t)).0) ∙ mark-is (own_sizes (found_of f c).image) a
 
   -- it is accepted: its session and its string are known
   pub entered-put : (e : Entered) → answer ≡ Ok e → IsPutIn (found_of f c) (w.hands c) c w.book now e.session Y
@@ -528,6 +544,7 @@ module _ (f : Found) (w : RunLedger) (c : Card) (U V X Y : State) (two : f.card_
     pub rises : Rise es
     pub sure : (d : Entry) → Contains es d → Contains ((found_of f c).start.owed ++ card_history c w.book.sure) d
     pub there : (y : List ℕ) → Y.may_leave y → (d : Entry) → Contains es d → d.minute ≤ (own_view y).mark
+    pub prompt : (d : Entry) → Contains es d → IsPromptOn Y (record { device = device_of c; minute = d.minute; clock = Y.clock })
     pub older : (m : Mark) → IsCardHeld (found_of f c) c w.book X m → (d : Entry) → Contains es d → m.minute < d.minute
 
   pub entered-owed : (e : Entered) → answer ≡ Ok e → AreMarkable e.owed.items
@@ -539,6 +556,13 @@ module _ (f : Found) (w : RunLedger) (c : Card) (U V X Y : State) (two : f.card_
         rises = subst Rise (sym (owed-view told-u.0 told-x.0 told-u.1 told-x.1 e y.0 ok y.1)) (owed-rises c f.card_a.number f.card_b.number told-u.0 (own_view told-x.0));
         sure = put-sure told-u.0 told-x.0 told-u.1 told-x.1 e y.0 ok y.1;
         there = λ n left. put-marked told-u.0 told-x.0 told-u.1 told-x.1 e n ok (after.only n works left);
+        prompt = λ d in_.
+            let most : Y.clock ≤ X.clock + mark_writes = enters.most in
+            let before : Y.clock - mark_writes ≤ X.clock = omega (arith, most) in (
+              told-x.0,
+              inserts.keeps (Y.clock - mark_writes) told-x.0 before (whole.counts_now (Y.clock - mark_writes) told-x.0 before (whole.is_left told-x.0 told-x.1)),
+              put-later told-u.0 told-x.0 told-u.1 told-x.1 e y.0 ok y.1 (own_view told-x.0).mark (omega arith) d in_,
+            );
         older = λ m held. put-later told-u.0 told-x.0 told-u.1 told-x.1 e y.0 ok y.1 m.minute
             (held.holds.1 (own_view told-x.0) (told-x.0, whole.counts_now m.clock told-x.0 held.holds.0 (whole.is_left told-x.0 told-x.1), refl));
       }
@@ -651,7 +675,7 @@ module _ (f : Found) (w : RunLedger) (cards : Cards) (c : Card) (U V X Y Z : Sta
   pub accepted-marked-by : IsOwnValid (found_of f c).image → (e : Entered) → answer ≡ Ok e → V.works ≡ true → IsSettled Y → DevicesPowered f (with_marks (card_marks c Y.clock e.owed.items) w) cards (arranged c V Y Z)
   accepted-marked-by valid e ok works settled =
       let facts = entered-owed f w c U V X Y found.two (found.sizes c valid) unit_whole unit_after whole after registration long vehicle odometer now few answer parts.unit (w.brought c) (one-before valid) late (room valid) (enters valid) e ok in
-      marked-powered f w cards c V Y Z found (entered-powered-by works) after settled valid facts.began e.owed.items facts.rises facts.sure facts.there (λ m in_. facts.older m (All-contains (IsCardHeld (found_of f c) c w.book X) (marks_of (device_of c) w.marks) m parts.marks_mine.held in_))
+      marked-powered f w cards c V Y Z found (entered-powered-by works) after settled valid facts.began e.owed.items facts.rises facts.sure facts.there facts.prompt (λ m in_. facts.older m (All-contains (IsCardHeld (found_of f c) c w.book X) (marks_of (device_of c) w.marks) m parts.marks_mine.held in_))
 
   -- the number that it told is its own
   pub accepted-number-by : IsOwnValid (found_of f c).image → (e : Entered) → answer ≡ Ok e → card_number_bytes e.look.number ≡ (found_of f c).number

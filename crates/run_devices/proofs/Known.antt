@@ -17,7 +17,7 @@ use Rattle.card_image.specs.Own.{own_view, own_sizes, own_covered, IsOwnValid}
 use Rattle.device_rule.specs.Views.{beyond}
 use Rattle.run_crew.specs.declared.cards.Accepted.{Accepted}
 use Rattle.run_crew.specs.declared.cards.Cards.{Cards}
-use Rattle.run_crew.specs.Cards.{known_of, session_of, with_session, with_number, with_sizes}
+use Rattle.run_crew.specs.Cards.{known_of, session_of, with_session, with_sizes}
 use Rattle.run_promise.specs.Found.{Found, found_of}
 use Rattle.run_promise.specs.Between.{RunLedger}
 use Rattle.run_devices.specs.Told.{AreFoundCards, AreEarly, for_card, with_acceptance}
@@ -51,6 +51,7 @@ found-still f cards after same found = record {
   two = found.two;
   named = λ c valid. subst (λ (o : Option FullCardNumber). IfSome o (λ n. card_number_bytes n ≡ (found_of f c).number)) (sym (same c)) (found.named c valid);
   told = λ c valid. ap is_some (same c) ∙ found.told c valid;
+  only = λ c has. found.only c (sym (ap is_some (same c)) ∙ has);
   own = found.own;
   sizes = found.sizes;
   entries = found.entries;
@@ -74,27 +75,6 @@ found-sizes f c sizes cards = found-still f cards (with_sizes c sizes cards) (sa
     same A B = refl
     same B A = refl
     same B B = refl
-
--- and where one tells its own
-pub found-number : (f : Found) (c : Card) (n : FullCardNumber) (row : ℕ) (cards : Cards) → (IsOwnValid (found_of f c).image → card_number_bytes n ≡ (found_of f c).number) → AreFoundCards f cards → AreFoundCards f (with_number c n row cards)
-found-number f A n row cards own found = record { two = found.two; named = named; told = told; own = found.own; sizes = found.sizes; entries = found.entries; word = found.word }
-  where
-    named : (c : Card) → IsOwnValid (found_of f c).image → IfSome (known_of (with_number A n row cards) c).number (λ n. card_number_bytes n ≡ (found_of f c).number)
-    named A valid = own valid
-    named B valid = found.named B valid
-
-    told : (c : Card) → IsOwnValid (found_of f c).image → is_some (known_of (with_number A n row cards) c).number ≡ true
-    told A valid = refl
-    told B valid = found.told B valid
-found-number f B n row cards own found = record { two = found.two; named = named; told = told; own = found.own; sizes = found.sizes; entries = found.entries; word = found.word }
-  where
-    named : (c : Card) → IsOwnValid (found_of f c).image → IfSome (known_of (with_number B n row cards) c).number (λ n. card_number_bytes n ≡ (found_of f c).number)
-    named A valid = found.named A valid
-    named B valid = own valid
-
-    told : (c : Card) → IsOwnValid (found_of f c).image → is_some (known_of (with_number B n row cards) c).number ≡ true
-    told A valid = found.told A valid
-    told B valid = refl
 
 -- ---- the minutes of acceptances are earlier than what may come
 

@@ -56,6 +56,8 @@ use Rattle.run_devices.proofs.Registered.{MayBe, close-on}
 use Rattle.run_devices.proofs.Used.{close-used}
 use Rattle.tacho_types.specs.declared.texts.Registration.{Registration}
 use Rattle.run_devices.proofs.OnCards.{own-valid, valid-own, valid-or, no-marks, own-holder-still, Rises, rises-run, none-falls, marks-on, brought-card, held-on, hands-on, valid-on, bound_of as place_on}
+use Rattle.card_string.specs.Deeds.{IsMadeSince}
+use Rattle.card_string.proofs.MadeSince.{close_since}
 
 pub own-sizes-same : (app : Application) (x y : List ℕ) → HaveSameSizes app x y → own_sizes y ≡ own_sizes x
 unfolding own_sizes files_of
@@ -226,7 +228,9 @@ module _ (f : Found) (w : RunLedger) (c : Card) (U X Y : State) (two : f.card_a.
   }
 
   pub left-marks : MarksLit f w c X → MarksLit f w c Y
-  left-marks h = marks-on (found_of f c) c w.book w.marks X Y whole views h
+  left-marks h =
+      marks-on (found_of f c) c w.book w.marks (IsCardClosing a.session act) X Y whole closes
+      (λ n x y is le k. subst (λ (p : Application). IsMadeSince p n x y) on.sizes (close_since n a.session act x y sound-s (long x is) k)) views h
 
 -- so all of it stands, however the call ended: the card is not accepted any more
 module _ (f : Found) (w : RunLedger) (cards : Cards) (c : Card) (U X Y Z : State) (found : AreFoundCards f cards) (unit_whole : IsCoherent U) (whole : IsCoherent X) (a : Accepted) (act : Activity) (has : session_of cards c ≡ Some a) (room : image_size_of (own_sizes (found_of f c).image) ≤ X.size)

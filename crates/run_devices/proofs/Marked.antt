@@ -1,5 +1,5 @@
 -- The entries that an acceptance brought are marked.
-use Rattle.std.proofs.Common.{◌≡◌, ℕ, ◌<◌, ◌≤◌, true, false, List, [], ◌∷◌, ◌++◌, All, Contains, refl, ap, subst, ◌∙◌, sym, arith}
+use Rattle.std.proofs.Common.{◌≡◌, ℕ, ◌<◌, ◌≤◌, true, false, List, [], ◌∷◌, ◌++◌, All, Contains, refl, ap, subst, ◌∙◌, sym, arith, Some}
 use Rattle.std.proofs.lemmas.List.{append-nil}
 use Rattle.std.proofs.lemmas.List.Elements.{All-nil, All-cons, All-head, All-append, filter-append, Contains-append_left, Contains-append_right}
 use Rattle.activity_codec.specs.declared.entries.Entry.{Entry}
@@ -12,7 +12,7 @@ use Rattle.log_model.specs.declared.lines.Mark.{Mark}
 use Rattle.log_model.specs.Causes.{device_of}
 use Rattle.card_retention.specs.Retains.{Rise}
 use Rattle.card_image.specs.View.{CardView}
-use Rattle.card_image.specs.Own.{own_view, IsOwnValid}
+use Rattle.card_image.specs.Own.{own_view, IsOwnValid, own_sizes}
 use Rattle.history_model.specs.Minutes.{card_history}
 use Rattle.history_model.specs.Book.{Book}
 use Rattle.history_model.proofs.Filters.{filter-none, filter-whole}
@@ -25,10 +25,12 @@ use Rattle.unit_rule.specs.Rule.{Started, once_mended}
 use Rattle.unit_rule.specs.Marks.{UnitFollowsBook, MarkIsKept as IsUnitHeld}
 use Rattle.run_crew.specs.declared.cards.Cards.{Cards}
 use Rattle.run_promise.specs.Found.{CardFound, Found, found_of}
+use Rattle.unit_rule.specs.Cards.{IsPromptOn}
 use Rattle.run_promise.specs.Cards.{IsCardHeld, CardMarksHold}
 use Rattle.run_promise.specs.Between.{RunLedger}
 use Rattle.run_devices.specs.Told.{AreFoundCards, DevicesPowered, arranged, card_marks, with_marks}
-use Rattle.run_devices.proofs.Parts.{AreParts, MarksLit, parts-of, powered-of}
+use Rattle.run_devices.proofs.Parts.{AreParts, MarksLit, parts-of, powered-of, told-one}
+use Rattle.run_devices.proofs.OnCards.{stood-now}
 
 -- ---- which marks are of which device
 
@@ -106,6 +108,7 @@ card-still f d b marks ms card same h = record {
 
 module _ (f : Found) (w : RunLedger) (cards : Cards) (c : Card) (V Y Z : State) (found : AreFoundCards f cards) (p : DevicesPowered f w cards (arranged c V Y Z)) (whole : IsCoherent Y) (settled : IsSettled Y) (valid : IsOwnValid (found_of f c).image) (began : (found_of f c).began ≤ Y.clock) (es : List Entry) (rise : Rise es)
     (sure : (e : Entry) → Contains es e → Contains ((found_of f c).start.owed ++ card_history c w.book.sure) e) (there : (y : List ℕ) → Y.may_leave y → (e : Entry) → Contains es e → e.minute ≤ (own_view y).mark)
+    (prompt : (e : Entry) → Contains es e → IsPromptOn Y (record { device = device_of c; minute = e.minute; clock = Y.clock }))
     (older : (m : Mark) → Contains (marks_of (device_of c) w.marks) m → (e : Entry) → Contains es e → m.minute < e.minute) where
   parts : AreParts f w cards c V Y Z
   parts = parts-of f w cards c V Y Z p
@@ -116,8 +119,11 @@ module _ (f : Found) (w : RunLedger) (cards : Cards) (c : Card) (V Y Z : State) 
   has-marked : (e : Entry) → Contains es e → HasMarked e.minute Y.clock Y
   has-marked e in_ = acknowledged (λ (x : CardView). x.mark) e.minute (of_card Y) settled-views (λ v on. subst (λ (k : CardView). e.minute ≤ k.mark) on.2 (there on.0 on.1 e in_))
 
+  told : (y : List ℕ) × (Y.image ≡ Some y)
+  told = told-one Y.image (parts.mine valid).held.tells
+
   one-held : (e : Entry) → Contains es e → IsCardHeld (found_of f c) c w.book Y (record { device = device_of c; minute = e.minute; clock = Y.clock })
-  one-held e in_ = record { began = began; holds = has-marked e in_; sure = (e, sure e in_, refl) }
+  one-held e in_ = record { began = began; holds = has-marked e in_; prompt = prompt e in_; stood = stood-now (own_sizes (found_of f c).image) (device_of c) e.minute Y whole settled told.0 told.1; sure = (e, sure e in_, refl) }
 
   marks-more : MarksLit f w c Y → CardMarksHold (found_of f c) c w.book (w.marks ++ card_marks c Y.clock es) Y
   marks-more h = record {

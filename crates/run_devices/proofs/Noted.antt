@@ -44,6 +44,7 @@ use Rattle.run_devices.proofs.Used.{note-used}
 use Rattle.card_session.specs.Sessions.{book_of}
 use Rattle.run_devices.proofs.OnCards.{own-holder-still, own-valid, valid-own, valid-or, no-marks, time-of, Rises, rises-run, none-falls, marks-on, brought-card, bound_of, held-on, hands-on, valid-on, told-on}
 use Rattle.run_devices.proofs.NotedCard.{note-ends, note-number, note-book, note-session_time, note-sits, note-shut, note-session}
+use Rattle.card_string.proofs.MadeSince.{since_same}
 
 -- ---- ON THE UNIT, whatever is put or owed
 
@@ -201,7 +202,9 @@ module _ (f : Found) (w : RunLedger) (c : Card) (U X Y : State) (two : f.card_a.
   behind z dark k in_ = brought-card f c k w.book (w.standing c) z (once_mended f.unit) w.due w.marks U U X Y unit_whole unit.tells unit.unit unit.none one.rule.dark dark (none-falls X Y views) (one.brought k in_)
 
   pub note-marks : MarksLit f w c X → MarksLit f w c Y
-  note-marks h = marks-on (found_of f c) c w.book w.marks X Y whole views h
+  note-marks h =
+      marks-on (found_of f c) c w.book w.marks (IsNote (own_sizes (found_of f c).image)) X Y whole run
+      (λ n x y is le note. since_same (own_sizes (found_of f c).image) n x y (note-book (own_sizes (found_of f c).image) sound x (sound-at x is).1 y note)) views h
 
   -- it is noted
   module _ (works : X.works ≡ true) (well : Y.works ≡ true) (room : image_size_of (own_sizes (found_of f c).image) ≤ X.size) where

@@ -1,9 +1,9 @@
 -- A call on a card, by what it leaves of its images: what it has acknowledged, what was brought, its string.
-use Rattle.std.proofs.Common.{◌≡◌, ◌⊎◌, inl, inr, ⊎_elim, ℕ, suc, max, ◌/◌, ◌≤◌, true, Option, Some, None, is_some, List, [], ◌∷◌, All, Contains, refl, ap, subst, ◌∙◌, sym, arith}
+use Rattle.std.proofs.Common.{◌≡◌, ◌-◌, ◌⊎◌, inl, inr, ⊎_elim, ℕ, suc, max, ◌/◌, ◌≤◌, true, Option, Some, None, is_some, List, [], ◌∷◌, All, Contains, refl, ap, subst, ◌∙◌, sym, arith}
 use Rattle.std.proofs.lemmas.List.Elements.{All-weaker, All-nil, All-cons, All-head, All-tail}
 use Rattle.activity_codec.specs.declared.entries.Manual.{Manual}
 use Rattle.trace_model.specs.declared.Card.{Card}
-use Rattle.tach_media.specs.Medium.{State, IsCoherent, LeavesOnly, Unchanged}
+use Rattle.tach_media.specs.Medium.{State, IsCoherent, LeavesOnly, Unchanged, IsSettled}
 use Rattle.tach_media.proofs.Runs.{weaken}
 use Rattle.log_model.specs.declared.lines.Mark.{Mark}
 use Rattle.log_model.specs.Causes.{device_of}
@@ -33,6 +33,9 @@ use Rattle.unit_rule.specs.Unit.{marks_of}
 use Rattle.unit_rule.specs.Rule.{Started}
 use Rattle.unit_rule.specs.Marks.{UnitFollowsBook}
 use Rattle.run_promise.specs.Found.{CardFound, Found, found_of, unit_seen, AnyKept}
+use Rattle.unit_rule.specs.Cards.{mark_writes, IsPromptOn, HasStood}
+use Rattle.card_string.specs.Deeds.{IsMadeSince}
+use Rattle.card_string.proofs.MadeSince.{since_then, since_same}
 use Rattle.run_promise.specs.Cards.{brought_by, IsCardHeld, CardMarksHold, FirstKeep, IsFirstHeld, HandMarksHold}
 use Rattle.run_devices.specs.Registered.{TellsOfTwo}
 use Rattle.run_devices.specs.Strung.{HasSameRest, CardHoldsString, HasSameHolder}
@@ -40,6 +43,7 @@ use Rattle.run_promise.specs.Stays.{NoMarkFalls}
 use Rattle.run_promise.proofs.Stays.{stays, adds-none}
 use Rattle.run_devices.proofs.Parts.{left-one}
 use Rattle.run_devices.proofs.Holders.{HaveSameRest}
+use Rattle.run_model.specs.declared.Device.{Device}
 
 -- ---- validity by the card's own sizes
 
@@ -113,10 +117,47 @@ rises-run R X Y whole run rises = seen-run own_view (λ x y. (own_view x).mark �
 pub none-falls : (X Y : State) → LeavesViews (of_card X) (of_card Y) Rises → NoMarkFalls X Y
 none-falls X Y run w there = ⊎_elim (λ was. (w, was, omega arith)) (λ here. (here.0, here.1, here.2)) (run.now w there)
 
+-- what might have been left of it before might still
+abbrev pub KeepsLeft : (X Y : State) → Type 0
+KeepsLeft X Y = (t : ℕ) (x : List ℕ) → t ≤ X.clock → X.left_since t x → Y.left_since t x
+
+-- a mark stays one that was told at once
+pub prompt-on : (X Y : State) (m : Mark) → KeepsLeft X Y → m.clock ≤ X.clock → IsPromptOn X m → IsPromptOn Y m
+prompt-on X Y m keeps within was = (was.0, keeps (m.clock - mark_writes) was.0 (omega (arith, within)) was.1, was.2)
+
+-- what stood stands, over a call that makes each image of the one before, since that minute
+pub stood-on : (app : Application) (R : List ℕ → List ℕ → Type 0) (X Y : State) (m : Mark) → IsCoherent X → LeavesOnly X Y R → m.clock ≤ X.clock → ((x y : List ℕ) → X.image ≡ Some x → R x y → IsMadeSince app m.minute x y) → HasStood app X m → HasStood app Y m
+stood-on app R X Y m whole run within made was = (
+  was.0,
+  run.keeps m.clock was.0 within was.1,
+  λ y left. ⊎_elim (λ before. was.2 y before)
+      (λ one. since_then app m.minute was.0 one.0 y (was.2 one.0 (whole.counts_now m.clock one.0 within (whole.is_left one.0 one.1))) (made one.0 y one.1 one.2))
+      (run.since m.clock y within left),
+)
+
+-- and it stands at a mark of now
+pub stood-now : (app : Application) (device : Device) (minute : ℕ) (Y : State) → IsCoherent Y → IsSettled Y → (z : List ℕ) → Y.image ≡ Some z → HasStood app Y (record { device = device; minute = minute; clock = Y.clock })
+stood-now app device minute Y whole settled z told = (
+  z,
+  whole.counts_now Y.clock z (omega arith) (whole.is_left z told),
+  λ x left. subst (λ (y : List ℕ). IsMadeSince app minute z y) (alone z x (sym told ∙ settled x left)) (since_same app minute z z refl),
+)
+  where
+    alone : (p q : List ℕ) → Some p ≡ Some q → p ≡ q
+    alone p q is = cc
+
 -- what it has acknowledged
-pub marks-on : (f : CardFound) (c : Card) (b : Book) (marks : List Mark) (X Y : State) → IsCoherent X → LeavesViews (of_card X) (of_card Y) Rises → CardMarksHold f c b marks X → CardMarksHold f c b marks Y
-marks-on f c b marks X Y whole run h = record {
-  held = All-weaker (IsCardHeld f c b X) (IsCardHeld f c b Y) (λ m k. record { began = k.began; holds = marks-stay Rises X Y whole run (λ v w on le. le) m.minute m.clock k.holds; sure = k.sure }) (marks_of (device_of c) marks) h.held;
+pub marks-on : (f : CardFound) (c : Card) (b : Book) (marks : List Mark) (R : List ℕ → List ℕ → Type 0) (X Y : State) → IsCoherent X → LeavesOnly X Y R → ((n : ℕ) (x y : List ℕ) → X.image ≡ Some x → n ≤ (own_view x).mark → R x y → IsMadeSince (own_sizes f.image) n x y) →
+    LeavesViews (of_card X) (of_card Y) Rises → CardMarksHold f c b marks X → CardMarksHold f c b marks Y
+marks-on f c b marks R X Y whole run made views h = record {
+  held = All-weaker (IsCardHeld f c b X) (IsCardHeld f c b Y) (λ m k. record {
+      began = k.began;
+      holds = marks-stay Rises X Y whole views (λ v w on le. le) m.minute m.clock k.holds;
+      prompt = prompt-on X Y m run.keeps k.holds.0 k.prompt;
+      stood = stood-on (own_sizes f.image) R X Y m whole run k.holds.0
+          (λ x y is on. made m.minute x y is (k.holds.1 (own_view x) (x, whole.counts_now m.clock x k.holds.0 (whole.is_left x is), refl)) on) k.stood;
+      sure = k.sure;
+    }) (marks_of (device_of c) marks) h.held;
   rise = h.rise;
   none = h.none;
 }

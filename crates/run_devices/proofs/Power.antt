@@ -90,7 +90,7 @@ module _ (f : CardFound) (hd : Hands) (c : Card) (b : Book) (k : ℕ) (z : Stand
 
 marks-found : (f : CardFound) (c : Card) (b : Book) (k : ℕ) (marks : List Mark) (X : State) → All (λ i. i.minute ≤ k) b.sure → CardMarksHold f c b marks X → CardMarksHold f c (found k b) marks X
 marks-found f c b k marks X sure h = record {
-  held = All-weaker (IsCardHeld f c b X) (IsCardHeld f c (found k b) X) (λ m one. record { began = one.began; holds = one.holds; sure = (one.sure.0, there one.sure.0 one.sure.1, one.sure.2) }) (marks_of (device_of c) marks) h.held;
+  held = All-weaker (IsCardHeld f c b X) (IsCardHeld f c (found k b) X) (λ m one. record { began = one.began; holds = one.holds; prompt = one.prompt; stood = one.stood; sure = (one.sure.0, there one.sure.0 one.sure.1, one.sure.2) }) (marks_of (device_of c) marks) h.held;
   rise = h.rise;
   none = h.none;
 }

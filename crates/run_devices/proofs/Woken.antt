@@ -49,7 +49,7 @@ module _ (f : Found) (w : RunLedger) (cards : Cards) (c : Card) (U X Y Z : State
       }
 
   marks : MarksLit f w c Y
-  marks = marks-on (found_of f c) c w.book w.marks X Y whole (rises-run Unchanged X Y whole run (λ a b t never. absurd never)) parts.marks_mine
+  marks = marks-on (found_of f c) c w.book w.marks Unchanged X Y whole run (λ n x y is le never. absurd never) (rises-run Unchanged X Y whole run (λ a b t never. absurd never)) parts.marks_mine
 
   pub read-powered : DevicesPowered f w cards (arranged c U Y Z)
   read-powered = powered-of f w cards c U Y Z found (record {

@@ -37,13 +37,14 @@ use Rattle.run_devices.specs.Strung.{CardHoldsString}
 
 -- ---- what was found
 
--- What was found of the cards: two numbers, which are those that the valid ones have told, and for which owed rows are
--- begun; and of each valid card sizes, and the entries of its image, which counts the words behind its end mark.
+-- What was found of the cards: two numbers, which are those that the valid ones have told, no other card, and for which
+-- owed rows are begun; and of each valid card sizes, and the entries of its image, which counts the words behind its end mark.
 pub record AreFoundCards (f : Found) (cards : Cards) : Type 0 where
   pub two : f.card_a.number ≢ f.card_b.number
   pub named : (c : Card) → IsOwnValid (found_of f c).image
       → IfSome (known_of cards c).number (λ n. card_number_bytes n ≡ (found_of f c).number)
   pub told : (c : Card) → IsOwnValid (found_of f c).image → is_some (known_of cards c).number ≡ true
+  pub only : (c : Card) → is_some (known_of cards c).number ≡ true → IsOwnValid (found_of f c).image
   pub own : (c : Card) → IsOwnValid (found_of f c).image → IsCards f.unit (found_of f c).number
   pub sizes : (c : Card) → IsOwnValid (found_of f c).image → IsApplication (own_sizes (found_of f c).image)
   pub entries : (c : Card) → IsOwnValid (found_of f c).image

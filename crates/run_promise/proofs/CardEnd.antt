@@ -104,6 +104,8 @@ module _ (r : Recording) (c : Card) (clock : ℕ) (h : Hands) (given : IsPartOf 
     minute = held.sure.2;
     stands = subst (λ (zs : List Entry). Contains zs held.sure.0) (sym further) (Contains-append_left lies (card_history c rest) held.sure.0 (sure-lies held.sure.0 held.sure.1));
     clock = held.holds.0;
+    prompt = held.prompt;
+    stood = held.stood;
     shown = λ x left.
         let s = shows x (coherent.earlier clock m.clock x held.began held.holds.0 left) in
         let low : m.minute ≤ (own_view x).mark = held.holds.1 (own_view x) (x, left, refl) in (

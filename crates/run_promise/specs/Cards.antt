@@ -19,6 +19,7 @@ use Rattle.history_model.specs.Book.{Book, all}
 use Rattle.device_rule.specs.Views.{unit_view, owed}
 use Rattle.device_rule.specs.Rules.{Standing, comes_from, Fits, CardDark, CardRule}
 use Rattle.device_rule.specs.Marked.{of_card, HasMarked, HasBrought, IsBefore}
+use Rattle.unit_rule.specs.Cards.{IsPromptOn, HasStood}
 use Rattle.unit_rule.specs.Unit.{marks_of, Increase}
 use Rattle.run_promise.specs.Found.{CardFound, Found, found_of, unit_seen, AnyKept}
 
@@ -33,7 +34,8 @@ counted_to mark es = filter (λ e. nat_le e.minute mark) es
 
 -- THE STRING. Each image since the start keeps the card's entries and those of the run up to its end mark, but for the
 -- days that the stated overwriting took; of entries by hand it tells some of those at the start and of those given to
--- keeps, in their order, and those of the start of each day that it has; each is valid, and has the card's number; and these entries rise.
+-- keeps, in their order, and those of the start of each day that it has; each is valid, and has the card's number; and these
+-- entries rise.
 pub record StringHolds (f : CardFound) (h : Hands) (c : Card) (b : Book) (card : State) : Type 0 where
   pub kept : (x : List ℕ) → card.left_since f.began x →
       KeepsOf f.image h.given (f.start.entries ++ counted_to (own_view x).mark (brought_by c f.start b))
@@ -97,10 +99,12 @@ pub record CardStands (f : Found) (h : Hands) (c : Card) (b : Book) (z : Standin
   pub brought : (k : ℕ) → Contains ks k → HasBrought f.card_a.number f.card_b.number c k unit card
 
 -- MARKS. A mark's minute is that of an entry that is owed at the start or said by a sure minute, and the card has
--- acknowledged it.
+-- acknowledged it, at once; and what stood then stands.
 pub record IsCardHeld (f : CardFound) (c : Card) (b : Book) (card : State) (m : Mark) : Type 0 where
   pub began : f.began ≤ m.clock
   pub holds : HasMarked m.minute m.clock card
+  pub prompt : IsPromptOn card m
+  pub stood : HasStood (own_sizes f.image) card m
   pub sure : (e : Entry) × Contains (f.start.owed ++ card_history c b.sure) e × (e.minute ≡ m.minute)
 
 -- of the marks those of a card are held, and increase; one that is not valid has none

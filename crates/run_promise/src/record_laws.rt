@@ -73,7 +73,8 @@ pub fn what_is_recorded_is_promised<M: Medium, C: Chip, D: Chip, N: Medium, E: C
     card_a: &E,
     card_b: &F,
 )
-    ensures { (o : Origin) (done : List TraceSecond) (p : Progress) (g : Travel) (marks : List Mark) (stops : List Refused)
+    ensures { (o : Origin) (done : List TraceSecond) (p : Progress) (g : Travel) (marks : List Mark)
+        (stops : List Refused)
         (w : RunLedger) → Decodes o.recording.unit →
         IsFound (recording_by o done p.log) o.found
         (devices (M.state old_unit.now) (C.state old_a.now) (D.state old_b.now)) →

@@ -75,6 +75,7 @@ module _ (o : Origin) (done : List TraceSecond) (s : TraceSecond) (at : Phase) (
     two = w.found.two;
     named = λ c valid. subst (λ (m : Option FullCardNumber). IfSome m (λ (n : FullCardNumber). card_number_bytes n ≡ (found_of o.found c).number)) (sym (alike c).number) (w.found.named c valid);
     told = λ c valid. ap is_some (alike c).number ∙ w.found.told c valid;
+    only = λ c has. w.found.only c (sym (ap is_some (alike c).number) ∙ has);
     own = w.found.own;
     sizes = w.found.sizes;
     entries = w.found.entries;

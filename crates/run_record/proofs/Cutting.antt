@@ -96,11 +96,15 @@ option-same start told t past n (Some d) is lt = ap (λ (i : HistoryMinute). Som
 
 -- CARDS keep what they have told
 pub found-cut : (f : Found) (cards : Cards) (s : ℕ) → AreFoundCards f cards → AreFoundCards f (with_session B None (with_session A None cards))
-found-cut f cards s h = record { two = h.two; named = named; told = told_; own = h.own; sizes = h.sizes; entries = h.entries; word = h.word }
+found-cut f cards s h = record { two = h.two; named = named; told = told_; only = only; own = h.own; sizes = h.sizes; entries = h.entries; word = h.word }
   where
     told_ : (c : Card) → IsOwnValid (found_of f c).image → is_some (known_of (with_session B None (with_session A None cards)) c).number ≡ true
     told_ A valid = h.told A valid
     told_ B valid = h.told B valid
+
+    only : (c : Card) → is_some (known_of (with_session B None (with_session A None cards)) c).number ≡ true → IsOwnValid (found_of f c).image
+    only A has = h.only A has
+    only B has = h.only B has
 
     named : (c : Card) → IsOwnValid (found_of f c).image → IfSome (known_of (with_session B None (with_session A None cards)) c).number (λ n. card_number_bytes n ≡ (found_of f c).number)
     named A valid = h.named A valid

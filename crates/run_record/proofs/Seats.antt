@@ -103,6 +103,7 @@ found-less f card cards h = record {
   two = h.two;
   named = λ d valid. subst (λ (o : Option FullCardNumber). IfSome o (λ n. card_number_bytes n ≡ (found_of f d).number)) (sym (number-same card d cards)) (h.named d valid);
   told = λ d valid. subst (λ (o : Option FullCardNumber). is_some o ≡ true) (sym (number-same card d cards)) (h.told d valid);
+  only = λ d has. h.only d (subst (λ (o : Option FullCardNumber). is_some o ≡ true) (number-same card d cards) has);
   own = h.own;
   sizes = h.sizes;
   entries = h.entries;

@@ -1,6 +1,7 @@
 -- What the recorder with cards carries WITHIN A SECOND that has power (profile): at its power-on, at each of its
 -- actions, and in its keeping.
-use Rattle.std.specs.Prelude.{◌≡◌, ◌⊎◌, ◌&&◌, Bool, ℕ, suc, ◌+◌, ◌-◌, ◌*◌, ◌/◌, ◌≤◌, ◌<◌, true, false, Option, Some, None}
+use Rattle.std.specs.Prelude.{◌≡◌, ◌⊎◌, ◌&&◌, Bool, ℕ, suc, ◌+◌, ◌-◌, ◌*◌, ◌/◌, ◌≤◌, ◌<◌}
+use Rattle.std.specs.Prelude.{true, false, Option, Some, None}
 use Rattle.std.specs.Prelude.{IfSome, is_some, List, [], ◌∷◌, ◌++◌, Contains, length, filter, option_map}
 use Rattle.std.specs.Prelude.{option_to_list}
 use Rattle.activity_codec.specs.declared.values.Slot.{Slot}

@@ -1,12 +1,13 @@
 -- What a run promises of its cards, and of a unit and a card together (profile).
-use Rattle.std.specs.Prelude.{◌≡◌, ◌⊎◌, ℕ, ◌/◌, ◌<◌, ◌≤◌, Bool, true, false, ◌&&◌, List, [], ◌++◌, All, Contains}
-use Rattle.std.specs.Prelude.{length, filter, map, flat_map, nat_lt, nat_le, not}
+use Rattle.std.specs.Prelude.{◌≡◌, ◌⊎◌, ℕ, ◌+◌, ◌-◌, ◌/◌, ◌<◌, ◌≤◌, Bool, true, false, ◌&&◌, List, [], ◌++◌, All}
+use Rattle.std.specs.Prelude.{Contains, length, filter, map, flat_map, nat_lt, nat_le, not}
 use Rattle.std.specs.List.{list_any}
 use Rattle.activity_codec.specs.declared.entries.Entry.{Entry}
 use Rattle.activity_codec.specs.declared.values.Slot.{Slot}
 use Rattle.activity_codec.specs.declared.values.Slot.TheVariants.{Driver, CoDriver}
 use Rattle.trace_model.specs.declared.Card.{Card}
 use Rattle.tach_media.specs.Medium.{State}
+use Rattle.card_model.specs.declared.lengths.TheConstants.{DAYS_MOST}
 use Rattle.view_model.specs.declared.State.{State as SlotState}
 use Rattle.unit_model.specs.Days.{ShownDay, UnitMinute}
 use Rattle.unit_model.specs.Image.{recorded, unit_minutes, last_kept}
@@ -19,7 +20,9 @@ use Rattle.log_model.specs.Log.{is_accepting}
 use Rattle.log_model.specs.Slots.{same_card}
 use Rattle.log_model.specs.Causes.{device_of}
 use Rattle.history_model.specs.Minutes.{card_history, up_to}
-use Rattle.device_rule.specs.Own.{own_view, own_number, IsOwnValid, KeepsOf}
+use Rattle.card_layout.specs.declared.files.Application.{Application}
+use Rattle.card_string.specs.Deeds.{IsMadeSince}
+use Rattle.device_rule.specs.Own.{own_view, own_sizes, own_number, IsOwnValid, KeepsOf}
 use Rattle.device_rule.specs.Views.{owed}
 use Rattle.safety_model.specs.Recording.{Recording, card_image, told_of, brought, history_of, expected_of, unit_seen}
 use Rattle.safety_model.specs.Unit.{marks_of, Increase}
@@ -30,6 +33,21 @@ abbrev pub shows_lost : (second minute : ℕ) → Break → Bool
 shows_lost u minute (Cut second kept failed begun) = nat_lt second u && nat_lt kept minute
     && nat_le minute (second / 60)
 shows_lost u minute (Tear second slot failed begun late) = false
+
+-- as many writes as an insertion begins at most on a card; a keep begins fewer
+abbrev pub mark_writes : ℕ
+mark_writes = DAYS_MOST + 84
+
+-- A mark is told at once: so many writes before its clock a stop might have left an image whose end mark had not come
+-- to its minute yet.
+abbrev pub IsPromptOn : State → Mark → Type 0
+IsPromptOn card m = (x : List ℕ) × card.left_since (m.clock - mark_writes) x × ((own_view x).mark < m.minute)
+
+-- WHAT STOOD AT A MARK STANDS, whatever follows: each image that the card might have left since is made of one that it
+-- might have left then, by keeps of later minutes, entries by hand, closings and cuts.
+abbrev pub HasStood : Application → State → Mark → Type 0
+HasStood app card m = (z : List ℕ) × card.left_since m.clock z
+    × ((x : List ℕ) → card.left_since m.clock x → IsMadeSince app m.minute z x)
 
 module _ (r : Recording) (c : Card) where
   -- An image shows the card's entries at the start and some of the others that are expected, from their front, but for
@@ -58,13 +76,15 @@ module _ (r : Recording) (c : Card) where
   abbrev pub MayNotWrite : Type 0
   MayNotWrite = (IsOwnValid (card_image r c) → ⊥) ⊎ (entered ≡ overlaps)
 
-  -- an acknowledged minute is that of an entry that the card is to have beside those at the start, and every image
-  -- since shows that very one, unless overwriting took its day
+  -- an acknowledged minute is that of an entry that the card is to have beside those at the start, told at once; what
+  -- stood then stands, and every image since shows that very one, unless overwriting took its day
   pub record CardMarkHolds (card : State) (m : Mark) : Type 0 where
     pub e : Entry
     pub minute : e.minute ≡ m.minute
     pub stands : Contains ((brought r c).owed ++ card_history c (history_of r)) e
     pub clock : m.clock ≤ card.clock
+    pub prompt : IsPromptOn card m
+    pub stood : HasStood (own_sizes (card_image r c)) card m
     pub shown : (x : List ℕ) → card.left_since m.clock x
         → (s : CardShows x) × Contains ((brought r c).entries ++ s.more) e
 
