@@ -35,7 +35,7 @@ gap-kept t log later span (x ∷ next) is =
     ap (λ (k : ℕ). option_to_list (option_map {T = Span} {U = Event} (λ gap. noted_with POWER_INTERRUPTION gap.begin gap.end (record { driver = standing t x Driver; codriver = standing t x CoDriver })) (gap_of k (number_of x)))) is
 
 -- where nothing was kept there is none
-gap-nothing : (t : Tearing) (log : RunLog) (span next : List Seen) → kept_after log (last_number span) ≡ 0 → gap_event t log span next ≡ []
+pub gap-nothing : (t : Tearing) (log : RunLog) (span next : List Seen) → kept_after log (last_number span) ≡ 0 → gap_event t log span next ≡ []
 gap-nothing t log span [] is = refl
 gap-nothing t log span (x ∷ next) is =
     ap (λ (k : ℕ). option_to_list (option_map {T = Span} {U = Event} (λ gap. noted_with POWER_INTERRUPTION gap.begin gap.end (record { driver = standing t x Driver; codriver = standing t x CoDriver })) (gap_of k (number_of x)))) is
@@ -107,7 +107,7 @@ last-map P Q on (span ∷ []) h = on span h
 last-map P Q on (span ∷ next ∷ spans) h = last-map P Q on (next ∷ spans) h
 
 -- a second that goes on the last span; and one with which a span begins
-known-first : (log : RunLog) (found : List Break) (span : List Seen) (y : Seen) (next longer : List Seen) → IsKnownGap log found span (y ∷ next) → IsKnownGap log found span (y ∷ longer)
+pub known-first : (log : RunLog) (found : List Break) (span : List Seen) (y : Seen) (next longer : List Seen) → IsKnownGap log found span (y ∷ next) → IsKnownGap log found span (y ∷ longer)
 known-first log found span y next longer (inl told) = inl told
 known-first log found span y next longer (inr failed) = inr (record { told = failed.told; failed = failed.failed; kept = failed.kept })
 
