@@ -123,4 +123,5 @@ module _ (a b : Application) (m n : GName) (X Y : State) where
       begun = ⊎_elim (λ only. inl (port_leaves same only)) (λ both. inr both) enters.begun;
       settled = enters.settled;
       cause = port_cause enters.cause;
+      most = enters.most;
     }

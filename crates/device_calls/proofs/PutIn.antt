@@ -39,6 +39,7 @@ use Rattle.device_calls.proofs.Passed.{valid-days}
 use Rattle.device_calls.specs.declared.entering.Entered.{Entered}
 use Rattle.device_calls.specs.declared.entering.NotEntered.{NotEntered}
 use Rattle.device_calls.specs.declared.entering.NotEntered.TheVariants.{UnitFailed, CardFailed, NotValid as NotValidCard, TimeOverlap as LaterCard}
+use Rattle.card_model.specs.declared.lengths.TheConstants.{DAYS_MOST}
 use Rattle.device_calls.specs.Entering.{IsInTime, owed_on, of_card, IsRead, IsAccepted, IsRefused, IsEntering, IsInsertedWith, unit_failed, unit_called, card_failed}
 
 -- how an insertion answers, and what is told of it
@@ -216,6 +217,7 @@ module _ (app : Application) (registration : Registration) (odometer now : ℕ) 
     begun = inl reads.leaves;
     settled = λ ok. absurd (not_ok ok);
     cause = subst (HasCause X Y) (sym (fails_so fault)) reads.cause;
+    most = (let same = reads.clock in omega (arith, same));
   }
 
   -- and behind it
@@ -235,6 +237,7 @@ module _ (app : Application) (registration : Registration) (odometer now : ℕ) 
         )) enters.begun;
     settled = enters.settled;
     cause = cause_after reads.cause enters.cause;
+    most = (let same = reads.clock in let most = enters.most in omega (arith, same, most));
   }
     where
       by : (r : Result Entered NotEntered) → IfOk r (λ e. IsAccepted app registration odometer now U.image M.image Y.image e.look e.owed.items e.session e.replayed) → IfOk r (λ e. IsAccepted app registration odometer now U.image X.image Y.image e.look e.owed.items e.session e.replayed)
@@ -258,12 +261,13 @@ module _ (app : Application) (registration : Registration) (odometer now : ℕ) 
     begun = inl (starts X Unchanged);
     settled = λ ok. absurd (not_ok ok);
     cause = (no_reads X works).cause;
+    most = omega arith;
   }
 
   -- the card is inserted
   pub enters_inserted : (U V X Y : State) (l : CardLook) (es : List Entry) (r : Result Entered NotEntered) → IsApplication app → IsCoherent X → X.works ≡ true → image_size_of app ≤ X.size → Reads U V false → IfSome X.image (λ x. IsLook app x l)
-      → IfSome U.image (λ u. es ≡ owed_to u (card_number_bytes l.number) l.session l.newest_minute) → AreOwed now es → IsInsertedWith app registration odometer now es l X Y r → IsEntering app registration odometer now U V X Y r
-  enters_inserted U V X Y l es r sound whole works fits reads looked owes fit inserted = record {
+      → IfSome U.image (λ u. es ≡ owed_to u (card_number_bytes l.number) l.session l.newest_minute) → AreOwed now es → IsInsertedWith app registration odometer now es l X Y r → Y.clock ≤ X.clock + (DAYS_MOST + 84) → IsEntering app registration odometer now U V X Y r
+  enters_inserted U V X Y l es r sound whole works fits reads looked owes fit inserted wrote = record {
     unit = read_well U V (unit_failed r) (unit_called r) inserted.unit reads;
     accepted = by r inserted.looked inserted.valid inserted.inserted inserted.number inserted.few inserted.knows inserted.values;
     refused = inserted.refused;
@@ -281,6 +285,7 @@ module _ (app : Application) (registration : Registration) (odometer now : ℕ) 
     );
     settled = inserted.settled;
     cause = inserted.cause;
+    most = wrote;
   }
     where
       room : (x : List ℕ) → X.image ≡ Some x → image_size_of app ≤ length x

@@ -29,9 +29,9 @@ use Rattle.unit_rule.proofs.RowsOn.{rows-begun}
 use Rattle.device_calls.specs.Rule.{Both, opened, number_of, unit_seen, AnyString, CardHolds, IsKeptUp}
 
 -- the unit's rule, whatever the cards
-pub begun-holds : (s : Started) {U V : State} (due : ℕ) (b : Book) (marks : List Mark) (number : List ℕ) (session : ℕ) (spared : Option (List ℕ)) → IsCards s number → IsCoherent U → LeavesOnly U V (IsRowBeginning number session spared) → UnitFollowsBook s due b marks U → UnitFollowsBook s due b marks V
-begun-holds s {U} {V} due b marks number session spared whose whole run h = holds-elsewhere s due b marks h whole (IsRowBeginning number session spared) run (λ x c is. (rows-elsewhere x c is.outside, rows-issued x c is.outside, is.decodes))
-    (λ x c is. rows-begun s number whose x c (last_beside x c (rows-elsewhere x c is.outside)) session spared is)
+pub begun-holds : (s : Started) {U V : State} (due : ℕ) (b : Book) (marks : List Mark) (number : List ℕ) (session : ℕ) (spared : Option (List ℕ)) → IsCards s number → ((n : List ℕ) → spared ≡ Some n → IsCards s n) → IsCoherent U → LeavesOnly U V (IsRowBeginning number session spared) → UnitFollowsBook s due b marks U → UnitFollowsBook s due b marks V
+begun-holds s {U} {V} due b marks number session spared whose spare whole run h = holds-elsewhere s due b marks h whole (IsRowBeginning number session spared) run (λ x c is. (rows-elsewhere x c is.outside, rows-issued x c is.outside, is.decodes))
+    (λ x c is. rows-begun s number whose x c (last_beside x c (rows-elsewhere x c is.outside)) session spared spare is)
 
 -- the spared number's row is where it was
 pub row-spared : {T E : Type 0} (result : Result T E) (o p : Option (List ℕ)) (number : List ℕ) (session : ℕ) (spared : Option (List ℕ)) → is_some p ≡ is_some o → OnOk result (IfSome o (λ x. IfSome p (IsRowBegun number session spared x)))

@@ -1,6 +1,7 @@
 -- What the calls on one device each leave: the unit, its rules, its images, and a card, each in a record (profile).
 use Rattle.std.specs.Prelude.{ℕ, ◌++◌, ◌/◌, ◌<◌, ◌^◌, ◌∷◌, ◌≡◌, ◌≤◌, Bool, IfOk, IfSome, List, None, OnErr, OnOk}
-use Rattle.std.specs.Prelude.{Option, Result, Some, [], false, is_err, is_some, option_to_list, suc, true}
+use Rattle.std.specs.Prelude.{Option, Result, Some, [], false, is_err, is_some, option_to_list, suc, true, ◌+◌, ◌⊎◌}
+use Rattle.std.specs.Prelude.{IsTrue, ◌==◌, ◌||◌, ◌≢◌}
 use Rattle.activity_codec.specs.declared.entries.Entry.{Entry}
 use Rattle.card_by_hand.specs.First.{IsFirstKeeping, IsFirstKept}
 use Rattle.card_by_hand.specs.Wider.{with_hands}
@@ -25,7 +26,7 @@ use Rattle.history_model.specs.Book.{Book}
 use Rattle.history_model.specs.Minutes.{HistoryMinute, on_card}
 use Rattle.log_model.specs.declared.lines.Mark.{Mark}
 use Rattle.run_unit_course.specs.Legs.{Travel}
-use Rattle.tach_media.specs.Medium.{HasCause, IsSettled, LeavesOnly, State, last_count}
+use Rattle.tach_media.specs.Medium.{HasCause, IsSettled, LeavesOnly, State, last_count, Unchanged, revivable}
 use Rattle.tach_media.specs.declared.fault.Failed.{Failed}
 use Rattle.tacho_types.specs.CardNumber.{card_number_bytes}
 use Rattle.trace_model.specs.declared.Card.{Card}
@@ -47,6 +48,18 @@ use Rattle.device_calls.specs.Rule.{IsRowTaken, IsTakenUp, card_seen, number_of,
 use Rattle.device_calls.specs.Travel.{HasGone}
 use Rattle.device_calls.specs.declared.entering.Entered.{Entered}
 use Rattle.device_calls.specs.declared.entering.NotEntered.{NotEntered}
+use Rattle.card_days.specs.Steps.{IsIdle}
+use Rattle.card_layout.specs.Application.{IsApplication}
+use Rattle.card_session.specs.Inserting.{AreOwed, MayInsert}
+use Rattle.card_validity.specs.Judged.{TellsSizes}
+use Rattle.card_model.specs.declared.lengths.TheConstants.{DAYS_MOST}
+use Rattle.card_files.specs.declared.card_event.CardEvent.{CardEvent}
+use Rattle.card_files.specs.Noting.{IsEventNoted, IsNotingEvent, IsNotingPlace, IsPlaceNoted}
+use Rattle.card_files.specs.Rings.{place_ring}
+use Rattle.gated_ring.specs.Ring.{PointsInside, pointer}
+use Rattle.tacho_types.specs.declared.places.PlaceEntry.{PlaceEntry}
+use Rattle.activity_codec.specs.declared.values.Activity.{Activity}
+use Rattle.card_session.specs.Cards.{IsCardClosed, IsCardClosing}
 
 -- THE UNIT STANDS behind a row that was begun: it is a unit still, with the journal as it was; where it did not fail
 -- they agree, the row is the number's, and that of the number that is spared is where it was
@@ -64,6 +77,7 @@ pub record UnitStandsBegun (result : Result (Unit {0}) Failed) (number : List �
 pub record RulesBegun (which : Card) (result : Result (Unit {0}) Failed) (number : List ℕ) (session : ℕ)
     (spared : Option (List ℕ)) (U V X Z : State) : Type 0 where
   pub holds : (s : Started) (due : ℕ) (b : Book) (marks : List Mark) → IsCards s number
+      → ((n : List ℕ) → spared ≡ Some n → IsCards s n)
       → UnitFollowsBook s due b marks U → UnitFollowsBook s due b marks V
   pub mine : (r : Both) (s : Started) (due : ℕ) (b : Book) (marks : List Mark) (newest : ℕ) → number ≡ number_of r which
       → UnitFollowsBook s due b marks U → due ≤ session / 60 → CardHolds r which b Out [] [] U X
@@ -293,3 +307,103 @@ pub record MayKeepEntry (session : Session) (kept : Kept) (hands : Holding) : Ty
   pub first : 1440 ≤ kept.entry.minute
   pub last : kept.entry.minute ≤ LATEST_MINUTE
   pub fits : kept.odometer.0 < 2 ^ 24
+
+-- THE UNIT ANSWERS so, and begins so many writes at most
+pub record UnitAnswersWithin (writes : ℕ) (failed : Bool) (U V : State) : Type 0 where
+  pub goes : UnitAnswers failed U V
+  pub most : V.clock ≤ U.clock + writes
+
+-- THE UNIT ANSWERS, if it was called: its clock does not fall, and it tells its image where it did; it failed exactly
+-- where that was answered, or was not called; and it begins so many writes at most
+pub record UnitAnswersIfCalled (writes : ℕ) (failed : Bool) (U V : State) : Type 0 where
+  pub clock : U.clock ≤ V.clock
+  pub tells : is_some V.image ≡ is_some U.image
+  pub cause : HasCause U V failed ⊎ ((failed ≡ false) × IsIdle U V)
+  pub most : V.clock ≤ U.clock + writes
+
+-- A CARD MAY BE PUT IN by these sizes: they are of the formats, a session may be opened on it, and it tells them
+pub record CardMayBePutIn (app : Application) (x : State) : Type 0 where
+  pub sizes : IsApplication app
+  pub card : MayInsert app x
+  pub told : IfSome x.image (TellsSizes app)
+
+-- AND AT THIS SECOND, at this odometer, with these entries owed: they are within the bounds of the formats
+pub record MayBePutIn (now odometer : ℕ) (entries : List Entry) : Type 0 where
+  pub some : 1 ≤ now
+  pub last : now / 60 < LATEST_MINUTE
+  pub fits : odometer < 2 ^ 24
+  pub owed : AreOwed now entries
+
+-- THE CARD IS WRITTEN as one that is put in: only where it told of no later time, and so many writes at most
+pub record IsPutIn (app : Application) (now : ℕ) (X Y : State) : Type 0 where
+  pub leaves : LeavesOnly X Y Anything
+  pub in_time : IsInTime app now X Y
+  pub most : Y.clock ≤ X.clock + (DAYS_MOST + 84)
+
+-- AN ENTRY IS KEPT by a card: its session goes on, the card keeps it, and what is carried of its string goes on
+pub record KeepsEntry (result : Result (Unit {0}) Failed) (kept : Kept) (old new : Session)
+    (hands hands_after : Holding) (X Y : State) : Type 0 where
+  pub session : SessionKeeps result kept old new hands hands_after
+  pub keeps : KeepsOnCard result kept old new hands X Y
+  pub string : StringGoesOn result kept old new hands X Y
+
+-- THE CARD IS WRITTEN, and a stop leaves it as it is; it failed exactly where that was answered
+pub record CardIsWritten (result : Result (Unit {0}) Failed) (X Y : State) : Type 0 where
+  pub leaves : LeavesOnly X Y Anything
+  pub settled : OnOk result (Y.clock < last_count → IsSettled Y)
+  pub cause : HasCause X Y (is_err result)
+
+-- AN EVENT MAY BE NOTED on a card: it is of a kind that a card has, and began
+pub record MayNoteOnCard (event : CardEvent) : Type 0 where
+  pub kind : IsTrue (event.kind == 5 || event.kind == 6 || event.kind == 8)
+  pub begin : event.begin.0 ≢ 0
+
+-- AN EVENT WAS NOTED on a card: where it did not fail it is there, and each image that a stop may leave has it or has
+-- it not
+pub record NotesEventOnCard (result : Result (Unit {0}) Failed) (app : Application) (event : CardEvent)
+    (X Y : State) : Type 0 where
+  pub noted : OnOk result (IfSome X.image (λ x. IfSome Y.image (IsEventNoted app event x)))
+  pub moments : LeavesOnly X Y (IsNotingEvent app event)
+
+-- A PLACE WAS NOTED on a card: where it did not fail it is there, or the pointer of its places was no index and nothing
+-- was written; and each image that a stop may leave has it or has it not
+pub record NotesPlaceOnCard (result : Result (Unit {0}) Failed) (app : Application) (entry : PlaceEntry)
+    (X Y : State) : Type 0 where
+  pub noted : OnOk result (IfSome X.image
+      (λ x. PointsInside (place_ring app) x → IfSome Y.image (IsPlaceNoted app entry x)))
+  pub bad : OnOk result (IfSome X.image (λ x. app.places ≤ pointer (place_ring app) x → Y.image ≡ X.image))
+  pub moments : LeavesOnly X Y (IsNotingPlace app entry)
+
+-- THE CARD STANDS behind it: a port may be made over it again, and a stop leaves it as it is, where that pointer was an
+-- index; it failed exactly where that was answered
+pub record CardStandsPlaced (result : Result (Unit {0}) Failed) (app : Application) (X Y : State)
+    (chip : CardState) : Type 0 where
+  pub settled : (x : List ℕ) → X.image ≡ Some x → PointsInside (place_ring app) x
+      → OnOk result (Y.clock < last_count → IsSettled Y)
+  pub port : IsPort app None chip Y
+  pub cause : HasCause X Y (is_err result)
+
+-- A SESSION WAS CLOSED on its card: where it did not fail the words are closed with this activity, and each image that
+-- a stop may leave is one of that
+pub record ClosesOnCard (result : Result (Unit {0}) Failed) (session : Session) (act : Activity)
+    (X Y : State) : Type 0 where
+  pub closed : OnOk result (IfSome X.image
+      (λ x. IfSome Y.image (λ y. IsSession session x → IsCardClosed session act x y)))
+  pub moments : LeavesOnly X Y (λ x c. IsSession session x → IsCardClosing session act x c)
+
+-- THIS ROW OF THE UNIT is the number's
+pub record HasRowAt (index : ℕ) (number : List ℕ) (U : State) : Type 0 where
+  pub low : index < 8
+  pub row : IfSome U.image (IsRowAt index number)
+
+-- THIS ROW OF THE UNIT may be begun for the number, while the row of the number that is spared stays
+pub record MayBeginRow (index : ℕ) (number : List ℕ) (spared : Option (List ℕ)) (U : State) : Type 0 where
+  pub low : index < 8
+  pub row : IfSome U.image (IsRowFor index number spared)
+
+-- A DEVICE WAS REVIVED AND READ: it was not written, and its clock is as it was; it failed exactly where that was
+-- answered
+pub record WasRevived (failed : Bool) (U V : State) : Type 0 where
+  pub leaves : LeavesOnly U V Unchanged
+  pub clock : V.clock ≡ U.clock
+  pub cause : HasCause (revivable U) V failed

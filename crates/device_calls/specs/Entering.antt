@@ -1,6 +1,6 @@
 -- What becomes of a card that is put in (profile).
-use Rattle.std.specs.Prelude.{◌≡◌, ◌⊎◌, ℕ, ◌<◌, ◌≤◌, Bool, true, false, Option, Some, None, IfSome, IfOk, IfErr, IsOk}
-use Rattle.std.specs.Prelude.{Result, Ok, Err, List, length}
+use Rattle.std.specs.Prelude.{◌≡◌, ◌⊎◌, ℕ, ◌+◌, ◌<◌, ◌≤◌, Bool, true, false, Option, Some, None, IfSome, IfOk, IfErr}
+use Rattle.std.specs.Prelude.{IsOk, Result, Ok, Err, List, length}
 use Rattle.activity_codec.specs.declared.entries.Entry.{Entry}
 use Rattle.tach_media.specs.Medium.{State, HasCause, LeavesOnly, Reads, Unchanged, IsSettled, last_count}
 use Rattle.tacho_types.specs.declared.texts.Registration.{Registration}
@@ -11,6 +11,7 @@ use Rattle.card_validity.specs.declared.looking.CardLook.{CardLook}
 use Rattle.card_validity.specs.Judged.{IsLook}
 use Rattle.trace_model.specs.declared.Card.{Card}
 use Rattle.card_image.specs.Own.{own_sizes, own_number}
+use Rattle.card_model.specs.declared.lengths.TheConstants.{DAYS_MOST}
 use Rattle.device_calls.specs.Rule.{Both, number_of}
 use Rattle.card_image.specs.Fields.{card_number, end_mark, session_time}
 use Rattle.card_image.specs.Judging.{first_bad_file, IsValid}
@@ -97,7 +98,8 @@ abbrev pub IsInTime : Application → (now : ℕ) → (before after : State) →
 IsInTime app now before after = LeavesOnly before after Unchanged
     ⊎ IfSome before.image (λ x. (card_view app x).stored ≤ now)
 
--- PUT IN: at each moment, too, what the card's images are by those of unit and card before.
+-- PUT IN: at each moment, too, what the card's images are by those of unit and card before; and how many writes it
+-- begins on the card at most.
 pub record IsEntering (app : Application) (registration : Registration) (odometer now : ℕ)
     (unit_old unit_new card_old card_new : State)
     (r : Result Entered NotEntered) : Type 0 where
@@ -113,6 +115,7 @@ pub record IsEntering (app : Application) (registration : Registration) (odomete
       × IfSome unit_old.image (λ u. IfSome card_old.image (λ x. IsValid app x × AreOwed now (owed_on app u x))))
   pub settled : IsOk r → card_new.clock < last_count → IsSettled card_new
   pub cause : HasCause card_old card_new (card_failed r)
+  pub most : card_new.clock ≤ card_old.clock + (DAYS_MOST + 84)
 
 -- the same of a card that told this, and of these entries
 pub record IsInsertedWith (app : Application) (registration : Registration) (odometer now : ℕ) (es : List Entry)

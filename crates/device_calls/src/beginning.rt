@@ -1,9 +1,9 @@
 //! A card that was inserted gets its row in the unit.
-ghost use Rattle.std.specs.Prelude.{◌+◌, ◌≤◌, ◌<◌, option_map, IfSome};
+ghost use Rattle.std.specs.Prelude.{◌<◌, option_map};
 ghost use Rattle.std.specs.Prelude.{is_err};
 ghost use Rattle.tacho_types.specs.CardNumber.{card_number_bytes};
-ghost use Rattle.unit_owed.specs.Rows.{IsRowFor};
-ghost use Rattle.device_calls.specs.Calls.{LeavesBegun, RulesBegun, UnitAnswers, UnitIsReady, UnitStandsBegun};
+ghost use Rattle.device_calls.specs.Calls.{LeavesBegun, RulesBegun, UnitIsReady, UnitStandsBegun};
+ghost use Rattle.device_calls.specs.Calls.{MayBeginRow, UnitAnswersWithin};
 
 use tach_media::{Chip, Failed, Medium};
 use tacho_types::FullCardNumber;
@@ -36,9 +36,8 @@ pub fn begin<M: Medium, C: Chip, D: Chip>(
 ) -> Result<(), Failed>
     requires ready { UnitIsReady journal.old (M.state unit.old) }
     requires session { 0 < row.session }
-    requires low { row.index < 8 }
-    requires row { IfSome (M.state unit.old).image
-        (IsRowFor row.index (card_number_bytes row.number) (option_map (λ n. card_number_bytes n) row.spared)) }
+    requires row { MayBeginRow row.index (card_number_bytes row.number)
+        (option_map (λ n. card_number_bytes n) row.spared) (M.state unit.old) }
     ensures stands { UnitStandsBegun result (card_number_bytes row.number) row.index
         (option_map (λ n. card_number_bytes n) row.spared) journal.old journal.new (M.state unit.old)
         (M.state unit.new) }
@@ -47,8 +46,7 @@ pub fn begin<M: Medium, C: Chip, D: Chip>(
         (C.state mine.now) (D.state others.now) }
     ensures leaves { LeavesBegun which result (card_number_bytes row.number) row.session
         (option_map (λ n. card_number_bytes n) row.spared) (M.state unit.old) (M.state unit.new) }
-    ensures goes { UnitAnswers (is_err result) (M.state unit.old) (M.state unit.new) }
-    ensures most { (M.state unit.new).clock ≤ (M.state unit.old).clock + 7 }
+    ensures answers { UnitAnswersWithin 7 (is_err result) (M.state unit.old) (M.state unit.new) }
 {
     journal.begin_owed_at(unit, row.index, &row.number, row.session)
 }

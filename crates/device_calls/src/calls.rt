@@ -1,14 +1,13 @@
 //! Calls on a lent card, each through a port of its own.
-ghost use Rattle.std.specs.Prelude.{◌≡◌, ◌≢◌, ℕ, List, ◌≤◌, ◌<◌, ◌+◌, ◌^◌, ◌==◌, ◌||◌, IsTrue, Some, None, IfOk, IfErr};
-ghost use Rattle.std.specs.Prelude.{IfSome, OnOk, is_err};
-ghost use Rattle.tach_media.specs.Medium.{LeavesOnly, HasCause, IsSettled, Reads, last_count};
+ghost use Rattle.std.specs.Prelude.{◌≡◌, ◌≢◌, ◌≤◌, ◌<◌, ◌+◌, ◌^◌, Some, None, IfOk, IfErr};
+ghost use Rattle.std.specs.Prelude.{IfSome};
+ghost use Rattle.tach_media.specs.Medium.{Reads};
 ghost use Rattle.card_commands.specs.Ports.{IsPort};
-ghost use Rattle.gated_ring.specs.Ring.{PointsInside, pointer};
 ghost use Rattle.card_image.specs.Judging.{first_bad_file};
 ghost use Rattle.card_validity.specs.Faults.{IfNotValid, IfTimeOverlap, has_failed};
 ghost use Rattle.card_validity.specs.Judged.{TellsSizes, IsLook};
-ghost use Rattle.card_files.specs.Rings.{place_ring};
-ghost use Rattle.card_files.specs.Noting.{IsNotingEvent, IsEventNoted, IsNotingPlace, IsPlaceNoted};
+ghost use Rattle.device_calls.specs.Calls.{CardStandsKept};
+ghost use Rattle.device_calls.specs.Calls.{CardStandsPlaced, MayNoteOnCard, NotesEventOnCard, NotesPlaceOnCard};
 
 use card_commands::Port;
 use card_files::{CardEvent, note_event, note_place};
@@ -48,14 +47,9 @@ pub fn note_event_on<C: Chip>(
     event: &CardEvent,
 ) -> Result<(), Failed>
     requires port { IsPort app None (C.card card.old) (C.state card.old) }
-    requires kind { IsTrue (event.now.kind == 5 || event.now.kind == 6 || event.now.kind == 8) }
-    requires begin { event.now.begin.0 ≢ 0 }
-    ensures noted { OnOk result (IfSome (C.state card.old).image
-        (λ x. IfSome (C.state card.new).image (IsEventNoted app event.now x))) }
-    ensures moments { LeavesOnly (C.state card.old) (C.state card.new) (IsNotingEvent app event.now) }
-    ensures settled { OnOk result ((C.state card.new).clock < last_count → IsSettled (C.state card.new)) }
-    ensures port { IsPort app None (C.card card.new) (C.state card.new) }
-    ensures cause { HasCause (C.state card.old) (C.state card.new) (is_err result) }
+    requires event { MayNoteOnCard event.now }
+    ensures note { NotesEventOnCard result app event.now (C.state card.old) (C.state card.new) }
+    ensures card { CardStandsKept result app (C.state card.old) (C.state card.new) (C.card card.new) }
     ensures most { (C.state card.new).clock ≤ (C.state card.old).clock + 4 }
 {
     let mut port = Port::resume(&mut *card, app);
@@ -76,15 +70,8 @@ pub fn note_place_on<C: Chip>(
     requires port { IsPort app None (C.card card.old) (C.state card.old) }
     requires time { entry.now.time.0 ≢ 0 }
     requires odometer { entry.now.odometer.0 < 2 ^ 24 }
-    ensures noted { OnOk result (IfSome (C.state card.old).image
-        (λ x. PointsInside (place_ring app) x → IfSome (C.state card.new).image (IsPlaceNoted app entry.now x))) }
-    ensures bad { OnOk result (IfSome (C.state card.old).image
-        (λ x. app.places ≤ pointer (place_ring app) x → (C.state card.new).image ≡ (C.state card.old).image)) }
-    ensures moments { LeavesOnly (C.state card.old) (C.state card.new) (IsNotingPlace app entry.now) }
-    ensures settled { (x : List ℕ) → (C.state card.old).image ≡ Some x → PointsInside (place_ring app) x
-        → OnOk result ((C.state card.new).clock < last_count → IsSettled (C.state card.new)) }
-    ensures port { IsPort app None (C.card card.new) (C.state card.new) }
-    ensures cause { HasCause (C.state card.old) (C.state card.new) (is_err result) }
+    ensures note { NotesPlaceOnCard result app entry.now (C.state card.old) (C.state card.new) }
+    ensures card { CardStandsPlaced result app (C.state card.old) (C.state card.new) (C.card card.new) }
     ensures most { (C.state card.new).clock ≤ (C.state card.old).clock + 5 }
 {
     let mut port = Port::resume(&mut *card, app);

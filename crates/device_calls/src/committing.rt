@@ -1,7 +1,7 @@
 //! The unit keeps a minute.
-ghost use Rattle.std.specs.Prelude.{◌+◌, ◌≤◌, is_err};
-ghost use Rattle.device_calls.specs.Calls.{LeavesCommitted, MayBeCommitted, RulesCommitted, UnitAnswers, UnitIsReady};
-ghost use Rattle.device_calls.specs.Calls.{UnitStandsCommitted};
+ghost use Rattle.std.specs.Prelude.{is_err};
+ghost use Rattle.device_calls.specs.Calls.{LeavesCommitted, MayBeCommitted, RulesCommitted, UnitIsReady};
+ghost use Rattle.device_calls.specs.Calls.{UnitStandsCommitted, UnitAnswersWithin};
 
 use tach_media::{Chip, Failed, Medium};
 use unit_minutes::{Journal, KeptMinute};
@@ -24,8 +24,7 @@ pub fn commit<M: Medium, C: Chip, D: Chip>(
     ensures rules { RulesCommitted kept.now result (M.state unit.old) (M.state unit.new) (C.state first.now)
         (D.state second.now) }
     ensures leaves { LeavesCommitted kept.now result (M.state unit.old) (M.state unit.new) }
-    ensures goes { UnitAnswers (is_err result) (M.state unit.old) (M.state unit.new) }
-    ensures most { (M.state unit.new).clock ≤ (M.state unit.old).clock + 12 }
+    ensures answers { UnitAnswersWithin 12 (is_err result) (M.state unit.old) (M.state unit.new) }
 {
     journal.keep(unit, kept)
 }

@@ -1,19 +1,13 @@
 //! A card is put into a slot.
-ghost use Rattle.std.specs.Prelude.{◌≡◌, ◌<◌, ◌≤◌, ◌+◌, ◌/◌, ◌^◌, length, true, None, IfOk, IfSome};
+ghost use Rattle.std.specs.Prelude.{◌≡◌, ◌≤◌, ◌+◌, length, true, None, IfOk, IfSome};
 ghost use Rattle.std.specs.Prelude.{option_map};
-ghost use Rattle.tach_media.specs.Medium.{LeavesOnly};
 ghost use Rattle.tacho_types.specs.CardNumber.{card_number_bytes};
 ghost use Rattle.card_commands.specs.Ports.{IsPort};
-ghost use Rattle.card_layout.specs.Application.{IsApplication};
 ghost use Rattle.card_model.specs.declared.lengths.TheConstants.{DAYS_MOST};
 ghost use Rattle.card_validity.specs.Judged.{TellsSizes, IsLook};
-ghost use Rattle.card_session.specs.declared.words.TheConstants.{LATEST_MINUTE};
-ghost use Rattle.card_session.specs.Inserting.{MayInsert, AreOwed};
-ghost use Rattle.unit_owed.specs.Rows.{IsRowFor};
-ghost use Rattle.device_calls.specs.OnCard.{Anything};
-ghost use Rattle.device_calls.specs.Entering.{of_card, IsInTime, IsEntering, IsInsertedWith};
+ghost use Rattle.device_calls.specs.Entering.{of_card, IsEntering, IsInsertedWith};
 ghost use Rattle.device_calls.specs.Calls.{CardStandsPutIn, IsRowTold, MayEnter, RulesEntering, UnitIsReady};
-ghost use Rattle.device_calls.specs.Calls.{UnitStandsAsked};
+ghost use Rattle.device_calls.specs.Calls.{UnitStandsAsked, CardMayBePutIn, IsPutIn, MayBePutIn};
 
 use activity_codec::Owed;
 use card_commands::Port;
@@ -80,20 +74,13 @@ fn insert_by<C: Medium>(
     owed: Owed,
     row: u32,
 ) -> Result<Entered, NotEntered>
-    requires sizes { IsApplication insertion.app }
-    requires card { MayInsert insertion.app (C.state card.old) }
-    requires told { IfSome (C.state card.old).image (TellsSizes insertion.app) }
-    requires some { 1 ≤ insertion.time.0 }
-    requires last { insertion.time.0 / 60 < LATEST_MINUTE }
-    requires fits { insertion.odometer.0 < 2 ^ 24 }
-    requires owed { AreOwed insertion.time.0 owed.items }
+    requires card { CardMayBePutIn insertion.app (C.state card.old) }
+    requires may { MayBePutIn insertion.time.0 insertion.odometer.0 owed.items }
     ensures inserted { IsInsertedWith insertion.app insertion.registration insertion.odometer.0 insertion.time.0
         owed.items look (C.state card.old)
         (C.state card.new) result }
     ensures row { IfOk result (λ e. e.row ≡ row) }
-    ensures leaves { LeavesOnly (C.state card.old) (C.state card.new) Anything }
-    ensures in_time { IsInTime insertion.app insertion.time.0 (C.state card.old) (C.state card.new) }
-    ensures most { (C.state card.new).clock ≤ (C.state card.old).clock + (DAYS_MOST + 84) }
+    ensures put { IsPutIn insertion.app insertion.time.0 (C.state card.old) (C.state card.new) }
 {
     match CardSession::insert(
         card,
@@ -123,21 +110,15 @@ fn enter_as<M: Medium, C: Medium>(
     look: CardLook,
 ) -> Result<Entered, NotEntered>
     requires ready { UnitIsReady journal.now (M.state unit.old) }
-    requires sizes { IsApplication insertion.app }
-    requires card { MayInsert insertion.app (C.state card.old) }
-    requires told { IfSome (C.state card.old).image (TellsSizes insertion.app) }
+    requires card { CardMayBePutIn insertion.app (C.state card.old) }
     requires looked { IfSome (C.state card.old).image (λ x. IsLook insertion.app x look) }
     requires works { (C.state card.old).works ≡ true }
     requires may { MayEnter insertion.time.0 insertion.odometer.0 journal.now }
     ensures enters { IsEntering insertion.app insertion.registration insertion.odometer.0 insertion.time.0
         (M.state unit.old) (M.state unit.new)
         (C.state card.old) (C.state card.new) result }
-    ensures row { IfOk result (λ e. IfSome (M.state unit.old).image (IsRowFor e.row (card_number_bytes e.look.number)
-        (option_map (λ n. card_number_bytes n) insertion.spared))) }
-    ensures low { IfOk result (λ e. e.row < 8) }
-    ensures leaves { LeavesOnly (C.state card.old) (C.state card.new) Anything }
-    ensures in_time { IsInTime insertion.app insertion.time.0 (C.state card.old) (C.state card.new) }
-    ensures most { (C.state card.new).clock ≤ (C.state card.old).clock + (DAYS_MOST + 84) }
+    ensures row { IsRowTold result (option_map (λ n. card_number_bytes n) insertion.spared) (M.state unit.old) }
+    ensures put { IsPutIn insertion.app insertion.time.0 (C.state card.old) (C.state card.new) }
 {
     match journal.ask(
         unit,
@@ -159,19 +140,13 @@ fn enter_by<M: Medium, C: Medium>(
     insertion: CardInsertion,
 ) -> Result<Entered, NotEntered>
     requires ready { UnitIsReady journal.now (M.state unit.old) }
-    requires sizes { IsApplication insertion.app }
-    requires card { MayInsert insertion.app (C.state card.old) }
-    requires told { IfSome (C.state card.old).image (TellsSizes insertion.app) }
+    requires card { CardMayBePutIn insertion.app (C.state card.old) }
     requires may { MayEnter insertion.time.0 insertion.odometer.0 journal.now }
     ensures enters { IsEntering insertion.app insertion.registration insertion.odometer.0 insertion.time.0
         (M.state unit.old) (M.state unit.new)
         (C.state card.old) (C.state card.new) result }
-    ensures row { IfOk result (λ e. IfSome (M.state unit.old).image (IsRowFor e.row (card_number_bytes e.look.number)
-        (option_map (λ n. card_number_bytes n) insertion.spared))) }
-    ensures low { IfOk result (λ e. e.row < 8) }
-    ensures leaves { LeavesOnly (C.state card.old) (C.state card.new) Anything }
-    ensures in_time { IsInTime insertion.app insertion.time.0 (C.state card.old) (C.state card.new) }
-    ensures most { (C.state card.new).clock ≤ (C.state card.old).clock + (DAYS_MOST + 84) }
+    ensures row { IsRowTold result (option_map (λ n. card_number_bytes n) insertion.spared) (M.state unit.old) }
+    ensures put { IsPutIn insertion.app insertion.time.0 (C.state card.old) (C.state card.new) }
 {
     match look(card, &insertion.app) {
         Ok(look) => enter_as(unit, journal, card, insertion, look),

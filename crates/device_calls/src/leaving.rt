@@ -1,16 +1,15 @@
 //! A card is taken out in order.
-ghost use Rattle.std.specs.Prelude.{◌≡◌, ◌≤◌, ◌<◌, ◌+◌, ℕ, true, None, List, [], OnOk, IfSome, is_some, is_err};
+ghost use Rattle.std.specs.Prelude.{◌≡◌, ◌≤◌, ◌+◌, ℕ, true, None, List, [], IfSome, is_some};
 ghost use Rattle.activity_codec.specs.Activity.{activity_of};
-ghost use Rattle.tach_media.specs.Medium.{HasCause, LeavesOnly, IsSettled, last_count};
 ghost use Rattle.card_commands.specs.Ports.{IsPort};
 ghost use Rattle.card_image.specs.Own.{own_sizes};
 ghost use Rattle.card_session.specs.Sessions.{IsSession};
-ghost use Rattle.card_session.specs.Cards.{IsCardClosed, IsCardClosing};
 ghost use Rattle.log_model.specs.declared.lines.Mark.{Mark};
 ghost use Rattle.history_model.specs.Book.{Book};
 ghost use Rattle.device_rule.specs.Rules.{In, Out};
 ghost use Rattle.unit_rule.specs.Rule.{Started};
 ghost use Rattle.unit_rule.specs.Marks.{UnitFollowsBook};
+ghost use Rattle.device_calls.specs.Calls.{CardStandsKept, ClosesOnCard};
 ghost use Rattle.device_calls.specs.Rule.{Both, CardHolds};
 
 use activity_codec::Pick;
@@ -36,19 +35,13 @@ pub fn leave<M: Medium, C: Chip>(
 ) -> Result<(), Failed>
     requires port { IsPort app None (C.card card.old) (C.state card.old) }
     requires sizes { session.application ≡ app }
-    ensures port { IsPort app None (C.card card.new) (C.state card.new) }
-    ensures closed { OnOk result (IfSome (C.state card.old).image
-        (λ x. IfSome (C.state card.new).image
-        (λ y. IsSession session x → IsCardClosed session (activity_of selected) x y))) }
-    ensures moments { LeavesOnly (C.state card.old) (C.state card.new)
-        (λ x c. IsSession session x → IsCardClosing session (activity_of selected) x c) }
+    ensures card { CardStandsKept result app (C.state card.old) (C.state card.new) (C.card card.new) }
+    ensures closes { ClosesOnCard result session (activity_of selected) (C.state card.old) (C.state card.new) }
     ensures rule { (r : Both) (s : Started) (due : ℕ) (b : Book) (marks : List Mark) (time newest : ℕ)
         → is_some (M.state unit.now).image ≡ true → UnitFollowsBook s due b marks (M.state unit.now) → b.maybe ≡ None
         → IfSome (C.state card.old).image (λ x. (own_sizes x ≡ app) × IsSession session x)
         → CardHolds r which b (In time newest) [] [] (M.state unit.now) (C.state card.old)
         → CardHolds r which b Out [] [] (M.state unit.now) (C.state card.new) }
-    ensures settled { OnOk result ((C.state card.new).clock < last_count → IsSettled (C.state card.new)) }
-    ensures cause { HasCause (C.state card.old) (C.state card.new) (is_err result) }
     ensures most { (C.state card.new).clock ≤ (C.state card.old).clock + 8 }
 {
     let mut port = Port::resume(&mut *card, app);

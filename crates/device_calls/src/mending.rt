@@ -1,8 +1,8 @@
 //! The unit is mended at a power-on.
-ghost use Rattle.std.specs.Prelude.{◌+◌, ◌≤◌, IfSome, is_err};
+ghost use Rattle.std.specs.Prelude.{IfSome, is_err};
 ghost use Rattle.unit_model.specs.Image.{IsUnit};
 ghost use Rattle.unit_minutes.specs.Mends.{IsMendable};
-ghost use Rattle.device_calls.specs.Calls.{LeavesMended, RulesMended, UnitAnswers, UnitStandsMended};
+ghost use Rattle.device_calls.specs.Calls.{LeavesMended, RulesMended, UnitStandsMended, UnitAnswersWithin};
 
 use tach_media::{Chip, Failed, Medium};
 use unit_minutes::Journal;
@@ -23,8 +23,7 @@ pub fn mend<M: Medium, C: Chip, D: Chip>(
     ensures stands { UnitStandsMended result journal.old journal.new (M.state unit.new) }
     ensures rules { RulesMended result (M.state unit.old) (M.state unit.new) (C.state first.now) (D.state second.now) }
     ensures leaves { LeavesMended journal.old (M.state unit.old) (M.state unit.new) }
-    ensures goes { UnitAnswers (is_err result) (M.state unit.old) (M.state unit.new) }
-    ensures most { (M.state unit.new).clock ≤ (M.state unit.old).clock + 34 }
+    ensures answers { UnitAnswersWithin 34 (is_err result) (M.state unit.old) (M.state unit.new) }
 {
     journal.mend(unit)
 }

@@ -1,9 +1,8 @@
 //! A card keeps its entry of a minute that the unit has.
-ghost use Rattle.std.specs.Prelude.{◌≡◌, ◌≤◌, ◌<◌, ◌+◌, ◌*◌, ℕ, true, None, List, [], ◌∷◌, OnOk};
+ghost use Rattle.std.specs.Prelude.{◌≡◌, ◌≤◌, ◌<◌, ◌+◌, ◌*◌, ℕ, true, None, List, [], ◌∷◌};
 ghost use Rattle.std.specs.Prelude.{IfSome, length, is_some, is_err};
 ghost use Rattle.activity_codec.specs.declared.entries.Entry.{Entry};
 ghost use Rattle.trace_model.specs.declared.Card.{Card};
-ghost use Rattle.tach_media.specs.Medium.{HasCause, LeavesOnly, IsSettled, last_count};
 ghost use Rattle.card_retention.specs.Expected.{Counted};
 ghost use Rattle.card_retention.specs.Shown.{Bound};
 ghost use Rattle.card_commands.specs.Ports.{IsPort};
@@ -14,8 +13,9 @@ ghost use Rattle.device_rule.specs.Rules.{In};
 ghost use Rattle.unit_rule.specs.Rule.{Started};
 ghost use Rattle.unit_rule.specs.Marks.{UnitFollowsBook};
 ghost use Rattle.device_calls.specs.Rule.{Both, opened, CardHolds};
-ghost use Rattle.device_calls.specs.OnCard.{CardMayTake, IsOnItsCard, Anything, hands_for};
-ghost use Rattle.device_calls.specs.Calls.{CardStandsKept, KeepsOnCard, MayKeepEntry, SessionKeeps, StringGoesOn};
+ghost use Rattle.device_calls.specs.OnCard.{CardMayTake, IsOnItsCard, hands_for};
+ghost use Rattle.device_calls.specs.Calls.{CardStandsKept, MayKeepEntry};
+ghost use Rattle.device_calls.specs.Calls.{CardIsWritten, KeepsEntry};
 
 use card_by_hand::keep_with_hands;
 use card_commands::Port;
@@ -34,9 +34,7 @@ fn keep_by<M: Medium, C: Medium>(
 ) -> Result<(), Failed>
     requires card { MayKeep session.old.application (C.state card.old) }
     requires may { MayKeepEntry session.old kept.now held.old }
-    ensures session { SessionKeeps result kept.now session.old session.new held.old held.new }
-    ensures keeps { KeepsOnCard result kept.now session.old session.new held.old (C.state card.old) (C.state card.new) }
-    ensures string { StringGoesOn result kept.now session.old session.new held.old (C.state card.old)
+    ensures keeps { KeepsEntry result kept.now session.old session.new held.old held.new (C.state card.old)
         (C.state card.new) }
     ensures rule { (r : Both) (which : Card) (s : Started) (due : ℕ) (b : Book) (marks : List Mark) (time : ℕ)
         (slack : Bound)
@@ -47,9 +45,7 @@ fn keep_by<M: Medium, C: Medium>(
         → IfSome (C.state card.old).image (CardMayTake session.old slack covered from c all
         (hands_for held.old kept.now.entry.minute) kept.now.entry)
         → IsOnItsCard r which b time kept.now.entry (is_err result) (M.state unit.now) (C.state card.new) }
-    ensures leaves { LeavesOnly (C.state card.old) (C.state card.new) Anything }
-    ensures settled { OnOk result ((C.state card.new).clock < last_count → IsSettled (C.state card.new)) }
-    ensures cause { HasCause (C.state card.old) (C.state card.new) (is_err result) }
+    ensures card { CardIsWritten result (C.state card.old) (C.state card.new) }
     ensures most { (C.state card.new).clock
         ≤ (C.state card.old).clock + (17 + 4 * length (hands_for held.old kept.now.entry.minute)) }
 {
@@ -72,9 +68,7 @@ pub fn keep_on_card<M: Medium, C: Chip>(
     requires port { IsPort app None (C.card card.old) (C.state card.old) }
     requires sizes { session.old.application ≡ app }
     requires may { MayKeepEntry session.old kept.now held.old }
-    ensures session { SessionKeeps result kept.now session.old session.new held.old held.new }
-    ensures keeps { KeepsOnCard result kept.now session.old session.new held.old (C.state card.old) (C.state card.new) }
-    ensures string { StringGoesOn result kept.now session.old session.new held.old (C.state card.old)
+    ensures keeps { KeepsEntry result kept.now session.old session.new held.old held.new (C.state card.old)
         (C.state card.new) }
     ensures rule { (r : Both) (which : Card) (s : Started) (due : ℕ) (b : Book) (marks : List Mark) (time : ℕ)
         (slack : Bound)

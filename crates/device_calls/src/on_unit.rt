@@ -1,14 +1,14 @@
 //! The unit keeps a minute, and owes its entries to the cards.
-ghost use Rattle.std.specs.Prelude.{◌≡◌, ◌⊎◌, ◌+◌, ◌≤◌, ◌<◌, false, OnOk, OnErr, IfSome, is_some, is_err};
-ghost use Rattle.tach_media.specs.Medium.{HasCause, last_count};
+ghost use Rattle.std.specs.Prelude.{◌≤◌, ◌<◌, OnOk, OnErr, IfSome, is_err};
+ghost use Rattle.tach_media.specs.Medium.{last_count};
 ghost use Rattle.tacho_types.specs.CardNumber.{card_number_bytes};
-ghost use Rattle.card_days.specs.Steps.{IsIdle};
 ghost use Rattle.unit_owed.specs.Rows.{IsRowAt};
 ghost use Rattle.history_model.specs.Minutes.{HistoryMinute};
 ghost use Rattle.device_rule.specs.Rules.{Standing};
 ghost use Rattle.device_calls.specs.Minute.{Known, known_after, AreBetween, SaysBoth, AreOwed, AreCutOff};
-ghost use Rattle.device_calls.specs.Calls.{MayBeCommitted, RulesOwingSome, UnitAnswers, UnitIsReady};
+ghost use Rattle.device_calls.specs.Calls.{MayBeCommitted, RulesOwingSome, UnitIsReady};
 ghost use Rattle.device_calls.specs.Calls.{UnitStandsCommitted, UnitStandsOwing};
+ghost use Rattle.device_calls.specs.Calls.{UnitAnswersIfCalled, UnitAnswersWithin};
 
 use crate::committing::commit;
 use crate::owing::{OwedEntry, owe};
@@ -48,11 +48,7 @@ fn owe_some<M: Medium, C: Chip, D: Chip>(
     ensures stands { UnitStandsOwing result journal.old journal.new (M.state unit.old) (M.state unit.new) }
     ensures rules { RulesOwingSome said.card result (card_number_bytes said.number) said.entry (M.state unit.old)
         (M.state unit.new) (C.state mine.now) (D.state others.now) }
-    ensures clock { (M.state unit.old).clock ≤ (M.state unit.new).clock }
-    ensures most { (M.state unit.new).clock ≤ (M.state unit.old).clock + 3 }
-    ensures tells { is_some (M.state unit.new).image ≡ is_some (M.state unit.old).image }
-    ensures cause { HasCause (M.state unit.old) (M.state unit.new) (is_err result)
-        ⊎ ((is_err result ≡ false) × IsIdle (M.state unit.old) (M.state unit.new)) }
+    ensures answers { UnitAnswersIfCalled 3 (is_err result) (M.state unit.old) (M.state unit.new) }
 {
     match said.entry {
         None => Ok(()),
@@ -109,8 +105,7 @@ pub fn keep_on_unit<M: Medium, C: Chip, D: Chip>(
         → SaysBoth k said.one.card said.two.card i minute.now said.one.entry said.two.entry y z
         → OnErr result (AreCutOff k said.one.card said.two.card i y z (M.state unit.new) (C.state first.now)
         (D.state second.now)) }
-    ensures goes { UnitAnswers (is_err result) (M.state unit.old) (M.state unit.new) }
-    ensures most { (M.state unit.new).clock ≤ (M.state unit.old).clock + 18 }
+    ensures answers { UnitAnswersWithin 18 (is_err result) (M.state unit.old) (M.state unit.new) }
 {
     owe_some(unit, journal, first, second, said.one)?;
     owe_some(unit, journal, second, first, said.two)?;

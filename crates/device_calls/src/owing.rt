@@ -1,8 +1,8 @@
 //! The entry of a minute is put among those owed to its card.
-ghost use Rattle.std.specs.Prelude.{◌+◌, ◌≤◌, ◌<◌, IfSome, is_err};
+ghost use Rattle.std.specs.Prelude.{is_err};
 ghost use Rattle.tacho_types.specs.CardNumber.{card_number_bytes};
-ghost use Rattle.unit_owed.specs.Rows.{IsRowAt};
-ghost use Rattle.device_calls.specs.Calls.{LeavesOwing, RulesOwing, UnitAnswers, UnitIsReady, UnitStandsOwing};
+ghost use Rattle.device_calls.specs.Calls.{LeavesOwing, RulesOwing, UnitIsReady, UnitStandsOwing};
+ghost use Rattle.device_calls.specs.Calls.{HasRowAt, UnitAnswersWithin};
 
 use activity_codec::Entry;
 use tach_media::{Chip, Failed, Medium};
@@ -33,15 +33,13 @@ pub fn owe<M: Medium, C: Chip, D: Chip>(
     owed: OwedEntry,
 ) -> Result<(), Failed>
     requires ready { UnitIsReady journal.old (M.state unit.old) }
-    requires low { owed.row < 8 }
-    requires row { IfSome (M.state unit.old).image (IsRowAt owed.row (card_number_bytes owed.number)) }
+    requires row { HasRowAt owed.row (card_number_bytes owed.number) (M.state unit.old) }
     ensures stands { UnitStandsOwing result journal.old journal.new (M.state unit.old) (M.state unit.new) }
     ensures rules { RulesOwing which result (card_number_bytes owed.number) owed.entry (M.state unit.old)
         (M.state unit.new) (C.state mine.now) (D.state others.now) }
     ensures leaves { LeavesOwing which (card_number_bytes owed.number) owed.entry (M.state unit.old) (M.state unit.new)
         (C.state mine.now) }
-    ensures goes { UnitAnswers (is_err result) (M.state unit.old) (M.state unit.new) }
-    ensures most { (M.state unit.new).clock ≤ (M.state unit.old).clock + 3 }
+    ensures answers { UnitAnswersWithin 3 (is_err result) (M.state unit.old) (M.state unit.new) }
 {
     journal.put_owed_at(unit, owed.row, &owed.entry)
 }

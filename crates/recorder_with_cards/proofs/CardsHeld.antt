@@ -4,7 +4,7 @@ use Rattle.std.proofs.Math.Seq.{take-append_seam}
 use Rattle.trace_model.specs.declared.Action.{Action}
 use Rattle.trace_model.specs.Trace.{TraceSecond}
 use Rattle.minute_model.specs.declared.Minute.{Minute}
-use Rattle.event_model.specs.Events.{Event, Seen, seen_of, seen_spans, gap_events, gaps_between, last_number}
+use Rattle.event_model.specs.Events.{Seen, seen_of, seen_spans, last_number}
 use Rattle.log_model.specs.declared.lines.Break.{Break}
 use Rattle.log_model.specs.Log.{RunLog, Phase, kept_after}
 use Rattle.log_model.specs.Course.{Visit, Went}
@@ -23,9 +23,9 @@ use Rattle.run_record.specs.Recorded.{Values}
 use Rattle.run_record.specs.Within.{RecordInSecond}
 use Rattle.run_acts.specs.declared.run.Run.{Run}
 use Rattle.run_acts.specs.Power.{is_lit}
-use Rattle.run_acts.specs.OnCards.{as_accepted}
-use Rattle.run_acts.specs.RunCards.{so_far, seen_behind, gap_behind, CardsShown, CardsIn}
-use Rattle.run_acts.proofs.CardGaps.{kept-before, between-same, before-same, low-spans}
+use Rattle.run_acts.specs.OnCards.{MetSecond, as_accepted, met_behind, met_seconds}
+use Rattle.run_acts.specs.RunCards.{so_far, seen_behind, gap_behind, met_so, CardsShown, CardsIn}
+use Rattle.run_acts.proofs.CardGaps.{kept-before, before-same, low-spans, met-same}
 use Rattle.run_acts.proofs.CardEnds.{IsLater}
 use Rattle.run_acts.proofs.CardTurn.{lines-later}
 use Rattle.recorder_with_cards.specs.Carded.{WithinCarded, CutCarded, InSecondCardedBy, InSecondCarded}
@@ -51,8 +51,8 @@ module _ (o : Origin) (done : List TraceSecond) (s : TraceSecond) (at : Phase) (
   now-is : seen_behind v.log done s front v.log ≡ seen_behind w.b.run.log done s front v.log
   now-is = ap (λ (g : Went). so_far g.before s (course_behind v.log g.before s front)) l.behind.went_is
 
-  gaps-are : gap_events as_accepted v.log done ≡ gap_events as_accepted w.b.run.log done
-  gaps-are = ap (λ (xs : List Seen). gaps_between as_accepted v.log (seen_spans xs)) seen-is ∙ between-same as_accepted w.b.run.log v.log s.number kept (seen_spans (seen_of w.b.run.log done)) low
+  met-is : met_seconds v.log done ≡ met_seconds w.b.run.log done
+  met-is = ap (λ (xs : List Seen). met_behind v.log [] xs) seen-is ∙ met-same w.b.run.log v.log s.number l.some kept [] (seen_of w.b.run.log done) l.early
 
   gap-is : gap_behind v.log done s front v.log ≡ gap_behind w.b.run.log done s front v.log
   gap-is =
@@ -64,15 +64,15 @@ module _ (o : Origin) (done : List TraceSecond) (s : TraceSecond) (at : Phase) (
   notes-are : notes_now v.log done v.log s ≡ notes_now w.b.run.log done v.log s
   notes-are = λ i. notes-alike w.b.run.log v.log done l.behind.same i ++ noted_in v.log (done_by v.log (l.behind.went_is i).before s)
 
-  same : ◌≡◌ {A = List Event × List Seen × List Note} (gap_events as_accepted v.log done ++ gap_behind v.log done s front v.log, seen_of v.log done ++ seen_behind v.log done s front v.log ∷ [], notes_now v.log done v.log s)
-      (gap_events as_accepted w.b.run.log done ++ gap_behind w.b.run.log done s front v.log, seen_of w.b.run.log done ++ seen_behind w.b.run.log done s front v.log ∷ [], notes_now w.b.run.log done v.log s)
-  same = λ i. (gaps-are i ++ gap-is i, seen-is i ++ now-is i ∷ [], notes-are i)
+  same : ◌≡◌ {A = List MetSecond × List Note} (met_seconds v.log done ++ met_so v.log done s front v.log (gap_behind v.log done s front v.log) ∷ [], notes_now v.log done v.log s)
+      (met_seconds w.b.run.log done ++ met_so w.b.run.log done s front v.log (gap_behind w.b.run.log done s front v.log) ∷ [], notes_now w.b.run.log done v.log s)
+  same = λ i. (met-is i ++ record { seen = now-is i; gap = gap-is i } ∷ [], notes-are i)
 
   pub to-began : CardsIn o done s v.log front v.log d → CardsIn o done s w.b.run.log front v.log d
-  to-began h = subst (λ (p : List Event × List Seen × List Note). CardsShown o v.log p.0 p.1 (λ c. uses_in o c p.2) d) same h
+  to-began h = subst (λ (p : List MetSecond × List Note). CardsShown o v.log p.0 (λ c. uses_in o c p.1) d) same h
 
   pub to-log : CardsIn o done s w.b.run.log front v.log d → CardsIn o done s v.log front v.log d
-  to-log h = subst (λ (p : List Event × List Seen × List Note). CardsShown o v.log p.0 p.1 (λ c. uses_in o c p.2) d) (sym same) h
+  to-log h = subst (λ (p : List MetSecond × List Note). CardsShown o v.log p.0 (λ c. uses_in o c p.1) d) (sym same) h
 
 -- ---- the first of some actions
 

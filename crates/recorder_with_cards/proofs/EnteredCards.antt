@@ -1,5 +1,5 @@
 -- A card is judged: the events that this brings it.
-use Rattle.std.proofs.Common.{◌≡◌, ◌∙◌, ◌⊎◌, inl, inr, ⊎_elim, ℕ, ◌+◌, ◌<◌, ◌≤◌, Bool, true, false, cond, not, Option, Some, None, is_some, nat_eq, List, [], ◌∷◌, ◌++◌, refl, ap, sym, subst, arith, append-nil}
+use Rattle.std.proofs.Common.{◌≡◌, ◌∙◌, ◌⊎◌, ⊎_elim, ℕ, ◌+◌, ◌<◌, ◌≤◌, Bool, true, false, cond, not, Option, Some, None, is_some, nat_eq, List, [], ◌∷◌, ◌++◌, refl, ap, sym, subst, arith, append-nil}
 use Rattle.std.specs.Prelude.{◌==◌, ◌&&◌, nat_lt}
 use Rattle.std.proofs.lemmas.Bool.{eqb-true}
 use Rattle.std.proofs.lemmas.Bool.Decides.{nat_tests}
@@ -40,23 +40,25 @@ use Rattle.run_insertion.specs.declared.lines.Entering.{Entering}
 use Rattle.run_insertion.specs.Entering.{Ending, Unfit, Ahead, Fell, Unasked, Unnoted, Seated, Lost, Way, Unread, Unsized, Judged, ending_of, finds_by}
 use Rattle.run_insertion.specs.Entered.{IsWay}
 use Rattle.run_insertion.specs.Noted.{moving_event}
-use Rattle.run_insertion.specs.CardEvents.{events_in, all_noted, AreBeingNoted, of_type, ShowsMore, ShowsThese, unclosed_on}
+use Rattle.run_insertion.specs.CardEvents.{events_in, all_noted, AreBeingNoted, MayBeNoted, of_type, ShowsMore, ShowsThese, unclosed_on}
 use Rattle.run_insertion.specs.CardBrought.{moving_on, brought_on, is_cut_short, BringsOnCard}
-use Rattle.run_insertion.proofs.CardBrought.{IsSitting}
+use Rattle.run_insertion.proofs.CardBrought.{IsSitting, shows-first}
+use Rattle.run_insertion.proofs.MayBe.{being-may}
 use Rattle.run_record.specs.Within.{RecordInSecond}
 use Rattle.run_acts.specs.Closings.{notes_within}
 use Rattle.run_acts.specs.Entered.{values_with, MayJudge, HasGone, AreSound}
 use Rattle.run_acts.specs.Recording.{IsOrigin, log_of}
 use Rattle.run_acts.specs.Truths.{truths_within, marked}
 use Rattle.run_acts.specs.Stays.{AllStay}
-use Rattle.run_acts.specs.OnCards.{unclosed_at, unclosed_by, events_by, accepts, moving_at, movings, StillShows, AreUses}
+use Rattle.run_acts.specs.OnCards.{Bringing, unclosed_at, unclosed_by, unclosed_all, events_by, accepts, moving_at, movings, judging, IsBrought, IsUse, StillShows, AreUses}
 use Rattle.run_acts.specs.RunCards.{vehicle_in, sizes_in}
 use Rattle.run_acts.proofs.OnCards.{events-none, still-same}
+use Rattle.run_acts.proofs.CardBrings.{brought-nothing, brought-less}
 use Rattle.run_acts.proofs.CardStays.{valid-found}
 use Rattle.run_acts.proofs.EnteredFacts.{mine, mine-back, each, now-is, card-tells, card-began, card-run, unit-told, left}
 use Rattle.run_acts.proofs.RingedLines.{phase_at, tear-told}
 use Rattle.recorder_with_cards.specs.JudgedRings.{TellsHere}
-use Rattle.recorder_with_cards.specs.JudgedCards.{NotesNone, BringsNow, uses_then, IsJudgedOnCards}
+use Rattle.recorder_with_cards.specs.JudgedCards.{NotesNone, IsSureHere, once_torn, BringsNow, uses_then, IsJudgedOnCards}
 use Rattle.recorder_with_cards.proofs.EnteredAdds.{log_with}
 use Rattle.recorder_with_cards.proofs.EnteredLines.{TellsOf, verdicts_of, ending-tells, ending-here, tells-same}
 use Rattle.recorder_with_cards.proofs.EnteredUses.{FindsBy, ending-finds, use-is}
@@ -163,6 +165,23 @@ zero-test t = by (nat_lt 0 t) (nat_eq t 0) refl refl
     by false true is are = refl
     by false false is are = absurd (let none : t ≤ 0 = grind (arith, nat_tests) in let wrong : nat_eq t 0 ≡ true = grind (arith, nat_tests) in let clash : true ≡ false = sym wrong ∙ are in cc)
 
+no-movings : (c : Card) (own : Registration) (speed : ℕ) → movings c own speed [] ≡ []
+no-movings c own speed = by (nat_lt 0 speed)
+  where
+    by : (b : Bool) → cond {A = List CardEvent} b [] [] ≡ []
+    by true = refl
+    by false = refl
+
+none-by : (q8 q5 q6 l : Bool) (ms us : List CardEvent) → q6 ≡ false → (q5 && l) ≡ false → cond q8 [] (cond q5 (cond l ms []) (cond q6 us [])) ≡ []
+none-by true q5 q6 l ms us six five = refl
+none-by false true q6 true ms us six five = absurd (let wrong : true ≡ false = five in cc)
+none-by false true q6 false ms us six five = refl
+none-by false false true l ms us six five = absurd (let wrong : true ≡ false = six in cc)
+none-by false false false l ms us six five = refl
+
+one-more : (n : ℕ) → 1 ≤ 1 + n
+one-more n = omega arith
+
 -- where no event is told
 nothing-told : (c : Card) (own : Registration) (speed kind : ℕ) → events_by kind [] (movings c own speed []) (unclosed_by [] []) ≡ []
 nothing-told c own speed kind = by (nat_lt 0 speed)
@@ -232,13 +251,11 @@ module _ (o : Origin) (done : List TraceSecond) (s : TraceSecond) (n : ℕ) (wai
       ap (λ (q : RunLog). is_torn_in q s.number (In n) e.slot) is
       ∙ sym (ap (λ (q : KeepingAt). is_torn_in l q.second (phase_at q) e.slot) m.moment) ∙ torn
 
-  abbrev Clear : Type 0
-  Clear = (failed ≡ false) × (is_torn_in (log_of out') s.number (In n) e.slot ≡ false)
+  abbrev is_torn : Bool
+  is_torn = is_torn_in (log_of out') s.number (In n) e.slot
 
-  torn-then : (ending : Ending) → ending_of way ≡ ending → (finds : List Find) → log_with ending e (log_of out) ≡ record (log_of out) { breaks = (log_of out).breaks ++ tear_of e.slot e.at ∷ []; finds = finds } → Clear → ⊥
-  torn-then ending is finds lines clear =
-      let torn = torn-at (record (log_of out) { breaks = (log_of out).breaks ++ tear_of e.slot e.at ∷ []; finds = finds }) (log-is ∙ ap (λ (q : Ending). log_with q e (log_of out)) is ∙ lines) (tear-line (log_of out) finds) in
-      let clash : true ≡ false = sym torn ∙ clear.1 in absurd (cc)
+  torn-told_ : (ending : Ending) → ending_of way ≡ ending → (finds : List Find) → log_with ending e (log_of out) ≡ record (log_of out) { breaks = (log_of out).breaks ++ tear_of e.slot e.at ∷ []; finds = finds } → is_torn_in (log_of out') s.number (In n) e.slot ≡ true
+  torn-told_ ending is finds lines = torn-at (record (log_of out) { breaks = (log_of out).breaks ++ tear_of e.slot e.at ∷ []; finds = finds }) (log-is ∙ ap (λ (q : Ending). log_with q e (log_of out)) is ∙ lines) (tear-line (log_of out) finds)
 
   -- ---- of this card, where it was valid
   module _ (valid : IsOwnValid (card_image o.recording e.which)) where
@@ -272,10 +289,19 @@ module _ (o : Origin) (done : List TraceSecond) (s : TraceSecond) (n : ℕ) (wai
         more.card e.which x (mine-back e.which U X Z (λ (q : State). q.left_since (found_of o.found e.which).began x)
         (sound.card_before.counts_now (found_of o.found e.which).began x (card-began o done s n waits fewer e k out unfound next_ begun minutes U X Z w m) at))
 
-    abbrev Step : (clear : Type 0) → List CurrentUse → List ℕ → List ℕ → Type 0
-    Step clear uses us y = (x : List ℕ) × X.may_leave x
-        × (clear → (kind : ℕ) → events_in (sizes_in o e.which) kind y ≡ all_noted (events_in (sizes_in o e.which) kind x) (events_by kind [] (movings e.which (vehicle_in o) s.speed us) (unclosed_by uses us)))
-        × ((kind : ℕ) → NotesNone kind s.speed → events_in (sizes_in o e.which) kind y ≡ events_in (sizes_in o e.which) kind x)
+    abbrev held : ℕ → List ℕ → List (List ℕ)
+    held kind x = events_in (sizes_in o e.which) kind x
+
+    -- what comes of it, by these uses at these acceptances
+    abbrev came : List CurrentUse → List ℕ → Bringing
+    came uses us = judging e.which (vehicle_in o) s.number s.speed (once_torn (is_torn_in (log_of out') s.number (In n) e.slot)) us uses
+
+    -- each type, whether it is sure or not
+    abbrev EachBrought : List CurrentUse → List ℕ → (x y : List ℕ) → Type 0
+    EachBrought uses us x y = (kind : ℕ) (sure : Bool) → (sure ≡ true → IsSureHere failed (is_torn_in (log_of out') s.number (In n) e.slot) kind s.speed) → IsBrought (images_in o (arranged e.which W Y Z) e.which) kind sure (came uses us) (held kind x) (held kind y)
+
+    abbrev Step : List CurrentUse → List ℕ → List ℕ → Type 0
+    Step uses us y = (x : List ℕ) × X.may_leave x × EachBrought uses us x y
 
     -- where no call failed this was found on it, by the notes before it
     abbrev TellsFound : List Verdict → Type 0
@@ -293,27 +319,31 @@ module _ (o : Origin) (done : List TraceSecond) (s : TraceSecond) (n : ℕ) (wai
         (mine-back e.which U X Z (λ (q : State). q.may_leave x) at))
 
     -- as it is told of the devices in their order
-    brings : (vs : List Verdict) (uses : List CurrentUse) → TellsFound vs → (NothingFailed (log_of out) → uses ≡ uses_from (vehicle_in o) (use_now o e.which (notes_within w.b done s (In n) (log_of out))) (insertions_at s.number e.slot e.which vs)) → AreUses (images_in o (arranged e.which W Y Z) e.which) uses (accepts s.number vs) → ((y : List ℕ) → Y.may_leave y → Step Clear uses (accepts s.number vs) y)
-        → BringsNow o e.which s.number s.speed Clear vs (log_of out') (uses_then o w.b.run.log done s e.which out) (uses_then o w.b.run.log done s e.which out') (arranged e.which U X Z) (arranged e.which W Y Z)
+    brings : (vs : List Verdict) (uses : List CurrentUse) → TellsFound vs → (NothingFailed (log_of out) → uses ≡ uses_from (vehicle_in o) (use_now o e.which (notes_within w.b done s (In n) (log_of out))) (insertions_at s.number e.slot e.which vs)) → AreUses (images_in o (arranged e.which W Y Z) e.which) uses (accepts s.number vs) → ((y : List ℕ) → Y.may_leave y → Step uses (accepts s.number vs) y)
+        → BringsNow o e.which s.number s.speed failed is_torn vs (log_of out') (uses_then o w.b.run.log done s e.which out) (uses_then o w.b.run.log done s e.which out') (arranged e.which U X Z) (arranged e.which W Y Z)
     brings vs uses found exact are steps = record {
       uses = uses;
       exact = λ fine. let told = found fine in told.1 ∙ ap (λ (l : List CurrentUse). uses_then o w.b.run.log done s e.which out ++ l) (sym (exact told.0));
       are = are;
-      notes = λ y at.
+      notes = λ sure why y at.
           let was = steps y (mine e.which W Y Z (λ (q : State). q.may_leave y) at) in
-          (was.0, mine-back e.which U X Z (λ (q : State). q.may_leave was.0) was.1, was.2, was.3);
+          (was.0, mine-back e.which U X Z (λ (q : State). q.may_leave was.0) was.1, λ kind. was.2 kind (sure kind) (why kind));
     }
 
+    -- of a card that is not accepted no use is found
+    without_use : (vs : List Verdict) → TellsFound vs → accepts s.number vs ≡ [] → insertions_at s.number e.slot e.which vs ≡ [] → ((y : List ℕ) → Y.may_leave y → Step [] [] y)
+        → BringsNow o e.which s.number s.speed failed is_torn vs (log_of out') (uses_then o w.b.run.log done s e.which out) (uses_then o w.b.run.log done s e.which out') (arranged e.which U X Z) (arranged e.which W Y Z)
+    without_use vs found none inserts steps =
+        brings vs [] found (λ fine. ap (uses_from (vehicle_in o) (use_now o e.which (notes_within w.b done s (In n) (log_of out)))) (sym inserts))
+        (subst (AreUses (images_in o (arranged e.which W Y Z) e.which) []) (sym none) tt) (λ y at. subst (λ (us : List ℕ). Step [] us y) (sym none) (steps y at))
+
     -- nothing is noted of it
-    plain : (vs : List Verdict) → TellsFound vs → accepts s.number vs ≡ [] → insertions_at s.number e.slot e.which vs ≡ [] → ((y : List ℕ) → Y.may_leave y → (x : List ℕ) × X.may_leave x × ((kind : ℕ) → (Clear ⊎ NotesNone kind s.speed) → events_in (sizes_in o e.which) kind y ≡ events_in (sizes_in o e.which) kind x))
-        → BringsNow o e.which s.number s.speed Clear vs (log_of out') (uses_then o w.b.run.log done s e.which out) (uses_then o w.b.run.log done s e.which out') (arranged e.which U X Z) (arranged e.which W Y Z)
-    plain vs found none inserts same = brings vs [] found (λ fine. ap (uses_from (vehicle_in o) (use_now o e.which (notes_within w.b done s (In n) (log_of out)))) (sym inserts)) (subst (AreUses (images_in o (arranged e.which W Y Z) e.which) []) (sym none) tt) (λ y at.
-        let was = same y at in (
-          was.0,
-          was.1,
-          (λ clear kind. was.2 kind (inl clear) ∙ sym (ap (all_noted (events_in (sizes_in o e.which) kind was.0)) (ap (λ (us : List ℕ). events_by kind [] (movings e.which (vehicle_in o) s.speed us) (unclosed_by [] us)) none ∙ nothing-told e.which (vehicle_in o) s.speed kind))),
-          (λ kind quiet. was.2 kind (inr quiet)),
-        ))
+    same-brought : (x y : List ℕ) → ((kind : ℕ) → held kind y ≡ held kind x) → EachBrought [] [] x y
+    same-brought x y same kind sure why = brought-nothing (images_in o (arranged e.which W Y Z) e.which) kind sure (came [] []) (λ is. nothing-told e.which (vehicle_in o) s.speed kind) (held kind x) (held kind y) (same kind)
+
+    plain : (vs : List Verdict) → TellsFound vs → accepts s.number vs ≡ [] → insertions_at s.number e.slot e.which vs ≡ [] → ((y : List ℕ) → Y.may_leave y → (x : List ℕ) × X.may_leave x × ((kind : ℕ) → held kind y ≡ held kind x))
+        → BringsNow o e.which s.number s.speed failed is_torn vs (log_of out') (uses_then o w.b.run.log done s e.which out) (uses_then o w.b.run.log done s e.which out') (arranged e.which U X Z) (arranged e.which W Y Z)
+    plain vs found none inserts same = without_use vs found none inserts (λ y at. let was = same y at in (was.0, was.1, same-brought was.0 y was.2))
 
     -- what an image shows where the events of its ending were cut short, or none are noted
     module _ (a : Application) (x y : List ℕ) (sizes : own_sizes x ≡ a) (at : X.may_leave x) where
@@ -334,43 +364,99 @@ module _ (o : Origin) (done : List TraceSecond) (s : TraceSecond) (n : ℕ) (wai
           (none-type kind (unclosed (current_use a x) e.at.second) (moving_event k.memory.registration e) refl refl (nat_eq (session_time a x) 0) (nat_lt 0 e.speed) quiet.0
           (ap (λ (v : ℕ). kind == INSERTION_WHILE_DRIVING && nat_lt 0 v) (sym moves) ∙ quiet.1)) shows)
 
-      -- both, as an acceptance brings them
-      whole-both : (kind : ℕ) → events_in a kind y ≡ all_noted (events_in a kind x) (of_type kind (unclosed_on a e.at.second x ++ moving_on k.memory.registration e))
-          → events_in (sizes_in o e.which) kind y ≡ all_noted (events_in (sizes_in o e.which) kind x) (events_by kind [] (movings e.which (vehicle_in o) s.speed (s.number ∷ [])) (unclosed_by (current_use (own_sizes x) x ∷ []) (s.number ∷ [])))
-      whole-both kind shows =
-          subst (λ (p : Application). events_in p kind y ≡ all_noted (events_in p kind x) (of_type kind (unclosed_on a e.at.second x ++ moving_on k.memory.registration e))) app-is shows
-          ∙ ap (all_noted (events_in (sizes_in o e.which) kind x))
-          (both-type kind (unclosed (current_use a x) e.at.second) (moving_event k.memory.registration e) refl refl (nat_eq (session_time a x) 0) (nat_lt 0 e.speed)
+      -- both, as an acceptance brings them, and the first alone
+      both-is : (kind : ℕ) → of_type kind (unclosed_on a e.at.second x ++ moving_on k.memory.registration e) ≡ events_by kind [] (movings e.which (vehicle_in o) s.speed (s.number ∷ [])) (unclosed_all s.number (current_use (own_sizes x) x ∷ []))
+      both-is kind =
+          both-type kind (unclosed (current_use a x) e.at.second) (moving_event k.memory.registration e) refl refl (nat_eq (session_time a x) 0) (nat_lt 0 e.speed)
           ∙ (λ i. events_by kind [] (cond (nat_lt 0 (sym moves i)) (moving_as i ∷ []) []) (cond (sym (zero-test (session_time a x)) i) (unclosed (current_use a x) e.at.second ∷ []) [] ++ []))
-          ∙ (λ i. events_by kind [] (movings e.which (vehicle_in o) s.speed (s.number ∷ [])) (unclosed_at (current_use (sym sizes i) x) (second i) ++ [])))
+          ∙ (λ i. events_by kind [] (movings e.which (vehicle_in o) s.speed (s.number ∷ [])) (unclosed_at (current_use (sym sizes i) x) (second i) ++ []))
         where
           moving_as : moving_event k.memory.registration e ≡ moving_at e.which (vehicle_in o) s.number
           moving_as = λ i. record { kind = INSERTION_WHILE_DRIVING; begin = record { 0 = second i }; end = record { 0 = second i }; registration = vehicle i }
 
+      one-is : (kind : ℕ) → of_type kind (unclosed_on a e.at.second x) ≡ events_by kind [] (movings e.which (vehicle_in o) s.speed []) (unclosed_all s.number (current_use (own_sizes x) x ∷ []))
+      one-is kind =
+          ap (of_type kind) (sym (append-nil (unclosed_on a e.at.second x)))
+          ∙ both-type kind (unclosed (current_use a x) e.at.second) (moving_event k.memory.registration e) refl refl (nat_eq (session_time a x) 0) false
+          ∙ (λ i. events_by kind [] (sym (no-movings e.which (vehicle_in o) s.speed) i) (cond (sym (zero-test (session_time a x)) i) (unclosed (current_use a x) e.at.second ∷ []) [] ++ []))
+          ∙ (λ i. events_by kind [] (movings e.which (vehicle_in o) s.speed []) (unclosed_at (current_use (sym sizes i) x) (second i) ++ []))
+
+      -- a moment of that may have noted each
+      moment-may : (kind : ℕ) (us es : List CardEvent) → us ≡ es → ShowsThese true (events_in a kind x) us (events_in a kind y) → MayBeNoted (held kind x) es (held kind y)
+      moment-may kind us es are shows =
+          subst (λ (p : Application). MayBeNoted (events_in p kind x) es (events_in p kind y)) app-is
+          (subst (λ (l : List CardEvent). MayBeNoted (events_in a kind x) l (events_in a kind y)) are (being-may (events_in a kind x) us (events_in a kind y) shows))
+
+      abbrev known : IsUse (images_in o (arranged e.which W Y Z) e.which) (current_use (own_sizes x) x)
+      known = (x, since x at, refl)
+
+      -- it fell as it was judged, before it was accepted
+      fell-brought : is_torn_in (log_of out') s.number (In n) e.slot ≡ true → ((kind : ℕ) → ShowsThese true (events_in a kind x) (of_type kind (unclosed_on a e.at.second x)) (events_in a kind y)) → EachBrought [] [] x y
+      fell-brought fell shows kind true why =
+          ⊎_elim
+          (λ clear. absurd (let clash : true ≡ false = sym fell ∙ clear.1 in cc))
+          (λ quiet. brought-nothing (images_in o (arranged e.which W Y Z) e.which) kind true (came [] []) (λ is. nothing-told e.which (vehicle_in o) s.speed kind) (held kind x) (held kind y) (quiet-one true kind (shows kind) quiet))
+          (why refl)
+      fell-brought fell shows kind false why = (
+        current_use (own_sizes x) x ∷ [],
+        subst (λ (t : Bool). 1 ≤ 0 + once_torn t) (sym fell) (omega arith),
+        (known, tt),
+        moment-may kind (of_type kind (unclosed_on a e.at.second x)) (events_by kind [] (movings e.which (vehicle_in o) s.speed []) (unclosed_all s.number (current_use (own_sizes x) x ∷ []))) (one-is kind) (shows kind),
+      )
+
+      -- it was accepted, and a call failed
+      cut-brought : (current : CurrentUse) → ((failed ≡ false) × (is_torn_in (log_of out') s.number (In n) e.slot ≡ false) → ⊥) → ((kind : ℕ) → ShowsThese true (events_in a kind x) (of_type kind (unclosed_on a e.at.second x ++ moving_on k.memory.registration e)) (events_in a kind y))
+          → EachBrought (current ∷ []) (s.number ∷ []) x y
+      cut-brought current unclear shows kind true why =
+          ⊎_elim
+          (λ clear. absurd (unclear clear))
+          (λ quiet. brought-nothing (images_in o (arranged e.which W Y Z) e.which) kind true (came (current ∷ []) (s.number ∷ []))
+          (λ is. none-by (kind == POWER_INTERRUPTION) (kind == INSERTION_WHILE_DRIVING) (kind == SESSION_NOT_CLOSED) (nat_lt 0 s.speed) (moving_at e.which (vehicle_in o) s.number ∷ []) (unclosed_by (current ∷ []) (s.number ∷ [])) quiet.0 quiet.1)
+          (held kind x) (held kind y) (quiet-both true kind (shows kind) quiet))
+          (why refl)
+      cut-brought current unclear shows kind false why = (
+        current_use (own_sizes x) x ∷ [],
+        one-more (once_torn (is_torn_in (log_of out') s.number (In n) e.slot)),
+        (known, tt),
+        moment-may kind (of_type kind (unclosed_on a e.at.second x ++ moving_on k.memory.registration e)) (events_by kind [] (movings e.which (vehicle_in o) s.speed (s.number ∷ [])) (unclosed_all s.number (current_use (own_sizes x) x ∷ []))) (both-is kind) (shows kind),
+      )
+
+      -- it was accepted, and no call failed
+      whole-brought : ((kind : ℕ) → events_in a kind y ≡ all_noted (events_in a kind x) (of_type kind (unclosed_on a e.at.second x ++ moving_on k.memory.registration e))) → EachBrought (current_use (own_sizes x) x ∷ []) (s.number ∷ []) x y
+      whole-brought shows kind sure why =
+          brought-less (images_in o (arranged e.which W Y Z) e.which) kind true sure (λ is. refl) (came (current_use (own_sizes x) x ∷ []) (s.number ∷ [])) (held kind x) (held kind y)
+          (current_use (own_sizes x) x ∷ [], one-more (once_torn (is_torn_in (log_of out') s.number (In n) e.slot)), (known, tt), refl)
+          (subst (λ (p : Application). events_in p kind y ≡ all_noted (events_in p kind x) (of_type kind (unclosed_on a e.at.second x ++ moving_on k.memory.registration e))) app-is (shows kind) ∙ ap (all_noted (held kind x)) (both-is kind))
+
     -- ---- by its way
-    by-way : (v : Way) → way ≡ v → TellsFound (verdicts_of (ending_of v) e) → IsWay v k.memory.registration e failed U.image X Y → BringsOnCard v k.memory.registration e failed X Y → BringsNow o e.which s.number s.speed Clear (verdicts_of (ending_of v) e) (log_of out') (uses_then o w.b.run.log done s e.which out) (uses_then o w.b.run.log done s e.which out') (arranged e.which U X Z) (arranged e.which W Y Z)
-    by-way Unread is told so b = plain [] told refl refl (λ y at. (y, b y at, λ kind h. refl))
-    by-way (Unsized field) is told so b = plain (verdicts_of (ending_of (Unsized field)) e) told refl refl (λ y at. (y, b y at, λ kind h. refl))
-    by-way (Judged a (Unfit fid place)) is told so b = plain (verdict.NotValid fid place ∷ []) told refl refl (λ y at. let was = b y at in (was.0, was.1, λ kind h. subst (λ (p : Application). events_in p kind y ≡ events_in p kind was.0) (app-is a was.0 y was.2 was.1) (was.3 kind)))
-    by-way (Judged a (Ahead stored)) is told so b = plain (verdict.TimeOverlap stored e.at.second ∷ []) told refl refl (λ y at. let was = b y at in (was.0, was.1, λ kind h. subst (λ (p : Application). events_in p kind y ≡ events_in p kind was.0) (app-is a was.0 y was.2 was.1) (was.3 kind)))
-    by-way (Judged a Fell) is told so b = plain [] told refl refl (λ y at. let was = b y at in
-        (was.0, was.1, λ kind h. ⊎_elim (λ clear. absurd (torn-then Fell (ap ending_of is) ((log_of out).finds ++ []) refl clear)) (λ quiet. quiet-one a was.0 y was.2 was.1 true kind (was.3 kind) quiet) h))
-    by-way (Judged a Unasked) is told so b = plain [] told refl refl (λ y at. let was = b y at in (was.0, was.1, λ kind h. subst (λ (p : Application). events_in p kind y ≡ events_in p kind was.0) (app-is a was.0 y was.2 was.1) (was.3 kind)))
+    abbrev BringsAs : List Verdict → Type 0
+    BringsAs vs = BringsNow o e.which s.number s.speed failed is_torn vs (log_of out') (uses_then o w.b.run.log done s e.which out) (uses_then o w.b.run.log done s e.which out') (arranged e.which U X Z) (arranged e.which W Y Z)
+
+    by-way : (v : Way) → way ≡ v → TellsFound (verdicts_of (ending_of v) e) → IsWay v k.memory.registration e failed U.image X Y → BringsOnCard v k.memory.registration e failed X Y → BringsAs (verdicts_of (ending_of v) e)
+    by-way Unread is told so b = plain [] told refl refl (λ y at. (y, b y at, λ kind. refl))
+    by-way (Unsized field) is told so b = plain (verdicts_of (ending_of (Unsized field)) e) told refl refl (λ y at. (y, b y at, λ kind. refl))
+    by-way (Judged a (Unfit fid place)) is told so b = plain (verdict.NotValid fid place ∷ []) told refl refl (λ y at. let was = b y at in (was.0, was.1, λ kind. subst (λ (p : Application). events_in p kind y ≡ events_in p kind was.0) (app-is a was.0 y was.2 was.1) (was.3 kind)))
+    by-way (Judged a (Ahead stored)) is told so b = plain (verdict.TimeOverlap stored e.at.second ∷ []) told refl refl (λ y at. let was = b y at in (was.0, was.1, λ kind. subst (λ (p : Application). events_in p kind y ≡ events_in p kind was.0) (app-is a was.0 y was.2 was.1) (was.3 kind)))
+    by-way (Judged a Fell) is told so b = without_use [] told refl refl (λ y at. let was = b y at in
+        (was.0, was.1, fell-brought a was.0 y was.2 was.1 (torn-told_ Fell (ap ending_of is) ((log_of out).finds ++ []) refl) was.3))
+    by-way (Judged a Unasked) is told so b = plain [] told refl refl (λ y at. let was = b y at in (was.0, was.1, λ kind. subst (λ (p : Application). events_in p kind y ≡ events_in p kind was.0) (app-is a was.0 y was.2 was.1) (was.3 kind)))
     by-way (Judged a (Unnoted entered clock)) is told so b =
         let one = b now-left.0 now-left.2 in
-        brings (verdict.Accepted entered.replayed ∷ []) (current_use (own_sizes one.0) one.0 ∷ []) told (once entered.replayed one.0 one.1) ((one.0, since one.0 one.1, refl), tt) (λ y at. let was = b y at in (
+        brings (verdict.Accepted entered.replayed ∷ []) (current_use (own_sizes one.0) one.0 ∷ []) told (once entered.replayed one.0 one.1) ((one.0, since one.0 one.1, refl), tt) (λ y at.
+        let was = b y at in (
           was.0,
           was.1,
-          (λ clear kind. absurd (let clash : true ≡ false = sym so.0 ∙ clear.0 in cc)),
-          (λ kind quiet. quiet-one a was.0 y was.2 was.1 true kind (was.3 kind) quiet),
+          cut-brought a was.0 y was.2 was.1 (current_use (own_sizes one.0) one.0) (λ clear. absurd (let clash : true ≡ false = sym so.0 ∙ clear.0 in cc))
+              (shows-first a (unclosed_on a e.at.second was.0) (moving_on k.memory.registration e) was.0 y was.3),
         ))
     by-way (Judged a (Lost entered clock entry)) is told so b =
         let one = b now-left.0 now-left.2 in
-        brings (verdict.Accepted entered.replayed ∷ []) (current_use (own_sizes one.0) one.0 ∷ []) told (once entered.replayed one.0 one.1) ((one.0, since one.0 one.1, refl), tt) (λ y at. let was = b y at in (
+        brings (verdict.Accepted entered.replayed ∷ []) (current_use (own_sizes one.0) one.0 ∷ []) told (once entered.replayed one.0 one.1) ((one.0, since one.0 one.1, refl), tt) (λ y at.
+        let was = b y at in (
           was.0,
           was.1,
-          (λ clear kind. absurd (torn-then (Lost entered clock entry) (ap ending_of is) ((log_of out).finds ++ finds_by (Lost entered clock entry) e) refl clear)),
-          (λ kind quiet. quiet-both a was.0 y was.2 was.1 true kind (was.3 kind) quiet),
+          cut-brought a was.0 y was.2 was.1 (current_use (own_sizes one.0) one.0)
+              (λ clear. let fell = torn-told_ (Lost entered clock entry) (ap ending_of is) ((log_of out).finds ++ finds_by (Lost entered clock entry) e) refl in absurd (let clash : true ≡ false = sym fell ∙ clear.1 in cc)) was.3,
         ))
     by-way (Judged a (Seated entered clock entry)) is told so b = by failed refl b
       where
@@ -383,35 +469,28 @@ module _ (o : Origin) (done : List TraceSecond) (s : TraceSecond) (n : ℕ) (wai
             let there_ : Y.image ≡ Some y = sound.card_behind.only y (works (subst (λ (v : Way). IsSitting (ending_of v)) (sym is) tt)) at in
             let here_ = now-left.1 in cc
 
-        by : (f : Bool) → failed ≡ f → BringsOnCard (Judged a (Seated entered clock entry)) k.memory.registration e f X Y → BringsNow o e.which s.number s.speed Clear (verdict.Accepted entered.replayed ∷ []) (log_of out') (uses_then o w.b.run.log done s e.which out) (uses_then o w.b.run.log done s e.which out') (arranged e.which U X Z) (arranged e.which W Y Z)
+        by : (f : Bool) → failed ≡ f → BringsOnCard (Judged a (Seated entered clock entry)) k.memory.registration e f X Y → BringsAs (verdict.Accepted entered.replayed ∷ [])
         by true fails h =
             let one = one_ true h in
-            brings (verdict.Accepted entered.replayed ∷ []) (current_use (own_sizes one.0) one.0 ∷ []) told (once entered.replayed one.0 one.1) ((one.0, since one.0 one.1, refl), tt) (λ y at. let was = h y at in (
-              was.0,
-              was.1,
-              (λ clear kind. absurd (let clash : true ≡ false = sym fails ∙ clear.0 in cc)),
-              (λ kind quiet. quiet-both a was.0 y was.2 was.1 true kind (was.3 kind) quiet),
-            ))
+            brings (verdict.Accepted entered.replayed ∷ []) (current_use (own_sizes one.0) one.0 ∷ []) told (once entered.replayed one.0 one.1) ((one.0, since one.0 one.1, refl), tt) (λ y at.
+            let was = h y at in
+            (was.0, was.1, cut-brought a was.0 y was.2 was.1 (current_use (own_sizes one.0) one.0) (λ clear. absurd (let clash : true ≡ false = sym fails ∙ clear.0 in cc)) was.3))
         by false fine h =
             let one = one_ false h in
             brings (verdict.Accepted entered.replayed ∷ []) (current_use (own_sizes one.0) one.0 ∷ []) told (once entered.replayed one.0 one.1) ((one.0, since one.0 one.1, refl), tt) (λ y at.
-            subst (λ (z : List ℕ). Step Clear (current_use (own_sizes one.0) one.0 ∷ []) (s.number ∷ []) z) (only y at) (
-              one.0,
-              one.1,
-              (λ clear kind. whole-both a one.0 now-left.0 one.2 one.1 kind (one.3 kind)),
-              (λ kind quiet. quiet-both a one.0 now-left.0 one.2 one.1 false kind (one.3 kind) quiet),
-            ))
+            subst (λ (z : List ℕ). Step (current_use (own_sizes one.0) one.0 ∷ []) (s.number ∷ []) z) (only y at)
+            (one.0, one.1, whole-brought a one.0 now-left.0 one.2 one.1 one.3))
 
-    own-brings : BringsNow o e.which s.number s.speed Clear (found_in (log_of out') s.number (In n) e.slot) (log_of out') (uses_then o w.b.run.log done s e.which out) (uses_then o w.b.run.log done s e.which out') (arranged e.which U X Z) (arranged e.which W Y Z)
+    own-brings : BringsNow o e.which s.number s.speed failed is_torn (found_in (log_of out') s.number (In n) e.slot) (log_of out') (uses_then o w.b.run.log done s e.which out) (uses_then o w.b.run.log done s e.which out') (arranged e.which U X Z) (arranged e.which W Y Z)
     own-brings =
-        subst (λ (vs : List Verdict). BringsNow o e.which s.number s.speed Clear vs (log_of out') (uses_then o w.b.run.log done s e.which out) (uses_then o w.b.run.log done s e.which out') (arranged e.which U X Z) (arranged e.which W Y Z)) (sym found-is) (by-way way refl tells_found g.entered.is there.1)
+        subst (λ (vs : List Verdict). BringsNow o e.which s.number s.speed failed is_torn vs (log_of out') (uses_then o w.b.run.log done s e.which out) (uses_then o w.b.run.log done s e.which out') (arranged e.which U X Z) (arranged e.which W Y Z)) (sym found-is) (by-way way refl tells_found g.entered.is there.1)
 
   -- SO IT IS OF BOTH CARDS
   pub judged-cards : IsJudgedOnCards failed o w.b.run.log done s n e.slot e.which out out' (arranged e.which U X Z) (arranged e.which W Y Z)
   judged-cards = record {
     own = λ c valid is.
         let same : c ≡ e.which = same-is e.which c is in
-        subst (λ (q : Card). BringsNow o q s.number s.speed Clear (found_in (log_of out') s.number (In n) e.slot) (log_of out') (uses_then o w.b.run.log done s q out) (uses_then o w.b.run.log done s q out') (arranged e.which U X Z) (arranged e.which W Y Z)) (sym same)
+        subst (λ (q : Card). BringsNow o q s.number s.speed failed is_torn (found_in (log_of out') s.number (In n) e.slot) (log_of out') (uses_then o w.b.run.log done s q out) (uses_then o w.b.run.log done s q out') (arranged e.which U X Z) (arranged e.which W Y Z)) (sym same)
         (own-brings (subst (λ (q : Card). IsOwnValid (card_image o.recording q)) same valid));
     beside = λ c valid away. each e.which U W X Y Z (λ (q : Card) (a b : State). same_card e.which q ≡ false → StillShows (sizes_in o q) a b)
         (λ apart. absurd (let clash : true ≡ false = sym (same-self e.which) ∙ apart in cc)) (λ apart. still-same (sizes_in o (other e.which)) Z) c away;

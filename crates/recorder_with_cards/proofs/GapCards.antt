@@ -30,6 +30,7 @@ use Rattle.run_promise.specs.Origin.{Origin, start_at}
 use Rattle.run_record.specs.Within.{told_before, course_in}
 use Rattle.run_record.proofs.Pulling.{sitting-now}
 use Rattle.run_record.proofs.Seats.{seat-tells}
+use Rattle.run_note_record.specs.Evented.{images_in}
 use Rattle.run_note_record.specs.EventsSoFar.{AreBare, interruption}
 use Rattle.run_note_record.specs.Uses.{notes_now, uses_in}
 use Rattle.run_note_record.proofs.Brought.{found-now}
@@ -265,6 +266,6 @@ module _ (o : Origin) (done : List TraceSecond) (s : TraceSecond) (run : Run) (o
         ap (λ (r : Bool). gaps_on c (vehicle_in o) (cond (not r) (gap_before as_accepted w.within.b.run.log (seen_spans (seen_of w.within.b.run.log done)) (seen_behind w.within.b.run.log done s [] later)) [])) off
         ∙ ap (gaps_on c (vehicle_in o)) (before-list (seen_spans (seen_of w.within.b.run.log done)) ∙ list) ∙ of-list c (vehicle_in o) gap in
         gap-noted-on (sizes_in o c) c (vehicle_in o) later (seen_behind w.within.b.run.log done s [] later) (gap_behind w.within.b.run.log done s [] later) gap failed (card_of d c) (card_of e c) (ap not off) (has_card crew c)
-        (λ has. follows.entered (met-enters c (sym (crew-same c) ∙ has))) are fails (session_of run.keeper.cabin.cards c) (session_of after c)
+        (λ has. follows.entered (met-enters c (sym (crew-same c) ∙ has))) are fails (images_in o e c) (session_of run.keeper.cabin.cards c) (session_of after c)
         (λ some. crew-same c ∙ session-met c some) (λ none has. follows.torn (lost-torn c none (sym (crew-same c) ∙ has))) (fell c) (sized c valid (session_of run.keeper.cabin.cards c) refl)
         (subst (λ (r : Registration). NotesOn failed (session_of run.keeper.cabin.cards c) (session_of after c) (gap_on gap r) (card_of d c) (card_of e c)) vehicle (notes c)))

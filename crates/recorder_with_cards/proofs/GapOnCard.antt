@@ -14,9 +14,12 @@ use Rattle.event_model.specs.Events.{Event, Seen, number_of}
 use Rattle.log_model.specs.Log.{RunLog}
 use Rattle.note_model.specs.Done.{has_failed_in}
 use Rattle.run_crew.specs.declared.cards.Accepted.{Accepted}
-use Rattle.run_insertion.specs.CardEvents.{events_in, all_noted, of_type, ShowsThese, ShowsMore}
+use Rattle.run_insertion.specs.CardEvents.{events_in, all_noted, MayBeNoted, of_type, ShowsThese, ShowsMore}
+use Rattle.run_insertion.proofs.MayBe.{being-may, all-may}
 use Rattle.run_acts.specs.CardNotes.{NotesOn, gap_on}
-use Rattle.run_acts.specs.OnCards.{events_by, gaps_on, enters, falls, may_note, is_clear, is_sure_in, NotesThem}
+use Rattle.run_acts.specs.OnCards.{events_by, gaps_on, enters, falls, may_note, is_clear, is_sure_in, IsBrought, ComesTo}
+use Rattle.run_acts.proofs.CardBrings.{brought-nothing}
+use Rattle.run_acts.proofs.CardShown.{interrupting}
 
 turned : (n m : ℕ) → nat_eq m n ≡ false → nat_eq n m ≡ false
 turned n m other = by (nat_eq n m) refl
@@ -80,12 +83,52 @@ module _ (app : Application) (c : Card) (own : Registration) (log : RunLog) (y :
           let well = clear-parts (has_failed_in log (number_of y)) (falls c y) (clear kind is (met there) sure) in
           absurd (let clash : true ≡ false = sym (lost there) ∙ well.1 in cc)
 
-  pub gap-noted-on : (before after : Option Accepted) → (is_some before ≡ true → has ≡ true) → (before ≡ None → has ≡ true → falls c y ≡ true) → (is_some before ≡ true → is_some after ≡ false → falls c y ≡ true) →
-      IfSome before (λ a. a.session.application ≡ app) → NotesOn failed before after (gap_on gap own) X Y → NotesThem app (λ kind. is_sure_in c kind log y) (λ kind. events_by kind (gaps_on c own gaps) [] []) X Y
-  gap-noted-on None after had lost fell sized notes z there = (z, notes z there, λ kind sure. sym (ap (all_noted (events_in app kind z)) (none-of kind (lost refl) sure)))
-  gap-noted-on (Some a) after had lost fell sized notes z there =
+  these-may : (cut : Bool) (old new : List (List ℕ)) (es : List CardEvent) → ShowsThese cut old es new → MayBeNoted old es new
+  these-may true old new es h = being-may old es new h
+  these-may false old new es h = subst (λ (t : List (List ℕ)). MayBeNoted old es t) (sym h) (all-may old es)
+
+  -- what comes of it, type by type
+  comes-as : (images : List ℕ → Type 0) (cut : Bool) (x z : List ℕ) → has ≡ true → (is_clear c log y ≡ true → cut ≡ false) → ShowsMore app (gap_on gap own) cut x z → (kind : ℕ) →
+      IsBrought images kind (is_sure_in c kind log y) (interrupting (number_of y) (gaps_on c own gaps)) (events_in app kind x) (events_in app kind z)
+  comes-as images cut x z had whole shows kind = by (is_sure_in c kind log y) refl
+    where
+      -- its events of this type are those that a card shows
+      type-is : of_type kind (gap_on gap own) ≡ events_by kind (gaps_on c own gaps) [] []
+      type-is = from (kind == POWER_INTERRUPTION) refl
+        where
+          from : (b : Bool) → (kind == POWER_INTERRUPTION) ≡ b → of_type kind (gap_on gap own) ≡ cond b (gaps_on c own gaps) (cond (kind == INSERTION_WHILE_DRIVING) [] (cond (kind == SESSION_NOT_CLOSED) [] []))
+          from true is = gap-type kind gap own true is ∙ sym (are ∙ ap (λ (h : Bool). cond h (gap_on gap own) []) had)
+          from false is = gap-type kind gap own false is ∙ sym (rest-none (kind == INSERTION_WHILE_DRIVING) (kind == SESSION_NOT_CLOSED))
+
+      -- of another type it has none, whatever was cut short; of this one it was noted where that is sure
+      sure-noted : is_sure_in c kind log y ≡ true → events_in app kind z ≡ all_noted (events_in app kind x) (of_type kind (gap_on gap own))
+      sure-noted sure = from (kind == POWER_INTERRUPTION) refl
+        where
+          from : (b : Bool) → (kind == POWER_INTERRUPTION) ≡ b → events_in app kind z ≡ all_noted (events_in app kind x) (of_type kind (gap_on gap own))
+          from false is =
+              still-these cut (events_in app kind x) (events_in app kind z) (subst (λ (es : List CardEvent). ShowsThese cut (events_in app kind x) es (events_in app kind z)) (gap-type kind gap own false is) (shows kind))
+              ∙ sym (ap (all_noted (events_in app kind x)) (gap-type kind gap own false is))
+          from true is = subst (λ (b : Bool). ShowsThese b (events_in app kind x) (of_type kind (gap_on gap own)) (events_in app kind z)) (whole (clear kind is (met had) sure)) (shows kind)
+
+      by : (sure : Bool) → is_sure_in c kind log y ≡ sure → IsBrought images kind sure (interrupting (number_of y) (gaps_on c own gaps)) (events_in app kind x) (events_in app kind z)
+      by true sure = sure-noted sure ∙ ap (all_noted (events_in app kind x)) type-is
+      by false unsure = (
+        [],
+        omega arith,
+        tt,
+        subst (λ (es : List CardEvent). MayBeNoted (events_in app kind x) es (events_in app kind z)) type-is (these-may cut (events_in app kind x) (events_in app kind z) (of_type kind (gap_on gap own)) (shows kind)),
+      )
+
+  pub gap-noted-on : (images : List ℕ → Type 0) (before after : Option Accepted) → (is_some before ≡ true → has ≡ true) → (before ≡ None → has ≡ true → falls c y ≡ true) → (is_some before ≡ true → is_some after ≡ false → falls c y ≡ true) →
+      IfSome before (λ a. a.session.application ≡ app) → NotesOn failed before after (gap_on gap own) X Y → ComesTo images app (λ kind. is_sure_in c kind log y) (interrupting (number_of y) (gaps_on c own gaps)) X Y
+  gap-noted-on images None after had lost fell sized notes z there = (
+    z,
+    notes z there,
+    λ kind. brought-nothing images kind (is_sure_in c kind log y) (interrupting (number_of y) (gaps_on c own gaps)) (λ sure. none-of kind (lost refl) sure) (events_in app kind z) (events_in app kind z) refl,
+  )
+  gap-noted-on images (Some a) after had lost fell sized notes z there =
       let was = notes z there in
-      (was.0, was.1, λ kind sure. by kind sure (kind == POWER_INTERRUPTION) refl was.0 (subst (λ (q : Application). ShowsMore q (gap_on gap own) (failed || not (is_some after)) was.0 z) sized was.2))
+      (was.0, was.1, λ kind. comes-as images (failed || not (is_some after)) was.0 z (had refl) whole (subst (λ (q : Application). ShowsMore q (gap_on gap own) (failed || not (is_some after)) was.0 z) sized was.2) kind)
     where
       off : (b f : Bool) → b ≡ false → f ≡ true → (b || not f) ≡ false
       off true f is on = absurd (let wrong : true ≡ false = is in cc)
@@ -96,13 +139,7 @@ module _ (app : Application) (c : Card) (own : Registration) (log : RunLog) (y :
       stays true is well = refl
       stays false is well = absurd (let clash : true ≡ false = sym (fell refl is) ∙ well in cc)
 
-      by : (kind : ℕ) → is_sure_in c kind log y ≡ true → (b : Bool) → (kind == POWER_INTERRUPTION) ≡ b → (x : List ℕ) → ShowsMore app (gap_on gap own) (failed || not (is_some after)) x z
-          → events_in app kind z ≡ all_noted (events_in app kind x) (cond b (gaps_on c own gaps) (cond (kind == INSERTION_WHILE_DRIVING) [] (cond (kind == SESSION_NOT_CLOSED) [] [])))
-      by kind sure false is x shows =
-          still-these (failed || not (is_some after)) (events_in app kind x) (events_in app kind z) (subst (λ (es : List CardEvent). ShowsThese (failed || not (is_some after)) (events_in app kind x) es (events_in app kind z)) (gap-type kind gap own false is) (shows kind))
-          ∙ sym (ap (all_noted (events_in app kind x)) (rest-none (kind == INSERTION_WHILE_DRIVING) (kind == SESSION_NOT_CLOSED)))
-      by kind sure true is x shows =
-          let well = clear-parts (has_failed_in log (number_of y)) (falls c y) (clear kind is (met (had refl)) sure) in
-          let whole : (failed || not (is_some after)) ≡ false = off failed (is_some after) (off-then failed (has_failed_in log (number_of y)) fails well.0) (stays (is_some after) refl well.1) in
-          subst (λ (b : Bool). ShowsThese b (events_in app kind x) (of_type kind (gap_on gap own)) (events_in app kind z)) whole (shows kind)
-          ∙ ap (all_noted (events_in app kind x)) (gap-type kind gap own true is ∙ sym (are ∙ ap (λ (h : Bool). cond h (gap_on gap own) []) (had refl)))
+      whole : is_clear c log y ≡ true → (failed || not (is_some after)) ≡ false
+      whole clear_ =
+          let well = clear-parts (has_failed_in log (number_of y)) (falls c y) clear_ in
+          off failed (is_some after) (off-then failed (has_failed_in log (number_of y)) fails well.0) (stays (is_some after) refl well.1)

@@ -1,16 +1,14 @@
 -- A card is put into a slot, and so the events of the cards go on: the minutes before note none, and what its judging brings it is noted.
-use Rattle.std.proofs.Common.{◌≡◌, ◌∙◌, ℕ, suc, ◌+◌, Bool, true, false, cond, not, ◌||◌, Option, Some, None, option_map, List, [], ◌∷◌, ◌++◌, length, map, refl, ap, sym, subst, arith, append-nil}
-use Rattle.std.specs.Prelude.{◌==◌, ◌&&◌, flat_map, nat_lt}
+use Rattle.std.proofs.Common.{◌≡◌, ◌∙◌, inl, inr, ℕ, suc, ◌+◌, ◌≤◌, Bool, true, false, cond, not, ◌||◌, Option, Some, None, option_map, List, [], ◌∷◌, ◌++◌, length, map, refl, ap, sym, subst, arith, append-nil, length-append}
+use Rattle.std.specs.Prelude.{◌==◌, ◌&&◌, filter, flat_map, nat_lt}
 use Rattle.std.specs.List.{list_any}
+use Rattle.std.proofs.lemmas.List.Elements.{filter-append}
 use Rattle.activity_codec.specs.declared.values.Slot.{Slot}
 use Rattle.activity_codec.specs.declared.values.Slot.TheVariants.{Driver, CoDriver}
 use Rattle.trace_model.specs.declared.Action.{Action}
 use Rattle.trace_model.specs.declared.Action.TheVariants.{Insert}
 use Rattle.trace_model.specs.declared.Card.{Card}
 use Rattle.trace_model.specs.Trace.{TraceSecond}
-use Rattle.tach_media.specs.Medium.{State}
-use Rattle.tacho_types.specs.declared.texts.Registration.{Registration}
-use Rattle.card_layout.specs.declared.files.Application.{Application}
 use Rattle.card_files.specs.declared.card_event.CardEvent.{CardEvent}
 use Rattle.card_files.specs.declared.current_use.CurrentUse.{CurrentUse}
 use Rattle.event_model.specs.declared.kinds.TheConstants.{INSERTION_WHILE_DRIVING, SESSION_NOT_CLOSED, POWER_INTERRUPTION}
@@ -30,7 +28,7 @@ use Rattle.run_promise.specs.Whole.{NothingFailed}
 use Rattle.run_note_record.specs.Evented.{images_in}
 use Rattle.run_note_record.specs.Uses.{notes_now, uses_in}
 use Rattle.run_note_record.proofs.Exact.{fewer-none, no-cut}
-use Rattle.run_insertion.specs.CardEvents.{events_in, all_noted}
+use Rattle.run_insertion.specs.CardEvents.{events_in}
 use Rattle.run_rings.specs.Notes.{TellSameTo, course_behind}
 use Rattle.run_note_record.specs.RingsSoFar.{HasMoreBreaks}
 use Rattle.run_note_record.specs.Steps.{GoesOnTo, IsCutIn}
@@ -39,15 +37,16 @@ use Rattle.run_record.specs.Within.{course_in}
 use Rattle.run_acts.specs.declared.run.Run.{Run}
 use Rattle.run_acts.specs.Recording.{log_of, values_of, RunWithin}
 use Rattle.run_acts.specs.RunRinged.{with_cut}
-use Rattle.run_acts.specs.OnCards.{unclosed_by, events_by, accepts, moving_at, movings, enters, falls, may_note, is_clear, is_sure_in, NotesThem, AreUses}
+use Rattle.run_acts.specs.OnCards.{events_by, accepts, enters, falls, may_note, is_clear, is_sure_in, torn_times, judging, ComesTo, AreUses}
 use Rattle.run_acts.specs.RunCards.{vehicle_in, sizes_in, seen_behind, CardsIn, CardsGoOn, StillShow}
 use Rattle.run_acts.proofs.CardCourse.{quiet-same, behind-more, behind-same}
-use Rattle.run_acts.proofs.CardSecond.{any-more, quiet-shown, put-shown}
+use Rattle.run_acts.proofs.CardBrings.{brought-nothing}
+use Rattle.run_acts.proofs.CardSecond.{any-more, count-more, quiet-shown, put-shown}
 use Rattle.run_acts.proofs.CardShown.{FindsUses, FindsStill}
 use Rattle.run_acts.proofs.CardUses.{tears-none, lines-still}
 use Rattle.run_acts.proofs.RingedLines.{AreTears}
 use Rattle.run_acts.proofs.RingedSecond.{cut-found, cut-torn, cut-failed}
-use Rattle.recorder_with_cards.specs.JudgedCards.{NotesNone, IsJudgedOnCards}
+use Rattle.recorder_with_cards.specs.JudgedCards.{IsSureHere, once_torn, IsJudgedOnCards}
 use Rattle.recorder_with_cards.proofs.SettledLines.{TellsOn, tears-on}
 use Rattle.recorder_with_cards.proofs.RingsHere.{here-then, here-more, goes-to, course-then, course-cut, is-cut}
 
@@ -118,14 +117,56 @@ put-torn log s n slot card c k own begun allowed torn =
         (still-codriver log s.number (In (n + 1)) moves Driver begun_ (is_torn_in log s.number (In (n + 1)) Driver) (list_any is_accepting (verdicts log s.number (In (n + 1)) moves Driver begun_)) refl) in
         ap (mine c) (torn-told_ log s.number (In (n + 1)) moves CoDriver mid is) ∙ any-behind c mid.torn (visits (In (n + 1)) CoDriver mid.slots) (ap (mine c) sits ∙ only CoDriver)
 
--- ---- what is noted of a card that enters, type by type
+-- how often a card is among these
+abbrev pub times : Card → List Visit → ℕ
+times c vs = length (filter (λ (v : Visit). same_card v.card c) vs)
 
-none-by : (q8 q5 q6 l : Bool) (ms us : List CardEvent) → q6 ≡ false → (q5 && l) ≡ false → cond q8 [] (cond q5 (cond l ms []) (cond q6 us [])) ≡ []
-none-by true q5 q6 l ms us six five = refl
-none-by false true q6 true ms us six five = absurd (let wrong : true ≡ false = five in cc)
-none-by false true q6 false ms us six five = refl
-none-by false false true l ms us six five = absurd (let wrong : true ≡ false = six in cc)
-none-by false false false l ms us six five = refl
+once-more : (c : Card) (xs ys : List Visit) → times c ys ≡ 1 → times c xs + 1 ≤ times c (xs ++ ys)
+once-more c xs ys one =
+    let both : times c (xs ++ ys) ≡ times c xs + times c ys = ap length (filter-append (λ (v : Visit). same_card v.card c) xs ys) ∙ length-append (filter (λ (v : Visit). same_card v.card c) xs) (filter (λ (v : Visit). same_card v.card c) ys) in
+    omega (arith, both, one)
+
+torn-no_fewer : (log : RunLog) (u : ℕ) (p : Phase) (moved : Moved) (slot : Slot) (k : Course) (c : Card) → times c k.torn ≤ times c (slot_told log u p moved slot k).torn
+torn-no_fewer log u p moved slot k c = by (is_torn_in log u p slot) (list_any is_accepting (verdicts log u p moved slot k))
+  where
+    by : (b e : Bool) → times c k.torn ≤ times c (cond b (torn_out log u p moved slot k) (cond e (taken log u p moved slot k) (judged log u p moved slot k))).torn
+    by true e = count-more (λ (v : Visit). same_card v.card c) k.torn (moved.leaving slot ++ visits p slot k.slots)
+    by false true = omega arith
+    by false false = omega arith
+
+put-often : (log : RunLog) (s : TraceSecond) (n : ℕ) (slot : Slot) (card c : Card) (k : Course) → same_card card c ≡ true → begins (cut_in log s.number) n ≡ true → refusal k.slots s.speed (Insert slot card) ≡ None →
+    is_torn_in log s.number (In (n + 1)) slot ≡ true → times c k.torn + 1 ≤ times c (acted log s n (Insert slot card) k).torn
+put-often log s n slot card c k own begun allowed torn =
+    subst (λ (b : Bool). times c k.torn + 1 ≤ times c (cond b (both_told log s.number (In (n + 1)) (moved_by n (refusal k.slots s.speed (Insert slot card)) (Insert slot card) k.slots) (answered n (refusal k.slots s.speed (Insert slot card)) (Insert slot card) k))
+    (record k { settled = k.settled || true })).torn) (sym begun)
+    (subst (λ (r : Option SlotFault). times c k.torn + 1 ≤ times c (both_told log s.number (In (n + 1)) (moved_by n r (Insert slot card) k.slots) (answered n r (Insert slot card) k)).torn) (sym allowed) (put slot torn))
+  where
+    only : (sl : Slot) → times c (record { phase = In (n + 1); slot = sl; card = card } ∷ []) ≡ 1
+    only sl = ap (λ (b : Bool). length {A = Visit} (cond b (record { phase = In (n + 1); slot = sl; card = card } ∷ []) [])) own
+
+    put : (sl : Slot) → is_torn_in log s.number (In (n + 1)) sl ≡ true → times c k.torn + 1 ≤ times c (both_told log s.number (In (n + 1)) (moved_by n None (Insert sl card) k.slots) (answered n None (Insert sl card) k)).torn
+    put Driver is =
+        let moves : Moved = moved_by n None (Insert Driver card) k.slots in
+        let begun_ : Course = carried_out n (Insert Driver card) k in
+        let first : Course = slot_told log s.number (In (n + 1)) moves Driver begun_ in
+        let one : times c k.torn + 1 ≤ times c (slot_told log s.number (In (n + 1)) moves Driver begun_).torn =
+        subst (λ (vs : List Visit). times c k.torn + 1 ≤ times c vs) (sym (torn-told_ log s.number (In (n + 1)) moves Driver begun_ is)) (once-more c k.torn (record { phase = In (n + 1); slot = Driver; card = card } ∷ []) (only Driver)) in
+        let rest : times c (slot_told log s.number (In (n + 1)) moves Driver begun_).torn ≤ times c (slot_told log s.number (In (n + 1)) moves CoDriver first).torn = torn-no_fewer log s.number (In (n + 1)) moves CoDriver first c in
+        omega (arith, one, rest)
+    put CoDriver is =
+        let moves : Moved = moved_by n None (Insert CoDriver card) k.slots in
+        let begun_ : Course = carried_out n (Insert CoDriver card) k in
+        let mid : Course = slot_told log s.number (In (n + 1)) moves Driver begun_ in
+        let sits : visits (In (n + 1)) CoDriver mid.slots ≡ record { phase = In (n + 1); slot = CoDriver; card = card } ∷ [] =
+        ap (λ (q : Option Sitting). map (λ (x : Card). record { phase = In (n + 1); slot = CoDriver; card = x }) (card_in q))
+        (still-codriver log s.number (In (n + 1)) moves Driver begun_ (is_torn_in log s.number (In (n + 1)) Driver) (list_any is_accepting (verdicts log s.number (In (n + 1)) moves Driver begun_)) refl) in
+        let first : times c k.torn ≤ times c mid.torn = torn-no_fewer log s.number (In (n + 1)) moves Driver begun_ c in
+        let one : times c mid.torn + 1 ≤ times c (slot_told log s.number (In (n + 1)) moves CoDriver mid).torn =
+        subst (λ (vs : List Visit). times c mid.torn + 1 ≤ times c vs) (sym (torn-told_ log s.number (In (n + 1)) moves CoDriver mid is))
+        (once-more c mid.torn (visits (In (n + 1)) CoDriver mid.slots) (ap (times c) sits ∙ only CoDriver)) in
+        omega (arith, first, one)
+
+-- ---- what is sure of a card that enters
 
 parts : (a b g : Bool) → (a || (b || g)) ≡ false → (a ≡ false) × (b ≡ false)
 parts true b g is = absurd (let wrong : true ≡ false = is in cc)
@@ -141,27 +182,15 @@ off : (b : Bool) (f : Bool) → (b ≡ true → f ≡ true) → f ≡ false → 
 off true f then is = absurd (let clash : true ≡ false = sym (then refl) ∙ is in cc)
 off false f then is = refl
 
-pub judged-them : (app : Application) (own : Registration) (c : Card) (log : RunLog) (x : Seen) (failed torn : Bool) (us : List ℕ) (uses : List CurrentUse) (old new : State) →
-    enters c x ≡ true → (failed ≡ true → has_failed_in log (number_of x) ≡ true) → (torn ≡ true → falls c x ≡ true) →
-    ((y : List ℕ) → new.may_leave y → (z : List ℕ) × old.may_leave z
-    × ((failed ≡ false) × (torn ≡ false) → (kind : ℕ) → events_in app kind y ≡ all_noted (events_in app kind z) (events_by kind [] (movings c own x.told.second.speed us) (unclosed_by uses us)))
-    × ((kind : ℕ) → NotesNone kind x.told.second.speed → events_in app kind y ≡ events_in app kind z)) →
-    NotesThem app (λ kind. is_sure_in c kind log x) (λ kind. events_by kind [] (movings c own x.told.second.speed us) (unclosed_by uses us)) old new
-judged-them app own c log x failed torn us uses old new entered fails falls_ step y at = let was = step y at in (was.0, was.1, λ kind sure. by kind was.0 was.2 was.3 (may_note c kind x) (is_clear c log x) refl refl sure)
+pub judged-sure : (c : Card) (log : RunLog) (x : Seen) (failed torn : Bool) → enters c x ≡ true → (failed ≡ true → has_failed_in log (number_of x) ≡ true) → (torn ≡ true → falls c x ≡ true) → (kind : ℕ) → is_sure_in c kind log x ≡ true → IsSureHere failed torn kind x.told.second.speed
+judged-sure c log x failed torn entered fails falls_ kind sure = by (may_note c kind x) (is_clear c log x) refl refl
   where
-    by : (kind : ℕ) (z : List ℕ) → ((failed ≡ false) × (torn ≡ false) → (kind : ℕ) → events_in app kind y ≡ all_noted (events_in app kind z) (events_by kind [] (movings c own x.told.second.speed us) (unclosed_by uses us)))
-        → ((kind : ℕ) → NotesNone kind x.told.second.speed → events_in app kind y ≡ events_in app kind z)
-        → (m b : Bool) → may_note c kind x ≡ m → is_clear c log x ≡ b → is_sure_in c kind log x ≡ true → events_in app kind y ≡ all_noted (events_in app kind z) (events_by kind [] (movings c own x.told.second.speed us) (unclosed_by uses us))
-    by kind z noted still false b may clear sure =
-        let quiet = parts (kind == SESSION_NOT_CLOSED) (kind == INSERTION_WHILE_DRIVING && nat_lt 0 x.told.second.speed) (kind == POWER_INTERRUPTION && x.told.starts) may in
-        still kind quiet
-        ∙ ap (all_noted (events_in app kind z))
-        (sym (none-by (kind == POWER_INTERRUPTION) (kind == INSERTION_WHILE_DRIVING) (kind == SESSION_NOT_CLOSED) (nat_lt 0 x.told.second.speed) (map (moving_at c own) us) (unclosed_by uses us) quiet.0 quiet.1))
-    by kind z noted still true true may clear sure =
+    by : (m b : Bool) → may_note c kind x ≡ m → is_clear c log x ≡ b → IsSureHere failed torn kind x.told.second.speed
+    by false b may clear = inr (parts (kind == SESSION_NOT_CLOSED) (kind == INSERTION_WHILE_DRIVING && nat_lt 0 x.told.second.speed) (kind == POWER_INTERRUPTION && x.told.starts) may)
+    by true true may clear =
         let well = fine (has_failed_in log (number_of x)) (falls c x) clear in
-        noted (off failed (has_failed_in log (number_of x)) fails well.0, off torn (falls c x) falls_ well.1) kind
-    by kind z noted still true false may clear sure =
-        absurd (let wrong : false ≡ true = sym (λ i. not (entered i && may i) || clear i) ∙ sure in cc)
+        inl (off failed (has_failed_in log (number_of x)) fails well.0, off torn (falls c x) falls_ well.1)
+    by true false may clear = absurd (let wrong : false ≡ true = sym (λ i. not (entered i && may i) || clear i) ∙ sure in cc)
 
 -- ---- THE CARD IS PUT IN
 
@@ -208,11 +237,22 @@ module _ (o : Origin) (done : List TraceSecond) (s : TraceSecond) (front rest : 
       put-shown o done s w.within.b.run.log front slot card (log_of before) cut d e cards (failed-more (log_of before) cut told-cut.goes.lines) told-cut.goes.same told-cut.goes.begun
       (ap (λ (q : Course). refusal q.slots s.speed (Insert slot card)) (course-cut (log_of before) (log_of told) s front rest (Insert slot card) are uncut told-on.more told-on.same told-on.uncut was) ∙ allowed)
       left (λ c valid other. still c valid) (λ c other none. no-cut (log_of told) s.number (length (front ++ Insert slot card ∷ [])) none)
-      (λ c valid own entered.
+      (λ c valid own entered often.
       let x : Seen = seen_behind w.within.b.run.log done s (front ++ Insert slot card ∷ []) cut in
+      let before_ : Seen = seen_behind w.within.b.run.log done s front (log_of before) in
+      let least : torn_times c before_ ≤ torn_times c x = often in
       subst (λ (vs : List Verdict). (more : List CurrentUse) × FindsUses (log_of before) cut (uses_in o c (notes_now w.within.b.run.log done (log_of before) s)) more (uses_in o c (notes_now w.within.b.run.log done cut s)) × AreUses (images_in o e c) more (accepts s.number vs)
-      × NotesThem (sizes_in o c) (λ kind. is_sure_in c kind cut x) (λ kind. events_by kind [] (movings c (vehicle_in o) s.speed (accepts s.number vs)) (unclosed_by more (accepts s.number vs))) (card_of d c) (card_of e c)) (sym found)
-      ([], (λ none. no-cut (log_of told) s.number (length (front ++ Insert slot card ∷ [])) none), tt, λ y at. let now = still c valid y at in (now.0, now.1, λ kind sure. now.2 kind ∙ ap (all_noted (events_in (sizes_in o c) kind now.0)) (sym (nothing kind (nat_lt 0 s.speed))))))
+      × (many : ℕ) × (torn_times c before_ + many ≤ torn_times c x)
+      × ComesTo (images_in o e c) (sizes_in o c) (λ kind. is_sure_in c kind cut x) (judging c (vehicle_in o) s.number s.speed many (accepts s.number vs) more) (card_of d c) (card_of e c)) (sym found) (
+        [],
+        (λ none. no-cut (log_of told) s.number (length (front ++ Insert slot card ∷ [])) none),
+        tt,
+        0,
+        omega (arith, least),
+        λ y at.
+            let now = still c valid y at in
+            (now.0, now.1, λ kind. brought-nothing (images_in o e c) kind (is_sure_in c kind cut x) (judging c (vehicle_in o) s.number s.speed 0 [] []) (λ sure. nothing kind (nat_lt 0 s.speed)) (events_in (sizes_in o c) kind now.0) (events_in (sizes_in o c) kind y) (now.2 kind)),
+      ))
     where
       empty : (q8 q5 q6 : Bool) → cond {A = List CardEvent} q8 [] (cond q5 [] (cond q6 [] [])) ≡ []
       empty true q5 q6 = refl
@@ -247,6 +287,17 @@ module _ (o : Origin) (done : List TraceSecond) (s : TraceSecond) (front rest : 
     allowed-told : refusal (course_in w.within.b done s (In (length front)) (log_of told)).slots s.speed (Insert slot card) ≡ None
     allowed-told = ap (λ (q : Course). refusal q.slots s.speed (Insert slot card)) told-course ∙ allowed
 
+    -- a card that falls as it is judged was torn out once more
+    put-times : (c : Card) (later : RunLog) → TellSameTo (log_of told) later s.number (length front) → begins (cut_in later s.number) (length front) ≡ true → refusal (course_behind later was s front).slots s.speed (Insert slot card) ≡ None → same_card card c ≡ true →
+        (torn : Bool) → is_torn_in later s.number (In (length front + 1)) slot ≡ torn →
+        torn_times c (seen_behind w.within.b.run.log done s front (log_of told)) ≤ torn_times c (seen_behind w.within.b.run.log done s (front ++ Insert slot card ∷ []) later) →
+        torn_times c (seen_behind w.within.b.run.log done s front (log_of told)) + once_torn torn ≤ torn_times c (seen_behind w.within.b.run.log done s (front ++ Insert slot card ∷ []) later)
+    put-times c later same begun allowed_ own false is often = omega (arith, often)
+    put-times c later same begun allowed_ own true is often =
+        subst (λ (k : Course). times c k.torn + 1 ≤ times c (course_behind later was s (front ++ Insert slot card ∷ [])).torn) (behind-same (log_of told) later s was front same)
+        (subst (λ (k : Course). times c (course_behind later was s front).torn + 1 ≤ times c k.torn) (sym (behind-more later was s front (Insert slot card)))
+        (put-often later s (length front) slot card c (course_behind later was s front) own begun allowed_ is))
+
     -- by a log in which it begins so, and in which the same is found
     in-log : (later : RunLog) → HasMoreBreaks (log_of told) later → TellSameTo (log_of told) later s.number (length front) → begins (cut_in later s.number) (length front) ≡ true
         → refusal (course_behind later was s front).slots s.speed (Insert slot card) ≡ None
@@ -258,21 +309,27 @@ module _ (o : Origin) (done : List TraceSecond) (s : TraceSecond) (front rest : 
         (λ c other none.
         let is : later ≡ log_of after = alike none in
         (fewer-none (log_of told) later lines_.0 lines_.1 none, ap (λ (l : RunLog). uses_in o c (notes_now w.within.b.run.log done l s)) is ∙ j.still (subst NothingFailed is none) c other))
-        (λ c valid own entered.
+        (λ c valid own entered often.
         let x : Seen = seen_behind w.within.b.run.log done s (front ++ Insert slot card ∷ []) later in
+        let before_ : Seen = seen_behind w.within.b.run.log done s front (log_of told) in
+        let torn_ : Bool = is_torn_in (log_of after) s.number (In (suc (length front))) slot in
+        let torn_is : is_torn_in later s.number (In (length front + 1)) slot ≡ torn_ = ap (λ (k : ℕ). is_torn_in later s.number (In k) slot) longer ∙ torn in
         let b = j.own c valid own in
         let verdicts_ : found_in later s.number (In (length front + 1)) slot ≡ found_in (log_of after) s.number (In (suc (length front))) slot = ap (λ (k : ℕ). found_in later s.number (In k) slot) longer ∙ found in
         subst (λ (vs : List Verdict). (more : List CurrentUse) × FindsUses (log_of told) later (uses_in o c (notes_now w.within.b.run.log done (log_of told) s)) more (uses_in o c (notes_now w.within.b.run.log done later s)) × AreUses (images_in o f c) more (accepts s.number vs)
-        × NotesThem (sizes_in o c) (λ kind. is_sure_in c kind later x) (λ kind. events_by kind [] (movings c (vehicle_in o) s.speed (accepts s.number vs)) (unclosed_by more (accepts s.number vs))) (card_of e c) (card_of f c)) (sym verdicts_) (
+        × (many : ℕ) × (torn_times c before_ + many ≤ torn_times c x)
+        × ComesTo (images_in o f c) (sizes_in o c) (λ kind. is_sure_in c kind later x) (judging c (vehicle_in o) s.number s.speed many (accepts s.number vs) more) (card_of e c) (card_of f c)) (sym verdicts_) (
           b.uses,
           (λ none.
               let is : later ≡ log_of after = alike none in
               (fewer-none (log_of told) later lines_.0 lines_.1 none, ap (λ (l : RunLog). uses_in o c (notes_now w.within.b.run.log done l s)) is ∙ b.exact (subst NothingFailed is none))),
           b.are,
-          judged-them (sizes_in o c) (vehicle_in o) c later x failed (is_torn_in (log_of after) s.number (In (suc (length front))) slot) (accepts s.number (found_in (log_of after) s.number (In (suc (length front))) slot)) b.uses (card_of e c) (card_of f c) entered fails
+          once_torn torn_,
+          put-times c later same begun allowed_ own torn_ torn_is often,
+          b.notes (λ kind. is_sure_in c kind later x) (λ kind sure. judged-sure c later x failed torn_ entered fails
               (λ is. ap (λ (q : Course). mine c q.torn) (behind-more later was s front (Insert slot card))
-              ∙ put-torn later s (length front) slot card c (course_behind later was s front) own begun allowed_ (ap (λ (k : ℕ). is_torn_in later s.number (In k) slot) longer ∙ torn ∙ is))
-              (λ y at. let was_ = b.notes y at in (was_.0, was_.1, was_.2, was_.3)),
+              ∙ put-torn later s (length front) slot card c (course_behind later was s front) own begun allowed_ (torn_is ∙ is))
+              kind sure),
         ))
 
     by : (b : Bool) → failed ≡ b → CardsGoOn b o done s w.within.b.run.log (front ++ Insert slot card ∷ []) (log_of after) f

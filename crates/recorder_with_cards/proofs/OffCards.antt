@@ -8,7 +8,7 @@ use Rattle.trace_model.specs.declared.Card.{Card}
 use Rattle.trace_model.specs.Trace.{TraceSecond}
 use Rattle.minute_model.specs.declared.Rule.{Rule}
 use Rattle.history_model.specs.Presence.{Start}
-use Rattle.event_model.specs.Events.{Seen, number_of, seen_of, seen_spans, gap_events, gaps_between, last_number, first_card}
+use Rattle.event_model.specs.Events.{Seen, number_of, seen_of, seen_spans, last_number, first_card}
 use Rattle.log_model.specs.Log.{RunLog, Keeping, cut_in, is_torn_in, kept_after, is_accepting}
 use Rattle.log_model.specs.Slots.{same_card}
 use Rattle.log_model.specs.Course.{ToldSecond, Course, Visit, Went, has_power, second_told, went, leaves, visits, slot_told, both_told, unmoved, all_acted, cut_told, lit_course}
@@ -23,20 +23,20 @@ use Rattle.run_course.proofs.Told.{lit-told}
 use Rattle.run_promise.specs.Origin.{Origin}
 use Rattle.run_events.specs.Seconds.{gap_by, seen_next}
 use Rattle.run_events.specs.Choice.{AreEarlier}
-use Rattle.run_events.proofs.Growing.{seen-more}
 use Rattle.run_events.proofs.Later.{told-number, seen-same}
 use Rattle.run_note_record.proofs.Brought.{lit-course, told-speed}
 use Rattle.run_note_record.specs.Uses.{notes_in, uses_in}
 use Rattle.run_note_record.proofs.Lines.{early}
 use Rattle.run_note_record.proofs.Exact.{fewer-none}
 use Rattle.run_note_record.proofs.SoFar.{failed-more}
-use Rattle.run_acts.specs.OnCards.{as_accepted, accepted_in, gaps_on}
+use Rattle.run_acts.specs.OnCards.{MetSecond, as_accepted, accepted_in, gaps_on, torn_times, met_behind, met_seconds, met_next}
 use Rattle.run_acts.specs.RunCards.{vehicle_in, sizes_in, CardShown, CardsBehind}
-use Rattle.run_acts.proofs.OnCards.{gaps-next, still-same}
+use Rattle.run_acts.proofs.OnCards.{still-same}
+use Rattle.run_acts.proofs.CardSeconds.{met-more}
 use Rattle.run_acts.proofs.CardCourse.{Finding, findings, behind-same}
 use Rattle.run_acts.proofs.CardShown.{Follows, goes-on}
 use Rattle.run_acts.proofs.CardSecond.{is_now, standing-is}
-use Rattle.run_acts.proofs.CardGaps.{kept-before, between-same, before-same, low-spans}
+use Rattle.run_acts.proofs.CardGaps.{kept-before, before-same, low-spans, met-same}
 use Rattle.recorder_with_cards.proofs.OffRings.{order, number, same, front-same, power, tells, notes-same}
 
 -- a cut leaves what was found, entered and torn out
@@ -125,6 +125,9 @@ module _ (rule : Rule) (start : Start) (from first : ℕ) (p : Progress) (t : To
     starts = starts-is;
     entered = λ is. ap (λ (k : Course). list_any (λ (v : Visit). same_card v.card c) k.entered) now-course ∙ ap (list_any (λ (v : Visit). same_card v.card c)) moves.entered ∙ sym (ap (λ (k : Course). list_any (λ (v : Visit). same_card v.card c) k.entered) was-course) ∙ is;
     torn = λ is. ap (λ (k : Course). list_any (λ (v : Visit). same_card v.card c) k.torn) now-course ∙ ap (list_any (λ (v : Visit). same_card v.card c)) moves.torn ∙ sym (ap (λ (k : Course). list_any (λ (v : Visit). same_card v.card c) k.torn) was-course) ∙ is;
+    often = let same : torn_times c (seen_next (and_break p.log (cut_at (p.next - 1) false p.begun)) front r) ≡ torn_times c (seen_next p.log front r) =
+        ap (λ (k : Course). length (filter (λ (v : Visit). same_card v.card c) k.torn)) now-course ∙ ap (λ (vs : List Visit). length (filter (λ (v : Visit). same_card v.card c) vs)) moves.torn
+        ∙ sym (ap (λ (k : Course). length (filter (λ (v : Visit). same_card v.card c) k.torn)) was-course) in omega (arith, same);
   }
 
   accepted-is : (c : Card) → accepted_in c (seen_next (and_break p.log (cut_at (p.next - 1) false p.begun)) front r) ≡ accepted_in c (seen_next p.log front r)
@@ -150,23 +153,20 @@ module _ (rule : Rule) (start : Start) (from first : ℕ) (p : Progress) (t : To
       (before-same as_accepted p.log (and_break p.log (cut_at (p.next - 1) false p.begun)) r.number kept (seen_spans (seen_of p.log front)) (seen_next p.log front r) (seen_next (and_break p.log (cut_at (p.next - 1) false p.begun)) front r) number-is
       (λ slot. standing-is (seen_next (and_break p.log (cut_at (p.next - 1) false p.begun)) front r) slot ∙ ap (λ (fs : List Finding). first_card (filter (is_now slot) fs)) found-is ∙ sym (standing-is (seen_next p.log front r) slot)) low i) []) [])
 
-  gaps : gap_events as_accepted (and_break p.log (cut_at (p.next - 1) false p.begun)) (front ++ r ∷ []) ≡ gap_events as_accepted p.log (front ++ r ∷ [])
-  gaps =
-      gaps-next (and_break p.log (cut_at (p.next - 1) false p.begun)) front r
-      ∙ (λ i. (ap (λ (xs : List Seen). gaps_between as_accepted (and_break p.log (cut_at (p.next - 1) false p.begun)) (seen_spans xs)) seen-is
-      ∙ between-same as_accepted p.log (and_break p.log (cut_at (p.next - 1) false p.begun)) r.number kept (seen_spans (seen_of p.log front)) low) i ++ gap i)
-      ∙ sym (gaps-next p.log front r)
+  met-is : met_seconds (and_break p.log (cut_at (p.next - 1) false p.begun)) (front ++ r ∷ []) ≡ met_seconds p.log front ++ met_next (and_break p.log (cut_at (p.next - 1) false p.begun)) front r ∷ []
+  met-is =
+      met-more (and_break p.log (cut_at (p.next - 1) false p.begun)) front r
+      ∙ ap (λ (ms : List MetSecond). ms ++ met_next (and_break p.log (cut_at (p.next - 1) false p.begun)) front r ∷ [])
+      (ap (λ (xs : List Seen). met_behind (and_break p.log (cut_at (p.next - 1) false p.begun)) [] xs) seen-is ∙ met-same p.log (and_break p.log (cut_at (p.next - 1) false p.begun)) r.number some kept [] (seen_of p.log front) earlier)
 
   cut-behind : (o : Origin) (d : Devices) → CardsBehind o (front ++ r ∷ []) p.log d → CardsBehind o (front ++ r ∷ []) (and_break p.log (cut_at (p.next - 1) false p.begun)) d
   cut-behind o d h c valid =
-      subst (λ (xs : List Seen). CardShown o c (and_break p.log (cut_at (p.next - 1) false p.begun)) (gap_events as_accepted (and_break p.log (cut_at (p.next - 1) false p.begun)) (front ++ r ∷ [])) xs (uses_in o c (notes_in (and_break p.log (cut_at (p.next - 1) false p.begun)) (front ++ r ∷ []))) d)
-      (sym (seen-more (and_break p.log (cut_at (p.next - 1) false p.begun)) front r ∙ ap (λ (xs : List Seen). xs ++ seen_next (and_break p.log (cut_at (p.next - 1) false p.begun)) front r ∷ []) seen-is))
-      (goes-on o c p.log (and_break p.log (cut_at (p.next - 1) false p.begun)) (gap_events as_accepted p.log (front ++ r ∷ [])) (gap_events as_accepted (and_break p.log (cut_at (p.next - 1) false p.begun)) (front ++ r ∷ [])) (seen_of p.log front)
-      (seen_next p.log front r) (seen_next (and_break p.log (cut_at (p.next - 1) false p.begun)) front r)
+      subst (λ (ms : List MetSecond). CardShown o c (and_break p.log (cut_at (p.next - 1) false p.begun)) ms (uses_in o c (notes_in (and_break p.log (cut_at (p.next - 1) false p.begun)) (front ++ r ∷ []))) d) (sym met-is)
+      (goes-on o c p.log (and_break p.log (cut_at (p.next - 1) false p.begun)) (met_seconds p.log front) (met_next p.log front r) (met_next (and_break p.log (cut_at (p.next - 1) false p.begun)) front r)
       (uses_in o c (notes_in p.log (front ++ r ∷ []))) (uses_in o c (notes_in (and_break p.log (cut_at (p.next - 1) false p.begun)) (front ++ r ∷ []))) d d
-      (subst (λ (xs : List Seen). CardShown o c p.log (gap_events as_accepted p.log (front ++ r ∷ [])) xs (uses_in o c (notes_in p.log (front ++ r ∷ []))) d) (seen-more p.log front r) (h c valid))
+      (subst (λ (ms : List MetSecond). CardShown o c p.log ms (uses_in o c (notes_in p.log (front ++ r ∷ []))) d) (met-more p.log front r) (h c valid))
       (λ none. (fewer-none p.log (and_break p.log (cut_at (p.next - 1) false p.begun)) (cut_at (p.next - 1) false p.begun ∷ []) refl none, ap (uses_in o c) (notes-same rule start from first p t span front r f count)))
-      (failed-more p.log (and_break p.log (cut_at (p.next - 1) false p.begun)) (cut_at (p.next - 1) false p.begun ∷ [], refl)) (follows c) (accepted-is c) (ap (gaps_on c (vehicle_in o)) gaps) (λ z there. there) (still-same (sizes_in o c) (card_of d c)))
+      (failed-more p.log (and_break p.log (cut_at (p.next - 1) false p.begun)) (cut_at (p.next - 1) false p.begun ∷ [], refl)) (follows c) (accepted-is c) (ap (gaps_on c (vehicle_in o)) gap) (λ z there. there) (still-same (sizes_in o c) (card_of d c)))
 
 -- THE LAST SECOND OF A SPAN TURNS OUT TO BE A CUT'S
 pub off-cut-cards : (rule : Rule) (start : Start) (from first : ℕ) (done : List TraceSecond) (p : Progress) (t : ToldSecond) (span : List ToldSecond) → BookFollowsRun rule start from first done (record p { supply = Lit (t ∷ span); waiting = [] }) → 1 < p.next →

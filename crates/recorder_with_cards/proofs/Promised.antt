@@ -1,11 +1,12 @@
 -- What a run promises, from what was recorded of it; and that nothing is recorded as it begins.
-use Rattle.std.proofs.Common.{◌≡◌, ◌∙◌, ◌⊎◌, inl, inr, ℕ, ◌-◌, ◌/◌, ◌<◌, ◌≤◌, true, Option, Some, None, IfSome, option_map, is_some, List, [], length, All, refl, ap, sym, subst, arith, ◌||◌}
+use Rattle.std.proofs.Common.{◌≡◌, ◌∙◌, ◌⊎◌, inl, inr, ℕ, ◌-◌, ◌/◌, ◌<◌, ◌≤◌, true, false, Option, Some, None, IfSome, option_map, is_some, List, [], length, All, refl, ap, sym, subst, arith, ◌||◌}
 use Rattle.trace_model.specs.declared.Card.{Card}
 use Rattle.trace_model.specs.declared.Card.TheVariants.{A, B}
 use Rattle.tacho_types.specs.declared.texts.Registration.{Registration}
 use Rattle.trace_model.specs.declared.Item.{Item}
 use Rattle.trace_model.specs.Trace.{TraceSecond, seconds_of}
 use Rattle.tach_media.specs.Medium.{State, IsCoherent, last_count}
+use Rattle.card_layout.specs.declared.files.Fid.{Fid}
 use Rattle.card_layout.specs.Application.{IsApplication}
 use Rattle.card_layout.proofs.Sizes.{largest_image}
 use Rattle.card_model.specs.Days.{AreDays}
@@ -95,10 +96,11 @@ use Rattle.run_acts.proofs.StoredRun.{end-stores}
 use Rattle.run_acts.specs.Evented.{RunEvented}
 use Rattle.run_acts.specs.Ringing.{seating_of}
 use Rattle.run_acts.specs.RunRinged.{seats_of, RunRinged}
-use Rattle.run_acts.specs.OnCards.{accepted_on, ShowsOn, AreUses}
-use Rattle.run_acts.specs.RunCards.{vehicle_in, sizes_in}
+use Rattle.run_acts.specs.OnCards.{accepted_on, met_behind, met_seconds, met_accepted, ShowsOn, AreUses}
+use Rattle.run_acts.specs.RunCards.{vehicle_in}
 use Rattle.run_acts.proofs.StayUses.{shown-use}
-use Rattle.run_acts.proofs.OnCards.{start-shown}
+use Rattle.run_acts.proofs.CardSeconds.{accepted-met}
+use Rattle.run_acts.proofs.CardSure.{start-shown}
 use Rattle.run_acts.proofs.Numbers.{own-long, vehicle-long}
 use Rattle.recorder_with_cards.specs.Carded.{RunCarded}
 use Rattle.recorder_with_cards.specs.Ends.{BeginAs, recorded_with, recording_of, opened_with, origin_of, MayRecord, EndsTrace}
@@ -326,12 +328,14 @@ module _ (x a b : List ℕ) (start : ℕ) (items : List Item) (began now : Devic
         let one = carded.cards c (subst IsOwnValid (images c) valid) in
         record {
           uses = one.uses;
-          are = subst (λ (n : ℕ). AreUses ((card_of now c).left_since n) one.uses (accepted_on c (seen_of r.log r.trace))) (clocks c) one.are;
+          are = subst (λ (n : ℕ). AreUses ((card_of now c).left_since n) one.uses (accepted_on c (seen_of r.log r.trace))) (clocks c)
+              (subst (AreUses ((card_of now c).left_since (found_of o.found c).began) one.uses) (accepted-met c r.log [] (seen_of r.log r.trace)) one.are);
           exact = λ none. one.exact none ∙ ap (λ (i : List ℕ). uses_from (vehicle_of x) (use_in i) (insertions_on c (notes_in (log_of out) (seconds_of start items)))) (sym (images c));
           left = λ on y there.
               let k = known-of c on in
               shown-use (vehicle_of x) (card_image r c) ((stays-at k.0 k.1).stays c) (insertions_on c (notes_in (log_of out) (seconds_of start items))) (card_of now c) (own-closed k.0 k.1 c k.2 valid) (own-shows k.0 k.1 c k.2 valid) y there;
-          shows = subst (λ (i : List ℕ). ShowsOn c (vehicle_of x) one.uses (own_sizes i) i r.log r.trace (card_of now c)) (sym (images c)) one.shows;
+          shows = subst (λ (n : ℕ). ShowsOn c (vehicle_of x) ((card_of now c).left_since n) one.uses (card_image r c) r.log (met_seconds r.log r.trace) (card_of now c)) (clocks c)
+              (subst (λ (i : List ℕ). ShowsOn c (vehicle_of x) ((card_of now c).left_since (found_of o.found c).began) one.uses i r.log (met_seconds r.log r.trace) (card_of now c)) (sym (images c)) one.shows);
         };
   }
     where
@@ -519,6 +523,20 @@ module _ (x a b : List ℕ) (start : ℕ) (began now : Devices) (opened : Opened
     valid-as : (c : Card) → IsOwnValid (found_of f c).image → IsOwnValid (card_image (opened_with x a b) c)
     valid-as c valid = subst IsOwnValid (ready.found.image c) valid
 
+    valid-is : (c : Card) → IsOwnValid (card_image (opened_with x a b) c) → IsOwnValid (found_of f c).image
+    valid-is c valid = subst IsOwnValid (sym (ready.found.image c)) valid
+
+    -- a card that is not valid has told none
+    is-told : (c : Card) → is_some (known_of opened c).number ≡ true → IsOwnValid (card_image (opened_with x a b) c)
+    is-told c has = by (own_bad_file (card_image (opened_with x a b) c)) refl
+      where
+        never : true ≡ false → ⊥
+        never is = cc
+
+        by : (o : Option (Fid × ℕ)) → own_bad_file (card_image (opened_with x a b) c) ≡ o → IsOwnValid (card_image (opened_with x a b) c)
+        by None sound = sound
+        by (Some place) bad = absurd (never (sym has ∙ ap (λ (o : Option FullCardNumber). is_some o) ((ready.told c).number ∙ ap (λ o. number_by o (card_number_of (own_number (card_image (opened_with x a b) c)))) bad)))
+
     -- cards as they were opened
     module _ (cards : Cards) (same : (c : Card) → known_in cards c ≡ known_of opened c) where
       found-cards : AreFoundCards f cards
@@ -526,6 +544,7 @@ module _ (x a b : List ℕ) (start : ℕ) (began now : Devices) (opened : Opened
         two = ready.two;
         named = λ c valid. subst (λ (k : Known). IfSome k.number (λ n. card_number_bytes n ≡ (found_of f c).number)) (sym (same c)) (ready.named c);
         told = λ c valid. ap (λ (k : Known). is_some k.number) (same c) ∙ told c (valid-as c valid);
+        only = λ c has. valid-is c (is-told c (ap (λ (k : Known). is_some k.number) (sym (same c)) ∙ has));
         own = own;
         sizes = λ c valid. subst (λ (i : List ℕ). IsApplication (own_sizes i)) (sym (ready.found.image c)) (sizes c (valid-as c valid));
         entries = λ c valid. entries c;
@@ -679,8 +698,9 @@ module _ (x a b : List ℕ) (start : ℕ) (began now : Devices) (opened : Opened
       cards = λ c valid. record {
         uses = [];
         exact = λ none. ap (uses_in first-o c) (sym (no-notes (log_of out)));
-        are = subst (λ (seen : List Seen). AreUses (images_in first-o now c) [] (accepted_on c seen)) (sym (no-seen (log_of out))) tt;
-        shows = start-shown c (vehicle_in first-o) (sizes_in first-o c) (card_image first-o.recording c) (log_of out) (card_of now c) (λ y left. only c y ((whole c).counts_now (found_of f c).began y (there.clocks c) left));
+        are = subst (λ (seen : List Seen). AreUses (images_in first-o now c) [] (met_accepted c (met_behind (log_of out) [] seen))) (sym (no-seen (log_of out))) tt;
+        shows = subst (λ (seen : List Seen). ShowsOn c (vehicle_in first-o) (images_in first-o now c) [] (card_image first-o.recording c) (log_of out) (met_behind (log_of out) [] seen) (card_of now c)) (sym (no-seen (log_of out)))
+            (start-shown c (vehicle_in first-o) (images_in first-o now c) (card_image first-o.recording c) (log_of out) (card_of now c) (λ y left. only c y ((whole c).counts_now (found_of f c).began y (there.clocks c) left)));
       };
       speeds = record {
         watched = λ on. absurd (let bad : Due ≡ Lit = sym due ∙ on in cc);

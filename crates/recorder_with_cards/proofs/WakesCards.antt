@@ -1,5 +1,5 @@
 -- Power comes with a second: what each call of that leaves of the events of the cards.
-use Rattle.std.proofs.Common.{◌≡◌, ◌∙◌, ℕ, ◌<◌, Bool, true, false, not, Option, Some, None, List, [], ◌∷◌, ◌++◌, take, refl, ap, sym, subst, append-nil}
+use Rattle.std.proofs.Common.{◌≡◌, ◌∙◌, ℕ, ◌<◌, Bool, true, false, not, Option, Some, None, List, [], ◌∷◌, ◌++◌, take, refl, ap, sym, subst}
 use Rattle.std.specs.List.{AllByRecursion}
 use Rattle.activity_codec.specs.declared.values.Slot.{Slot}
 use Rattle.activity_codec.specs.declared.values.Slot.TheVariants.{Driver, CoDriver}
@@ -8,18 +8,17 @@ use Rattle.trace_model.specs.declared.Card.TheVariants.{A, B}
 use Rattle.trace_model.specs.Trace.{TraceSecond}
 use Rattle.tach_media.specs.Medium.{State}
 use Rattle.minute_model.specs.declared.Minute.{Minute}
-use Rattle.event_model.specs.declared.kinds.TheConstants.{POWER_INTERRUPTION}
-use Rattle.event_model.specs.Events.{Seen, seen_of, seen_spans, gap_events}
+use Rattle.event_model.specs.Events.{Seen, seen_of, seen_spans}
 use Rattle.log_model.specs.declared.lines.Break.{Break}
 use Rattle.log_model.specs.Causes.{second_of}
-use Rattle.log_model.specs.Log.{RunLog, Phase, In, cut_in, found_in}
+use Rattle.log_model.specs.Log.{RunLog, Phase, In, cut_in, is_torn_in, found_in}
 use Rattle.log_model.specs.Same.{SameAt}
 use Rattle.log_model.specs.Spans.{AreInOrder}
 use Rattle.log_model.specs.Slots.{in_slot}
 use Rattle.log_model.specs.Course.{Visit, has_power, fresh, unmoved, went}
 use Rattle.card_slots.specs.Calls.{card_in}
 use Rattle.run_unit_course.specs.Lines.{cut_at}
-use Rattle.safety_model.specs.Safe.{Devices, card_of}
+use Rattle.safety_model.specs.Safe.{Devices}
 use Rattle.run_course.specs.Followed.{Progress, BookFollowsRun, Comes}
 use Rattle.run_course.specs.Seconds.{GoesOnBy}
 use Rattle.run_course.proofs.Logs.{all-before, found_log, same-found, kept-found}
@@ -42,10 +41,9 @@ use Rattle.run_record.specs.Waking.{both_slots}
 use Rattle.run_acts.specs.declared.run.Run.{Run}
 use Rattle.run_acts.specs.Recording.{log_of, values_of}
 use Rattle.run_acts.specs.RunRinged.{with_cut}
-use Rattle.run_acts.specs.OnCards.{as_accepted, are_sure_on}
-use Rattle.run_acts.specs.RunCards.{vehicle_in, sizes_in, CardShown, CardsBehind, CardsWaking}
-use Rattle.run_acts.proofs.OnCards.{still-same}
-use Rattle.run_acts.proofs.CardShown.{plain-on}
+use Rattle.run_acts.specs.OnCards.{met_behind}
+use Rattle.run_acts.specs.RunCards.{vehicle_in, CardShown, CardsBehind, CardsWaking}
+use Rattle.run_acts.proofs.CardShown.{card-told}
 use Rattle.run_acts.proofs.CardGaps.{gaps-found}
 use Rattle.run_acts.proofs.CardEnds.{IsLater, waking-begins}
 use Rattle.run_acts.proofs.CardStays.{shows-self}
@@ -57,7 +55,7 @@ use Rattle.recorder_with_cards.specs.JudgedRings.{TellsHere}
 use Rattle.recorder_with_cards.specs.JudgedCards.{IsJudgedOnCards, CardsJudged, CardsAnew}
 use Rattle.recorder_with_cards.proofs.Resumed.{RunWaking, waiting_in, driver-next, codriver-next, codriver-began}
 use Rattle.recorder_with_cards.proofs.RingsHere.{here-then, here-cut, goes-by, goes-behind}
-use Rattle.recorder_with_cards.proofs.WokenRinged.{IsCutAtOnce, cut-at_once, SatThere, sat-both, in-both, driver-first}
+use Rattle.recorder_with_cards.proofs.WokenRinged.{IsCutAtOnce, cut-at_once, SatThere, sat-both, whole-there, in-both, driver-first}
 use Rattle.recorder_with_cards.proofs.WokenCards.{slot-cards, slot-cut, cut-waking}
 
 -- ---- calls of the unit leave the cards
@@ -65,19 +63,15 @@ pub unit-alone : (o : Origin) (done : List TraceSecond) (log : RunLog) (U W X Y 
 unit-alone o done log U W X Y h A valid = let one = h A valid in record { uses = one.uses; are = one.are; exact = one.exact; shows = one.shows }
 unit-alone o done log U W X Y h B valid = let one = h B valid in record { uses = one.uses; are = one.are; exact = one.exact; shows = one.shows }
 
--- ---- WHAT WAS KEPT is found, and changes no event that is sure
+-- ---- WHAT WAS KEPT is found, and changes no event but those that are not sure, of which none was noted
 pub learned-cards : (o : Origin) (done : List TraceSecond) (log : RunLog) (i k : ℕ) (d : Devices) → AreInOrder o.from done → AreKnownGaps log (take i log.breaks) (seen_spans (seen_of log done)) → CardsBehind o done log d → CardsBehind o done (found_log i k log) d
 learned-cards o done log i k d order known h c valid =
     let later : RunLog = found_log i k log in
     let alike = all-before (λ (u : ℕ). SameAt log later u) o.from done order (λ u lt. same-found log i k u) in
-    let same : seen_of later done ≡ seen_of log done = seen-same log later done alike in
-    let one : CardShown o c later (gap_events as_accepted later done) (seen_of log done ++ []) (uses_in o c (notes_in later done)) d =
-    plain-on o c log later (gap_events as_accepted log done) (gap_events as_accepted later done) (seen_of log done) [] (uses_in o c (notes_in log done)) (uses_in o c (notes_in later done)) d d (h c valid)
-    (λ none. (found-none i k log none, ap (uses_in o c) (notes-alike log later done alike))) (still-failed log i k) tt
-    (λ sure. gaps-found c (vehicle_in o) log later (take i log.breaks) done known same (λ u told. sym (kept-found log i k u told)) (still-failed log i k)
-    (subst (λ (xs : List Seen). are_sure_on c POWER_INTERRUPTION later xs ≡ true) (append-nil (seen_of log done)) sure))
-    (λ z there. there) (still-same (sizes_in o c) (card_of d c)) in
-    subst (λ (xs : List Seen). CardShown o c later (gap_events as_accepted later done) xs (uses_in o c (notes_in later done)) d) (append-nil (seen_of log done) ∙ sym same) one
+    subst (λ (xs : List Seen). CardShown o c later (met_behind later [] xs) (uses_in o c (notes_in later done)) d) (sym (seen-same log later done alike))
+    (card-told o c log later (seen_of log done) (uses_in o c (notes_in log done)) (uses_in o c (notes_in later done)) d (h c valid)
+    (λ none. (found-none i k log none, ap (uses_in o c) (notes-alike log later done alike))) (still-failed log i k)
+    (gaps-found c (vehicle_in o) log later (take i log.breaks) done known (λ u told. sym (kept-found log i k u told)) (still-failed log i k)))
 
 -- ---- lines that a second told
 pub waking-later : (o : Origin) (done : List TraceSecond) (s : TraceSecond) (at : Phase) (waits : List Visit) (speed : Option ℕ) (rest : List Minute) (v : Values) (d : Devices) (w : RecordInSecond o done s at waits speed rest v d) (later : RunLog) → TellsHere v.log later s.number → 0 < s.number →
@@ -139,6 +133,9 @@ module _ (o : Origin) (done : List TraceSecond) (s : TraceSecond) (waits fewer :
   sat : SatThere (record { card = card; accepted = None }) (in_slot (went next.goes.within.b.run.log done).before.slots slot)
   sat = sat-both (log_of before) s.number (In 0) (unmoved (not (went next.goes.within.b.run.log done).before.running)) slot (fresh (not (went next.goes.within.b.run.log done).before.running) (went next.goes.within.b.run.log done).before.slots) (record { card = card; accepted = None }) next.next.sits_
 
+  whole : is_torn_in (log_of before) s.number (In 0) slot ≡ false
+  whole = whole-there (log_of before) s.number (In 0) (unmoved (not (went next.goes.within.b.run.log done).before.running)) slot (fresh (not (went next.goes.within.b.run.log done).before.running) (went next.goes.within.b.run.log done).before.slots) (record { card = card; accepted = None }) next.next.sits_
+
   uncut : cut_in (log_of after) s.number ≡ None
   uncut = j.cut ∙ next.goes.within.moment.up_to.uncut
 
@@ -149,10 +146,10 @@ module _ (o : Origin) (done : List TraceSecond) (s : TraceSecond) (waits fewer :
   lines = waking-later o done s (In 0) waits None [] (values_of old before) d next.goes.within (with_cut (log_of after) s []) (here-then (log_of before) (log_of after) (with_cut (log_of after) s []) s.number j.here (here-cut (log_of after) s [])) some
 
   slot-by : (b : Bool) → failed ≡ b → WakesOn b o done s next.goes.within.b.run.log (log_of after) e
-  slot-by false well = slot-cards o done s slot card before after d e next.goes.within.b.run.log off sat.0 sat.1 sat.2 next.none first next.goes.within.moment.up_to.uncut cards failed j well
+  slot-by false well = slot-cards o done s slot card before after d e next.goes.within.b.run.log off sat.0 sat.1 sat.2 next.none whole first next.goes.within.moment.up_to.uncut cards failed j well
   slot-by true fails =
       cut-waking o done s next.goes.within.b.run.log (with_cut (log_of after) s []) e lines power_ off (cut-is (log_of after) s.number 0 uncut) (cut-failed (log_of after) s.number 0 uncut)
-      (slot-cut o done s slot card before after d e next.goes.within.b.run.log off sat.0 sat.1 sat.2 next.none first next.goes.within.moment.up_to.uncut cards failed j)
+      (slot-cut o done s slot card before after d e next.goes.within.b.run.log off sat.0 sat.1 sat.2 next.none whole first next.goes.within.moment.up_to.uncut cards failed j)
 
 -- by the call
 card-woken : (o : Origin) (done : List TraceSecond) (s : TraceSecond) (b : Beginning) (waits fewer : List Visit) (slot : Slot) (card : Card) (old : Run) (before after : Outcome) (d e : Devices) (next : RunNext o done s 0 waits fewer old before d slot card) → next.goes.within.b ≡ b → (went b.run.log done).before.running ≡ false →

@@ -1,5 +1,5 @@
 -- Power comes with a second, and so the events of the cards go on: each card in a slot is judged; or the unit failed in that, and power is cut at once.
-use Rattle.std.proofs.Common.{◌≡◌, ◌∙◌, ℕ, Bool, true, false, cond, not, ◌||◌, Option, Some, None, option_map, List, [], ◌∷◌, ◌++◌, map, refl, ap, sym, subst, option_to_list}
+use Rattle.std.proofs.Common.{◌≡◌, ◌∙◌, ℕ, ◌+◌, ◌≤◌, Bool, true, false, cond, not, ◌||◌, Option, Some, None, option_map, List, [], ◌∷◌, ◌++◌, length, map, refl, ap, sym, subst, arith, option_to_list}
 use Rattle.std.specs.Prelude.{◌==◌, ◌&&◌, nat_lt, filter}
 use Rattle.std.specs.List.{list_any}
 use Rattle.activity_codec.specs.declared.values.Slot.{Slot}
@@ -18,12 +18,13 @@ use Rattle.event_model.specs.declared.entries.Span.{Span}
 use Rattle.event_model.specs.Spans.{gap_of}
 use Rattle.run_events.specs.Seconds.{gap_before}
 use Rattle.run_note_record.proofs.Brought.{lit-course}
-use Rattle.run_insertion.specs.CardEvents.{events_in, all_noted}
+use Rattle.run_insertion.specs.CardEvents.{events_in}
 use Rattle.note_model.specs.Done.{has_failed_in, course_powered}
-use Rattle.safety_model.specs.Safe.{Devices, card_of}
+use Rattle.safety_model.specs.Safe.{Devices}
 use Rattle.run_outcome.specs.declared.outcome.Outcome.{Outcome}
 use Rattle.run_promise.specs.Origin.{Origin}
 use Rattle.run_promise.specs.Whole.{NothingFailed}
+use Rattle.run_note_record.specs.Evented.{images_in}
 use Rattle.run_note_record.specs.Uses.{notes_now, uses_in}
 use Rattle.run_note_record.proofs.Exact.{fewer-none, no-cut}
 use Rattle.run_note_record.specs.RingsSoFar.{HasMoreBreaks}
@@ -31,18 +32,20 @@ use Rattle.run_note_record.specs.Waking.{NoneFound, IsFoundAnew}
 use Rattle.run_note_record.proofs.SoFar.{left-itself, failed-more}
 use Rattle.run_acts.specs.Recording.{log_of}
 use Rattle.run_acts.specs.RunRinged.{with_cut}
-use Rattle.run_acts.specs.OnCards.{is_card, has_card, as_accepted, events_by, accepts, gap_entry, gaps_on, enters, falls, may_note, is_sure_in}
-use Rattle.run_acts.specs.RunCards.{vehicle_in, sizes_in, seen_behind, gap_behind, CardsBehind, CardsWaking}
+use Rattle.run_acts.specs.OnCards.{is_card, has_card, as_accepted, events_by, gap_entry, gaps_on, enters, falls, may_note, is_sure_in, torn_times}
+use Rattle.run_acts.specs.RunCards.{vehicle_in, sizes_in, so_far, seen_behind, gap_behind, CardsBehind, CardsWaking}
+use Rattle.run_acts.proofs.CardBrings.{brought-nothing}
+use Rattle.run_acts.proofs.CardShown.{interrupting}
 use Rattle.run_acts.proofs.CardCourse.{Finding, IsQuiet, sitting_at, powered-as}
 use Rattle.run_acts.proofs.CardSecond.{any-more, is_now, standing-is}
 use Rattle.run_acts.proofs.CardGaps.{met-power}
 use Rattle.run_acts.proofs.CardEnds.{IsLater, ends-shown, cut-short}
 use Rattle.run_acts.proofs.CardStays.{shows-self}
-use Rattle.run_acts.proofs.CardWaking.{waking-judged, gap-noted}
+use Rattle.run_acts.proofs.CardWaking.{part_torn, part-torn, torn-often, waking-judged, gap-noted}
 use Rattle.run_acts.proofs.RingedSecond.{cut-torn, cut-found, cut-failed}
-use Rattle.recorder_with_cards.specs.JudgedCards.{IsJudgedOnCards}
+use Rattle.recorder_with_cards.specs.JudgedCards.{once_torn, IsJudgedOnCards}
 use Rattle.recorder_with_cards.proofs.RingsHere.{here-then, here-more, here-cut}
-use Rattle.recorder_with_cards.proofs.InsertedCards.{mine, any-behind, judged-them}
+use Rattle.recorder_with_cards.proofs.InsertedCards.{mine, any-behind, judged-sure}
 
 -- what was torn stays so in later lines
 pub torn-more : (log later : RunLog) (u : ℕ) (p : Phase) (slot : Slot) → HasMoreBreaks log later → is_torn_in log u p slot ≡ true → is_torn_in later u p slot ≡ true
@@ -65,6 +68,33 @@ torn-sitting log was s c slot x off sits own torn = ap (mine c) (powered-as log 
         any-behind c (cond (is_torn_in log s.number (In 0) Driver) (sitting_at Driver was.slots.driver) []) (cond (is_torn_in log s.number (In 0) CoDriver) (sitting_at CoDriver was.slots.codriver) [])
         (ap (λ (b : Bool). mine c (cond b (sitting_at CoDriver was.slots.codriver) [])) told ∙ ap (λ (q : Option Sitting). mine c (sitting_at CoDriver q)) is ∙ one CoDriver)
 
+-- it was torn out once more than before
+once-torn : (log later : RunLog) (was : Before) (s : TraceSecond) (off : was.running ≡ false) (torn : (slot : Slot) → is_torn_in log s.number (In 0) slot ≡ true → is_torn_in later s.number (In 0) slot ≡ true) (c : Card) (slot : Slot) (x : Sitting) → in_slot was.slots slot ≡ Some x → same_card x.card c ≡ true →
+    is_torn_in log s.number (In 0) slot ≡ false → torn_times c (so_far was s (course_powered log was s)) + once_torn (is_torn_in later s.number (In 0) slot) ≤ torn_times c (so_far was s (course_powered later was s))
+once-torn log later was s off torn c slot x sits own whole = torn-often log later was s off torn c (once_torn (is_torn_in later s.number (In 0) slot)) (at slot sits whole)
+  where
+    -- of this slot
+    here : (sl : Slot) → in_slot was.slots sl ≡ Some x → (b : Bool) → length (filter (λ (v : Visit). same_card v.card c) (cond b (sitting_at sl (in_slot was.slots sl)) [])) ≡ once_torn b
+    here sl is true = ap (λ (q : Option Sitting). length (filter (λ (v : Visit). same_card v.card c) (sitting_at sl q))) is ∙ ap (λ (b : Bool). length {A = Visit} (cond b (record { phase = In 0; slot = sl; card = x.card } ∷ []) [])) own
+    here sl is false = refl
+
+    none : (sl : Slot) → is_torn_in log s.number (In 0) sl ≡ false → part_torn log later was s off torn c log sl ≡ 0
+    none sl is = ap (λ (b : Bool). length (filter (λ (v : Visit). same_card v.card c) (cond b (sitting_at sl (in_slot was.slots sl)) []))) is
+
+    at : (sl : Slot) → in_slot was.slots sl ≡ Some x → is_torn_in log s.number (In 0) sl ≡ false →
+        part_torn log later was s off torn c log Driver + part_torn log later was s off torn c log CoDriver + once_torn (is_torn_in later s.number (In 0) sl)
+        ≤ part_torn log later was s off torn c later Driver + part_torn log later was s off torn c later CoDriver
+    at Driver is well =
+        let old : part_torn log later was s off torn c log Driver ≡ 0 = none Driver well in
+        let new : part_torn log later was s off torn c later Driver ≡ once_torn (is_torn_in later s.number (In 0) Driver) = here Driver is (is_torn_in later s.number (In 0) Driver) in
+        let other : part_torn log later was s off torn c log CoDriver ≤ part_torn log later was s off torn c later CoDriver = part-torn log later was s off torn c CoDriver in
+        omega (arith, old, new, other)
+    at CoDriver is well =
+        let old : part_torn log later was s off torn c log CoDriver ≡ 0 = none CoDriver well in
+        let new : part_torn log later was s off torn c later CoDriver ≡ once_torn (is_torn_in later s.number (In 0) CoDriver) = here CoDriver is (is_torn_in later s.number (In 0) CoDriver) in
+        let other : part_torn log later was s off torn c log Driver ≤ part_torn log later was s off torn c later Driver = part-torn log later was s off torn c Driver in
+        omega (arith, old, new, other)
+
 -- ---- THE CARD OF A SLOT IS JUDGED
 
 -- of the slots before it, and of this one
@@ -77,7 +107,7 @@ anew-by log later u Driver vs none own others found = (both, found, others ∙ n
 anew-by log later u CoDriver vs none own others found = (others, own, found)
 
 module _ (o : Origin) (done : List TraceSecond) (s : TraceSecond) (slot : Slot) (card : Card) (before after : Outcome) (d e : Devices) (began : RunLog) (off : (went began done).before.running ≡ false) (q : Sitting) (sits : in_slot (went began done).before.slots slot ≡ Some q) (card_is : q.card ≡ card)
-    (own_none : found_in (log_of before) s.number (In 0) slot ≡ []) (first : slot ≡ Driver → found_in (log_of before) s.number (In 0) CoDriver ≡ []) (uncut_before : cut_in (log_of before) s.number ≡ None) (cards : CardsWaking o done s began (log_of before) d)
+    (own_none : found_in (log_of before) s.number (In 0) slot ≡ []) (whole : is_torn_in (log_of before) s.number (In 0) slot ≡ false) (first : slot ≡ Driver → found_in (log_of before) s.number (In 0) CoDriver ≡ []) (uncut_before : cut_in (log_of before) s.number ≡ None) (cards : CardsWaking o done s began (log_of before) d)
     (failed : Bool) (j : IsJudgedOnCards failed o began done s 0 slot card before after d e) where
   uncut : cut_in (log_of after) s.number ≡ None
   uncut = j.cut ∙ uncut_before
@@ -96,15 +126,17 @@ module _ (o : Origin) (done : List TraceSecond) (s : TraceSecond) (slot : Slot) 
       ))
       (λ c valid own entered.
       let x : Seen = seen_behind began done s [] later in
+      let torn_ : Bool = is_torn_in (log_of after) s.number (In 0) slot in
+      let kept : (sl : Slot) → is_torn_in (log_of before) s.number (In 0) sl ≡ true → is_torn_in later s.number (In 0) sl ≡ true = λ sl is. torn-more (log_of before) later s.number (In 0) sl more is in
       let b = j.own c valid (ap (λ (k : Card). same_card k c) (sym card_is) ∙ own) in (
         b.uses,
         (λ none.
             let is : later ≡ log_of after = alike none in
             (fewer-none (log_of before) later more.0 more.1 none, ap (λ (l : RunLog). uses_in o c (notes_now began done l s)) is ∙ b.exact (subst NothingFailed is none))),
         b.are,
-        judged-them (sizes_in o c) (vehicle_in o) c later x failed (is_torn_in (log_of after) s.number (In 0) slot) (accepts s.number (found_in (log_of after) s.number (In 0) slot)) b.uses (card_of d c) (card_of e c) entered fails
-            (λ is. torn-sitting later (went began done).before s c slot q off sits own (torn ∙ is))
-            (λ y at. let was_ = b.notes y at in (was_.0, was_.1, was_.2, was_.3)),
+        once_torn torn_,
+        subst (λ (t : Bool). torn_times c (seen_behind began done s [] (log_of before)) + once_torn t ≤ torn_times c (seen_behind began done s [] later)) torn (once-torn (log_of before) later (went began done).before s off kept c slot q sits own whole),
+        b.notes (λ kind. is_sure_in c kind later x) (λ kind sure. judged-sure c later x failed torn_ entered fails (λ is. torn-sitting later (went began done).before s c slot q off sits own (torn ∙ is)) kind sure),
       ))
 
   -- the second goes on, or the cut is told next
@@ -193,5 +225,10 @@ module _ (o : Origin) (done : List TraceSecond) (s : TraceSecond) (began cut : R
   cut-waking cards =
       ends-shown o done s began cut l power [] cut e e
       (gap-noted o done s began cut cut e e off (λ slot is. is) (λ u is. is) (left-itself o e) cards (λ slot. refl) (λ c none. (none, refl))
-      (λ c valid z there. (z, there, λ kind sure. sym (ap (all_noted (events_in (sizes_in o c) kind z)) (nothing c kind sure)))))
+      (λ c valid z there. (
+        z,
+        there,
+        λ kind. brought-nothing (images_in o e c) kind (is_sure_in c kind cut (seen_behind began done s [] cut)) (interrupting s.number (gaps_on c (vehicle_in o) (gap_behind began done s [] cut))) (λ sure. nothing c kind sure)
+            (events_in (sizes_in o c) kind z) (events_in (sizes_in o c) kind z) refl,
+      )))
       (λ c none. (none, refl)) (λ u is. is) quiet (left-itself o e) (shows-self o e)

@@ -153,6 +153,28 @@ sat-both log u p moved slot c x is =
     let first = sat-one log u p moved Driver slot c behind.0 behind.1 in
     (first.0, first.1, first.2 ∙ behind.2)
 
+-- who sits there then was not torn out
+torn-empty : (log : RunLog) (u : ℕ) (p : Phase) (moved : Moved) (at : Slot) (c : Course) (x : Sitting) → in_slot (slot_told log u p moved at c).slots at ≡ Some x → is_torn_in log u p at ≡ false
+torn-empty log u p moved at c x is = by (is_torn_in log u p at) refl
+  where
+    none-at : (slots : Slots) (sl : Slot) → in_slot (with_slot slots sl None) sl ≡ Some x → ⊥
+    none-at slots Driver left_ = none-sits x left_
+    none-at slots CoDriver left_ = none-sits x left_
+
+    by : (b : Bool) → is_torn_in log u p at ≡ b → is_torn_in log u p at ≡ false
+    by false whole = whole
+    by true torn =
+        let vs : List Verdict = cond (moved.enters at) (found_in log u p at) [] in
+        let left_ : Course = record (leaves at (judged p at c vs)) { torn = c.torn ++ (moved.leaving at ++ visits p at c.slots) } in
+        let taken : Course = record (judged p at c vs) { slots = with_slot c.slots at (option_map {T = Sitting} (λ y. record y { accepted = Some u }) (in_slot c.slots at)) } in
+        absurd (none-at c.slots at (subst (λ (b : Bool). in_slot (cond b left_ (cond (list_any is_accepting vs) taken (judged p at c vs))).slots at ≡ Some x) torn is))
+
+pub whole-there : (log : RunLog) (u : ℕ) (p : Phase) (moved : Moved) (slot : Slot) (c : Course) (x : Sitting) → in_slot (both_told log u p moved c).slots slot ≡ Some x → is_torn_in log u p slot ≡ false
+whole-there log u p moved Driver c x is =
+    let behind = sat-one log u p moved CoDriver Driver (slot_told log u p moved Driver c) x is in
+    torn-empty log u p moved Driver c behind.0 behind.1
+whole-there log u p moved CoDriver c x is = torn-empty log u p moved CoDriver (slot_told log u p moved Driver c) x is
+
 -- ---- a second with power, as its spans have it
 second-is : (log : RunLog) (before : Before) (s : TraceSecond) → has_power before s ≡ true → IsSecond s before (second_told log before s)
 second-is log before s power = record {

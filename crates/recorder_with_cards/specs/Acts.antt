@@ -1,16 +1,16 @@
 -- What judging, inserting, acting and waking do, leave and promise, each in a few records (profile).
 use Rattle.std.specs.Prelude.{ℕ, ◌*◌, ◌+◌, ◌≡◌, ◌≤◌, Bool, IfErr, IfOk, List, None, OnOk, Result, false, is_some}
-use Rattle.std.specs.Prelude.{length, true}
+use Rattle.std.specs.Prelude.{length, true, Some, ◌<◌, IfSome}
 use Rattle.activity_codec.specs.declared.values.Slot.{Slot}
-use Rattle.card_slots.specs.Calls.{card_in, seat_in}
+use Rattle.card_slots.specs.Calls.{card_in, seat_in, is_card}
 use Rattle.log_model.specs.Slots.{other_slot}
 use Rattle.log_model.specs.declared.lines.Break.{Break}
 use Rattle.run_acts.specs.ByHand.{stopped_in}
 use Rattle.run_acts.specs.Evented.{EventsAction}
-use Rattle.run_acts.specs.Going.{IsFoundLater, largest_number}
+use Rattle.run_acts.specs.Going.{IsFoundLater, largest_number, end_of_seconds}
 use Rattle.run_acts.specs.Power.{has_power, is_lit}
 use Rattle.run_acts.specs.Recording.{RecordsAction}
-use Rattle.run_acts.specs.Room.{bare_count, bare_seats}
+use Rattle.run_acts.specs.Room.{bare_count, bare_seats, HasRoom, falls_of}
 use Rattle.run_acts.specs.RunCards.{CardsAction}
 use Rattle.run_acts.specs.RunRinged.{RingsAction}
 use Rattle.run_acts.specs.declared.run.Power.TheVariants.{Lit}
@@ -32,10 +32,10 @@ use Rattle.trace_model.specs.declared.Action.{Action}
 use Rattle.trace_model.specs.declared.Action.TheVariants.{Insert}
 use Rattle.trace_model.specs.declared.Card.{Card}
 use Rattle.trace_model.specs.declared.Item.{Item}
-use Rattle.recorder_with_cards.specs.Accepting.{IsAccepted, IsAnew, IsEnteringNow, IsInserted, IsOdometerNow}
+use Rattle.recorder_with_cards.specs.Accepting.{IsAccepted, IsAnew, IsEnteringNow, IsInserted, IsOdometerNow, IsBare}
 use Rattle.recorder_with_cards.specs.Acting.{AreActed, IsActed, IsActedBy, IsDone, IsFine, IsItemActed, IsSelected}
 use Rattle.recorder_with_cards.specs.Acting.{StaysIn, refusal_lines, refused_by}
-use Rattle.recorder_with_cards.specs.Carded.{BeginsCarded, CardsActions}
+use Rattle.recorder_with_cards.specs.Carded.{BeginsCarded, CardsActions, CardsItem, CardsMore, CardsSeconds}
 use Rattle.recorder_with_cards.specs.CardsWoken.{CardsPowering, CardsResuming}
 use Rattle.recorder_with_cards.specs.EnteredRings.{IsJudgedRinging, RingsAnew, RingsDone, RingsInserting, RingsJudging}
 use Rattle.recorder_with_cards.specs.Judged.{EventsAnew, EventsJudged, JudgesAnew, JudgesSo}
@@ -43,11 +43,16 @@ use Rattle.recorder_with_cards.specs.JudgedCards.{CardsAnew, CardsJudged}
 use Rattle.recorder_with_cards.specs.JudgedRings.{RingsEntering, RingsJudged, RingsJudgedAnew}
 use Rattle.recorder_with_cards.specs.Noting.{IsJudgedNoting, NotesAnew, NotesDone, NotesInserting, NotesJudging}
 use Rattle.recorder_with_cards.specs.Noting.{NotesPowerOn}
-use Rattle.recorder_with_cards.specs.Recorded.{BeginsRinged, RingsActions, actions_in}
+use Rattle.recorder_with_cards.specs.Recorded.{BeginsRinged, RingsActions, RingsItem, RingsMore, RingsSeconds}
+use Rattle.recorder_with_cards.specs.Recorded.{actions_in}
 use Rattle.recorder_with_cards.specs.Waking.{IsAwake}
 use Rattle.recorder_with_cards.specs.Woken.{EventsResuming, EventsWaking, ResumesSo, RingsResuming, RingsWaking}
 use Rattle.recorder_with_cards.specs.Woken.{WakesSo}
 use Rattle.recorder_with_cards.specs.Writes.{WritesFor}
+use Rattle.unit_minutes.specs.declared.notes.Notes.{Notes}
+use Rattle.minute_model.specs.declared.Rule.{Rule}
+use Rattle.run_opening.specs.Units.{IsLoaded}
+use Rattle.unit_model.specs.Versions.{rule_of}
 
 -- A CARD THAT SITS IN A SLOT WAS JUDGED: what became of it, and nothing else has changed
 pub record AcceptsIn (slot : Slot) (card : Card) (at : Moment) (speed : ℕ) (old new : Run)
@@ -328,3 +333,95 @@ pub record ItemGoes (seconds actions : ℕ) (before after : List Break) (d e : D
   pub calm : AreCalm before after d e
   pub broke : BreaksDown before after d.unit e.unit
   pub most : WritesFor seconds actions d e
+
+-- What a run promises goes on with these actions, in a second with power
+pub record PromisesWithPower (has_power : Bool) (actions : List Action) (begun speed : ℕ) (old new : Run)
+    (before after : Outcome) (d e : Devices) : Type 0 where
+  pub ringed : has_power ≡ true → RingsActions actions begun speed old new before after d e
+  pub cards : has_power ≡ true → CardsActions actions begun speed old new before after d e
+
+-- What a run promises goes on over so many seconds more without actions, behind one at their speed
+pub record PromisesMore (result : Result (Unit {0}) RunFault) (seconds speed : ℕ) (old new : Run)
+    (before after : Outcome) (d e : Devices) : Type 0 where
+  pub ringed : RingsMore result seconds speed old new before after d e
+  pub cards : CardsMore result seconds speed old new before after d e
+
+-- What a run promises goes on over so many seconds at one speed, with these actions at their beginning, where so many
+-- items wait and all are actions
+pub record PromisesSeconds (result : Result (Unit {0}) RunFault) (seconds speed count : ℕ) (actions : List Action)
+    (old new : Run) (before after : Outcome) (d e : Devices) : Type 0 where
+  pub ringed : length actions ≡ count → count ≤ largest_number
+      → RingsSeconds result seconds speed actions old new before after d e
+  pub cards : length actions ≡ count → count ≤ largest_number
+      → CardsSeconds result seconds speed actions old new before after d e
+
+-- What a run promises goes on over an item, with these actions waiting, where so many items wait and all are actions
+pub record PromisesItem (result : Result (Unit {0}) RunFault) (item : Item) (count : ℕ) (actions : List Action)
+    (old new : Run) (before after : Outcome) (d e : Devices) : Type 0 where
+  pub ringed : length actions ≡ count → RingsItem result item actions old new before after d e
+  pub cards : length actions ≡ count → CardsItem result item actions old new before after d e
+
+-- ---- what the calls ask
+
+-- A CARD MAY BE ACCEPTED OR TURNED AWAY in this second: it sits in the slot, newly, no minute is owed, and there is
+-- room for what falls and for what is found
+pub record MayAccept (slot : Slot) (card : Card) (when : Moment) (run : Run) (o : Outcome) : Type 0 where
+  pub none : run.minutes.owing ≡ 0
+  pub at : when.second ≡ run.next
+  pub seat : seat_in run.keeper.cabin.slots.seats slot ≡ Some (record { card = card; newest = None })
+  pub breaks : length o.breaks.items + falls_of run.keeper.cabin ≤ o.breaks.room
+  pub finds : length o.finds.items < o.finds.room
+
+-- THE CARD OF A SLOT, IF THERE IS ONE, MAY BE JUDGED ANEW in this second: it is not accepted, no minute is owed, and
+-- there is room for what falls and for what is found
+pub record MayJudgeAnew (slot : Slot) (when : Moment) (run : Run) (o : Outcome) : Type 0 where
+  pub none : run.minutes.owing ≡ 0
+  pub at : when.second ≡ run.next
+  pub bare : IsBare (seat_in run.keeper.cabin.slots.seats slot)
+  pub breaks : length o.breaks.items + falls_of run.keeper.cabin ≤ o.breaks.room
+  pub finds : length o.finds.items + bare_count (seat_in run.keeper.cabin.slots.seats slot) ≤ o.finds.room
+
+-- A CARD MAY BE PUT INTO A SLOT in this second: the slot is empty, the card is in no other, and there is room for what
+-- that settles, for what falls and for what is found
+pub record MayInsertCard (slot : Slot) (card : Card) (when : Moment) (run : Run) (o : Outcome) : Type 0 where
+  pub at : when.second ≡ run.next
+  pub empty : seat_in run.keeper.cabin.slots.seats slot ≡ None
+  pub elsewhere : is_card (seat_in run.keeper.cabin.slots.seats (other_slot slot)) card ≡ false
+  pub marks : length o.marks.items + 3 * run.minutes.owing ≤ o.marks.room
+  pub breaks : length o.breaks.items + falls_of run.keeper.cabin + 1 ≤ o.breaks.room
+  pub finds : length o.finds.items < o.finds.room
+
+-- POWER MAY COME BACK: there is none, and there is room for what falls and for what is found
+pub record MayWake (run : Run) (o : Outcome) : Type 0 where
+  pub dark : is_lit run.power ≡ false
+  pub breaks : length o.breaks.items + falls_of run.keeper.cabin < o.breaks.room
+  pub finds : length o.finds.items + bare_seats run.keeper.cabin.slots.seats ≤ o.finds.room
+
+-- THE UNIT TELLS THIS JOURNAL, and this rule of minutes
+pub record IsToldBy (U : State) (journal : Notes) (minutes : Rule) : Type 0 where
+  pub loaded : IsLoaded U journal
+  pub rule : IfSome U.image (λ x. minutes ≡ rule_of x)
+
+-- THERE IS ROOM for so many seconds without actions, and the first break of which it is not known what was kept is one
+-- of those that were told, or the next
+pub record HasRoomFor (seconds : ℕ) (run : Run) (o : Outcome) : Type 0 where
+  pub room : HasRoom run o seconds 0 0 0
+  pub unfound : run.unfound ≤ length o.breaks.items
+
+-- A RUN MAY GO ON over so many seconds, with so many power cuts, insertions and actions: the formats can tell each
+-- second, there is room, and the first break of which it is not known what was kept is one of those told, or the next
+pub record MayGoOn (seconds offs insertions actions : ℕ) (run : Run) (o : Outcome) : Type 0 where
+  pub small : run.next + seconds ≤ end_of_seconds
+  pub room : HasRoom run o seconds offs insertions actions
+  pub unfound : run.unfound ≤ length o.breaks.items
+
+-- THESE ARE AMONG THE ITEMS, from one index to another
+pub record AreAmong (items : List Item) (from to : ℕ) : Type 0 where
+  pub first : from ≤ to
+  pub last : to ≤ length items
+
+-- A RUN GOES ON: no clock and no count of a device falls; and so many writes it begins at most, by its seconds and its
+-- items, whatever fails
+pub record RunGoes (seconds items : ℕ) (d e : Devices) : Type 0 where
+  pub later : AreAfter d e
+  pub most : WritesFor seconds items d e

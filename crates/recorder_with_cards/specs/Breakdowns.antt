@@ -19,8 +19,8 @@ pub record BreakdownsAreTold (log : RunLog) (old new : Devices) : Type 0 where
   pub unit : HasBrokenAtMost old.unit new.unit (length (cuts true log))
   pub cards : HaveBrokenAtMost old new (length (tears true log))
 
--- SO EACH DEVICE HAS BROKEN DOWN JUST AS OFTEN AS IT IS TOLD, as long as its count stands below its last value: the unit
--- so often as failed calls have cut the power, and each card so often as one has torn it out.
+-- SO EACH DEVICE HAS BROKEN DOWN JUST AS OFTEN AS IT IS TOLD, as long as its count stands below its last value: the
+-- unit so often as failed calls have cut the power, and each card so often as one has torn it out.
 pub record BreakdownsAreCounted (r : Recording) (old new : Devices) : Type 0 where
   pub unit : new.unit.breakdowns < last_count
       → new.unit.breakdowns ≡ old.unit.breakdowns + length (cuts true r.log)

@@ -1,5 +1,6 @@
 -- What the judging of a card brings it of events, as calls of a run say it (profile).
-use Rattle.std.specs.Prelude.{◌≡◌, ℕ, suc, ◌==◌, ◌&&◌, Bool, true, false, Option, Some, None, List, [], ◌++◌, nat_lt}
+use Rattle.std.specs.Prelude.{◌≡◌, ◌⊎◌, ℕ, suc, ◌==◌, ◌&&◌, Bool, true, false, Option, Some, None, List, ◌++◌, nat_lt}
+use Rattle.std.specs.Prelude.{if◌then◌else◌}
 use Rattle.activity_codec.specs.declared.values.Slot.{Slot}
 use Rattle.trace_model.specs.declared.Card.{Card}
 use Rattle.trace_model.specs.Trace.{TraceSecond}
@@ -20,11 +21,10 @@ use Rattle.run_minutes.specs.Books.{HaveTime}
 use Rattle.run_outcome.specs.declared.outcome.Outcome.{Outcome}
 use Rattle.run_note_record.specs.Evented.{images_in}
 use Rattle.run_note_record.specs.Uses.{notes_now, uses_in}
-use Rattle.run_insertion.specs.CardEvents.{events_in, all_noted}
 use Rattle.run_rings.specs.Notes.{TellSameTo}
 use Rattle.run_acts.specs.declared.run.Run.{Run}
 use Rattle.run_acts.specs.Recording.{log_of}
-use Rattle.run_acts.specs.OnCards.{unclosed_by, events_by, accepts, movings, StillShows, AreUses}
+use Rattle.run_acts.specs.OnCards.{accepts, judging, ComesTo, StillShows, AreUses}
 use Rattle.run_acts.specs.RunCards.{vehicle_in, sizes_in}
 use Rattle.recorder_with_cards.specs.Judged.{moment_in, RunNext}
 use Rattle.recorder_with_cards.specs.JudgedRings.{TellsHere}
@@ -34,20 +34,26 @@ abbrev pub NotesNone : (kind speed : ℕ) → Type 0
 NotesNone kind speed = ((kind == SESSION_NOT_CLOSED) ≡ false)
     × ((kind == INSERTION_WHILE_DRIVING && nat_lt 0 speed) ≡ false)
 
+-- where no call on the unit nor on the card failed it is sure what comes of its judging, and else of such types
+abbrev pub IsSureHere : (failed torn : Bool) → (kind speed : ℕ) → Type 0
+IsSureHere failed torn kind speed = ((failed ≡ false) × (torn ≡ false)) ⊎ NotesNone kind speed
+
+-- a card that is torn out as it is judged is so once
+abbrev pub once_torn : Bool → ℕ
+once_torn torn = if torn then 1 else 0
+
 -- A CARD OF WHICH THIS WAS FOUND in a second: at its acceptance an image of it told a use, which where no call failed
--- by this log is one more of these; where no call failed each image shows the events that come of it; and of the types
--- of which none is noted it shows those of before, whatever failed.
-pub record BringsNow (o : Origin) (c : Card) (second speed : ℕ) (clear : Type 0) (verdicts : List Verdict)
+-- by this log is one more of these; and each image shows what comes of it on the events of one before, which is sure
+-- of no more types than those.
+pub record BringsNow (o : Origin) (c : Card) (second speed : ℕ) (failed torn : Bool) (verdicts : List Verdict)
     (log : RunLog) (was found : List CurrentUse) (d e : Devices) : Type 0 where
   pub uses : List CurrentUse
   pub exact : NothingFailed log → found ≡ was ++ uses
   pub are : AreUses (images_in o e c) uses (accepts second verdicts)
-  pub notes : (y : List ℕ) → (card_of e c).may_leave y → (x : List ℕ) × (card_of d c).may_leave x
-      × (clear → (kind : ℕ) → events_in (sizes_in o c) kind y
-      ≡ all_noted (events_in (sizes_in o c) kind x)
-      (events_by kind [] (movings c (vehicle_in o) speed (accepts second verdicts))
-      (unclosed_by uses (accepts second verdicts))))
-      × ((kind : ℕ) → NotesNone kind speed → events_in (sizes_in o c) kind y ≡ events_in (sizes_in o c) kind x)
+  pub notes : (sure : ℕ → Bool) → ((kind : ℕ) → sure kind ≡ true → IsSureHere failed torn kind speed)
+      → ComesTo (images_in o e c) (sizes_in o c) sure
+      (judging c (vehicle_in o) second speed (once_torn torn) (accepts second verdicts) uses) (card_of d c)
+      (card_of e c)
 
 -- the uses that were found on a card by a log of this second, which began by another
 abbrev pub uses_then : Origin → (began : RunLog) → List TraceSecond → TraceSecond → Card → Outcome → List CurrentUse
@@ -58,7 +64,7 @@ uses_then o began done s c out = uses_in o c (notes_now began done (log_of out) 
 pub record IsJudgedOnCards (failed : Bool) (o : Origin) (began : RunLog) (done : List TraceSecond) (s : TraceSecond)
     (n : ℕ) (slot : Slot) (card : Card) (before after : Outcome) (d e : Devices) : Type 0 where
   pub own : (c : Card) → IsOwnValid (card_image o.recording c) → same_card card c ≡ true →
-      BringsNow o c s.number s.speed ((failed ≡ false) × (is_torn_in (log_of after) s.number (In n) slot ≡ false))
+      BringsNow o c s.number s.speed failed (is_torn_in (log_of after) s.number (In n) slot)
       (found_in (log_of after) s.number (In n) slot) (log_of after) (uses_then o began done s c before)
       (uses_then o began done s c after) d e
   pub beside : (c : Card) → IsOwnValid (card_image o.recording c) → same_card card c ≡ false

@@ -4,7 +4,7 @@ use Rattle.safety_model.specs.Safe.{Devices}
 use Rattle.run_speeds.specs.Speeds.{HasSpeedRing, HasSpeeds}
 use Rattle.run_speeds.specs.Spans.{blocks_by, is_sure_block}
 
--- WHERE ITS RING WAS DENSE as the run began, a unit carries the blocks of the run, as its log tells them.
+-- A UNIT CARRIES THE BLOCKS of the run, as its log tells them, where its ring's pointer was an index as it began.
 abbrev pub CarriesItsSpeeds : Recording → (began now : Devices) → Type 0
 CarriesItsSpeeds r began now = HasSpeedRing r.unit
     → HasSpeeds (is_sure_block r.log) r.unit began.unit.clock (blocks_by r.log r.trace) now.unit

@@ -5,5 +5,5 @@ pub use Rattle.run_minutes.specs.Later.{IsLater, AreAfter}
 pub use Rattle.run_acts.specs.Going.{largest_number, IsFoundLater}
 pub use Rattle.run_acts.specs.Recording.{log_of}
 pub use Rattle.run_acts.specs.Stays.{ShowsStays}
-pub use Rattle.run_acts.specs.OnCards.{accepted_on, AreUses}
+pub use Rattle.run_acts.specs.OnCards.{accepted_on, met_seconds, ShowsOn, AreUses}
 pub use Rattle.run_note_record.specs.Uses.{vehicle_of}

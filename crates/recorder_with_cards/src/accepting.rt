@@ -1,17 +1,16 @@
 //! A card that sits in a slot, not accepted, is accepted or turned away.
-ghost use Rattle.std.specs.Prelude.{◌≡◌, ◌+◌, ◌/◌, ◌<◌, ◌≤◌, ◌^◌, None, Some, OnOk, length, is_err};
+ghost use Rattle.std.specs.Prelude.{◌≡◌, ◌/◌, ◌<◌, ◌^◌, None, OnOk, is_err};
 ghost use Rattle.tach_media.specs.Medium.{HasCause};
 ghost use Rattle.card_slots.specs.Calls.{seat_in, card_in};
 ghost use Rattle.run_acts.specs.Going.{CanBeCut, RunHasPowerAllSeated, IsActing};
-ghost use Rattle.run_acts.specs.Room.{falls_of, bare_count, Takes};
+ghost use Rattle.run_acts.specs.Room.{bare_count, Takes};
 ghost use Rattle.recorder_with_cards.specs.Accepting.{chip_a_of, chip_b_of, a_of, b_of};
-ghost use Rattle.recorder_with_cards.specs.Accepting.{IsBare};
 ghost use Rattle.run_promise.specs.Between.{devices};
 ghost use Rattle.run_devices.specs.Told.{arranged};
-ghost use Rattle.run_acts.specs.Acts.{IsHeldBehind};
+ghost use Rattle.run_acts.specs.Acts.{RunStandsBehind};
 ghost use Rattle.recorder_with_cards.specs.Acts.{AcceptsAnew, AcceptsHere, AcceptsIn, CardGoes, DevicesGo};
 ghost use Rattle.recorder_with_cards.specs.Acts.{LeavesAccepted, LeavesAnew, LeavesHere, PromisesAccepting};
-ghost use Rattle.recorder_with_cards.specs.Acts.{PromisesAnew, PromisesHere};
+ghost use Rattle.recorder_with_cards.specs.Acts.{PromisesAnew, PromisesHere, MayAccept, MayJudgeAnew};
 
 use activity_codec::Slot;
 use run_acts::Run;
@@ -52,13 +51,8 @@ pub(crate) fn accept_here<M: Medium, C: Chip, D: Chip>(
         (chip_b_of entering.which (C.card card.old) (D.card others.now))
         (a_of entering.which (C.state card.old) (D.state others.now))
         (b_of entering.which (C.state card.old) (D.state others.now)) }
-    requires none { run.old.minutes.owing ≡ 0 }
-    requires at { entering.at.second ≡ run.old.next }
+    requires may { MayAccept entering.slot entering.which entering.at run.old outcome.old }
     requires fits { entering.odometer.0 < 2 ^ 24 }
-    requires seat { seat_in run.old.keeper.cabin.slots.seats entering.slot
-        ≡ Some (record { card = entering.which; newest = None }) }
-    requires breaks { length outcome.old.breaks.items + falls_of run.old.keeper.cabin ≤ outcome.old.breaks.room }
-    requires finds { length outcome.old.finds.items < outcome.old.finds.room }
     ensures accepted { AcceptsHere entering run.old run.new outcome.old outcome.new }
     ensures held { CanBeCut (run.new.next / 60) run.new (M.state unit.new)
         (chip_a_of entering.which (C.card card.new) (D.card others.now))
@@ -104,19 +98,12 @@ pub(crate) fn accept_in<M: Medium, C: Chip, D: Chip>(
 ) -> Result<(), Failed>
     requires acting { IsActing run.old (M.state unit.old) (C.card card_a.old) (D.card card_b.old) (C.state card_a.old)
         (D.state card_b.old) }
-    requires none { run.old.minutes.owing ≡ 0 }
-    requires at { put.at.second ≡ run.old.next }
-    requires seat { seat_in run.old.keeper.cabin.slots.seats put.slot ≡ Some
-        (record { card = put.card; newest = None }) }
-    requires breaks { length outcome.old.breaks.items + falls_of run.old.keeper.cabin ≤ outcome.old.breaks.room }
-    requires finds { length outcome.old.finds.items < outcome.old.finds.room }
+    requires may { MayAccept put.slot put.card put.at run.old outcome.old }
     ensures accepted { AcceptsIn put.slot put.card put.at put.speed run.old run.new outcome.old outcome.new }
-    ensures held { IsHeldBehind (is_err result) run.new
+    ensures behind { RunStandsBehind result run.new
         (devices (M.state unit.old) (C.state card_a.old) (D.state card_b.old))
         (devices (M.state unit.new) (C.state card_a.new) (D.state card_b.new))
         (C.card card_a.new) (D.card card_b.new) }
-    ensures going { OnOk result (RunHasPowerAllSeated (run.new.next / 60) run.new (M.state unit.new) (C.card card_a.new)
-        (D.card card_b.new) (C.state card_a.new) (D.state card_b.new)) }
     ensures takes { Takes 1 0 0 run.old run.new outcome.old outcome.new }
     // What a run promises goes on with it.
     ensures promises { PromisesAccepting put.slot put.card put.at put.speed
@@ -171,19 +158,12 @@ pub(crate) fn accept_anew<M: Medium, C: Chip, D: Chip>(
 ) -> Result<(), Failed>
     requires acting { IsActing run.old (M.state unit.old) (C.card card_a.old) (D.card card_b.old) (C.state card_a.old)
         (D.state card_b.old) }
-    requires none { run.old.minutes.owing ≡ 0 }
-    requires at { anew.at.second ≡ run.old.next }
-    requires bare { IsBare (seat_in run.old.keeper.cabin.slots.seats anew.slot) }
-    requires breaks { length outcome.old.breaks.items + falls_of run.old.keeper.cabin ≤ outcome.old.breaks.room }
-    requires finds { length outcome.old.finds.items + bare_count (seat_in run.old.keeper.cabin.slots.seats anew.slot)
-        ≤ outcome.old.finds.room }
+    requires may { MayJudgeAnew anew.slot anew.at run.old outcome.old }
     ensures accepted { AcceptsAnew anew.slot anew.at anew.speed run.old run.new outcome.old outcome.new }
-    ensures held { IsHeldBehind (is_err result) run.new
+    ensures behind { RunStandsBehind result run.new
         (devices (M.state unit.old) (C.state card_a.old) (D.state card_b.old))
         (devices (M.state unit.new) (C.state card_a.new) (D.state card_b.new))
         (C.card card_a.new) (D.card card_b.new) }
-    ensures going { OnOk result (RunHasPowerAllSeated (run.new.next / 60) run.new (M.state unit.new) (C.card card_a.new)
-        (D.card card_b.new) (C.state card_a.new) (D.state card_b.new)) }
     ensures takes { Takes
         (bare_count (seat_in run.old.keeper.cabin.slots.seats anew.slot)) 0 0 run.old run.new outcome.old
         outcome.new }

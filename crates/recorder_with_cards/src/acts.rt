@@ -1,5 +1,5 @@
 //! The actions of a second.
-ghost use Rattle.std.specs.Prelude.{◌≡◌, ℕ, ◌+◌, ◌-◌, ◌/◌, ◌≤◌, ◌∷◌, [], true, false, None, OnOk, length, min};
+ghost use Rattle.std.specs.Prelude.{◌≡◌, ℕ, ◌+◌, ◌-◌, ◌∷◌, [], true, false, None, min};
 ghost use Rattle.std.specs.Prelude.{is_err};
 ghost use Rattle.std.specs.Result.{result_err};
 ghost use Rattle.activity_codec.specs.declared.values.Pick.{Pick};
@@ -10,18 +10,18 @@ ghost use Rattle.run_promise.specs.Between.{devices};
 ghost use Rattle.run_acts.specs.declared.run.Power.TheVariants.{Lit};
 ghost use Rattle.run_acts.specs.ByHand.{stopped_in};
 ghost use Rattle.run_acts.specs.Power.{is_lit};
-ghost use Rattle.run_acts.specs.Going.{largest_number, RunHasPowerAllSeated, IsInsideSecond};
+ghost use Rattle.run_acts.specs.Going.{largest_number, IsInsideSecond};
 ghost use Rattle.run_acts.specs.Room.{HasRoomWithin, Takes};
-ghost use Rattle.recorder_with_cards.specs.Carded.{CardsActions};
 ghost use Rattle.recorder_with_cards.specs.Acting.{put_count};
 ghost use Rattle.recorder_with_cards.specs.Acting.{moment_of};
 ghost use Rattle.recorder_with_cards.specs.Acting.{CallsNone};
-ghost use Rattle.recorder_with_cards.specs.Recorded.{action_of, RingsActions};
+ghost use Rattle.recorder_with_cards.specs.Recorded.{action_of};
 ghost use Rattle.recorder_with_cards.specs.Items.{between, insertions_in};
 ghost use Rattle.run_outcome.specs.Room.{insertion_count};
-ghost use Rattle.run_acts.specs.Acts.{AllGoOn, IsHeldBehind};
+ghost use Rattle.run_acts.specs.Acts.{AllGoOn, RunStandsBehind};
 ghost use Rattle.recorder_with_cards.specs.Acts.{ActGoes, ActsAll, ActsItem, ActsLit, ActsSo, CarriesOut, LeavesDone};
-ghost use Rattle.recorder_with_cards.specs.Acts.{PromisesAction, PromisesActions, PromisesAll};
+ghost use Rattle.recorder_with_cards.specs.Acts.{PromisesAction, PromisesActions, PromisesAll, PromisesWithPower};
+ghost use Rattle.recorder_with_cards.specs.Acts.{AreAmong};
 
 use crate::accepting::SlotCard;
 use crate::inserting::insert;
@@ -78,8 +78,7 @@ pub(crate) fn act_all<M: Medium, C: Chip, D: Chip>(
     card_b: &mut D,
     outcome: &mut Outcome,
 )
-    requires first { due.from ≤ due.to }
-    requires last { due.to ≤ length due.items.now }
+    requires among { AreAmong due.items.now due.from due.to }
     requires going { IsInsideSecond run.old (M.state unit.old) (C.card card_a.old) (D.card card_b.old)
         (C.state card_a.old) (D.state card_b.old) }
     requires dark { due.has_power ≡ false → is_lit run.old.power ≡ false }
@@ -139,12 +138,9 @@ fn act_item<M: Medium, C: Chip, D: Chip>(
     requires dark { due.has_power ≡ false → is_lit run.old.power ≡ false }
     requires room { HasRoomWithin run.old outcome.old 1 0 (insertion_count due.item) 1 }
     ensures acted { ActsItem due.item due.has_power due.begun due.speed run.old run.new outcome.old outcome.new }
-    ensures ringed { due.has_power ≡ true
-        → RingsActions (action_of due.item) due.begun due.speed run.old run.new outcome.old outcome.new
-        (devices (M.state unit.old) (C.state card_a.old) (D.state card_b.old))
-        (devices (M.state unit.new) (C.state card_a.new) (D.state card_b.new)) }
-    ensures cards { due.has_power ≡ true
-        → CardsActions (action_of due.item) due.begun due.speed run.old run.new outcome.old outcome.new
+    // What a run promises goes on with it.
+    ensures promises { PromisesWithPower due.has_power (action_of due.item) due.begun due.speed run.old run.new
+        outcome.old outcome.new
         (devices (M.state unit.old) (C.state card_a.old) (D.state card_b.old))
         (devices (M.state unit.new) (C.state card_a.new) (D.state card_b.new)) }
     ensures still { is_lit run.old.power ≡ false
@@ -189,12 +185,9 @@ fn act<M: Medium, C: Chip, D: Chip>(
     requires dark { deed.has_power ≡ false → is_lit run.old.power ≡ false }
     requires room { HasRoomWithin run.old outcome.old 1 0 (put_count deed.action) 1 }
     ensures acted { ActsSo deed.has_power deed.action deed.begun deed.speed run.old run.new outcome.old outcome.new }
-    ensures ringed { deed.has_power ≡ true
-        → RingsActions (deed.action ∷ []) deed.begun deed.speed run.old run.new outcome.old outcome.new
-        (devices (M.state unit.old) (C.state card_a.old) (D.state card_b.old))
-        (devices (M.state unit.new) (C.state card_a.new) (D.state card_b.new)) }
-    ensures cards { deed.has_power ≡ true
-        → CardsActions (deed.action ∷ []) deed.begun deed.speed run.old run.new outcome.old outcome.new
+    // What a run promises goes on with it.
+    ensures promises { PromisesWithPower deed.has_power (deed.action ∷ []) deed.begun deed.speed run.old run.new
+        outcome.old outcome.new
         (devices (M.state unit.old) (C.state card_a.old) (D.state card_b.old))
         (devices (M.state unit.new) (C.state card_a.new) (D.state card_b.new)) }
     ensures still { (deed.has_power ≡ true → is_lit run.old.power ≡ true
@@ -313,12 +306,10 @@ fn carry_out<M: Medium, C: Chip, D: Chip>(
     ensures goes { AllGoOn 102 1366 outcome.old.breaks.items outcome.new.breaks.items
         (devices (M.state unit.old) (C.state card_a.old) (D.state card_b.old))
         (devices (M.state unit.new) (C.state card_a.new) (D.state card_b.new)) }
-    ensures held { IsHeldBehind (is_err result) run.new
+    ensures behind { RunStandsBehind result run.new
         (devices (M.state unit.old) (C.state card_a.old) (D.state card_b.old))
         (devices (M.state unit.new) (C.state card_a.new) (D.state card_b.new))
         (C.card card_a.new) (D.card card_b.new) }
-    ensures going { OnOk result (RunHasPowerAllSeated (run.new.next / 60) run.new (M.state unit.new) (C.card card_a.new)
-        (D.card card_b.new) (C.state card_a.new) (D.state card_b.new)) }
     ensures takes { Takes (put_count deed.action) (put_count deed.action) 0 run.old run.new outcome.old outcome.new }
 {
     let at = run.moment(deed.begun);

@@ -1,14 +1,12 @@
 //! Seconds at one speed.
-ghost use Rattle.std.specs.Prelude.{◌≡◌, ℕ, ◌+◌, ◌-◌, ◌%◌, ◌<◌, ◌≤◌, OnOk, length};
+ghost use Rattle.std.specs.Prelude.{ℕ, ◌+◌, ◌-◌, ◌<◌, OnOk};
 ghost use Rattle.run_promise.specs.Between.{devices};
-ghost use Rattle.run_minutes.specs.Later.{AreAfter, AreCalm};
-ghost use Rattle.run_outcome.specs.Broken.{BreaksDown};
-ghost use Rattle.run_acts.specs.Going.{largest_number, end_of_seconds, IsBetweenSeconds};
+ghost use Rattle.run_acts.specs.Going.{IsBetweenSeconds, IsStretch};
 ghost use Rattle.run_acts.specs.Room.{HasRoom};
-ghost use Rattle.recorder_with_cards.specs.Writes.{WritesFor};
 ghost use Rattle.recorder_with_cards.specs.Items.{between, insertions_in};
-ghost use Rattle.recorder_with_cards.specs.Recorded.{actions_in, RingsSeconds, RingsMore};
-ghost use Rattle.recorder_with_cards.specs.Carded.{CardsSeconds, CardsMore};
+ghost use Rattle.recorder_with_cards.specs.Recorded.{actions_in};
+ghost use Rattle.recorder_with_cards.specs.Acts.{ItemGoes, PromisesMore, PromisesSeconds};
+ghost use Rattle.recorder_with_cards.specs.Acts.{AreAmong, HasRoomFor, MayGoOn};
 ghost use Rattle.recorder_with_cards.specs.Gone.{HasGone};
 
 use crate::acts::{SecondDue, act_all, number_of};
@@ -49,32 +47,16 @@ pub(crate) fn drive<M: Medium, C: Chip, D: Chip>(
     requires going { IsBetweenSeconds run.old (M.state unit.old) (C.card card_a.old) (D.card card_b.old)
         (C.state card_a.old) (D.state card_b.old) }
     requires some { 0 < due.seconds }
-    requires small { run.old.next + due.seconds ≤ end_of_seconds }
-    requires first { due.from ≤ due.to }
-    requires last { due.to ≤ length due.items.now }
-    requires room { HasRoom run.old outcome.old due.seconds 0 (insertions_in due.from due.to due.items.now)
-        (due.to - due.from) }
-    requires unfound { run.old.unfound ≤ length outcome.old.breaks.items }
-    ensures ringed { length
-        (actions_in (between due.entry.from due.entry.to due.entry.items.now)) ≡ due.entry.to - due.entry.from
-        → due.entry.to - due.entry.from ≤ largest_number
-        → RingsSeconds result due.entry.seconds due.entry.speed
-        (actions_in (between due.entry.from due.entry.to due.entry.items.now)) run.old run.new outcome.old
-        outcome.new (devices (M.state unit.old) (C.state card_a.old) (D.state card_b.old))
-        (devices (M.state unit.new) (C.state card_a.new) (D.state card_b.new)) }
-    ensures cards { length
-        (actions_in (between due.entry.from due.entry.to due.entry.items.now)) ≡ due.entry.to - due.entry.from
-        → due.entry.to - due.entry.from ≤ largest_number
-        → CardsSeconds result due.entry.seconds due.entry.speed
-        (actions_in (between due.entry.from due.entry.to due.entry.items.now)) run.old run.new outcome.old
-        outcome.new (devices (M.state unit.old) (C.state card_a.old) (D.state card_b.old))
-        (devices (M.state unit.new) (C.state card_a.new) (D.state card_b.new)) }
-    ensures later { AreAfter (devices (M.state unit.old) (C.state card_a.old) (D.state card_b.old))
-        (devices (M.state unit.new) (C.state card_a.new) (D.state card_b.new)) }
-    ensures most { WritesFor due.entry.seconds (due.entry.to - due.entry.from)
+    requires may { MayGoOn due.seconds 0 (insertions_in due.from due.to due.items.now) (due.to - due.from) run.old
+        outcome.old }
+    requires among { AreAmong due.items.now due.from due.to }
+    // What a run promises goes on over them.
+    ensures promises { PromisesSeconds result due.entry.seconds due.entry.speed (due.entry.to - due.entry.from)
+        (actions_in (between due.entry.from due.entry.to due.entry.items.now)) run.old run.new outcome.old outcome.new
         (devices (M.state unit.old) (C.state card_a.old) (D.state card_b.old))
         (devices (M.state unit.new) (C.state card_a.new) (D.state card_b.new)) }
-    ensures calm { AreCalm outcome.old.breaks.items outcome.new.breaks.items
+    ensures goes { ItemGoes due.entry.seconds (due.entry.to - due.entry.from) outcome.old.breaks.items
+        outcome.new.breaks.items
         (devices (M.state unit.old) (C.state card_a.old) (D.state card_b.old))
         (devices (M.state unit.new) (C.state card_a.new) (D.state card_b.new)) }
     ensures gone { HasGone result due.entry.seconds run.old run.new outcome.new (M.state unit.new) (C.card card_a.new)
@@ -84,7 +66,6 @@ pub(crate) fn drive<M: Medium, C: Chip, D: Chip>(
         (insertions_in due.entry.from due.entry.to due.entry.items.now + insertions)
         (due.entry.to - due.entry.from + actions) → OnOk result
         (HasRoom run.new outcome.new left offs insertions actions) }
-    ensures broke { BreaksDown outcome.old.breaks.items outcome.new.breaks.items (M.state unit.old) (M.state unit.new) }
 {
     let has_power = begin_second(run, due.speed, unit, card_a, card_b, outcome)?;
     let first = SecondDue {
@@ -120,20 +101,12 @@ fn drive_on<M: Medium, C: Chip, D: Chip>(
 ) -> Result<(), RunFault>
     requires going { IsBetweenSeconds run.old (M.state unit.old) (C.card card_a.old) (D.card card_b.old)
         (C.state card_a.old) (D.state card_b.old) }
-    requires small { run.old.next + more.seconds ≤ end_of_seconds }
-    requires room { HasRoom run.old outcome.old more.seconds 0 0 0 }
-    requires unfound { run.old.unfound ≤ length outcome.old.breaks.items }
-    ensures ringed { RingsMore result more.seconds more.speed run.old run.new outcome.old outcome.new
+    requires may { MayGoOn more.seconds 0 0 0 run.old outcome.old }
+    // What a run promises goes on over them.
+    ensures promises { PromisesMore result more.seconds more.speed run.old run.new outcome.old outcome.new
         (devices (M.state unit.old) (C.state card_a.old) (D.state card_b.old))
         (devices (M.state unit.new) (C.state card_a.new) (D.state card_b.new)) }
-    ensures cards { CardsMore result more.seconds more.speed run.old run.new outcome.old outcome.new
-        (devices (M.state unit.old) (C.state card_a.old) (D.state card_b.old))
-        (devices (M.state unit.new) (C.state card_a.new) (D.state card_b.new)) }
-    ensures later { AreAfter (devices (M.state unit.old) (C.state card_a.old) (D.state card_b.old))
-        (devices (M.state unit.new) (C.state card_a.new) (D.state card_b.new)) }
-    ensures most { WritesFor more.seconds 0 (devices (M.state unit.old) (C.state card_a.old) (D.state card_b.old))
-        (devices (M.state unit.new) (C.state card_a.new) (D.state card_b.new)) }
-    ensures calm { AreCalm outcome.old.breaks.items outcome.new.breaks.items
+    ensures goes { ItemGoes more.seconds 0 outcome.old.breaks.items outcome.new.breaks.items
         (devices (M.state unit.old) (C.state card_a.old) (D.state card_b.old))
         (devices (M.state unit.new) (C.state card_a.new) (D.state card_b.new)) }
     ensures gone { HasGone result more.seconds run.old run.new outcome.new (M.state unit.new) (C.card card_a.new)
@@ -141,7 +114,6 @@ fn drive_on<M: Medium, C: Chip, D: Chip>(
     ensures room { (left offs insertions actions : ℕ)
         → HasRoom run.old outcome.old (more.seconds + left) offs insertions actions
         → OnOk result (HasRoom run.new outcome.new left offs insertions actions) }
-    ensures broke { BreaksDown outcome.old.breaks.items outcome.new.breaks.items (M.state unit.old) (M.state unit.new) }
 {
     let mut left = more.seconds;
     while left > 0 {
@@ -167,22 +139,13 @@ fn step<M: Medium, C: Chip, D: Chip>(
 ) -> Result<(), RunFault>
     requires going { IsBetweenSeconds run.old (M.state unit.old) (C.card card_a.old) (D.card card_b.old)
         (C.state card_a.old) (D.state card_b.old) }
-    requires some { 0 < more.seconds }
-    requires minute { run.old.next % 60 + more.seconds ≤ 60 }
-    requires small { run.old.next + more.seconds ≤ end_of_seconds }
-    requires room { HasRoom run.old outcome.old more.seconds 0 0 0 }
-    requires unfound { run.old.unfound ≤ length outcome.old.breaks.items }
-    ensures ringed { RingsMore result more.seconds more.speed run.old run.new outcome.old outcome.new
+    requires stretch { IsStretch more.seconds run.old.next }
+    requires room { HasRoomFor more.seconds run.old outcome.old }
+    // What a run promises goes on over them.
+    ensures promises { PromisesMore result more.seconds more.speed run.old run.new outcome.old outcome.new
         (devices (M.state unit.old) (C.state card_a.old) (D.state card_b.old))
         (devices (M.state unit.new) (C.state card_a.new) (D.state card_b.new)) }
-    ensures cards { CardsMore result more.seconds more.speed run.old run.new outcome.old outcome.new
-        (devices (M.state unit.old) (C.state card_a.old) (D.state card_b.old))
-        (devices (M.state unit.new) (C.state card_a.new) (D.state card_b.new)) }
-    ensures later { AreAfter (devices (M.state unit.old) (C.state card_a.old) (D.state card_b.old))
-        (devices (M.state unit.new) (C.state card_a.new) (D.state card_b.new)) }
-    ensures most { WritesFor more.seconds 0 (devices (M.state unit.old) (C.state card_a.old) (D.state card_b.old))
-        (devices (M.state unit.new) (C.state card_a.new) (D.state card_b.new)) }
-    ensures calm { AreCalm outcome.old.breaks.items outcome.new.breaks.items
+    ensures goes { ItemGoes more.seconds 0 outcome.old.breaks.items outcome.new.breaks.items
         (devices (M.state unit.old) (C.state card_a.old) (D.state card_b.old))
         (devices (M.state unit.new) (C.state card_a.new) (D.state card_b.new)) }
     ensures gone { HasGone result more.seconds run.old run.new outcome.new (M.state unit.new) (C.card card_a.new)
@@ -190,7 +153,6 @@ fn step<M: Medium, C: Chip, D: Chip>(
     ensures room { (left offs insertions actions : ℕ) → HasRoom run.old outcome.old
         (more.seconds + left) offs insertions actions
         → OnOk result (HasRoom run.new outcome.new left offs insertions actions) }
-    ensures broke { BreaksDown outcome.old.breaks.items outcome.new.breaks.items (M.state unit.old) (M.state unit.new) }
 {
     begin_second(run, more.speed, unit, card_a, card_b, outcome)?;
     let stretch = Stretch {

@@ -1,18 +1,16 @@
 //! Power is back.
-ghost use Rattle.std.specs.Prelude.{◌≡◌, ℕ, ◌+◌, ◌/◌, ◌<◌, ◌≤◌, true, false, IfOk, IfSome, IsOk, OnOk};
+ghost use Rattle.std.specs.Prelude.{◌≡◌, ℕ, ◌+◌, ◌/◌, ◌<◌, ◌≤◌, true, false, IfOk, IsOk, OnOk};
 ghost use Rattle.std.specs.Prelude.{length, is_err};
 ghost use Rattle.unit_model.specs.Image.{IsUnit};
-ghost use Rattle.unit_model.specs.Versions.{rule_of};
-ghost use Rattle.run_opening.specs.Units.{IsLoaded};
 ghost use Rattle.run_acts.specs.Power.{is_lit, minute_over};
-ghost use Rattle.run_acts.specs.Going.{RunHasPowerAllSeated, IsBetweenSeconds, IsInsideSecond};
-ghost use Rattle.run_acts.specs.Room.{HasRoom, HasRoomWithin, falls_of, bare_seats};
+ghost use Rattle.run_acts.specs.Going.{IsBetweenSeconds, IsInsideSecond};
+ghost use Rattle.run_acts.specs.Room.{HasRoom, HasRoomWithin};
 ghost use Rattle.recorder_with_cards.specs.Waking.{TakesUp, TakesAwake};
 ghost use Rattle.recorder_with_cards.specs.Noting.{NotesWaking, NotesFound, NotesPowerOn};
 ghost use Rattle.run_promise.specs.Between.{devices};
-ghost use Rattle.run_acts.specs.Acts.{AllGoOn, IsHeldBehind};
+ghost use Rattle.run_acts.specs.Acts.{AllGoOn, RunStandsBehind};
 ghost use Rattle.recorder_with_cards.specs.Acts.{BeginsSecond, BreaksGo, IsWoken, PromisesResuming, PromisesSecond};
-ghost use Rattle.recorder_with_cards.specs.Acts.{PromisesWaking, Resumes};
+ghost use Rattle.recorder_with_cards.specs.Acts.{PromisesWaking, Resumes, HasRoomFor, IsToldBy, MayWake};
 
 use crate::accepting::{SlotAnew, accept_anew};
 use activity_codec::Slot;
@@ -40,8 +38,7 @@ pub(crate) fn begin_second<M: Medium, C: Chip, D: Chip>(
 ) -> Result<bool, RunFault>
     requires going { IsBetweenSeconds run.old (M.state unit.old) (C.card card_a.old) (D.card card_b.old)
         (C.state card_a.old) (D.state card_b.old) }
-    requires room { HasRoom run.old outcome.old 1 0 0 0 }
-    requires unfound { run.old.unfound ≤ length outcome.old.breaks.items }
+    requires room { HasRoomFor 1 run.old outcome.old }
     ensures begun { BeginsSecond result run.old run.new outcome.old outcome.new }
     ensures dark { IfOk result (λ powered. powered ≡ false
         → (run.new ≡ run.old) × (outcome.new ≡ outcome.old) × (unit.new ≡ unit.old) × (card_a.new ≡ card_a.old)
@@ -82,12 +79,9 @@ fn power_on<M: Medium, C: Chip, D: Chip>(
     card_b: &mut D,
     outcome: &mut Outcome,
 ) -> Result<(), RunFault>
-    requires dark { is_lit run.old.power ≡ false }
+    requires may { MayWake run.old outcome.old }
     requires going { IsInsideSecond run.old (M.state unit.old) (C.card card_a.old) (D.card card_b.old)
         (C.state card_a.old) (D.state card_b.old) }
-    requires breaks { length outcome.old.breaks.items + falls_of run.old.keeper.cabin < outcome.old.breaks.room }
-    requires finds { length outcome.old.finds.items + bare_seats run.old.keeper.cabin.slots.seats
-        ≤ outcome.old.finds.room }
     requires unfound { run.old.unfound ≤ length outcome.old.breaks.items }
     ensures woken { IsWoken result run.old run.new outcome.old outcome.new }
     ensures going { OnOk result (IsInsideSecond run.new (M.state unit.new) (C.card card_a.new) (D.card card_b.new)
@@ -140,14 +134,10 @@ fn found<M: Medium, C: Chip, D: Chip>(
     card_b: &mut D,
     outcome: &mut Outcome,
 ) -> Result<(), RunFault>
-    requires dark { is_lit run.old.power ≡ false }
+    requires may { MayWake run.old outcome.old }
     requires going { IsInsideSecond run.old (M.state unit.old) (C.card card_a.old) (D.card card_b.old)
         (C.state card_a.old) (D.state card_b.old) }
-    requires loaded { IsLoaded (M.state unit.old) waking.journal }
-    requires rule { IfSome (M.state unit.old).image (λ x. waking.rule ≡ rule_of x) }
-    requires breaks { length outcome.old.breaks.items + falls_of run.old.keeper.cabin < outcome.old.breaks.room }
-    requires finds { length outcome.old.finds.items + bare_seats run.old.keeper.cabin.slots.seats
-        ≤ outcome.old.finds.room }
+    requires told { IsToldBy (M.state unit.old) waking.journal waking.rule }
     requires unfound { run.old.unfound ≤ length outcome.old.breaks.items }
     ensures woken { IsWoken result run.old run.new outcome.old outcome.new }
     ensures going { OnOk result (IsInsideSecond run.new (M.state unit.new) (C.card card_a.new) (D.card card_b.new)
@@ -185,22 +175,16 @@ fn resume<M: Medium, C: Chip, D: Chip>(
     card_b: &mut D,
     outcome: &mut Outcome,
 ) -> Result<(), Failed>
-    requires dark { is_lit run.old.power ≡ false }
+    requires may { MayWake run.old outcome.old }
     requires going { IsInsideSecond run.old (M.state unit.old) (C.card card_a.old) (D.card card_b.old)
         (C.state card_a.old) (D.state card_b.old) }
-    requires loaded { IsLoaded (M.state unit.old) waking.journal }
-    requires rule { IfSome (M.state unit.old).image (λ x. waking.rule ≡ rule_of x) }
+    requires told { IsToldBy (M.state unit.old) waking.journal waking.rule }
     requires later { waking.journal.kept < run.old.next / 60 }
-    requires breaks { length outcome.old.breaks.items + falls_of run.old.keeper.cabin < outcome.old.breaks.room }
-    requires finds { length outcome.old.finds.items + bare_seats run.old.keeper.cabin.slots.seats
-        ≤ outcome.old.finds.room }
     ensures resumed { Resumes result run.old run.new outcome.old outcome.new }
-    ensures held { IsHeldBehind (is_err result) run.new
+    ensures behind { RunStandsBehind result run.new
         (devices (M.state unit.old) (C.state card_a.old) (D.state card_b.old))
         (devices (M.state unit.new) (C.state card_a.new) (D.state card_b.new))
         (C.card card_a.new) (D.card card_b.new) }
-    ensures going { OnOk result (RunHasPowerAllSeated (run.new.next / 60) run.new (M.state unit.new) (C.card card_a.new)
-        (D.card card_b.new) (C.state card_a.new) (D.state card_b.new)) }
     ensures takes { TakesUp run.old run.new outcome.old outcome.new }
     // What a run promises goes on with it.
     ensures promises { PromisesResuming waking.journal.kept waking.speed

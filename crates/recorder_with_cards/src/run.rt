@@ -8,17 +8,14 @@ ghost use Rattle.unit_model.specs.Image.{IsUnit};
 ghost use Rattle.run_outcome.specs.Room.{off_count, IsReserved};
 ghost use Rattle.run_promise.specs.Between.{devices};
 ghost use Rattle.run_minutes.specs.Books.{HaveTime};
-ghost use Rattle.run_minutes.specs.Later.{AreAfter};
-ghost use Rattle.run_acts.specs.Going.{largest_number, end_of_seconds, IsBetweenSeconds};
+ghost use Rattle.run_acts.specs.Going.{largest_number, IsBetweenSeconds};
 ghost use Rattle.run_acts.specs.Room.{HasRoom};
-ghost use Rattle.recorder_with_cards.specs.Writes.{WritesFor};
 ghost use Rattle.recorder_with_cards.specs.Items.{between, insertions_in};
-ghost use Rattle.recorder_with_cards.specs.Recorded.{actions_in, RingsItem};
-ghost use Rattle.recorder_with_cards.specs.Carded.{CardsItem};
+ghost use Rattle.recorder_with_cards.specs.Recorded.{actions_in};
 ghost use Rattle.recorder_with_cards.specs.Breakdowns.{BreakdownsAreCounted};
 ghost use Rattle.recorder_with_cards.specs.Ends.{recording_of, BeginAs, EndsTrace, MayRecord, IsKeptFrom};
 ghost use Rattle.recorder_with_cards.specs.Gone.{first_waiting, has_seconds, HasGone, IsRefusedBy, TellsBreakdowns};
-ghost use Rattle.recorder_with_cards.specs.Acts.{ItemGoes};
+ghost use Rattle.recorder_with_cards.specs.Acts.{ItemGoes, PromisesItem, AreAmong, MayGoOn, RunGoes};
 
 use crate::driving::{SecondsDue, drive};
 use run_acts::Run;
@@ -70,10 +67,8 @@ pub fn run_trace<U: Medium, C: Chip>(
     ensures refused { IfErr result (IsRefusedBy trace.now.start outcome.old outcome.new (U.state unit.old)
         (U.state unit.new) (C.state card_a.old) (C.state card_a.new) (C.state card_b.old) (C.state card_b.new)) }
     ensures unit { IsUnit (U.state unit.new) }
-    ensures later { AreAfter (devices (U.state unit.old) (C.state card_a.old) (C.state card_b.old))
-        (devices (U.state unit.new) (C.state card_a.new) (C.state card_b.new)) }
-    // So many writes it begins at most, by its seconds and its items, whatever fails.
-    ensures most { WritesFor (total_seconds trace.now.items) (length trace.now.items)
+    // No clock falls; and so many writes it begins at most, by its seconds and its items, whatever fails.
+    ensures goes { RunGoes (total_seconds trace.now.items) (length trace.now.items)
         (devices (U.state unit.old) (C.state card_a.old) (C.state card_b.old))
         (devices (U.state unit.new) (C.state card_a.new) (C.state card_b.new)) }
     // Each cut that a failed call made is a breakdown of the unit more, whatever it tells. And each breakdown has its
@@ -140,25 +135,14 @@ fn go_on<M: Medium, C: Chip, D: Chip>(
     card_b: &mut D,
     outcome: &mut Outcome,
 ) -> Result<(), RunFault>
-    requires first { due.from ≤ due.to }
-    requires last { due.to ≤ length due.items.now }
+    requires among { AreAmong due.items.now due.from due.to }
     requires item { InRange due.item }
-    requires small { run.old.next + item_seconds due.item ≤ end_of_seconds }
-    requires room { HasRoom run.old outcome.old (item_seconds due.item) (off_count due.item)
-        (insertions_in due.from due.to due.items.now)
-        (due.to - due.from) }
+    requires may { MayGoOn (item_seconds due.item) (off_count due.item) (insertions_in due.from due.to due.items.now)
+        (due.to - due.from) run.old outcome.old }
     requires going { IsBetweenSeconds run.old (M.state unit.old) (C.card card_a.old) (D.card card_b.old)
         (C.state card_a.old) (D.state card_b.old) }
-    requires unfound { run.old.unfound ≤ length outcome.old.breaks.items }
-    ensures ringed { length
-        (actions_in (between due.entry.from due.entry.to due.entry.items.now)) ≡ due.entry.to - due.entry.from
-        → RingsItem result due.entry.item
-        (actions_in (between due.entry.from due.entry.to due.entry.items.now)) run.old run.new outcome.old outcome.new
-        (devices (M.state unit.old) (C.state card_a.old) (D.state card_b.old))
-        (devices (M.state unit.new) (C.state card_a.new) (D.state card_b.new)) }
-    ensures cards { length
-        (actions_in (between due.entry.from due.entry.to due.entry.items.now)) ≡ due.entry.to - due.entry.from
-        → CardsItem result due.entry.item
+    // What a run promises goes on over it.
+    ensures promises { PromisesItem result due.entry.item (due.entry.to - due.entry.from)
         (actions_in (between due.entry.from due.entry.to due.entry.items.now)) run.old run.new outcome.old outcome.new
         (devices (M.state unit.old) (C.state card_a.old) (D.state card_b.old))
         (devices (M.state unit.new) (C.state card_a.new) (D.state card_b.new)) }

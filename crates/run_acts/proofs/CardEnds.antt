@@ -1,5 +1,5 @@
 -- What a card shows of its events as a second begins and ends.
-use Rattle.std.proofs.Common.{◌≡◌, ◌∙◌, ◌⊎◌, inl, inr, ℕ, ◌+◌, ◌<◌, Bool, true, false, cond, not, Option, Some, is_some, List, [], ◌∷◌, ◌++◌, length, refl, sym, ap, subst, arith, append-nil}
+use Rattle.std.proofs.Common.{◌≡◌, ◌∙◌, ◌⊎◌, inl, inr, ℕ, ◌+◌, ◌<◌, ◌≤◌, Bool, true, false, cond, not, Option, Some, is_some, List, [], ◌∷◌, ◌++◌, length, refl, sym, ap, subst, arith, append-nil}
 use Rattle.std.specs.Prelude.{◌&&◌, filter, flat_map, nat_lt}
 use Rattle.std.specs.List.{list_any, AllByRecursion}
 use Rattle.std.proofs.lemmas.Bool.Decides.{nat_tests}
@@ -8,20 +8,18 @@ use Rattle.activity_codec.specs.declared.values.Slot.TheVariants.{Driver, CoDriv
 use Rattle.trace_model.specs.declared.Card.{Card}
 use Rattle.trace_model.specs.declared.Action.{Action}
 use Rattle.trace_model.specs.Trace.{TraceSecond}
-use Rattle.tacho_types.specs.declared.texts.Registration.{Registration}
 use Rattle.log_model.specs.declared.lines.Break.{Break}
 use Rattle.log_model.specs.Causes.{second_of}
 use Rattle.log_model.specs.Log.{RunLog, In, Keeping, cut_in, found_in, kept_after, is_accepting}
 use Rattle.log_model.specs.Slots.{same_card}
 use Rattle.log_model.specs.Course.{Course, Visit, Before, ToldSecond, Went, begins, both_told, unmoved, fresh, all_acted, cut_told, lit_course, second_told, has_power, went}
-use Rattle.event_model.specs.Events.{Event, Seen, number_of, seen_of, seen_spans, gap_events, gaps_between, last_number, first_card}
+use Rattle.event_model.specs.Events.{Event, Seen, number_of, seen_of, seen_spans, last_number, first_card}
 use Rattle.note_model.specs.Done.{course_powered, done_by}
 use Rattle.note_model.specs.Noted.{Note, noted_in}
-use Rattle.safety_model.specs.Safe.{Devices, card_of}
+use Rattle.safety_model.specs.Safe.{Devices}
 use Rattle.run_course.proofs.Told.{lit-told, dark-told}
 use Rattle.run_events.specs.Seconds.{gap_by, gap_before, seen_next}
 use Rattle.run_events.specs.Choice.{AreEarlier}
-use Rattle.run_events.proofs.Growing.{seen-more}
 use Rattle.run_events.proofs.Later.{told-number, seen-same}
 use Rattle.run_note_record.proofs.Brought.{lit-course, told-speed}
 use Rattle.run_rings.specs.Notes.{notes_to, TellSameTo, course_behind, sits_accepted}
@@ -33,14 +31,14 @@ use Rattle.run_note_record.proofs.Noted.{second-notes}
 use Rattle.run_note_record.proofs.Exact.{fewer-none, next-notes, idle-notes, dark-notes}
 use Rattle.run_note_record.specs.RingsSoFar.{GoesBehind}
 use Rattle.run_note_record.proofs.SoFar.{failed-more}
-use Rattle.run_acts.specs.OnCards.{as_accepted, accepted_in, gaps_on}
-use Rattle.run_acts.specs.RunCards.{vehicle_in, sizes_in, CardShown, CardsBehind, seen_behind, gap_behind, CardsIn, CardsWaking, StillShow}
-use Rattle.run_acts.proofs.OnCards.{gaps-next, still-same}
+use Rattle.run_acts.specs.OnCards.{MetSecond, as_accepted, accepted_in, gaps_on, met_behind, met_seconds, met_next}
+use Rattle.run_acts.specs.RunCards.{vehicle_in, CardShown, CardsBehind, seen_behind, gap_behind, met_so, CardsIn, CardsWaking, StillShow}
+use Rattle.run_acts.proofs.CardSeconds.{met-more}
 use Rattle.run_acts.proofs.CardCourse.{Finding, findings, IsQuiet, quiet-same, quiet-then, both-quiet, behind-same, cut-quiet, acted-append, powered-quiet, powered-as, sitting_at}
-use Rattle.run_acts.proofs.CardShown.{FindsStill, KeepsFailed, Follows, goes-on, plain-on}
+use Rattle.run_acts.proofs.CardShown.{FindsStill, KeepsFailed, Follows, goes-on, card-next}
 use Rattle.run_acts.proofs.CardUses.{FoundTo, none-sits, uses-to}
-use Rattle.run_acts.proofs.CardSecond.{is_now, any-more, standing-is}
-use Rattle.run_acts.proofs.CardGaps.{kept-before, between-same, before-same, low-spans}
+use Rattle.run_acts.proofs.CardSecond.{is_now, any-more, count-more, standing-is}
+use Rattle.run_acts.proofs.CardGaps.{kept-before, before-same, low-spans, met-same}
 
 -- ---- nothing is found
 
@@ -59,9 +57,6 @@ gap-off log spans x (inr goes) = ap (λ (b : Bool). cond x.told.lit (cond b (gap
     same true = refl
     same false = refl
 
-no-more : (c : Card) (own : Registration) (gaps more : List Event) → more ≡ [] → gaps_on c own (gaps ++ more) ≡ gaps_on c own gaps
-no-more c own gaps more none = ap (λ (es : List Event). gaps_on c own (gaps ++ es)) none ∙ ap (gaps_on c own) (append-nil gaps)
-
 -- ---- A SECOND BEGINS
 
 module _ (o : Origin) (done : List TraceSecond) (s : TraceSecond) (log : RunLog) (d : Devices) where
@@ -78,18 +73,17 @@ module _ (o : Origin) (done : List TraceSecond) (s : TraceSecond) (log : RunLog)
   -- in a span that goes on
   pub second-begins : CardsBehind o done log d → (went log done).before.running ≡ true → has_power (went log done).before s ≡ true → FoundTo log s.number 0 → CardsIn o done s log [] log d
   second-begins h on power told c valid =
-      plain-on o c log log (gap_events as_accepted log done) (gap_events as_accepted log done ++ gap_behind log done s [] log) (seen_of log done) (seen_behind log done s [] log ∷ [])
-      (uses_in o c (notes_in log done)) (uses_in o c (notes_now log done log s)) d d (h c valid) (begins-still power told ((power-notes log was s).1 on) c) (λ u is. is)
-      (plain-found c (seen_behind log done s [] log) (powered-quiet log was s on).found, tt)
-      (λ sure. no-more c (vehicle_in o) (gap_events as_accepted log done) (gap_behind log done s [] log) (gap-off log (seen_spans (seen_of log done)) (seen_behind log done s [] log) (inr (ap not on))))
-      (λ z there. there) (still-same (sizes_in o c) (card_of d c))
+      card-next o c log log (met_seconds log done) (met_so log done s [] log (gap_behind log done s [] log))
+      (uses_in o c (notes_in log done)) (uses_in o c (notes_now log done log s)) d (h c valid) (begins-still power told ((power-notes log was s).1 on) c) (λ u is. is)
+      (plain-found c (seen_behind log done s [] log) (powered-quiet log was s on).found)
+      (ap (gaps_on c (vehicle_in o)) (gap-off log (seen_spans (seen_of log done)) (seen_behind log done s [] log) (inr (ap not on))))
 
   -- power begins with it, and no card was looked at yet
   pub waking-begins : CardsBehind o done log d → (went log done).before.running ≡ false → ((slot : Slot) → found_in log s.number (In 0) slot ≡ []) → has_power (went log done).before s ≡ true → FoundTo log s.number 0 → CardsWaking o done s log log d
   waking-begins h off none power told c valid =
-      plain-on o c log log (gap_events as_accepted log done) (gap_events as_accepted log done) (seen_of log done) (seen_behind log done s [] log ∷ [])
-      (uses_in o c (notes_in log done)) (uses_in o c (notes_now log done log s)) d d (h c valid) (begins-still power told nothing c) (λ u is. is)
-      (plain-found c (seen_behind log done s [] log) found, tt) (λ sure. refl) (λ z there. there) (still-same (sizes_in o c) (card_of d c))
+      card-next o c log log (met_seconds log done) (met_so log done s [] log [])
+      (uses_in o c (notes_in log done)) (uses_in o c (notes_now log done log s)) d (h c valid) (begins-still power told nothing c) (λ u is. is)
+      (plain-found c (seen_behind log done s [] log) found) refl
     where
       nothing : notes_to log (went log done).before s [] ≡ []
       nothing =
@@ -149,6 +143,12 @@ module _ (o : Origin) (done : List TraceSecond) (s : TraceSecond) (began later :
   low : AllByRecursion (λ (span : List Seen). last_number span < s.number) (seen_spans (seen_of began done))
   low = low-spans s.number l.some (seen_of began done) l.early
 
+  -- the seconds before it are met as they were, and so are all
+  met-is : met_seconds later (done ++ s ∷ []) ≡ met_seconds began done ++ met_next later done s ∷ []
+  met-is =
+      met-more later done s
+      ∙ ap (λ (ms : List MetSecond). ms ++ met_next later done s ∷ []) (ap (λ (xs : List Seen). met_behind later [] xs) seen-is ∙ met-same began later s.number l.some kept [] (seen_of began done) l.early)
+
   -- its notes are those of before, with its own
   ended-notes : notes_in later (done ++ s ∷ []) ≡ notes_now began done later s
   ended-notes = second-notes began later done s l.behind.same ∙ ap (λ (w : Went). notes_in began done ++ noted_in later (done_by later w.before s)) l.behind.went_is
@@ -157,10 +157,10 @@ module _ (o : Origin) (done : List TraceSecond) (s : TraceSecond) (began later :
   pub ends-shown : (front : List Action) (log : RunLog) (d e : Devices) → CardsIn o done s began front log d → ((c : Card) → FindsStill log later (uses_in o c (notes_now began done log s)) (uses_in o c (notes_now began done later s))) → KeepsFailed log later
       → IsQuiet (course_behind log (went began done).before s front) (lit_course later s (not (went began done).before.running) (went began done).before.slots) → HaveLeftMore o d e → StillShow o d e → CardsBehind o (done ++ s ∷ []) later e
   ends-shown front log d e h finds keeps q left still c valid =
-      subst (λ (xs : List Seen). CardShown o c later (gap_events as_accepted later (done ++ s ∷ [])) xs (uses_in o c (notes_in later (done ++ s ∷ []))) e) (sym (seen-more later done s ∙ ap (λ (xs : List Seen). xs ++ x ∷ []) seen-is))
-      (goes-on o c log later (gap_events as_accepted began done ++ gap_behind began done s front log) (gap_events as_accepted later (done ++ s ∷ [])) (seen_of began done) (seen_behind began done s front log) (seen_next later done s)
+      subst (λ (ms : List MetSecond). CardShown o c later ms (uses_in o c (notes_in later (done ++ s ∷ []))) e) (sym met-is)
+      (goes-on o c log later (met_seconds began done) (met_so began done s front log (gap_behind began done s front log)) (met_next later done s)
       (uses_in o c (notes_now began done log s)) (uses_in o c (notes_in later (done ++ s ∷ []))) d e
-      (h c valid) (λ none. let told = finds c none in (told.0, ap (uses_in o c) ended-notes ∙ told.1)) keeps follows accepted (ap (gaps_on c (vehicle_in o)) gaps) (left.card c) (still c valid))
+      (h c valid) (λ none. let told = finds c none in (told.0, ap (uses_in o c) ended-notes ∙ told.1)) keeps follows accepted (ap (gaps_on c (vehicle_in o)) gap) (left.card c) (still c valid))
     where
       k : Course
       k = course_behind log (went began done).before s front
@@ -175,6 +175,8 @@ module _ (o : Origin) (done : List TraceSecond) (s : TraceSecond) (began later :
         starts = starts-is;
         entered = λ is. ap (list_any (λ (v : Visit). same_card v.card c)) g.entered ∙ is;
         torn = λ is. ap (list_any (λ (v : Visit). same_card v.card c)) g.torn ∙ any-more (λ (v : Visit). same_card v.card c) (course_behind log (went began done).before s front).torn g.more is;
+        often = subst (λ (vs : List Visit). length (filter (λ (v : Visit). same_card v.card c) (course_behind log (went began done).before s front).torn) ≤ length (filter (λ (v : Visit). same_card v.card c) vs)) (sym g.torn)
+            (count-more (λ (v : Visit). same_card v.card c) (course_behind log (went began done).before s front).torn g.more);
       }
 
       accepted : accepted_in c (seen_next later done s) ≡ accepted_in c (seen_behind began done s front log)
@@ -186,11 +188,6 @@ module _ (o : Origin) (done : List TraceSecond) (s : TraceSecond) (began later :
           ∙ (λ i. cond (lit-is i) (cond (starts-is i)
           (before-same as_accepted began later s.number kept (seen_spans (seen_of began done)) (seen_behind began done s front log) (seen_next later done s) number-is
           (λ slot. standing-is (seen_next later done s) slot ∙ ap (λ (fs : List Finding). first_card (filter (is_now slot) fs)) g.found ∙ sym (standing-is (seen_behind began done s front log) slot)) low i) []) [])
-
-      gaps : gap_events as_accepted later (done ++ s ∷ []) ≡ gap_events as_accepted began done ++ gap_behind began done s front log
-      gaps =
-          gaps-next later done s
-          ∙ (λ i. (ap (λ (xs : List Seen). gaps_between as_accepted later (seen_spans xs)) seen-is ∙ between-same as_accepted began later s.number kept (seen_spans (seen_of began done)) low) i ++ gap i)
 
   -- it went on behind all of its actions
   pub whole-quiet : (log : RunLog) → TellSameTo log later s.number (length s.actions) → IsQuiet (course_behind log (went began done).before s s.actions) (lit_course later s (not (went began done).before.running) (went began done).before.slots)
@@ -247,39 +244,31 @@ plain-notes log done s (inr goes) = idle-notes log (went log done).before s goes
 
 pub plain-second : (o : Origin) (done : List TraceSecond) (s : TraceSecond) (log later : RunLog) (d : Devices) → IsLater log later done s.number → IsPlainNext later done s → CardsBehind o done log d → CardsBehind o (done ++ s ∷ []) later d
 plain-second o done s log later d l plain h c valid =
-    subst (λ (xs : List Seen). CardShown o c later (gap_events as_accepted later (done ++ s ∷ [])) xs (uses_in o c (notes_in later (done ++ s ∷ []))) d) (sym (seen-more later done s ∙ ap (λ (xs : List Seen). xs ++ seen_next later done s ∷ []) same))
-    (plain-on o c log later (gap_events as_accepted log done) (gap_events as_accepted later (done ++ s ∷ [])) (seen_of log done) (seen_next later done s ∷ [])
-    (uses_in o c (notes_in log done)) (uses_in o c (notes_in later (done ++ s ∷ []))) d d (h c valid)
+    subst (λ (ms : List MetSecond). CardShown o c later ms (uses_in o c (notes_in later (done ++ s ∷ []))) d) (sym met)
+    (card-next o c log later (met_seconds log done) (met_next later done s) (uses_in o c (notes_in log done)) (uses_in o c (notes_in later (done ++ s ∷ []))) d (h c valid)
     (λ none. (
       fewer-none log later l.more l.breaks none,
       ap (uses_in o c) (second-notes log later done s l.behind.same ∙ ap (λ (ns : List Note). notes_in log done ++ ns) (plain-notes later done s plain) ∙ append-nil (notes_in log done)),
     ))
     (failed-more log later (l.more, l.breaks))
-    (plain-found c (seen_next later done s) is.0, tt) (λ sure. ap (gaps_on c (vehicle_in o)) gaps) (λ z there. there) (still-same (sizes_in o c) (card_of d c)))
+    (plain-found c (seen_next later done s) is.0) (ap (gaps_on c (vehicle_in o)) (gap-off later (seen_spans (seen_of later done)) (seen_next later done s) is.1)))
   where
     is : ((seen_next later done s).told.course.found ≡ []) × (((seen_next later done s).told.lit ≡ false) ⊎ ((seen_next later done s).told.starts ≡ false))
     is = plain-next later done s plain
 
-    same : seen_of later done ≡ seen_of log done
-    same = seen-same log later done l.behind.same
-
-    gaps : gap_events as_accepted later (done ++ s ∷ []) ≡ gap_events as_accepted log done
-    gaps =
-        gaps-next later done s
-        ∙ ap (λ (es : List Event). gap_events as_accepted later done ++ es) (gap-off later (seen_spans (seen_of later done)) (seen_next later done s) is.1)
-        ∙ append-nil (gap_events as_accepted later done)
-        ∙ ap (λ (xs : List Seen). gaps_between as_accepted later (seen_spans xs)) same
-        ∙ between-same as_accepted log later s.number (kept-before log later l.more s.number l.breaks l.here) (seen_spans (seen_of log done)) (low-spans s.number l.some (seen_of log done) l.early)
+    met : met_seconds later (done ++ s ∷ []) ≡ met_seconds log done ++ met_next later done s ∷ []
+    met =
+        met-more later done s
+        ∙ ap (λ (ms : List MetSecond). ms ++ met_next later done s ∷ [])
+        (ap (λ (xs : List Seen). met_behind later [] xs) (seen-same log later done l.behind.same)
+        ∙ met-same log later s.number l.some (kept-before log later l.more s.number l.breaks l.here) [] (seen_of log done) l.early)
 
 -- by the same log
 pub plain-same : (o : Origin) (done : List TraceSecond) (s : TraceSecond) (log : RunLog) (d : Devices) → IsPlainNext log done s → CardsBehind o done log d → CardsBehind o (done ++ s ∷ []) log d
 plain-same o done s log d plain h c valid =
     let is = plain-next log done s plain in
-    let gaps : gap_events as_accepted log (done ++ s ∷ []) ≡ gap_events as_accepted log done =
-    gaps-next log done s ∙ ap (λ (es : List Event). gap_events as_accepted log done ++ es) (gap-off log (seen_spans (seen_of log done)) (seen_next log done s) is.1) ∙ append-nil (gap_events as_accepted log done) in
-    subst (λ (xs : List Seen). CardShown o c log (gap_events as_accepted log (done ++ s ∷ [])) xs (uses_in o c (notes_in log (done ++ s ∷ []))) d) (sym (seen-more log done s))
-    (plain-on o c log log (gap_events as_accepted log done) (gap_events as_accepted log (done ++ s ∷ [])) (seen_of log done) (seen_next log done s ∷ [])
-    (uses_in o c (notes_in log done)) (uses_in o c (notes_in log (done ++ s ∷ []))) d d (h c valid)
+    subst (λ (ms : List MetSecond). CardShown o c log ms (uses_in o c (notes_in log (done ++ s ∷ []))) d) (sym (met-more log done s))
+    (card-next o c log log (met_seconds log done) (met_next log done s) (uses_in o c (notes_in log done)) (uses_in o c (notes_in log (done ++ s ∷ []))) d (h c valid)
     (λ none. (none, ap (uses_in o c) (next-notes log done s ∙ ap (λ (ns : List Note). notes_in log done ++ ns) (plain-notes log done s plain) ∙ append-nil (notes_in log done))))
     (λ u is. is)
-    (plain-found c (seen_next log done s) is.0, tt) (λ sure. ap (gaps_on c (vehicle_in o)) gaps) (λ z there. there) (still-same (sizes_in o c) (card_of d c)))
+    (plain-found c (seen_next log done s) is.0) (ap (gaps_on c (vehicle_in o)) (gap-off log (seen_spans (seen_of log done)) (seen_next log done s) is.1)))

@@ -1,5 +1,5 @@
 -- The interruptions that a card has, by a log that tells more.
-use Rattle.std.proofs.Common.{◌≡◌, ◌∙◌, ◌⊎◌, inl, inr, ⊎_elim, ℕ, ◌+◌, ◌<◌, Bool, true, false, cond, not, ◌||◌, Option, Some, None, is_some, nat_eq, option_map, List, [], ◌∷◌, ◌++◌, map, refl, sym, ap, arith, append_assoc, append-nil}
+use Rattle.std.proofs.Common.{◌≡◌, ◌∙◌, ◌⊎◌, inl, inr, ⊎_elim, ℕ, ◌+◌, ◌<◌, Bool, true, false, cond, not, ◌||◌, Option, Some, None, is_some, nat_eq, option_map, List, [], ◌∷◌, ◌++◌, map, refl, sym, ap, subst, arith, append_assoc, append-nil}
 use Rattle.std.specs.Prelude.{◌&&◌, filter, fold, option_to_list}
 use Rattle.std.specs.List.{list_any, AllByRecursion}
 use Rattle.std.proofs.lemmas.Bool.Decides.{nat_tests}
@@ -22,16 +22,19 @@ use Rattle.log_model.specs.declared.lines.SlotFault.{SlotFault}
 use Rattle.event_model.specs.declared.entries.Span.{Span}
 use Rattle.event_model.specs.declared.kinds.TheConstants.{POWER_INTERRUPTION}
 use Rattle.event_model.specs.Spans.{gap_of}
-use Rattle.event_model.specs.Events.{Event, Crew, Seen, Tearing, Watched, number_of, seen_of, seen_on, seen_with, seen_spans, seen_by, watched_on, noted_with, last_number, gap_event, gaps_between, gap_events, first_card, standing}
+use Rattle.event_model.specs.Events.{Event, Crew, Seen, Tearing, Watched, number_of, seen_of, seen_on, seen_with, seen_spans, seen_by, watched_on, noted_with, last_number, gap_event, first_card, standing}
 use Rattle.note_model.specs.Done.{has_failed_in, course_powered}
 use Rattle.run_unit_course.specs.Lines.{tells_cut}
-use Rattle.run_events.specs.Seconds.{gap_before}
+use Rattle.run_events.specs.Seconds.{gap_before, gap_by}
 use Rattle.run_events.specs.Gaps.{IsKnownGap, AreKnownGaps}
+use Rattle.run_events.proofs.Gaps.{gap-nothing, known-first}
+use Rattle.run_events.proofs.Growing.{AreSome, some-spans, spans-more}
 use Rattle.run_course.proofs.Lookups.{break-more}
 use Rattle.run_course.proofs.Told.{lit-told}
 use Rattle.run_note_record.proofs.Brought.{lit-course}
-use Rattle.run_acts.specs.OnCards.{is_card, has_card, as_accepted, gaps_on, gap_entry, enters, falls, is_sure_in, are_sure_on}
-use Rattle.run_acts.proofs.OnCards.{and-first, and-second, gaps-append}
+use Rattle.run_acts.specs.OnCards.{is_card, has_card, as_accepted, gaps_on, gap_entry, enters, falls, is_sure_in, met_behind}
+use Rattle.run_acts.proofs.CardBrings.{all-both}
+use Rattle.run_acts.proofs.CardSeconds.{GapGoes, GapsGo}
 use Rattle.run_acts.proofs.CardCourse.{Finding, findings, IsPowered, sitting_at, powered-quiet, powered-as, slot-found, slot-entered}
 use Rattle.run_acts.proofs.CardSecond.{any-more, accepted-others, standing-is}
 
@@ -105,11 +108,6 @@ gap-same t log later span (x ∷ next) is =
     ap (λ (k : ℕ). option_to_list (option_map {T = Span} {U = Event} (λ gap. noted_with POWER_INTERRUPTION gap.begin gap.end (record { driver = standing t x Driver; codriver = standing t x CoDriver })) (gap_of k (number_of x)))) is
 
 module _ (t : Tearing) (log later : RunLog) (n : ℕ) (kept : (u : ℕ) → u < n → kept_after later u ≡ kept_after log u) where
-  pub between-same : (spans : List (List Seen)) → AllByRecursion (λ (span : List Seen). last_number span < n) spans → gaps_between t later spans ≡ gaps_between t log spans
-  between-same [] low = refl
-  between-same (span ∷ []) low = refl
-  between-same (span ∷ next ∷ spans) low = (λ i. gap-same t log later span next (kept (last_number span) low.0) i ++ between-same (next ∷ spans) low.1 i)
-
   pub before-same : (spans : List (List Seen)) (x y : Seen) → number_of y ≡ number_of x → ((slot : Slot) → standing t y slot ≡ standing t x slot) → AllByRecursion (λ (span : List Seen). last_number span < n) spans → gap_before t later spans y ≡ gap_before t log spans x
   before-same [] x y number stands low = refl
   before-same (span ∷ []) x y number stands low = λ i.
@@ -117,6 +115,22 @@ module _ (t : Tearing) (log later : RunLog) (n : ℕ) (kept : (u : ℕ) → u < 
       (option_map {T = Span} {U = Event} (λ gap. noted_with POWER_INTERRUPTION gap.begin gap.end (record { driver = stands Driver i; codriver = stands CoDriver i }))
       (gap_of (kept (last_number span) low.0 i) (number i)))
   before-same (span ∷ next ∷ spans) x y number stands low = before-same (next ∷ spans) x y number stands low.1
+
+-- ---- so earlier seconds are met as they were
+
+all-first : {X : Type 0} (P : X → Type 0) (xs ys : List X) → AllByRecursion P (xs ++ ys) → AllByRecursion P xs
+all-first P [] ys h = tt
+all-first P (x ∷ xs) ys h = (h.0, all-first P xs ys h.1)
+
+module _ (log later : RunLog) (n : ℕ) (some : 0 < n) (kept : (u : ℕ) → u < n → kept_after later u ≡ kept_after log u) where
+  pub met-same : (behind xs : List Seen) → AllByRecursion (λ (x : Seen). number_of x < n) (behind ++ xs) → met_behind later behind xs ≡ met_behind log behind xs
+  met-same behind [] all = refl
+  met-same behind (x ∷ xs) all = λ i.
+      record {
+        seen = x;
+        gap = cond x.told.lit (cond x.told.starts (before-same as_accepted log later n kept (seen_spans behind) x x refl (λ slot. refl) (low-spans n some behind (all-first (λ (y : Seen). number_of y < n) behind (x ∷ xs) all)) i) []) [];
+      }
+      ∷ met-same (behind ++ x ∷ []) xs (subst (AllByRecursion (λ (y : Seen). number_of y < n)) (sym (append_assoc behind (x ∷ []) xs)) all) i
 
 -- ---- a card that met power in a second
 
@@ -188,10 +202,6 @@ pub record GoesBy (c d : Course) : Type 0 where
 
 goes-none : (c d : Course) → d.found ≡ c.found → d.entered ≡ c.entered → GoesBy c d
 goes-none c d found entered = record { finds = []; found = found ∙ sym (append-nil c.found); others = tt; more = []; entered = entered ∙ sym (append-nil c.entered) }
-
-all-both : {X : Type 0} (P : X → Type 0) (xs ys : List X) → AllByRecursion P xs → AllByRecursion P ys → AllByRecursion P (xs ++ ys)
-all-both P [] ys h k = k
-all-both P (x ∷ xs) ys h k = (h.0, all-both P xs ys h.1 k)
 
 goes-then : (a b c : Course) → GoesBy a b → GoesBy b c → GoesBy a c
 goes-then a b c p q = record {
@@ -326,7 +336,7 @@ pub all-meet : (c : Card) (log : RunLog) (ss : List TraceSecond) → AllByRecurs
 unfolding seen_of
 all-meet c log ss = all-seen c log ss (record { seen = []; before = not_begun.before }) tt
 
--- ---- THE INTERRUPTIONS OF A CARD, where those are sure
+-- ---- THE INTERRUPTIONS OF A CARD, second by second, once more is told of what was kept
 
 -- a card that meets power in a second in which the unit failed is not sure of its interruption
 unsure-met : (c : Card) (log : RunLog) (x : Seen) → MetPower c x → has_failed_in log (number_of x) ≡ true → is_sure_in c POWER_INTERRUPTION log x ≡ true → ⊥
@@ -334,16 +344,6 @@ unsure-met c log x met failed sure =
     let wrong : (not (true && (false || (false || (true && true)))) || (not true && not (falls c x))) ≡ true =
     (λ i. not (sym met.entered i && (false || (false || (true && sym met.starts i)))) || (not (sym failed i) && not (falls c x))) ∙ sure in
     absurd (cc)
-
-abbrev IsSureHere : Card → (log later : RunLog) → Seen → Type 0
-IsSureHere c log later x = has_failed_in log (number_of x) ≡ true → has_card (crew_at x) c ≡ true → ⊥
-
-sure-here : (c : Card) (log later : RunLog) → ((u : ℕ) → has_failed_in log u ≡ true → has_failed_in later u ≡ true) → (xs : List Seen) → AllByRecursion (MayMeet c) xs → are_sure_on c POWER_INTERRUPTION later xs ≡ true → AllByRecursion (IsSureHere c log later) xs
-sure-here c log later keeps [] all sure = tt
-sure-here c log later keeps (x ∷ xs) all sure = (
-  (λ failed met. unsure-met c later x (all.0 met) (keeps (number_of x) failed) (and-first (is_sure_in c POWER_INTERRUPTION later x) (are_sure_on c POWER_INTERRUPTION later xs) sure)),
-  sure-here c log later keeps xs all.1 (and-second (is_sure_in c POWER_INTERRUPTION later x) (are_sure_on c POWER_INTERRUPTION later xs) sure),
-)
 
 -- an interruption without the card
 none-with : (c : Card) (own : Registration) (log : RunLog) (span next : List Seen) (x : Seen) → (has_card (crew_at x) c ≡ true → ⊥) → gaps_on c own (gap_event as_accepted log span (x ∷ next)) ≡ []
@@ -360,24 +360,71 @@ none-with c own log span next x other = by (gap_of (kept_after log (last_number 
     by None = refl
     by (Some gap) = ap (λ (b : Bool). map (gap_entry c own) (cond b (noted_with POWER_INTERRUPTION gap.begin gap.end (crew_at x) ∷ []) [])) off
 
-module _ (c : Card) (own : Registration) (log later : RunLog) (found : List Break) (known : (u : ℕ) → tells_cut u found ≡ true → kept_after later u ≡ kept_after log u) where
-  one-told : (span next : List Seen) → IsKnownGap log found span next → AllByRecursion (IsSureHere c log later) next → gaps_on c own (gap_event as_accepted later span next) ≡ gaps_on c own (gap_event as_accepted log span next)
-  one-told span next (inl told) sure = ap (gaps_on c own) (gap-same as_accepted log later span next (known (last_number span) told))
-  one-told span [] (inr failed) sure = refl
-  one-told span (x ∷ next) (inr failed) sure = none-with c own later span next x (sure.0 failed.failed) ∙ sym (none-with c own log span next x (sure.0 failed.failed))
+-- one second fewer
+known-front : (log : RunLog) (found : List Break) (spans : List (List Seen)) (next : List Seen) → AreKnownGaps log found (spans ++ next ∷ []) → AreKnownGaps log found spans
+known-front log found [] next all = tt
+known-front log found (span ∷ []) next all = tt
+known-front log found (span ∷ second ∷ spans) next all = (all.0, known-front log found (second ∷ spans) next all.1)
 
-  pub gaps-told : (spans : List (List Seen)) → AreKnownGaps log found spans → AllSpans (IsSureHere c log later) spans → gaps_on c own (gaps_between as_accepted later spans) ≡ gaps_on c own (gaps_between as_accepted log spans)
-  gaps-told [] all sure = refl
-  gaps-told (span ∷ []) all sure = refl
-  gaps-told (span ∷ next ∷ spans) all sure =
-      gaps-append c own (gap_event as_accepted later span next) (gaps_between as_accepted later (next ∷ spans))
-      ∙ (λ i. one-told span next all.0 sure.1.0 i ++ gaps-told (next ∷ spans) all.1 sure.1 i)
-      ∙ sym (gaps-append c own (gap_event as_accepted log span next) (gaps_between as_accepted log (next ∷ spans)))
+known-off : (log : RunLog) (found : List Break) (spans : List (List Seen)) (x : Seen) → AreSome spans → AreKnownGaps log found (seen_on spans x) → AreKnownGaps log found spans
+known-off log found [] x some all = tt
+known-off log found (span ∷ []) x some all = tt
+known-off log found (span ∷ [] ∷ spans) x some all = absurd some.1.0
+known-off log found (span ∷ (y ∷ next) ∷ []) x some all = (known-first log found span y (next ++ x ∷ []) next all.0, tt)
+known-off log found (span ∷ (y ∷ next) ∷ third ∷ spans) x some all = (all.0, known-off log found ((y ∷ next) ∷ third ∷ spans) x some.1 all.1)
 
--- WHAT IS FOUND KEPT changes none of them
-pub gaps-found : (c : Card) (own : Registration) (log later : RunLog) (found : List Break) (done : List TraceSecond) → AreKnownGaps log found (seen_spans (seen_of log done)) → (seen_of later done ≡ seen_of log done)
-    → ((u : ℕ) → tells_cut u found ≡ true → kept_after later u ≡ kept_after log u) → ((u : ℕ) → has_failed_in log u ≡ true → has_failed_in later u ≡ true)
-    → are_sure_on c POWER_INTERRUPTION later (seen_of log done) ≡ true → gaps_on c own (gap_events as_accepted later done) ≡ gaps_on c own (gap_events as_accepted log done)
-gaps-found c own log later found done all same known keeps sure =
-    ap (λ (xs : List Seen). gaps_on c own (gaps_between as_accepted later (seen_spans xs))) same
-    ∙ gaps-told c own log later found known (seen_spans (seen_of log done)) all (all-spans (IsSureHere c log later) (seen_of log done) (sure-here c log later keeps (seen_of log done) (all-meet c log done) sure))
+known-back : (log : RunLog) (found : List Break) (spans : List (List Seen)) (x : Seen) → AreSome spans → AreKnownGaps log found (seen_with spans x) → AreKnownGaps log found spans
+known-back log found spans x some = by x.told.lit x.told.starts
+  where
+    by : (lit starts : Bool) → AreKnownGaps log found (cond lit (cond starts (spans ++ (x ∷ []) ∷ []) (seen_on spans x)) spans) → AreKnownGaps log found spans
+    by true true all = known-front log found spans (x ∷ []) all
+    by true false all = known-off log found spans x some all
+    by false starts all = all
+
+known-fewer : (log : RunLog) (found : List Break) (behind xs : List Seen) → AreKnownGaps log found (seen_spans (behind ++ xs)) → AreKnownGaps log found (seen_spans behind)
+known-fewer log found behind [] all = subst (λ (ys : List Seen). AreKnownGaps log found (seen_spans ys)) (append-nil behind) all
+known-fewer log found behind (x ∷ xs) all =
+    known-back log found (seen_spans behind) x (some-spans behind)
+    (subst (AreKnownGaps log found) (spans-more behind x) (known-fewer log found (behind ++ x ∷ []) xs (subst (λ (ys : List Seen). AreKnownGaps log found (seen_spans ys)) (sym (append_assoc behind (x ∷ []) xs)) all)))
+
+module _ (c : Card) (own : Registration) (log later : RunLog) (found : List Break) (known : (u : ℕ) → tells_cut u found ≡ true → kept_after later u ≡ kept_after log u) (keeps : (u : ℕ) → has_failed_in log u ≡ true → has_failed_in later u ≡ true) where
+  one-goes : (span : List Seen) (x : Seen) → MayMeet c x → IsKnownGap log found span (x ∷ []) → GapGoes c own later x (gap_event as_accepted log span (x ∷ [])) (gap_event as_accepted later span (x ∷ []))
+  one-goes span x meet (inl told) = inl (ap (gaps_on c own) (gap-same as_accepted log later span (x ∷ []) (known (last_number span) told)))
+  one-goes span x meet (inr failed) = by (has_card (crew_at x) c) refl
+    where
+      off : (b : Bool) → is_sure_in c POWER_INTERRUPTION later x ≡ b → has_card (crew_at x) c ≡ true → is_sure_in c POWER_INTERRUPTION later x ≡ false
+      off true sure met = absurd (unsure-met c later x (meet met) (keeps (number_of x) failed.failed) sure)
+      off false sure met = sure
+
+      by : (b : Bool) → has_card (crew_at x) c ≡ b → GapGoes c own later x (gap_event as_accepted log span (x ∷ [])) (gap_event as_accepted later span (x ∷ []))
+      by true met = inr (ap (gaps_on c own) (gap-nothing as_accepted log span (x ∷ []) failed.kept), off (is_sure_in c POWER_INTERRUPTION later x) refl met)
+      by false other =
+          let apart : has_card (crew_at x) c ≡ true → ⊥ = λ met. (let clash : true ≡ false = sym met ∙ other in cc) in
+          inl (none-with c own later span [] x apart ∙ sym (none-with c own log span [] x apart))
+
+  before-goes : (spans : List (List Seen)) (x : Seen) → MayMeet c x → AreKnownGaps log found (spans ++ (x ∷ []) ∷ []) → GapGoes c own later x (gap_before as_accepted log spans x) (gap_before as_accepted later spans x)
+  before-goes [] x meet all = inl refl
+  before-goes (span ∷ []) x meet all = one-goes span x meet all.0
+  before-goes (span ∷ next ∷ spans) x meet all = before-goes (next ∷ spans) x meet all.1
+
+  by-goes : (spans : List (List Seen)) (x : Seen) → MayMeet c x → AreKnownGaps log found (seen_with spans x) → GapGoes c own later x (gap_by as_accepted log spans x) (gap_by as_accepted later spans x)
+  by-goes spans x meet = by x.told.lit x.told.starts
+    where
+      by : (lit starts : Bool) → AreKnownGaps log found (cond lit (cond starts (spans ++ (x ∷ []) ∷ []) (seen_on spans x)) spans)
+          → GapGoes c own later x (cond lit (cond starts (gap_before as_accepted log spans x) []) []) (cond lit (cond starts (gap_before as_accepted later spans x) []) [])
+      by true true all = before-goes spans x meet all
+      by true false all = inl refl
+      by false starts all = inl refl
+
+  all-go : (behind xs : List Seen) → AllByRecursion (MayMeet c) xs → AreKnownGaps log found (seen_spans (behind ++ xs)) → GapsGo c own log later behind xs
+  all-go behind [] meet all = tt
+  all-go behind (x ∷ xs) meet all =
+      let split : AreKnownGaps log found (seen_spans ((behind ++ x ∷ []) ++ xs)) = subst (λ (ys : List Seen). AreKnownGaps log found (seen_spans ys)) (sym (append_assoc behind (x ∷ []) xs)) all in (
+        by-goes (seen_spans behind) x meet.0 (subst (AreKnownGaps log found) (spans-more behind x) (known-fewer log found (behind ++ x ∷ []) xs split)),
+        all-go (behind ++ x ∷ []) xs meet.1 split,
+      )
+
+-- WHAT IS FOUND KEPT changes none of them but those that are not sure, of which none was noted
+pub gaps-found : (c : Card) (own : Registration) (log later : RunLog) (found : List Break) (done : List TraceSecond) → AreKnownGaps log found (seen_spans (seen_of log done)) → ((u : ℕ) → tells_cut u found ≡ true → kept_after later u ≡ kept_after log u)
+    → ((u : ℕ) → has_failed_in log u ≡ true → has_failed_in later u ≡ true) → GapsGo c own log later [] (seen_of log done)
+gaps-found c own log later found done all known keeps = all-go c own log later found known keeps [] (seen_of log done) (all-meet c log done) all

@@ -1,5 +1,5 @@
 -- What a card shows of its events within a second, action by action, and as it ends.
-use Rattle.std.proofs.Common.{◌≡◌, ◌∙◌, ◌⊎◌, ℕ, ◌+◌, Bool, true, false, cond, not, ◌||◌, Some, None, nat_eq, List, [], ◌∷◌, ◌++◌, map, length, refl, sym, ap, subst, arith, append_assoc, append-nil}
+use Rattle.std.proofs.Common.{◌≡◌, ◌∙◌, ◌⊎◌, ℕ, ◌+◌, ◌≤◌, Bool, true, false, cond, not, ◌||◌, Some, None, nat_eq, List, [], ◌∷◌, ◌++◌, map, length, refl, sym, ap, subst, arith, append_assoc, append-nil, length-append}
 use Rattle.std.specs.Prelude.{◌&&◌, filter, flat_map, nat_lt}
 use Rattle.std.specs.List.{list_any, AllByRecursion}
 use Rattle.std.proofs.lemmas.Bool.Decides.{nat_tests}
@@ -19,7 +19,7 @@ use Rattle.log_model.specs.declared.lines.Verdict.{Verdict}
 use Rattle.log_model.specs.Log.{RunLog, Phase, In, same_phase, cut_in, found_in, kept_after, is_accepting}
 use Rattle.log_model.specs.Slots.{refusal, same_card}
 use Rattle.log_model.specs.Course.{Course, Visit, Before, begins, went}
-use Rattle.event_model.specs.Events.{Event, Seen, number_of, seen_of, seen_spans, gap_events, torn_at, accepted_at, first_card, standing}
+use Rattle.event_model.specs.Events.{Seen, number_of, seen_of, seen_spans, torn_at, accepted_at, first_card, standing}
 use Rattle.safety_model.specs.Recording.{card_image}
 use Rattle.safety_model.specs.Safe.{Devices, card_of}
 use Rattle.run_events.specs.Seconds.{gap_by}
@@ -29,11 +29,10 @@ use Rattle.run_note_record.proofs.Bringing.{before-as}
 use Rattle.run_rings.specs.Notes.{TellSameTo, course_behind}
 use Rattle.run_promise.specs.Origin.{Origin}
 use Rattle.run_promise.specs.Beside.{HaveLeftMore}
-use Rattle.run_acts.specs.OnCards.{as_accepted, accepted_in, accepted_on, unclosed_by, events_by, accepts, moving_at, movings, moved_in, gaps_on, enters, is_sure_in, NotesThem, StillShows, AreUses}
-use Rattle.run_acts.specs.RunCards.{vehicle_in, sizes_in, CardShown, so_far, seen_behind, gap_behind, CardsIn, StillShow}
-use Rattle.run_acts.proofs.OnCards.{flat-one}
+use Rattle.run_acts.specs.OnCards.{MetSecond, as_accepted, accepted_in, accepts, moving_at, movings, moved_in, gaps_on, enters, is_sure_in, torn_times, met_seconds, judging, ComesTo, StillShows, AreUses}
+use Rattle.run_acts.specs.RunCards.{vehicle_in, sizes_in, CardShown, so_far, seen_behind, gap_behind, met_so, CardsIn, StillShow}
 use Rattle.run_acts.proofs.CardCourse.{Finding, IsQuiet, IsPutIn, acted-quiet, acted-puts, behind-more, behind-same, PutsNone}
-use Rattle.run_acts.proofs.CardShown.{FindsUses, FindsStill, KeepsFailed, Follows, card-more, goes-on, sure-on, sure-last}
+use Rattle.run_acts.proofs.CardShown.{FindsUses, FindsStill, KeepsFailed, Follows, GoesOn, card-goes, goes-on}
 
 -- ---- lists
 
@@ -52,6 +51,11 @@ any-last p (y ∷ xs) x is = ap (λ (b : Bool). p y || b) (any-last p xs x is) �
     by : (b : Bool) → (b || true) ≡ true
     by true = refl
     by false = refl
+
+pub count-more : (q : Visit → Bool) (xs ys : List Visit) → length (filter q xs) ≤ length (filter q (xs ++ ys))
+count-more q xs ys =
+    let both : length (filter q (xs ++ ys)) ≡ length (filter q xs) + length (filter q ys) = ap length (filter-append q xs ys) ∙ length-append (filter q xs) (filter q ys) in
+    omega (arith, both)
 
 -- ---- the interruption of a second
 
@@ -92,6 +96,7 @@ module _ (was : Before) (s : TraceSecond) where
     starts = refl;
     entered = λ is. ap (list_any (λ (v : Visit). same_card v.card c)) q.entered ∙ is;
     torn = λ is. ap (list_any (λ (v : Visit). same_card v.card c)) q.torn ∙ any-more (λ (v : Visit). same_card v.card c) k.torn q.more is;
+    often = subst (λ (vs : List Visit). length (filter (λ (v : Visit). same_card v.card c) k.torn) ≤ length (filter (λ (v : Visit). same_card v.card c) vs)) (sym q.torn) (count-more (λ (v : Visit). same_card v.card c) k.torn q.more);
   }
 
   pub accepted-quiet : (c : Card) (k l : Course) → IsQuiet k l → accepted_in c (so_far was s l) ≡ accepted_in c (so_far was s k)
@@ -108,6 +113,7 @@ module _ (was : Before) (s : TraceSecond) where
     starts = refl;
     entered = λ is. ap (list_any (λ (v : Visit). same_card v.card c)) q.entered ∙ any-more (λ (v : Visit). same_card v.card c) k.entered (v ∷ []) is;
     torn = λ is. ap (list_any (λ (v : Visit). same_card v.card c)) q.torn ∙ any-more (λ (v : Visit). same_card v.card c) k.torn q.more is;
+    often = subst (λ (vs : List Visit). length (filter (λ (v : Visit). same_card v.card c) k.torn) ≤ length (filter (λ (v : Visit). same_card v.card c) vs)) (sym q.torn) (count-more (λ (v : Visit). same_card v.card c) k.torn q.more);
   }
 
   pub enters-put : (c : Card) (v : Visit) (verdicts : List Verdict) (k l : Course) → IsPutIn v verdicts k l → same_card v.card c ≡ true → enters c (so_far was s l) ≡ true
@@ -144,26 +150,28 @@ movings-append c own speed us vs = by (nat_lt 0 speed) us
     by false xs = refl
 
 -- THE SECOND GOES ON, and this is found of the card
-pub judged-on : (o : Origin) (c : Card) (log later : RunLog) (gaps now : List Event) (front : List Seen) (x y : Seen) (was found : List CurrentUse) (d e : Devices) → CardShown o c log gaps (front ++ x ∷ []) was d → KeepsFailed log later → Follows c x y
-    → (us : List ℕ) → accepted_in c y ≡ accepted_in c x ++ us → gaps_on c (vehicle_in o) now ≡ gaps_on c (vehicle_in o) gaps → ((z : List ℕ) → images_in o d c z → images_in o e c z)
+pub judged-on : (o : Origin) (c : Card) (log later : RunLog) (front : List MetSecond) (m n : MetSecond) (was found : List CurrentUse) (d e : Devices) → CardShown o c log (front ++ m ∷ []) was d → KeepsFailed log later → Follows c m.seen n.seen
+    → (us : List ℕ) (times : ℕ) → accepted_in c n.seen ≡ accepted_in c m.seen ++ us → torn_times c m.seen + times ≤ torn_times c n.seen → gaps_on c (vehicle_in o) n.gap ≡ gaps_on c (vehicle_in o) m.gap → ((z : List ℕ) → images_in o d c z → images_in o e c z)
     → (more : List CurrentUse) → FindsUses log later was more found → AreUses (images_in o e c) more us
-    → NotesThem (sizes_in o c) (λ kind. is_sure_in c kind later y) (λ kind. events_by kind [] (movings c (vehicle_in o) y.told.second.speed us) (unclosed_by more us)) (card_of d c) (card_of e c)
-    → CardShown o c later now (front ++ y ∷ []) found e
-judged-on o c log later gaps now front x y was found d e h keeps f us accepted gap left more finds are notes =
-    card-more o c log later gaps now (front ++ x ∷ []) (front ++ y ∷ []) was found d e [] (movings c (vehicle_in o) y.told.second.speed us) us more h finds (
-      flat-one (accepted_in c) front y ∙ ap (λ (ns : List ℕ). accepted_on c front ++ ns) accepted ∙ sym (append_assoc (accepted_on c front) (accepted_in c x) us) ∙ ap (λ (ns : List ℕ). ns ++ us) (sym (flat-one (accepted_in c) front x)),
-      flat-one (moved_in c (vehicle_in o)) front y ∙ ap (λ (es : List CardEvent). flat_map (moved_in c (vehicle_in o)) front ++ es) moved
-          ∙ sym (append_assoc (flat_map (moved_in c (vehicle_in o)) front) (moved_in c (vehicle_in o) x) (movings c (vehicle_in o) y.told.second.speed us))
-          ∙ ap (λ (es : List CardEvent). es ++ movings c (vehicle_in o) y.told.second.speed us) (sym (flat-one (moved_in c (vehicle_in o)) front x)),
-      λ sure. gap ∙ sym (append-nil (gaps_on c (vehicle_in o) gaps)),
-    )
-    (λ kind sure. sure-on c kind log later front x y keeps f sure) left are
-    (λ z there. let was = notes z there in (was.0, was.1, λ kind sure. was.2 kind (sure-last c kind later front y sure)))
+    → ComesTo (images_in o e c) (sizes_in o c) (λ kind. is_sure_in c kind later n.seen) (judging c (vehicle_in o) (number_of n.seen) n.seen.told.second.speed times us more) (card_of d c) (card_of e c)
+    → CardShown o c later (front ++ n ∷ []) found e
+judged-on o c log later front m n was found d e h keeps f us times accepted often gap left more finds are comes =
+    card-goes o c log later front m n was found d e us more (judging c (vehicle_in o) (number_of n.seen) n.seen.told.second.speed times us more) h finds keeps goes refl left are comes
   where
-    moved : moved_in c (vehicle_in o) y ≡ moved_in c (vehicle_in o) x ++ movings c (vehicle_in o) y.told.second.speed us
+    moved : moved_in c (vehicle_in o) n.seen ≡ moved_in c (vehicle_in o) m.seen ++ movings c (vehicle_in o) n.seen.told.second.speed us
     moved =
-        ap (λ (ns : List ℕ). movings c (vehicle_in o) y.told.second.speed ns) accepted ∙ movings-append c (vehicle_in o) y.told.second.speed (accepted_in c x) us
-        ∙ ap (λ (n : ℕ). movings c (vehicle_in o) n (accepted_in c x) ++ movings c (vehicle_in o) y.told.second.speed us) f.speed
+        ap (λ (ns : List ℕ). movings c (vehicle_in o) n.seen.told.second.speed ns) accepted ∙ movings-append c (vehicle_in o) n.seen.told.second.speed (accepted_in c m.seen) us
+        ∙ ap (λ (v : ℕ). movings c (vehicle_in o) v (accepted_in c m.seen) ++ movings c (vehicle_in o) n.seen.told.second.speed us) f.speed
+
+    goes : GoesOn c (vehicle_in o) m n us (judging c (vehicle_in o) (number_of n.seen) n.seen.told.second.speed times us more)
+    goes = record {
+      follows = f;
+      accepted = accepted;
+      second = refl;
+      attempts = let long : length (accepted_in c n.seen) ≡ length (accepted_in c m.seen) + length us = ap length accepted ∙ length-append (accepted_in c m.seen) us in omega (arith, long, often);
+      gaps = gap ∙ sym (append-nil (gaps_on c (vehicle_in o) m.gap));
+      moved = moved;
+    }
 
 -- ---- action by action
 
@@ -178,10 +186,10 @@ module _ (o : Origin) (done : List TraceSecond) (s : TraceSecond) (began : RunLo
   pub quiet-shown : (front back : List Action) (log later : RunLog) (d e : Devices) → CardsIn o done s began front log d → ((c : Card) → FindsStill log later (uses_in o c (notes_now began done log s)) (uses_in o c (notes_now began done later s))) → KeepsFailed log later → IsQuiet (course_behind log (went began done).before s front) (course_behind later (went began done).before s back)
       → HaveLeftMore o d e → StillShow o d e → CardsIn o done s began back later e
   quiet-shown front back log later d e h finds keeps q left still c valid =
-      goes-on o c log later (gap_events as_accepted began done ++ gap_behind began done s front log) (gap_events as_accepted began done ++ gap_behind began done s back later) (seen_of began done) (seen_behind began done s front log) (seen_behind began done s back later)
+      goes-on o c log later (met_seconds began done) (met_so began done s front log (gap_behind began done s front log)) (met_so began done s back later (gap_behind began done s back later))
       (uses_in o c (notes_now began done log s)) (uses_in o c (notes_now began done later s)) d e
       (h c valid) (finds c) keeps (follows-quiet was s c (course_behind log was s front) (course_behind later was s back) q) (accepted-quiet was s c (course_behind log was s front) (course_behind later was s back) q)
-      (ap (λ (es : List Event). gaps_on c (vehicle_in o) (gap_events as_accepted began done ++ es)) (gap-quiet was s began spans (course_behind log was s front) (course_behind later was s back) q))
+      (ap (gaps_on c (vehicle_in o)) (gap-quiet was s began spans (course_behind log was s front) (course_behind later was s back) q))
       (left.card c) (still c valid)
 
   -- one action more, by the course behind those before it
@@ -197,11 +205,13 @@ module _ (o : Origin) (done : List TraceSecond) (s : TraceSecond) (began : RunLo
       → refusal (course_behind later (went began done).before s front).slots s.speed (Insert slot card) ≡ None → HaveLeftMore o d e
       → ((c : Card) → IsOwnValid (card_image o.recording c) → same_card card c ≡ false → StillShows (sizes_in o c) (card_of d c) (card_of e c))
       → ((c : Card) → same_card card c ≡ false → FindsStill log later (uses_in o c (notes_now began done log s)) (uses_in o c (notes_now began done later s)))
-      → ((c : Card) → IsOwnValid (card_image o.recording c) → same_card card c ≡ true → enters c (seen_behind began done s (front ++ Insert slot card ∷ []) later) ≡ true →
+      → ((c : Card) → IsOwnValid (card_image o.recording c) → same_card card c ≡ true → enters c (seen_behind began done s (front ++ Insert slot card ∷ []) later) ≡ true
+      → torn_times c (seen_behind began done s front log) ≤ torn_times c (seen_behind began done s (front ++ Insert slot card ∷ []) later) →
       (more : List CurrentUse) × FindsUses log later (uses_in o c (notes_now began done log s)) more (uses_in o c (notes_now began done later s))
       × AreUses (images_in o e c) more (accepts s.number (found_in later s.number (In (length front + 1)) slot))
-      × NotesThem (sizes_in o c) (λ kind. is_sure_in c kind later (seen_behind began done s (front ++ Insert slot card ∷ []) later))
-      (λ kind. events_by kind [] (movings c (vehicle_in o) s.speed (accepts s.number (found_in later s.number (In (length front + 1)) slot))) (unclosed_by more (accepts s.number (found_in later s.number (In (length front + 1)) slot)))) (card_of d c) (card_of e c))
+      × (times : ℕ) × (torn_times c (seen_behind began done s front log) + times ≤ torn_times c (seen_behind began done s (front ++ Insert slot card ∷ []) later))
+      × ComesTo (images_in o e c) (sizes_in o c) (λ kind. is_sure_in c kind later (seen_behind began done s (front ++ Insert slot card ∷ []) later))
+      (judging c (vehicle_in o) s.number s.speed times (accepts s.number (found_in later s.number (In (length front + 1)) slot)) more) (card_of d c) (card_of e c))
       → CardsIn o done s began (front ++ Insert slot card ∷ []) later e
   put-shown front slot card log later d e h keeps same begun allowed left others finds mine c valid = by (same_card card c) refl
     where
@@ -226,8 +236,8 @@ module _ (o : Origin) (done : List TraceSecond) (s : TraceSecond) (began : RunLo
       follows : Follows c (seen_behind began done s front log) (seen_behind began done s (front ++ Insert slot card ∷ []) later)
       follows = follows-put was s c (record { phase = In (length front + 1); slot = slot; card = card }) (found_in later s.number (In (length front + 1)) slot) (course_behind log was s front) (course_behind later was s (front ++ Insert slot card ∷ [])) put
 
-      gap : gaps_on c (vehicle_in o) (gap_events as_accepted began done ++ gap_behind began done s (front ++ Insert slot card ∷ []) later) ≡ gaps_on c (vehicle_in o) (gap_events as_accepted began done ++ gap_behind began done s front log)
-      gap = ap (λ (es : List Event). gaps_on c (vehicle_in o) (gap_events as_accepted began done ++ es))
+      gap : gaps_on c (vehicle_in o) (gap_behind began done s (front ++ Insert slot card ∷ []) later) ≡ gaps_on c (vehicle_in o) (gap_behind began done s front log)
+      gap = ap (gaps_on c (vehicle_in o))
           (gap-put was s began spans (record { phase = In (length front + 1); slot = slot; card = card }) (length front) (found_in later s.number (In (length front + 1)) slot) (course_behind log was s front) (course_behind later was s (front ++ Insert slot card ∷ [])) refl put)
 
       found : accepted_in c (seen_behind began done s (front ++ Insert slot card ∷ []) later)
@@ -237,17 +247,18 @@ module _ (o : Origin) (done : List TraceSecond) (s : TraceSecond) (began : RunLo
           ∙ flat-append (λ (f : Finding). cond (same_card f.0.card c && is_accepting f.1) (s.number ∷ []) []) (course_behind log was s front).found (map (λ (w : Verdict). (record { phase = In (length front + 1); slot = slot; card = card }, w)) (found_in later s.number (In (length front + 1)) slot))
 
       by : (b : Bool) → same_card card c ≡ b →
-          CardShown o c later (gap_events as_accepted began done ++ gap_behind began done s (front ++ Insert slot card ∷ []) later) (seen_of began done ++ seen_behind began done s (front ++ Insert slot card ∷ []) later ∷ []) (uses_in o c (notes_now began done later s)) e
+          CardShown o c later (met_seconds began done ++ met_so began done s (front ++ Insert slot card ∷ []) later (gap_behind began done s (front ++ Insert slot card ∷ []) later) ∷ []) (uses_in o c (notes_now began done later s)) e
       by false other =
-          goes-on o c log later (gap_events as_accepted began done ++ gap_behind began done s front log) (gap_events as_accepted began done ++ gap_behind began done s (front ++ Insert slot card ∷ []) later) (seen_of began done) (seen_behind began done s front log)
-          (seen_behind began done s (front ++ Insert slot card ∷ []) later) (uses_in o c (notes_now began done log s)) (uses_in o c (notes_now began done later s)) d e (h c valid) (finds c other) keeps follows
+          goes-on o c log later (met_seconds began done) (met_so began done s front log (gap_behind began done s front log))
+          (met_so began done s (front ++ Insert slot card ∷ []) later (gap_behind began done s (front ++ Insert slot card ∷ []) later)) (uses_in o c (notes_now began done log s)) (uses_in o c (notes_now began done later s)) d e (h c valid) (finds c other) keeps follows
           (found ∙ ap (λ (us : List ℕ). accepted_in c (seen_behind began done s front log) ++ us) (accepted-other c s.number (record { phase = In (length front + 1); slot = slot; card = card }) (found_in later s.number (In (length front + 1)) slot) other)
           ∙ append-nil (accepted_in c (seen_behind began done s front log)))
           gap (left.card c) (others c valid other)
       by true own =
           let enters_ = enters-put was s c (record { phase = In (length front + 1); slot = slot; card = card }) (found_in later s.number (In (length front + 1)) slot) (course_behind log was s front) (course_behind later was s (front ++ Insert slot card ∷ [])) put own in
-          let got = mine c valid own enters_ in
-          judged-on o c log later (gap_events as_accepted began done ++ gap_behind began done s front log) (gap_events as_accepted began done ++ gap_behind began done s (front ++ Insert slot card ∷ []) later) (seen_of began done) (seen_behind began done s front log)
-          (seen_behind began done s (front ++ Insert slot card ∷ []) later) (uses_in o c (notes_now began done log s)) (uses_in o c (notes_now began done later s)) d e (h c valid) keeps follows (accepts s.number (found_in later s.number (In (length front + 1)) slot))
+          let got = mine c valid own enters_ follows.often in
+          judged-on o c log later (met_seconds began done) (met_so began done s front log (gap_behind began done s front log))
+          (met_so began done s (front ++ Insert slot card ∷ []) later (gap_behind began done s (front ++ Insert slot card ∷ []) later)) (uses_in o c (notes_now began done log s)) (uses_in o c (notes_now began done later s)) d e (h c valid) keeps follows
+          (accepts s.number (found_in later s.number (In (length front + 1)) slot)) got.3
           (found ∙ ap (λ (us : List ℕ). accepted_in c (seen_behind began done s front log) ++ us) (accepted-mine c s.number (record { phase = In (length front + 1); slot = slot; card = card }) (found_in later s.number (In (length front + 1)) slot) own))
-          gap (left.card c) got.0 got.1 got.2 got.3
+          got.4 gap (left.card c) got.0 got.1 got.2 got.5

@@ -1,24 +1,25 @@
 -- What a card shows of its events, from call to call of a run.
-use Rattle.std.proofs.Common.{◌≡◌, ◌∙◌, ℕ, Bool, true, false, cond, not, ◌||◌, List, [], ◌∷◌, ◌++◌, map, length, refl, sym, ap, subst, append_assoc, append-nil}
-use Rattle.std.specs.Prelude.{◌==◌, ◌&&◌, flat_map, nat_lt}
-use Rattle.std.specs.List.{AllByRecursion}
-use Rattle.std.proofs.lemmas.Bool.{eqb-true}
+use Rattle.std.proofs.Common.{◌≡◌, ◌∙◌, ℕ, ◌+◌, ◌≤◌, Bool, true, false, cond, not, ◌||◌, List, [], ◌∷◌, ◌++◌, map, length, refl, sym, ap, subst, arith, append_assoc, append-nil}
+use Rattle.std.specs.Prelude.{◌==◌, ◌&&◌, nat_lt}
 use Rattle.trace_model.specs.declared.Card.{Card}
 use Rattle.tacho_types.specs.declared.texts.Registration.{Registration}
 use Rattle.card_files.specs.declared.card_event.CardEvent.{CardEvent}
 use Rattle.card_files.specs.declared.current_use.CurrentUse.{CurrentUse}
 use Rattle.log_model.specs.Log.{RunLog}
 use Rattle.event_model.specs.declared.kinds.TheConstants.{INSERTION_WHILE_DRIVING, SESSION_NOT_CLOSED, POWER_INTERRUPTION}
-use Rattle.event_model.specs.Events.{Event, Seen, number_of}
+use Rattle.event_model.specs.Events.{Seen, number_of}
 use Rattle.note_model.specs.Done.{has_failed_in}
 use Rattle.safety_model.specs.Recording.{card_image}
 use Rattle.safety_model.specs.Safe.{Devices, card_of}
+use Rattle.run_insertion.specs.CardEvents.{events_in}
 use Rattle.run_note_record.specs.Evented.{images_in}
 use Rattle.run_promise.specs.Origin.{Origin}
 use Rattle.run_promise.specs.Whole.{NothingFailed}
-use Rattle.run_acts.specs.OnCards.{unclosed_by, events_by, accepted_in, accepted_on, moving_at, moved_in, gaps_on, enters, falls, may_note, is_sure_in, are_sure_on, NotesThem, StillShows, AreUses}
+use Rattle.run_acts.specs.OnCards.{MetSecond, Bringing, unclosed_by, events_by, accepted_in, accepted_on, attempts_in, torn_times, moving_at, moved_in, gaps_on, enters, falls, may_note, is_sure_in, uses_past, met_behind, met_accepted, bringing, IsBrought, AreBrought, ComesTo, StillShows, AreUses}
 use Rattle.run_acts.specs.RunCards.{vehicle_in, sizes_in, CardShown}
-use Rattle.run_acts.proofs.OnCards.{all-append, and-first, and-second, and-both, uses-append, uses-still, uses-long, unclosed-append, events-append, them-more, notes-still, flat-one}
+use Rattle.run_acts.proofs.OnCards.{uses-append, uses-still, uses-long, uses-past, past-longer, unclosed-append, unclosed-none, events-none}
+use Rattle.run_acts.proofs.CardBrings.{AreBoth, AreKnown, known-of, brought-nothing, brought-both}
+use Rattle.run_acts.proofs.CardSeconds.{IsSureOfLess, GapsGo, accepted-met, accepted-one, brought-one, brought-split, brought-longer, brought-later, brought-told, brought-images}
 
 -- ---- the uses that were found, where no call failed: these more, or none
 abbrev pub FindsUses : (log later : RunLog) → (was more found : List CurrentUse) → Type 0
@@ -29,56 +30,6 @@ FindsStill log later was found = NothingFailed later → NothingFailed log × (f
 
 pub still-finds : (log later : RunLog) (was found : List CurrentUse) → FindsStill log later was found → FindsUses log later was [] found
 still-finds log later was found h none = let g = h none in (g.0, g.1 ∙ sym (append-nil was))
-
--- ---- A STEP, whatever it notes
-module _ (o : Origin) (c : Card) (log later : RunLog) (gaps now : List Event) (seen xs : List Seen) (was found : List CurrentUse) (d e : Devices) where
-  abbrev own : Registration
-  own = vehicle_in o
-
-  abbrev Grows : List CardEvent → List CardEvent → (us : List ℕ) → Type 0
-  Grows gs ms us = (accepted_on c xs ≡ accepted_on c seen ++ us) × (flat_map (moved_in c own) xs ≡ flat_map (moved_in c own) seen ++ ms)
-      × (are_sure_on c POWER_INTERRUPTION later xs ≡ true → gaps_on c own now ≡ gaps_on c own gaps ++ gs)
-
-  grows-by : (gs ms : List CardEvent) (us : List ℕ) (uses more : List CurrentUse) → length uses ≡ length (accepted_on c seen) → Grows gs ms us → (kind : ℕ) → are_sure_on c kind later xs ≡ true
-      → events_by kind (gaps_on c own now) (flat_map (moved_in c own) xs) (unclosed_by (uses ++ more) (accepted_on c xs))
-      ≡ events_by kind (gaps_on c own gaps) (flat_map (moved_in c own) seen) (unclosed_by uses (accepted_on c seen)) ++ events_by kind gs ms (unclosed_by more us)
-  grows-by gs ms us uses more long g kind sure =
-      (λ i. events_by kind (gaps_on c own now) (g.1 i) ((ap (unclosed_by (uses ++ more)) g.0 ∙ unclosed-append uses more (accepted_on c seen) us long) i))
-      ∙ by (kind == POWER_INTERRUPTION) refl
-      ∙ events-append kind (gaps_on c own gaps) (flat_map (moved_in c own) seen) (unclosed_by uses (accepted_on c seen)) gs ms (unclosed_by more us)
-    where
-      M : List CardEvent
-      M = flat_map (moved_in c own) seen ++ ms
-
-      V : List CardEvent
-      V = unclosed_by uses (accepted_on c seen) ++ unclosed_by more us
-
-      by : (b : Bool) → (kind == POWER_INTERRUPTION) ≡ b → events_by kind (gaps_on c own now) (flat_map (moved_in c own) seen ++ ms) (unclosed_by uses (accepted_on c seen) ++ unclosed_by more us) ≡ events_by kind (gaps_on c own gaps ++ gs) (flat_map (moved_in c own) seen ++ ms) (unclosed_by uses (accepted_on c seen) ++ unclosed_by more us)
-      by true is = ap (λ (es : List CardEvent). events_by kind es (flat_map (moved_in c own) seen ++ ms) (unclosed_by uses (accepted_on c seen) ++ unclosed_by more us))
-          (g.2 (subst (λ (k : ℕ). are_sure_on c k later xs ≡ true) (eqb-true kind POWER_INTERRUPTION is) sure))
-      by false is = (λ i. cond (is i) (gaps_on c own now) (rest i)) ∙ sym (λ i. cond (is i) (gaps_on c own gaps ++ gs) (rest i))
-        where
-          rest : cond (kind == INSERTION_WHILE_DRIVING) (flat_map (moved_in c own) seen ++ ms) (cond (kind == SESSION_NOT_CLOSED) (unclosed_by uses (accepted_on c seen) ++ unclosed_by more us) [])
-              ≡ cond (kind == INSERTION_WHILE_DRIVING) (flat_map (moved_in c own) seen ++ ms) (cond (kind == SESSION_NOT_CLOSED) (unclosed_by uses (accepted_on c seen) ++ unclosed_by more us) [])
-          rest = refl
-
-  pub card-more : (gs ms : List CardEvent) (us : List ℕ) (more : List CurrentUse) → CardShown o c log gaps seen was d → FindsUses log later was more found → Grows gs ms us → ((kind : ℕ) → are_sure_on c kind later xs ≡ true → are_sure_on c kind log seen ≡ true)
-      → ((x : List ℕ) → images_in o d c x → images_in o e c x) → AreUses (images_in o e c) more us
-      → NotesThem (sizes_in o c) (λ kind. are_sure_on c kind later xs) (λ kind. events_by kind gs ms (unclosed_by more us)) (card_of d c) (card_of e c) → CardShown o c later now xs found e
-  card-more gs ms us more h finds g back left are notes = record {
-    uses = h.uses ++ more;
-    exact = λ none. let told = finds none in ap (λ (l : List CurrentUse). l ++ more) (h.exact told.0) ∙ sym told.1;
-    are = subst (AreUses (images_in o e c) (h.uses ++ more)) (sym g.0) (uses-append (images_in o e c) h.uses more (accepted_on c seen) us (uses-still (images_in o d c) (images_in o e c) left h.uses (accepted_on c seen) h.are) are);
-    shows = them-more (sizes_in o c) (card_image o.recording c) (λ kind. are_sure_on c kind log seen) (λ kind. are_sure_on c kind later xs)
-        (λ kind. events_by kind (gaps_on c own gaps) (flat_map (moved_in c own) seen) (unclosed_by h.uses (accepted_on c seen))) (λ kind. events_by kind gs ms (unclosed_by more us))
-        (λ kind. events_by kind (gaps_on c own now) (flat_map (moved_in c own) xs) (unclosed_by (h.uses ++ more) (accepted_on c xs))) (card_of d c) (card_of e c) h.shows back notes
-        (λ kind sure. grows-by gs ms us h.uses more (uses-long (images_in o d c) h.uses (accepted_on c seen) h.are) g kind sure);
-  }
-
-  -- nothing is noted
-  pub card-stays : CardShown o c log gaps seen was d → FindsStill log later was found → Grows [] [] [] → ((kind : ℕ) → are_sure_on c kind later xs ≡ true → are_sure_on c kind log seen ≡ true)
-      → ((x : List ℕ) → images_in o d c x → images_in o e c x) → StillShows (sizes_in o c) (card_of d c) (card_of e c) → CardShown o c later now xs found e
-  card-stays h finds g back left still = card-more [] [] [] [] h (still-finds log later was found finds) g back left tt (notes-still (sizes_in o c) (λ kind. are_sure_on c kind later xs) (card_of d c) (card_of e c) still)
 
 -- ---- what is sure goes on
 
@@ -105,6 +56,7 @@ pub record Follows (c : Card) (x y : Seen) : Type 0 where
   pub starts : y.told.starts ≡ x.told.starts
   pub entered : enters c x ≡ true → enters c y ≡ true
   pub torn : falls c x ≡ true → falls c y ≡ true
+  pub often : torn_times c x ≤ torn_times c y
 
 note-same : (c : Card) (kind : ℕ) (x y : Seen) → Follows c x y → may_note c kind y ≡ may_note c kind x
 note-same c kind x y f = λ i. (kind == SESSION_NOT_CLOSED) || ((kind == INSERTION_WHILE_DRIVING && nat_lt 0 (f.speed i)) || (kind == POWER_INTERRUPTION && f.starts i))
@@ -116,73 +68,146 @@ sure-in c kind log later x y keeps f is =
     (ap (λ (m : Bool). not (enters c y && m) || (not (has_failed_in later (number_of y)) && not (falls c y))) (sym (note-same c kind x y f)) ∙ is)
 
 pub follows-same : (c : Card) (x : Seen) → Follows c x x
-follows-same c x = record { number = refl; speed = refl; starts = refl; entered = λ is. is; torn = λ is. is }
-
-pub sure-log : (c : Card) (kind : ℕ) (log later : RunLog) (xs : List Seen) → KeepsFailed log later → are_sure_on c kind later xs ≡ true → are_sure_on c kind log xs ≡ true
-sure-log c kind log later [] keeps is = refl
-sure-log c kind log later (x ∷ xs) keeps is =
-    and-both (is_sure_in c kind log x) (are_sure_on c kind log xs) (sure-in c kind log later x x keeps (follows-same c x) (and-first (is_sure_in c kind later x) (are_sure_on c kind later xs) is))
-    (sure-log c kind log later xs keeps (and-second (is_sure_in c kind later x) (are_sure_on c kind later xs) is))
-
-pub sure-front : (c : Card) (kind : ℕ) (log : RunLog) (xs ys : List Seen) → are_sure_on c kind log (xs ++ ys) ≡ true → are_sure_on c kind log xs ≡ true
-sure-front c kind log xs ys is = and-first (are_sure_on c kind log xs) (are_sure_on c kind log ys) (sym (all-append (is_sure_in c kind log) xs ys) ∙ is)
-
-pub sure-last : (c : Card) (kind : ℕ) (log : RunLog) (xs : List Seen) (x : Seen) → are_sure_on c kind log (xs ++ x ∷ []) ≡ true → is_sure_in c kind log x ≡ true
-sure-last c kind log xs x is = and-first (is_sure_in c kind log x) true (and-second (are_sure_on c kind log xs) (is_sure_in c kind log x && true) (sym (all-append (is_sure_in c kind log) xs (x ∷ [])) ∙ is))
-
--- of the second that goes on
-pub sure-on : (c : Card) (kind : ℕ) (log later : RunLog) (front : List Seen) (x y : Seen) → KeepsFailed log later → Follows c x y → are_sure_on c kind later (front ++ y ∷ []) ≡ true → are_sure_on c kind log (front ++ x ∷ []) ≡ true
-sure-on c kind log later front x y keeps f is =
-    all-append (is_sure_in c kind log) front (x ∷ [])
-    ∙ and-both (are_sure_on c kind log front) (is_sure_in c kind log x && true) (sure-log c kind log later front keeps (sure-front c kind later front (y ∷ []) is))
-    (and-both (is_sure_in c kind log x) true (sure-in c kind log later x y keeps f (sure-last c kind later front y is)) refl)
+follows-same c x = record { number = refl; speed = refl; starts = refl; entered = λ is. is; torn = λ is. is; often = omega arith }
 
 -- ---- what an acceptance brings
 
 pub moved-same : (c : Card) (own : Registration) (x y : Seen) → y.told.second.speed ≡ x.told.second.speed → accepted_in c y ≡ accepted_in c x → moved_in c own y ≡ moved_in c own x
 moved-same c own x y speed accepted = λ i. cond (nat_lt 0 (speed i)) (map (moving_at c own) (accepted i)) []
 
--- THE SECOND GOES ON, and nothing is noted of this card
-pub goes-on : (o : Origin) (c : Card) (log later : RunLog) (gaps now : List Event) (front : List Seen) (x y : Seen) (was found : List CurrentUse) (d e : Devices) → CardShown o c log gaps (front ++ x ∷ []) was d → FindsStill log later was found → KeepsFailed log later → Follows c x y
-    → accepted_in c y ≡ accepted_in c x → gaps_on c (vehicle_in o) now ≡ gaps_on c (vehicle_in o) gaps → ((z : List ℕ) → images_in o d c z → images_in o e c z) → StillShows (sizes_in o c) (card_of d c) (card_of e c)
-    → CardShown o c later now (front ++ y ∷ []) found e
-goes-on o c log later gaps now front x y was found d e h finds keeps f accepted gap left still =
-    card-stays o c log later gaps now (front ++ x ∷ []) (front ++ y ∷ []) was found d e h finds (
-      flat-one (accepted_in c) front y ∙ ap (λ (us : List ℕ). accepted_on c front ++ us) accepted ∙ sym (flat-one (accepted_in c) front x) ∙ sym (append-nil (accepted_on c (front ++ x ∷ []))),
-      flat-one (moved_in c (vehicle_in o)) front y ∙ ap (λ (es : List CardEvent). flat_map (moved_in c (vehicle_in o)) front ++ es) (moved-same c (vehicle_in o) x y f.speed accepted) ∙ sym (flat-one (moved_in c (vehicle_in o)) front x) ∙ sym (append-nil (flat_map (moved_in c (vehicle_in o)) (front ++ x ∷ []))),
-      λ sure. gap ∙ sym (append-nil (gaps_on c (vehicle_in o) gaps)),
-    )
-    (λ kind sure. sure-on c kind log later front x y keeps f sure) left still
+-- ---- THE LAST SECOND GOES ON
 
--- ---- seconds in which it is not accepted
+-- interruptions alone come to it, or nothing
+abbrev pub interrupting : (second : ℕ) → (gaps : List CardEvent) → Bringing
+interrupting u gaps = record { second = u; attempts = 0; gaps = gaps; moved = []; unclosed = [] }
 
-abbrev pub IsPlainSeen : Card → Seen → Type 0
-IsPlainSeen c x = accepted_in c x ≡ []
+abbrev idle_in : Seen → Bringing
+idle_in x = interrupting (number_of x) []
 
-plain-accepted : (c : Card) (xs : List Seen) → AllByRecursion (IsPlainSeen c) xs → accepted_on c xs ≡ []
-plain-accepted c [] h = refl
-plain-accepted c (x ∷ xs) h = (λ i. h.0 i ++ plain-accepted c xs h.1 i)
+-- a second that has gone on brings this more
+pub record GoesOn (c : Card) (own : Registration) (m n : MetSecond) (us : List ℕ) (b : Bringing) : Type 0 where
+  pub follows : Follows c m.seen n.seen
+  pub accepted : accepted_in c n.seen ≡ accepted_in c m.seen ++ us
+  pub second : number_of n.seen ≡ b.second
+  pub attempts : attempts_in c m.seen + b.attempts ≤ attempts_in c n.seen
+  pub gaps : gaps_on c own n.gap ≡ gaps_on c own m.gap ++ b.gaps
+  pub moved : moved_in c own n.seen ≡ moved_in c own m.seen ++ b.moved
 
-plain-moved : (c : Card) (own : Registration) (xs : List Seen) → AllByRecursion (IsPlainSeen c) xs → flat_map (moved_in c own) xs ≡ []
-plain-moved c own [] h = refl
-plain-moved c own (x ∷ xs) h = (λ i. one (nat_lt 0 x.told.second.speed) i ++ plain-moved c own xs h.1 i)
+less-sure : (c : Card) (log later : RunLog) → KeepsFailed log later → (kind : ℕ) → IsSureOfLess c kind log later
+less-sure c log later keeps kind x is = sure-in c kind log later x x keeps (follows-same c x) is
+
+module _ (o : Origin) (c : Card) (log later : RunLog) (front : List MetSecond) (m n : MetSecond) (was found : List CurrentUse) (d e : Devices) where
+  abbrev held : ℕ → List ℕ → List (List ℕ)
+  held kind x = events_in (sizes_in o c) kind x
+
+  pub card-goes : (us : List ℕ) (more : List CurrentUse) (b : Bringing) → CardShown o c log (front ++ m ∷ []) was d → FindsUses log later was more found → KeepsFailed log later → GoesOn c (vehicle_in o) m n us b → b.unclosed ≡ unclosed_by more us → ((x : List ℕ) → images_in o d c x → images_in o e c x) → AreUses (images_in o e c) more us
+      → ComesTo (images_in o e c) (sizes_in o c) (λ kind. is_sure_in c kind later n.seen) b (card_of d c) (card_of e c) → CardShown o c later (front ++ n ∷ []) found e
+  card-goes us more b h finds keeps g unclosed left are comes = record {
+    uses = h.uses ++ more;
+    are = subst (AreUses (images_in o e c) (h.uses ++ more)) (sym now) (uses-append (images_in o e c) h.uses more (met_accepted c (front ++ m ∷ [])) us all are);
+    exact = λ none. let told = finds none in ap (λ (l : List CurrentUse). l ++ more) (h.exact told.0) ∙ sym told.1;
+    shows = λ y at kind. let before = comes y at in shown kind before.0 y (h.shows before.0 before.1 kind) (before.2 kind);
+  }
+    where
+      all : AreUses (images_in o e c) h.uses (met_accepted c (front ++ m ∷ []))
+      all = uses-still (images_in o d c) (images_in o e c) left h.uses (met_accepted c (front ++ m ∷ [])) h.are
+
+      both : AreUses (images_in o e c) h.uses (met_accepted c front ++ accepted_in c m.seen)
+      both = subst (AreUses (images_in o e c) h.uses) (accepted-one c front m) all
+
+      past : AreUses (images_in o e c) (uses_past (met_accepted c front) h.uses) (accepted_in c m.seen)
+      past = uses-past (images_in o e c) (met_accepted c front) (accepted_in c m.seen) h.uses both
+
+      now : met_accepted c (front ++ n ∷ []) ≡ met_accepted c (front ++ m ∷ []) ++ us
+      now =
+          accepted-one c front n ∙ ap (λ (vs : List ℕ). met_accepted c front ++ vs) g.accepted ∙ sym (append_assoc (met_accepted c front) (accepted_in c m.seen) us)
+          ∙ ap (λ (vs : List ℕ). vs ++ us) (sym (accepted-one c front m))
+
+      -- what it brought so far, and this more
+      sum : AreBoth (bringing c (vehicle_in o) m (unclosed_by (uses_past (met_accepted c front) h.uses) (accepted_in c m.seen))) b
+          (bringing c (vehicle_in o) n (unclosed_by (uses_past (met_accepted c front) (h.uses ++ more)) (accepted_in c n.seen)))
+      sum = record {
+        second = g.follows.number;
+        same = g.second;
+        attempts = g.attempts;
+        gaps = g.gaps;
+        moved = g.moved;
+        unclosed = (λ i. unclosed_by (past-longer (images_in o e c) (met_accepted c front) (accepted_in c m.seen) h.uses more both i) (g.accepted i))
+            ∙ unclosed-append (uses_past (met_accepted c front) h.uses) more (accepted_in c m.seen) us (uses-long (images_in o e c) (uses_past (met_accepted c front) h.uses) (accepted_in c m.seen) past)
+            ∙ ap (λ (es : List CardEvent). unclosed_by (uses_past (met_accepted c front) h.uses) (accepted_in c m.seen) ++ es) (sym unclosed);
+      }
+
+      known : AreKnown (images_in o e c) (number_of m.seen) (attempts_in c m.seen) (unclosed_by (uses_past (met_accepted c front) h.uses) (accepted_in c m.seen))
+      known = known-of (images_in o e c) c m.seen [] (uses_past (met_accepted c front) h.uses) (subst (AreUses (images_in o e c) (uses_past (met_accepted c front) h.uses)) (sym (append-nil (accepted_in c m.seen))) past)
+
+      shown : (kind : ℕ) (x y : List ℕ) → AreBrought c (vehicle_in o) (images_in o d c) kind log (front ++ m ∷ []) h.uses (held kind (card_image o.recording c)) (held kind x)
+          → IsBrought (images_in o e c) kind (is_sure_in c kind later n.seen) b (held kind x) (held kind y) → AreBrought c (vehicle_in o) (images_in o e c) kind later (front ++ n ∷ []) (h.uses ++ more) (held kind (card_image o.recording c)) (held kind y)
+      shown kind x y before step =
+          let start : List (List ℕ) = held kind (card_image o.recording c) in
+          let first : Bringing = bringing c (vehicle_in o) m (unclosed_by (uses_past (met_accepted c front) h.uses) (accepted_in c m.seen)) in
+          let whole : Bringing = bringing c (vehicle_in o) n (unclosed_by (uses_past (met_accepted c front) (h.uses ++ more)) (accepted_in c n.seen)) in
+          let split = brought-split c (vehicle_in o) (images_in o e c) kind log front m h.uses start (held kind x)
+          (brought-images c (vehicle_in o) (images_in o d c) (images_in o e c) left kind log (front ++ m ∷ []) h.uses start (held kind x) before) in
+          brought-one c (vehicle_in o) (images_in o e c) kind later front n (h.uses ++ more) start split.0 (held kind y)
+          (brought-longer c (vehicle_in o) (images_in o e c) kind later front (accepted_in c m.seen) h.uses more start split.0 both
+          (brought-later c (vehicle_in o) (images_in o e c) kind log later (less-sure c log later keeps kind) front (accepted_in c m.seen) h.uses start split.0 both split.1))
+          (brought-both (images_in o e c) kind (is_sure_in c kind log m.seen) (is_sure_in c kind later n.seen) (sure-in c kind log later m.seen n.seen keeps g.follows) first b whole sum known split.0 (held kind x) (held kind y) split.2 step)
+
+  -- it is not accepted more, and nothing is noted of it
+  pub goes-on : CardShown o c log (front ++ m ∷ []) was d → FindsStill log later was found → KeepsFailed log later → Follows c m.seen n.seen → accepted_in c n.seen ≡ accepted_in c m.seen → gaps_on c (vehicle_in o) n.gap ≡ gaps_on c (vehicle_in o) m.gap
+      → ((x : List ℕ) → images_in o d c x → images_in o e c x) → StillShows (sizes_in o c) (card_of d c) (card_of e c) → CardShown o c later (front ++ n ∷ []) found e
+  goes-on h finds keeps f accepted gap left still = card-goes [] [] (idle_in n.seen) h (still-finds log later was found finds) keeps goes refl left tt comes
+    where
+      goes : GoesOn c (vehicle_in o) m n [] (idle_in n.seen)
+      goes = record {
+        follows = f;
+        accepted = accepted ∙ sym (append-nil (accepted_in c m.seen));
+        second = refl;
+        attempts = let same : length (accepted_in c n.seen) ≡ length (accepted_in c m.seen) = ap length accepted in let often : torn_times c m.seen ≤ torn_times c n.seen = f.often in omega (arith, same, often);
+        gaps = gap ∙ sym (append-nil (gaps_on c (vehicle_in o) m.gap));
+        moved = moved-same c (vehicle_in o) m.seen n.seen f.speed accepted ∙ sym (append-nil (moved_in c (vehicle_in o) m.seen));
+      }
+
+      comes : ComesTo (images_in o e c) (sizes_in o c) (λ kind. is_sure_in c kind later n.seen) (idle_in n.seen) (card_of d c) (card_of e c)
+      comes y at =
+          let before = still y at in
+          (before.0, before.1, λ kind. brought-nothing (images_in o e c) kind (is_sure_in c kind later n.seen) (idle_in n.seen) (λ sure. events-none kind) (held kind before.0) (held kind y) (before.2 kind))
+
+-- ---- A SECOND MORE, in which it is not accepted, and meets no interruption
+
+plain-moved : (c : Card) (own : Registration) (x : Seen) → accepted_in c x ≡ [] → moved_in c own x ≡ []
+plain-moved c own x none = by (nat_lt 0 x.told.second.speed)
   where
-    one : (b : Bool) → cond b (map (moving_at c own) (accepted_in c x)) [] ≡ []
-    one true = ap (map (moving_at c own)) h.0
-    one false = refl
+    by : (b : Bool) → cond b (map (moving_at c own) (accepted_in c x)) [] ≡ []
+    by true = ap (map (moving_at c own)) none
+    by false = refl
 
-flat-both : {X Y : Type 0} (h : X → List Y) (xs ys : List X) → flat_map h (xs ++ ys) ≡ flat_map h xs ++ flat_map h ys
-flat-both h [] ys = refl
-flat-both h (x ∷ xs) ys = (λ i. h x ++ flat-both h xs ys i) ∙ sym (append_assoc (h x) (flat_map h xs) (flat_map h ys))
+pub card-next : (o : Origin) (c : Card) (log later : RunLog) (ms : List MetSecond) (n : MetSecond) (was found : List CurrentUse) (d : Devices) → CardShown o c log ms was d → FindsStill log later was found → KeepsFailed log later → accepted_in c n.seen ≡ [] → gaps_on c (vehicle_in o) n.gap ≡ []
+    → CardShown o c later (ms ++ n ∷ []) found d
+card-next o c log later ms n was found d h finds keeps none gap = record {
+  uses = h.uses;
+  are = subst (AreUses (images_in o d c) h.uses) (sym (accepted-one c ms n ∙ ap (λ (us : List ℕ). met_accepted c ms ++ us) none ∙ append-nil (met_accepted c ms))) h.are;
+  exact = λ fine. let told = finds fine in h.exact told.0 ∙ sym told.1;
+  shows = λ y at kind.
+      let start : List (List ℕ) = events_in (sizes_in o c) kind (card_image o.recording c) in
+      let now : List (List ℕ) = events_in (sizes_in o c) kind y in
+      brought-one c (vehicle_in o) (images_in o d c) kind later ms n h.uses start now now
+      (brought-later c (vehicle_in o) (images_in o d c) kind log later (less-sure c log later keeps kind) ms [] h.uses start now (subst (AreUses (images_in o d c) h.uses) (sym (append-nil (met_accepted c ms))) h.are) (h.shows y at kind))
+      (brought-nothing (images_in o d c) kind (is_sure_in c kind later n.seen) (bringing c (vehicle_in o) n (unclosed_by (uses_past (met_accepted c ms) h.uses) (accepted_in c n.seen))) (λ sure. empty kind) now now refl);
+}
+  where
+    empty : (kind : ℕ) → events_by kind (gaps_on c (vehicle_in o) n.gap) (moved_in c (vehicle_in o) n.seen) (unclosed_by (uses_past (met_accepted c ms) h.uses) (accepted_in c n.seen)) ≡ []
+    empty kind =
+        (λ i. events_by kind (gap i) (plain-moved c (vehicle_in o) n.seen none i) (unclosed_by (uses_past (met_accepted c ms) h.uses) (none i)))
+        ∙ ap (events_by kind [] []) (unclosed-none (uses_past (met_accepted c ms) h.uses)) ∙ events-none kind
 
--- SECONDS MORE in which it is not accepted
-pub plain-on : (o : Origin) (c : Card) (log later : RunLog) (gaps now : List Event) (seen xs : List Seen) (was found : List CurrentUse) (d e : Devices) → CardShown o c log gaps seen was d → FindsStill log later was found → KeepsFailed log later → AllByRecursion (IsPlainSeen c) xs
-    → (are_sure_on c POWER_INTERRUPTION later (seen ++ xs) ≡ true → gaps_on c (vehicle_in o) now ≡ gaps_on c (vehicle_in o) gaps) → ((z : List ℕ) → images_in o d c z → images_in o e c z) → StillShows (sizes_in o c) (card_of d c) (card_of e c)
-    → CardShown o c later now (seen ++ xs) found e
-plain-on o c log later gaps now seen xs was found d e h finds keeps plain gap left still =
-    card-stays o c log later gaps now seen (seen ++ xs) was found d e h finds (
-      flat-both (accepted_in c) seen xs ∙ ap (λ (us : List ℕ). accepted_on c seen ++ us) (plain-accepted c xs plain),
-      flat-both (moved_in c (vehicle_in o)) seen xs ∙ ap (λ (es : List CardEvent). flat_map (moved_in c (vehicle_in o)) seen ++ es) (plain-moved c (vehicle_in o) xs plain),
-      λ sure. gap sure ∙ sym (append-nil (gaps_on c (vehicle_in o) gaps)),
-    )
-    (λ kind sure. sure-log c kind log later seen keeps (sure-front c kind later seen xs sure)) left still
+-- ---- A LOG TELLS MORE of the interruptions
+pub card-told : (o : Origin) (c : Card) (log later : RunLog) (xs : List Seen) (was found : List CurrentUse) (d : Devices) → CardShown o c log (met_behind log [] xs) was d → FindsStill log later was found → KeepsFailed log later → GapsGo c (vehicle_in o) log later [] xs
+    → CardShown o c later (met_behind later [] xs) found d
+card-told o c log later xs was found d h finds keeps go = record {
+  uses = h.uses;
+  are = subst (AreUses (images_in o d c) h.uses) (accepted-met c log [] xs ∙ sym (accepted-met c later [] xs)) h.are;
+  exact = λ fine. let told = finds fine in h.exact told.0 ∙ sym told.1;
+  shows = λ y at kind. brought-told c (vehicle_in o) (images_in o d c) kind log later (less-sure c log later keeps kind) [] xs [] h.uses (events_in (sizes_in o c) kind (card_image o.recording c)) (events_in (sizes_in o c) kind y)
+      (subst (AreUses (images_in o d c) h.uses) (accepted-met c log [] xs ∙ sym (append-nil (accepted_on c xs))) h.are) go (h.shows y at kind);
+}

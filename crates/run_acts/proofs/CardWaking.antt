@@ -1,19 +1,19 @@
 -- What a card shows of its events as power is back: it is judged anew, and the interruption is noted.
-use Rattle.std.proofs.Common.{◌≡◌, ◌∙◌, ◌⊎◌, inl, inr, ⊎_elim, ℕ, ◌+◌, Bool, true, false, cond, ◌||◌, Option, Some, None, List, [], ◌∷◌, ◌++◌, map, refl, sym, ap, append-nil}
-use Rattle.std.specs.Prelude.{◌&&◌, flat_map}
+use Rattle.std.proofs.Common.{◌≡◌, ◌∙◌, ◌⊎◌, inl, inr, ⊎_elim, ℕ, ◌+◌, ◌≤◌, Bool, true, false, cond, ◌||◌, Option, Some, None, List, [], ◌∷◌, ◌++◌, map, length, refl, sym, ap, subst, arith, append-nil, length-append}
+use Rattle.std.specs.Prelude.{◌&&◌, filter, flat_map}
 use Rattle.std.specs.List.{list_any}
+use Rattle.std.proofs.lemmas.List.Elements.{filter-append}
 use Rattle.activity_codec.specs.declared.values.Slot.{Slot}
 use Rattle.activity_codec.specs.declared.values.Slot.TheVariants.{Driver, CoDriver}
 use Rattle.trace_model.specs.declared.Card.{Card}
 use Rattle.trace_model.specs.Trace.{TraceSecond}
 use Rattle.card_image.specs.Own.{IsOwnValid}
-use Rattle.card_files.specs.declared.card_event.CardEvent.{CardEvent}
 use Rattle.card_files.specs.declared.current_use.CurrentUse.{CurrentUse}
 use Rattle.log_model.specs.declared.lines.Verdict.{Verdict}
 use Rattle.log_model.specs.Log.{RunLog, In, is_torn_in, found_in, is_accepting}
 use Rattle.log_model.specs.Slots.{Sitting, in_slot, same_card}
 use Rattle.log_model.specs.Course.{Course, Visit, Before, went}
-use Rattle.event_model.specs.Events.{Seen, seen_of, gap_events}
+use Rattle.event_model.specs.Events.{Seen}
 use Rattle.note_model.specs.Done.{course_powered}
 use Rattle.safety_model.specs.Recording.{card_image}
 use Rattle.safety_model.specs.Safe.{Devices, card_of}
@@ -22,11 +22,10 @@ use Rattle.run_promise.specs.Beside.{HaveLeftMore}
 use Rattle.run_note_record.specs.Evented.{images_in}
 use Rattle.run_note_record.specs.Uses.{notes_now, uses_in}
 use Rattle.run_note_record.specs.Waking.{IsFoundAnew}
-use Rattle.run_acts.specs.OnCards.{as_accepted, unclosed_by, events_by, accepts, movings, accepted_in, accepted_on, moved_in, gaps_on, enters, is_sure_in, NotesThem, StillShows, AreUses}
-use Rattle.run_acts.specs.RunCards.{vehicle_in, sizes_in, CardShown, so_far, seen_behind, gap_behind, CardsIn, CardsWaking, StillShow}
-use Rattle.run_acts.proofs.OnCards.{flat-one, gaps-append}
+use Rattle.run_acts.specs.OnCards.{accepts, accepted_in, moved_in, gaps_on, enters, is_sure_in, torn_times, met_seconds, judging, ComesTo, StillShows, AreUses}
+use Rattle.run_acts.specs.RunCards.{vehicle_in, sizes_in, CardShown, so_far, seen_behind, gap_behind, met_so, CardsIn, CardsWaking, StillShow}
 use Rattle.run_acts.proofs.CardCourse.{Finding, findings, sitting_at, IsPowered, powered-as}
-use Rattle.run_acts.proofs.CardShown.{FindsUses, FindsStill, still-finds, KeepsFailed, Follows, card-more, goes-on, moved-same, sure-on, sure-last}
+use Rattle.run_acts.proofs.CardShown.{FindsUses, FindsStill, still-finds, KeepsFailed, Follows, interrupting, GoesOn, card-goes, goes-on, moved-same}
 use Rattle.run_acts.proofs.CardSecond.{any-more, flat-append, accepted-mine, accepted-other, judged-on}
 use Rattle.run_acts.proofs.CardEnds.{no-findings}
 
@@ -67,12 +66,54 @@ any-then p a b d d' c c' hd hc is = from d d' c c' hd hc (split d c is)
     from d d' c c' hd hc (inl h) = ap (λ (t : Bool). list_any p (torn_then t a c' b)) (hd h.0) ∙ any-more p a (cond c' b []) h.1
     from d d' c c' hd hc (inr h) = ap (λ (t : Bool). list_any p (torn_then d' a t b)) (hc h.0) ∙ second d' h.1
 
+-- and how many they are
+count-both : (q : Visit → Bool) (xs ys : List Visit) → length (filter q (xs ++ ys)) ≡ length (filter q xs) + length (filter q ys)
+count-both q xs ys = ap length (filter-append q xs ys) ∙ length-append (filter q xs) (filter q ys)
+
+pub count-part : (q : Visit → Bool) (xs : List Visit) (e e' : Bool) → (e ≡ true → e' ≡ true) → length (filter q (cond e xs [])) ≤ length (filter q (cond e' xs []))
+count-part q xs true true on = omega arith
+count-part q xs true false on = absurd (let wrong : false ≡ true = on refl in cc)
+count-part q xs false e' on = omega arith
+
+-- in both slots, of which one has this more
+pub count-then : (q : Visit → Bool) (a a' b b' : List Visit) (n : ℕ) → length (filter q a) + length (filter q b) + n ≤ length (filter q a') + length (filter q b') → length (filter q (a ++ b)) + n ≤ length (filter q (a' ++ b'))
+count-then q a a' b b' n le =
+    let old : length (filter q (a ++ b)) ≡ length (filter q a) + length (filter q b) = count-both q a b in
+    let new : length (filter q (a' ++ b')) ≡ length (filter q a') + length (filter q b') = count-both q a' b' in
+    omega (arith, old, new, le)
+
 module _ (log later : RunLog) (was : Before) (s : TraceSecond) (off : was.running ≡ false) (torn : (slot : Slot) → is_torn_in log s.number (In 0) slot ≡ true → is_torn_in later s.number (In 0) slot ≡ true) where
   abbrev k : Course
   k = course_powered log was s
 
   abbrev l : Course
   l = course_powered later was s
+
+  -- a card was torn out so often more
+  abbrev pub part_torn : Card → RunLog → Slot → ℕ
+  part_torn c told slot = length (filter (λ (v : Visit). same_card v.card c) (cond (is_torn_in told s.number (In 0) slot) (sitting_at slot (in_slot was.slots slot)) []))
+
+  pub torn-often : (c : Card) (n : ℕ) → part_torn c log Driver + part_torn c log CoDriver + n ≤ part_torn c later Driver + part_torn c later CoDriver
+      → torn_times c (so_far was s (course_powered log was s)) + n ≤ torn_times c (so_far was s (course_powered later was s))
+  torn-often c n le =
+      let q : Visit → Bool = λ (v : Visit). same_card v.card c in
+      let a : IsPowered log was s (course_powered log was s) = powered-as log was s off in
+      let b : IsPowered later was s (course_powered later was s) = powered-as later was s off in
+      let old : List Visit = cond (is_torn_in log s.number (In 0) Driver) (sitting_at Driver was.slots.driver) [] ++ cond (is_torn_in log s.number (In 0) CoDriver) (sitting_at CoDriver was.slots.codriver) [] in
+      subst (λ (vs : List Visit). length (filter q vs) + n ≤ length (filter q (course_powered later was s).torn)) (sym a.torn)
+      (subst (λ (vs : List Visit). length (filter q old) + n ≤ length (filter q vs)) (sym b.torn)
+      (count-then q (cond (is_torn_in log s.number (In 0) Driver) (sitting_at Driver was.slots.driver) []) (cond (is_torn_in later s.number (In 0) Driver) (sitting_at Driver was.slots.driver) [])
+      (cond (is_torn_in log s.number (In 0) CoDriver) (sitting_at CoDriver was.slots.codriver) []) (cond (is_torn_in later s.number (In 0) CoDriver) (sitting_at CoDriver was.slots.codriver) []) n le))
+
+  pub part-torn : (c : Card) (slot : Slot) → part_torn c log slot ≤ part_torn c later slot
+  part-torn c slot = count-part (λ (v : Visit). same_card v.card c) (sitting_at slot (in_slot was.slots slot)) (is_torn_in log s.number (In 0) slot) (is_torn_in later s.number (In 0) slot) (torn slot)
+
+  no-fewer : (c : Card) → torn_times c (so_far was s (course_powered log was s)) ≤ torn_times c (so_far was s (course_powered later was s))
+  no-fewer c =
+      let driver : part_torn c log Driver ≤ part_torn c later Driver = part-torn c Driver in
+      let codriver : part_torn c log CoDriver ≤ part_torn c later CoDriver = part-torn c CoDriver in
+      let le : torn_times c (so_far was s (course_powered log was s)) + 0 ≤ torn_times c (so_far was s (course_powered later was s)) = torn-often c 0 (omega (arith, driver, codriver)) in
+      omega (arith, le)
 
   pub follows-powered : (c : Card) → Follows c (so_far was s (course_powered log was s)) (so_far was s (course_powered later was s))
   follows-powered c =
@@ -86,6 +127,7 @@ module _ (log later : RunLog) (was : Before) (s : TraceSecond) (off : was.runnin
         torn = λ is. ap (list_any (λ (v : Visit). same_card v.card c)) b.torn
             ∙ any-then (λ (v : Visit). same_card v.card c) (sitting_at Driver was.slots.driver) (sitting_at CoDriver was.slots.codriver) (is_torn_in log s.number (In 0) Driver) (is_torn_in later s.number (In 0) Driver)
             (is_torn_in log s.number (In 0) CoDriver) (is_torn_in later s.number (In 0) CoDriver) (torn Driver) (torn CoDriver) (sym (ap (list_any (λ (v : Visit). same_card v.card c)) a.torn) ∙ is);
+        often = no-fewer c;
       }
 
   pub found-anew : (slot : Slot) (verdicts : List Verdict) → IsFoundAnew log later s.number slot verdicts → (course_powered later was s).found ≡ (course_powered log was s).found ++ findings verdicts (sitting_at slot (in_slot was.slots slot))
@@ -168,7 +210,7 @@ module _ (o : Origin) (done : List TraceSecond) (s : TraceSecond) (began log lat
   -- NOTHING IS FOUND MORE
   pub waking-passed : CardsWaking o done s began log d → (course_powered later (went began done).before s).found ≡ (course_powered log (went began done).before s).found → ((c : Card) → FindsStill log later (uses_in o c (notes_now began done log s)) (uses_in o c (notes_now began done later s))) → StillShow o d e → CardsWaking o done s began later e
   waking-passed h found finds still c valid =
-      goes-on o c log later (gap_events as_accepted began done) (gap_events as_accepted began done) (seen_of began done) (seen_behind began done s [] log) (seen_behind began done s [] later) (before_them c) (behind_them c) d e (h c valid) (finds c) keeps (follows-powered log later (went began done).before s off torn c)
+      goes-on o c log later (met_seconds began done) (met_so began done s [] log []) (met_so began done s [] later []) (before_them c) (behind_them c) d e (h c valid) (finds c) keeps (follows-powered log later (went began done).before s off torn c)
       (accepted-of c [] (found ∙ sym (append-nil (course_powered log (went began done).before s).found)) ∙ append-nil (accepted_in c (seen_behind began done s [] log))) refl (left.card c) (still c valid)
 
   -- THE CARD OF A SLOT IS JUDGED ANEW
@@ -178,7 +220,8 @@ module _ (o : Origin) (done : List TraceSecond) (s : TraceSecond) (began log lat
       → ((c : Card) → IsOwnValid (card_image o.recording c) → same_card q.card c ≡ true → enters c (seen_behind began done s [] later) ≡ true →
       (more : List CurrentUse) × FindsUses log later (uses_in o c (notes_now began done log s)) more (uses_in o c (notes_now began done later s))
       × AreUses (images_in o e c) more (accepts s.number verdicts)
-      × NotesThem (sizes_in o c) (λ kind. is_sure_in c kind later (seen_behind began done s [] later)) (λ kind. events_by kind [] (movings c (vehicle_in o) s.speed (accepts s.number verdicts)) (unclosed_by more (accepts s.number verdicts))) (card_of d c) (card_of e c))
+      × (times : ℕ) × (torn_times c (seen_behind began done s [] log) + times ≤ torn_times c (seen_behind began done s [] later))
+      × ComesTo (images_in o e c) (sizes_in o c) (λ kind. is_sure_in c kind later (seen_behind began done s [] later)) (judging c (vehicle_in o) s.number s.speed times (accepts s.number verdicts) more) (card_of d c) (card_of e c))
       → CardsWaking o done s began later e
   waking-judged h slot q sits verdicts found others uses_then mine c valid = by (same_card q.card c) refl
     where
@@ -195,35 +238,39 @@ module _ (o : Origin) (done : List TraceSecond) (s : TraceSecond) (began log lat
           ++ flat_map (λ (f : Finding). cond (same_card f.0.card c && is_accepting f.1) (s.number ∷ []) []) (map (λ (w : Verdict). (record { phase = In 0; slot = slot; card = q.card }, w)) verdicts)
       accepted = accepted-of c (map (λ (w : Verdict). (record { phase = In 0; slot = slot; card = q.card }, w)) verdicts) finds
 
-      by : (b : Bool) → same_card q.card c ≡ b → CardShown o c later (gap_events as_accepted began done) (seen_of began done ++ seen_behind began done s [] later ∷ []) (uses_in o c (notes_now began done later s)) e
+      by : (b : Bool) → same_card q.card c ≡ b → CardShown o c later (met_seconds began done ++ met_so began done s [] later [] ∷ []) (uses_in o c (notes_now began done later s)) e
       by false other =
-          goes-on o c log later (gap_events as_accepted began done) (gap_events as_accepted began done) (seen_of began done) (seen_behind began done s [] log) (seen_behind began done s [] later) (before_them c) (behind_them c) d e (h c valid) (uses_then c other) keeps (follows-powered log later (went began done).before s off torn c)
+          goes-on o c log later (met_seconds began done) (met_so began done s [] log []) (met_so began done s [] later []) (before_them c) (behind_them c) d e (h c valid) (uses_then c other) keeps (follows-powered log later (went began done).before s off torn c)
           (accepted ∙ ap (λ (us : List ℕ). accepted_in c (seen_behind began done s [] log) ++ us) (accepted-other c s.number (record { phase = In 0; slot = slot; card = q.card }) verdicts other) ∙ append-nil (accepted_in c (seen_behind began done s [] log)))
           refl (left.card c) (others c valid other)
       by true own =
           let got = mine c valid own (sits-enters log later (went began done).before s off torn c slot q sits own) in
-          judged-on o c log later (gap_events as_accepted began done) (gap_events as_accepted began done) (seen_of began done) (seen_behind began done s [] log) (seen_behind began done s [] later) (before_them c) (behind_them c) d e (h c valid) keeps (follows-powered log later (went began done).before s off torn c)
-          (accepts s.number verdicts) (accepted ∙ ap (λ (us : List ℕ). accepted_in c (seen_behind began done s [] log) ++ us) (accepted-mine c s.number (record { phase = In 0; slot = slot; card = q.card }) verdicts own)) refl (left.card c) got.0 got.1 got.2 got.3
+          judged-on o c log later (met_seconds began done) (met_so began done s [] log []) (met_so began done s [] later []) (before_them c) (behind_them c) d e (h c valid) keeps (follows-powered log later (went began done).before s off torn c)
+          (accepts s.number verdicts) got.3 (accepted ∙ ap (λ (us : List ℕ). accepted_in c (seen_behind began done s [] log) ++ us) (accepted-mine c s.number (record { phase = In 0; slot = slot; card = q.card }) verdicts own)) got.4 refl (left.card c) got.0 got.1 got.2 got.5
 
   -- THE INTERRUPTION IS NOTED
   pub gap-noted : CardsWaking o done s began log d → ((slot : Slot) → found_in later s.number (In 0) slot ≡ found_in log s.number (In 0) slot)
       → ((c : Card) → FindsStill log later (uses_in o c (notes_now began done log s)) (uses_in o c (notes_now began done later s)))
-      → ((c : Card) → IsOwnValid (card_image o.recording c) → NotesThem (sizes_in o c) (λ kind. is_sure_in c kind later (seen_behind began done s [] later)) (λ kind. events_by kind (gaps_on c (vehicle_in o) (gap_behind began done s [] later)) [] []) (card_of d c) (card_of e c))
+      → ((c : Card) → IsOwnValid (card_image o.recording c) →
+      ComesTo (images_in o e c) (sizes_in o c) (λ kind. is_sure_in c kind later (seen_behind began done s [] later)) (interrupting s.number (gaps_on c (vehicle_in o) (gap_behind began done s [] later))) (card_of d c) (card_of e c))
       → CardsIn o done s began [] later e
   gap-noted h same finds notes c valid =
-      card-more o c log later (gap_events as_accepted began done) (gap_events as_accepted began done ++ gap_behind began done s [] later) (seen_of began done ++ seen_behind began done s [] log ∷ []) (seen_of began done ++ seen_behind began done s [] later ∷ []) (before_them c) (behind_them c) d e
-      (gaps_on c (vehicle_in o) (gap_behind began done s [] later)) [] [] [] (h c valid) (still-finds log later (before_them c) (behind_them c) (finds c)) (
-        flat-one (accepted_in c) (seen_of began done) (seen_behind began done s [] later) ∙ ap (λ (us : List ℕ). accepted_on c (seen_of began done) ++ us) accepted ∙ sym (flat-one (accepted_in c) (seen_of began done) (seen_behind began done s [] log))
-            ∙ sym (append-nil (accepted_on c (seen_of began done ++ seen_behind began done s [] log ∷ []))),
-        flat-one (moved_in c (vehicle_in o)) (seen_of began done) (seen_behind began done s [] later)
-            ∙ ap (λ (es : List CardEvent). flat_map (moved_in c (vehicle_in o)) (seen_of began done) ++ es) (moved-same c (vehicle_in o) (seen_behind began done s [] log) (seen_behind began done s [] later) refl accepted)
-            ∙ sym (flat-one (moved_in c (vehicle_in o)) (seen_of began done) (seen_behind began done s [] log)) ∙ sym (append-nil (flat_map (moved_in c (vehicle_in o)) (seen_of began done ++ seen_behind began done s [] log ∷ []))),
-        λ sure. gaps-append c (vehicle_in o) (gap_events as_accepted began done) (gap_behind began done s [] later),
-      )
-      (λ kind sure. sure-on c kind log later (seen_of began done) (seen_behind began done s [] log) (seen_behind began done s [] later) keeps (follows-powered log later (went began done).before s off torn c) sure)
-      (left.card c) tt
-      (λ z there. let was_ = notes c valid z there in (was_.0, was_.1, λ kind sure. was_.2 kind (sure-last c kind later (seen_of began done) (seen_behind began done s [] later) sure)))
+      card-goes o c log later (met_seconds began done) (met_so began done s [] log []) (met_so began done s [] later (gap_behind began done s [] later)) (before_them c) (behind_them c) d e [] []
+      (interrupting s.number (gaps_on c (vehicle_in o) (gap_behind began done s [] later))) (h c valid) (still-finds log later (before_them c) (behind_them c) (finds c)) keeps goes refl (left.card c) tt (notes c valid)
     where
       accepted : accepted_in c (seen_behind began done s [] later) ≡ accepted_in c (seen_behind began done s [] log)
       accepted =
           accepted-of c [] (found-same log later (went began done).before s off torn same ∙ sym (append-nil (course_powered log (went began done).before s).found)) ∙ append-nil (accepted_in c (seen_behind began done s [] log))
+
+      goes : GoesOn c (vehicle_in o) (met_so began done s [] log []) (met_so began done s [] later (gap_behind began done s [] later)) [] (interrupting s.number (gaps_on c (vehicle_in o) (gap_behind began done s [] later)))
+      goes =
+          let follows : Follows c (seen_behind began done s [] log) (seen_behind began done s [] later) = follows-powered log later (went began done).before s off torn c in
+          record {
+            follows = follows;
+            accepted = accepted ∙ sym (append-nil (accepted_in c (seen_behind began done s [] log)));
+            second = refl;
+            attempts = let many : length (accepted_in c (seen_behind began done s [] later)) ≡ length (accepted_in c (seen_behind began done s [] log)) = ap length accepted in
+                let often : torn_times c (seen_behind began done s [] log) ≤ torn_times c (seen_behind began done s [] later) = follows.often in omega (arith, many, often);
+            gaps = refl;
+            moved = moved-same c (vehicle_in o) (seen_behind began done s [] log) (seen_behind began done s [] later) refl accepted ∙ sym (append-nil (moved_in c (vehicle_in o) (seen_behind began done s [] log)));
+          }

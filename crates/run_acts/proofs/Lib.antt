@@ -98,9 +98,12 @@ pub mod CardNotes
 pub mod OnCards
 pub mod OneCard
 pub mod CardCourse
+pub mod CardBrings
+pub mod CardSeconds
 pub mod CardShown
 pub mod CardSecond
 pub mod CardGaps
+pub mod CardSure
 pub mod CardEnds
 pub mod CardWaking
 pub mod CardStays

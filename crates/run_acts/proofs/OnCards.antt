@@ -1,35 +1,20 @@
--- The events of a run on a card, as one second more comes.
+-- The events of a run on a card, and the uses that were found on it: some, and then more.
 use Rattle.std.proofs.Common.{◌≡◌, ◌∙◌, ℕ, Bool, true, false, cond, List, [], ◌∷◌, ◌++◌, map, length, suc, arith, refl, sym, ap, append_assoc, append-nil}
 use Rattle.std.specs.Prelude.{◌==◌, ◌&&◌, filter, flat_map}
-use Rattle.std.specs.List.{list_all}
 use Rattle.std.proofs.lemmas.List.{map-append}
 use Rattle.std.proofs.lemmas.Grind.{flat_map-append}
 use Rattle.std.proofs.lemmas.List.Elements.{filter-append}
 use Rattle.trace_model.specs.declared.Card.{Card}
-use Rattle.trace_model.specs.Trace.{TraceSecond}
 use Rattle.tach_media.specs.Medium.{State}
 use Rattle.tacho_types.specs.declared.texts.Registration.{Registration}
 use Rattle.card_layout.specs.declared.files.Application.{Application}
 use Rattle.card_files.specs.declared.card_event.CardEvent.{CardEvent}
 use Rattle.card_files.specs.declared.current_use.CurrentUse.{CurrentUse}
-use Rattle.log_model.specs.Log.{RunLog}
 use Rattle.event_model.specs.declared.kinds.TheConstants.{INSERTION_WHILE_DRIVING, SESSION_NOT_CLOSED, POWER_INTERRUPTION}
-use Rattle.event_model.specs.Events.{Event, Seen, seen_of, seen_spans, gap_events}
-use Rattle.run_events.specs.Seconds.{gap_by, seen_next}
-use Rattle.run_events.proofs.Growing.{seen-more, second-brings}
-use Rattle.run_insertion.specs.CardEvents.{events_in, all_noted}
-use Rattle.run_insertion.proofs.CardBrought.{noted-both}
-use Rattle.run_acts.specs.OnCards.{has_card, as_accepted, unclosed_at, unclosed_by, events_by, accepted_in, accepted_on, moved_in, gap_entry, gaps_on, events_on, is_sure_in, are_sure_on, ShowsThem, ShowsOn, NotesThem, StillShows, AreUses}
+use Rattle.event_model.specs.Events.{Event}
+use Rattle.run_acts.specs.OnCards.{has_card, unclosed_at, unclosed_by, uses_past, events_by, gap_entry, gaps_on, StillShows, AreUses}
 
 -- ---- tests
-
-pub all-append : {X : Type 0} (q : X → Bool) (xs ys : List X) → list_all q (xs ++ ys) ≡ (list_all q xs && list_all q ys)
-all-append q [] ys = refl
-all-append q (x ∷ xs) ys = by (q x) (all-append q xs ys)
-  where
-    by : (b : Bool) → list_all q (xs ++ ys) ≡ (list_all q xs && list_all q ys) → (b && list_all q (xs ++ ys)) ≡ ((b && list_all q xs) && list_all q ys)
-    by true rest = rest
-    by false rest = refl
 
 pub and-first : (a b : Bool) → (a && b) ≡ true → a ≡ true
 and-first true b is = refl
@@ -38,9 +23,6 @@ and-first false b is = cc
 pub and-second : (a b : Bool) → (a && b) ≡ true → b ≡ true
 and-second true b is = is
 and-second false b is = cc
-
-pub and-both : (a b : Bool) → a ≡ true → b ≡ true → (a && b) ≡ true
-and-both a b first second = λ i. first i && second i
 
 -- ---- uses
 
@@ -70,6 +52,36 @@ unclosed-append (current ∷ uses) more (u ∷ us) vs long =
     let rest : length uses ≡ length us = (let both : suc (length uses) ≡ suc (length us) = long in omega (arith, both)) in
     ap (λ (es : List CardEvent). unclosed_at current u ++ es) (unclosed-append uses more us vs rest) ∙ sym (append_assoc (unclosed_at current u) (unclosed_by uses us) (unclosed_by more vs))
 
+-- the uses behind some acceptances
+pub unclosed-none : (uses : List CurrentUse) → unclosed_by uses [] ≡ []
+unclosed-none [] = refl
+unclosed-none (current ∷ uses) = refl
+
+past-none : (us : List ℕ) → uses_past us [] ≡ []
+past-none [] = refl
+past-none (u ∷ us) = refl
+
+pub past-both : (us vs : List ℕ) (uses : List CurrentUse) → uses_past (us ++ vs) uses ≡ uses_past vs (uses_past us uses)
+past-both [] vs uses = refl
+past-both (u ∷ us) vs [] = sym (past-none vs)
+past-both (u ∷ us) vs (current ∷ uses) = past-both us vs uses
+
+module _ (images : List ℕ → Type 0) where
+  pub uses-past : (us vs : List ℕ) (uses : List CurrentUse) → AreUses images uses (us ++ vs) → AreUses images (uses_past us uses) vs
+  uses-past [] vs uses are = are
+  uses-past (u ∷ us) vs [] are = absurd are
+  uses-past (u ∷ us) vs (current ∷ uses) are = uses-past us vs uses are.1
+
+  pub past-longer : (us vs : List ℕ) (uses more : List CurrentUse) → AreUses images uses (us ++ vs) → uses_past us (uses ++ more) ≡ uses_past us uses ++ more
+  past-longer [] vs uses more are = refl
+  past-longer (u ∷ us) vs [] more are = absurd are
+  past-longer (u ∷ us) vs (current ∷ uses) more are = past-longer us vs uses more are.1
+
+  pub unclosed-longer : (us vs : List ℕ) (uses more : List CurrentUse) → AreUses images uses (us ++ vs) → unclosed_by (uses ++ more) us ≡ unclosed_by uses us
+  unclosed-longer [] vs uses more are = unclosed-none (uses ++ more) ∙ sym (unclosed-none uses)
+  unclosed-longer (u ∷ us) vs [] more are = absurd are
+  unclosed-longer (u ∷ us) vs (current ∷ uses) more are = ap (λ (es : List CardEvent). unclosed_at current u ++ es) (unclosed-longer us vs uses more are.1)
+
 -- ---- events by type
 
 pub events-append : (kind : ℕ) (g m u g' m' u' : List CardEvent) → events_by kind (g ++ g') (m ++ m') (u ++ u') ≡ events_by kind g m u ++ events_by kind g' m' u'
@@ -92,21 +104,6 @@ events-none kind = by (kind == POWER_INTERRUPTION) (kind == INSERTION_WHILE_DRIV
 
 -- ---- images
 
-module _ (app : Application) (start : List ℕ) where
-  pub them-more : (sure later : ℕ → Bool) (events more now : ℕ → List CardEvent) (old new : State) → ShowsThem app start sure events old → ((kind : ℕ) → later kind ≡ true → sure kind ≡ true) → NotesThem app later more old new
-      → ((kind : ℕ) → later kind ≡ true → now kind ≡ events kind ++ more kind) → ShowsThem app start later now new
-  them-more sure later events more now old new shown back notes grows y left kind is =
-      let was = notes y left in
-      was.2 kind is
-      ∙ ap (λ (l : List (List ℕ)). all_noted l (more kind)) (shown was.0 was.1 kind (back kind is))
-      ∙ sym (noted-both (events_in app kind start) (events kind) (more kind))
-      ∙ ap (λ (es : List CardEvent). all_noted (events_in app kind start) es) (sym (grows kind is))
-
-pub notes-still : (app : Application) (sure : ℕ → Bool) (old new : State) → StillShows app old new → NotesThem app sure (λ kind. events_by kind [] [] []) old new
-notes-still app sure old new still y left =
-    let was = still y left in
-    (was.0, was.1, λ kind is. was.2 kind ∙ sym (ap (λ (es : List CardEvent). all_noted (events_in app kind was.0) es) (events-none kind)))
-
 pub still-same : (app : Application) (card : State) → StillShows app card card
 still-same app card y left = (y, left, λ kind. refl)
 
@@ -125,43 +122,3 @@ pub gaps-append : (c : Card) (own : Registration) (es fs : List Event) → gaps_
 gaps-append c own es fs =
     ap (λ (l : List Event). map (gap_entry c own) l) (filter-append (λ (e : Event). has_card e.at_begin c) es fs)
     ∙ map-append (gap_entry c own) (filter (λ (e : Event). has_card e.at_begin c) es) (filter (λ (e : Event). has_card e.at_begin c) fs)
-
-pub gaps-next : (log : RunLog) (done : List TraceSecond) (s : TraceSecond) → gap_events as_accepted log (done ++ s ∷ []) ≡ gap_events as_accepted log done ++ gap_by as_accepted log (seen_spans (seen_of log done)) (seen_next log done s)
-gaps-next log done s = second-brings POWER_INTERRUPTION 0 (λ u v. 0) as_accepted log done s
-
-module _ (c : Card) (own : Registration) (log : RunLog) (done : List TraceSecond) (s : TraceSecond) where
-  abbrev x : Seen
-  x = seen_next log done s
-
-  abbrev gap : List Event
-  gap = gap_by as_accepted log (seen_spans (seen_of log done)) (seen_next log done s)
-
-  -- what it brings of each type, where these uses were found in it
-  abbrev pub brings : List CurrentUse → ℕ → List CardEvent
-  brings more kind = events_by kind (gaps_on c own gap) (moved_in c own x) (unclosed_by more (accepted_in c x))
-
-  events-more : (uses more : List CurrentUse) (kind : ℕ) → length uses ≡ length (accepted_on c (seen_of log done)) → events_on c own (uses ++ more) kind log (done ++ s ∷ []) ≡ events_on c own uses kind log done ++ brings more kind
-  events-more uses more kind are =
-      (λ i. events_by kind ((ap (λ (es : List Event). gaps_on c own es) (gaps-next log done s) ∙ gaps-append c own (gap_events as_accepted log done) gap) i)
-      ((ap (flat_map (moved_in c own)) (seen-more log done s) ∙ flat-one (moved_in c own) (seen_of log done) x) i)
-      ((ap (λ (us : List ℕ). unclosed_by (uses ++ more) us) (ap (flat_map (accepted_in c)) (seen-more log done s) ∙ flat-one (accepted_in c) (seen_of log done) x) ∙ unclosed-append uses more (accepted_on c (seen_of log done)) (accepted_in c x) are) i))
-      ∙ events-append kind (gaps_on c own (gap_events as_accepted log done)) (flat_map (moved_in c own) (seen_of log done)) (unclosed_by uses (accepted_on c (seen_of log done))) (gaps_on c own gap) (moved_in c own x) (unclosed_by more (accepted_in c x))
-
-  sure-more : (kind : ℕ) → are_sure_on c kind log (seen_of log (done ++ s ∷ [])) ≡ (are_sure_on c kind log (seen_of log done) && (is_sure_in c kind log x && true))
-  sure-more kind = ap (list_all (is_sure_in c kind log)) (seen-more log done s) ∙ all-append (is_sure_in c kind log) (seen_of log done) (x ∷ [])
-
-  -- A SECOND MORE
-  pub second-shown : (app : Application) (start : List ℕ) (uses more : List CurrentUse) (old new : State) → ShowsOn c own uses app start log done old → length uses ≡ length (accepted_on c (seen_of log done))
-      → NotesThem app (λ kind. is_sure_in c kind log x) (brings more) old new → ShowsOn c own (uses ++ more) app start log (done ++ s ∷ []) new
-  second-shown app start uses more old new shown are notes =
-      them-more app start (λ kind. are_sure_on c kind log (seen_of log done)) (λ kind. are_sure_on c kind log (seen_of log (done ++ s ∷ []))) (λ kind. events_on c own uses kind log done) (brings more)
-      (λ kind. events_on c own (uses ++ more) kind log (done ++ s ∷ [])) old new shown
-      (λ kind is. and-first (are_sure_on c kind log (seen_of log done)) (is_sure_in c kind log x && true) (sym (sure-more kind) ∙ is))
-      (λ y left. let was = notes y left in
-      (was.0, was.1, λ kind is. was.2 kind (and-first (is_sure_in c kind log x) true (and-second (are_sure_on c kind log (seen_of log done)) (is_sure_in c kind log x && true) (sym (sure-more kind) ∙ is)))))
-      (λ kind is. events-more uses more kind are)
-
--- NOTHING IS SHOWN MORE at the start
-pub start-shown : (c : Card) (own : Registration) (app : Application) (start : List ℕ) (log : RunLog) (card : State) → ((x : List ℕ) → card.may_leave x → x ≡ start) → ShowsOn c own [] app start log [] card
-unfolding seen_of
-start-shown c own app start log card alone x left kind sure = ap (λ (l : List ℕ). events_in app kind l) (alone x left) ∙ ap (λ (es : List CardEvent). all_noted (events_in app kind start) es) (sym (events-none kind))

@@ -19,6 +19,7 @@ found-with f c s cards h = record {
   two = h.two;
   named = λ d valid. subst (λ (q : Option FullCardNumber). IfSome q (λ n. card_number_bytes n ≡ (found_of f d).number)) (sym (number-set c d s cards)) (h.named d valid);
   told = λ d valid. subst (λ (q : Option FullCardNumber). is_some q ≡ true) (sym (number-set c d s cards)) (h.told d valid);
+  only = λ d has. h.only d (subst (λ (q : Option FullCardNumber). is_some q ≡ true) (number-set c d s cards) has);
   own = h.own;
   sizes = h.sizes;
   entries = h.entries;

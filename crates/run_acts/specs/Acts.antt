@@ -1,6 +1,6 @@
 -- What the actions of a second and its turn leave of a run and of its devices, each in a few records (profile).
 use Rattle.std.specs.Prelude.{ℕ, ◌++◌, ◌+◌, ◌/◌, ◌∷◌, ◌≡◌, ◌≤◌, Bool, IfSome, List, None, OnOk, Option, Result, Some}
-use Rattle.std.specs.Prelude.{[], false, is_err, is_some, length, not, true}
+use Rattle.std.specs.Prelude.{[], false, is_err, is_some, length, not, true, ◌<◌, ◌*◌, ◌≢◌}
 use Rattle.activity_codec.specs.declared.values.Activity.{Activity}
 use Rattle.activity_codec.specs.declared.values.Slot.{Slot}
 use Rattle.card_layout.specs.declared.command.CardState.{CardState}
@@ -18,7 +18,7 @@ use Rattle.run_crew.specs.Cabin.{CabinIsSound, number_of_seat}
 use Rattle.run_crew.specs.Cards.{known_of, session_of}
 use Rattle.run_crew.specs.declared.cards.Accepted.{Accepted}
 use Rattle.run_events.specs.Entries.{card_entry}
-use Rattle.run_minutes.specs.Keeping.{CardMayBeCalled, HasItsRow, UnitMayBeCalled}
+use Rattle.run_minutes.specs.Keeping.{CardMayBeCalled, HasItsRow, UnitMayBeCalled, most_tears, tears_of}
 use Rattle.run_minutes.specs.Later.{AreAfter, AreCalm, AreLater, IsCalm, IsLater}
 use Rattle.run_minutes.specs.Minutes.{IsReach, KeepingState, Reach}
 use Rattle.run_minutes.specs.Stand.{KeepingGoes, Stand}
@@ -48,7 +48,7 @@ use Rattle.run_acts.specs.CardNotes.{LeavePlaces, LeavesPlaces, NotesOn, NotesOn
 use Rattle.run_acts.specs.CardWrites.{MayTakePlace, PlaceOn, ShutsSo, WithdrawsShut}
 use Rattle.run_acts.specs.Evented.{EventsLitTurn}
 use Rattle.run_acts.specs.Faults.{NotesTurn}
-use Rattle.run_acts.specs.Going.{CanBeCut}
+use Rattle.run_acts.specs.Going.{CanBeCut, RunHasPowerAllSeated}
 use Rattle.run_acts.specs.NotedEvents.{NotesEvents}
 use Rattle.run_acts.specs.Noting.{AreGapEvents, GapReach, IsGapNoted, IsNoteRecorded, IsPlaceRecorded, NotesClosing}
 use Rattle.run_acts.specs.Noting.{NotesFall, NotesPlace, NotesWithdrawing}
@@ -62,6 +62,9 @@ use Rattle.run_acts.specs.Speeds.{BringsBlock, SpeedsTurn}
 use Rattle.run_acts.specs.Stays.{ClosesOnCard}
 use Rattle.run_acts.specs.Turning.{IsLitTurn, IsTurnOf}
 use Rattle.run_acts.specs.declared.run.Run.{Run}
+use Rattle.event_model.specs.declared.kinds.TheConstants.{POWER_INTERRUPTION}
+use Rattle.message_model.specs.Records.{insertion_ring}
+use Rattle.unit_model.specs.declared.layout.TheConstants.{HIGHEST_ODOMETER}
 
 -- THE CARD OF A SLOT WAS TO BE WITHDRAWN: what became of it, and nothing else has changed
 pub record Withdraws (slot : Slot) (at : Moment) (failed : Bool) (old new : Run) (before after : Outcome) : Type 0 where
@@ -100,6 +103,13 @@ pub record PromisesWithdrawal (slot : Slot) (at : Moment) (failed : Bool) (old n
 pub record IsHeldBehind (failed : Bool) (new : Run) (d e : Devices) (chip_a chip_b : CardState) : Type 0 where
   pub held : CanBeCut (new.next / 60) new e.unit chip_a chip_b e.card_a e.card_b
   pub cause : HasCause d.unit e.unit failed
+
+-- HOW A RUN STANDS BEHIND A CALL: whatever has failed, power can be lost then; and where the unit did not fail it has
+-- power, and each card its seat
+pub record RunStandsBehind (result : Result (Unit {0}) Failed) (new : Run) (d e : Devices) (chip_a chip_b : CardState)
+    : Type 0 where
+  pub held : IsHeldBehind (is_err result) new d e chip_a chip_b
+  pub going : OnOk result (RunHasPowerAllSeated (new.next / 60) new e.unit chip_a chip_b e.card_a e.card_b)
 
 -- ALL GOES ON: no clock and no count of a device falls, none breaks down but in a call that failed, and no card without
 -- the line of a tear; the detailed speed stays, and breaks are only added; and so many writes at most were begun
@@ -340,3 +350,37 @@ pub record SettlingGoes (on_unit on_card : ℕ) (s t : Stand) : Type 0 where
   pub keeping : KeepingGoes s t
   pub speeds : LeavesSpeeds s.devices.unit t.devices.unit
   pub most : WroteAtMost on_unit on_card s.devices t.devices
+
+-- A NOTE MAY BE MADE ON AN ACCEPTED CARD in this second: unit and card may be called, and the card has a session; the
+-- second is not 0, its minute is no earlier than the slots', and there is room for a tear
+pub record MayNoteOn (which : Card) (at : ℕ) (run : Run) (breaks : Listed Break) (U : State) (chip : CardState)
+    (x : State) : Type 0 where
+  pub ready : UnitMayBeCalled run.keeper U
+  pub card : CardMayBeCalled (known_of run.keeper.cabin.cards which) chip x
+  pub session : is_some (session_of run.keeper.cabin.cards which) ≡ true
+  pub minute : run.keeper.cabin.slots.minute ≤ at / 60
+  pub second : at ≢ 0
+  pub room : length breaks.items < breaks.room
+
+-- AN INTERRUPTION OF POWER, which began
+pub record IsPowerGap (event : UnitEvent) : Type 0 where
+  pub kind : event.kind ≡ POWER_INTERRUPTION
+  pub begin : event.begin.0 ≢ 0
+
+-- A SESSION MAY BE CLOSED in this second, if the card has one: the card may be called, the entry of its insertion is
+-- one of the ring, and the odometer is within its bounds; the second is not 0, its minute is no earlier than the
+-- slots', and there is room for a tear
+pub record MayClose (which : Card) (at : ℕ) (run : Run) (breaks : Listed Break) (chip : CardState) (x : State) : Type
+    0 where
+  pub card : CardMayBeCalled (known_of run.keeper.cabin.cards which) chip x
+  pub entry : IfSome (session_of run.keeper.cabin.cards which)
+      (λ s. (s.entry < insertion_ring.count) × (s.noted ≤ run.noted))
+  pub odometer : run.keeper.odometer ≤ HIGHEST_ODOMETER
+  pub minute : run.keeper.cabin.slots.minute ≤ at / 60
+  pub second : at ≢ 0
+  pub room : length breaks.items + tears_of (session_of run.keeper.cabin.cards which) ≤ breaks.room
+
+-- THERE IS ROOM TO SETTLE: for the marks of the minutes that are owed, and for a tear of each card
+pub record HasRoomToSettle (run : Run) (o : Outcome) : Type 0 where
+  pub marks : length o.marks.items + 3 * run.minutes.owing ≤ o.marks.room
+  pub breaks : length o.breaks.items + most_tears run.keeper.cabin.cards ≤ o.breaks.room

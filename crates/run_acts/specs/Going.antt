@@ -1,5 +1,5 @@
 -- What is known of a run between two calls, whatever its devices tell (profile).
-use Rattle.std.specs.Prelude.{◌≡◌, ℕ, ◌-◌, ◌/◌, ◌<◌, ◌≤◌, ◌^◌, true, false, Option, None, Ok, IfSome, is_some}
+use Rattle.std.specs.Prelude.{◌≡◌, ℕ, ◌-◌, ◌/◌, ◌<◌, ◌≤◌, ◌^◌, true, false, Option, None, Ok, IfSome, is_some, ◌+◌, ◌%◌}
 use Rattle.trace_model.specs.declared.Card.{Card}
 use Rattle.tach_media.specs.Medium.{State}
 use Rattle.card_layout.specs.declared.command.CardState.{CardState}
@@ -120,3 +120,26 @@ IsFoundLater (MediumFault device) = ⊥
 IsFoundLater (BadUnit place) = Unit {0}
 IsFoundLater (ClockBack kept second) = second / 60 ≤ kept
 IsFoundLater (SameCard number) = ⊥
+
+-- WITH POWER, IN A SECOND, whatever is noted in it: it is no earlier than the first one, and whatever fails power can
+-- be lost
+pub record HasPowerInSecond (run : Run) (unit : State) (chip_a chip_b : CardState) (a b : State) : Type 0 where
+  pub lit : run.power ≡ Lit
+  pub low : first_second ≤ run.next
+  pub held : CanBeCut (run.next / 60) run unit chip_a chip_b a b
+  pub going : RunHasPowerAllSeated (run.next / 60) run unit chip_a chip_b a b
+
+-- THE MINUTES BEFORE ITS OWN MAY BE SETTLED in a second with power, whatever card is leaving its slot
+pub record MaySettle (run : Run) (unit : State) (chip_a chip_b : CardState) (a b : State) : Type 0 where
+  pub lit : run.power ≡ Lit
+  pub low : first_second ≤ run.next
+  pub small : run.next ≤ end_of_seconds
+  pub held : CanBeCut (run.next / 60) run unit chip_a chip_b a b
+  pub going : (leaving : Option Card) × RunHasPower leaving (run.next / 60) run unit chip_a chip_b a b
+
+-- SO MANY SECONDS MAY BE TURNED at once, from this one on: there are some, all of one minute, and the formats can tell
+-- each
+pub record IsStretch (n next : ℕ) : Type 0 where
+  pub some : 0 < n
+  pub minute : next % 60 + n ≤ 60
+  pub small : next + n ≤ end_of_seconds

@@ -1,8 +1,8 @@
 -- THE EVENTS OF A RUN ON A CARD, by type, from its seconds and its log, and how far each image of the card shows them
 -- (Annex IB, section III.12; Appendix 1, CardEventData; the moments: profile).
-use Rattle.std.specs.Prelude.{◌≡◌, ℕ, ◌==◌, ◌&&◌, ◌||◌, Bool, true, false, not, Option, Some, None, List, [], ◌∷◌, ◌++◌}
-use Rattle.std.specs.Prelude.{map, filter, flat_map, nat_lt, if◌then◌else◌}
-use Rattle.std.specs.List.{list_any, list_all}
+use Rattle.std.specs.Prelude.{◌≡◌, ℕ, ◌+◌, ◌≤◌, ◌==◌, ◌&&◌, ◌||◌, Bool, true, false, not, Option, Some, None, List, []}
+use Rattle.std.specs.Prelude.{◌∷◌, ◌++◌, length, map, filter, flat_map, nat_lt, if◌then◌else◌}
+use Rattle.std.specs.List.{AllByRecursion, list_any, list_all}
 use Rattle.trace_model.specs.declared.Card.{Card}
 use Rattle.trace_model.specs.Trace.{TraceSecond}
 use Rattle.tach_media.specs.Medium.{State}
@@ -18,9 +18,10 @@ use Rattle.log_model.specs.Log.{RunLog, is_accepting}
 use Rattle.log_model.specs.Slots.{same_card}
 use Rattle.event_model.specs.declared.kinds.TheConstants.{INSERTION_WHILE_DRIVING, SESSION_NOT_CLOSED}
 use Rattle.event_model.specs.declared.kinds.TheConstants.{POWER_INTERRUPTION}
-use Rattle.event_model.specs.Events.{Event, Crew, Seen, Tearing, number_of, seen_of, gap_events}
+use Rattle.event_model.specs.Events.{Event, Crew, Seen, Tearing, number_of, seen_of, seen_spans, gap_events}
 use Rattle.note_model.specs.Done.{has_failed_in}
-use Rattle.run_insertion.specs.CardEvents.{events_in, all_noted}
+use Rattle.run_events.specs.Seconds.{gap_by, seen_next}
+use Rattle.run_insertion.specs.CardEvents.{events_in, all_noted, MayBeNoted}
 
 -- a card is one of a crew
 abbrev pub is_card : Option Card → Card → Bool
@@ -127,33 +128,7 @@ module _ (c : Card) where
   abbrev pub are_sure_on : (kind : ℕ) → RunLog → List Seen → Bool
   are_sure_on kind log seen = list_all (is_sure_in kind log) seen
 
--- ---- how far it shows them
-
--- Each image that a card may leave shows these events, of each type whose events are sure, on those that it had at the
--- start.
-abbrev pub ShowsThem : Application → (start : List ℕ) → (sure : ℕ → Bool) → (events : ℕ → List CardEvent) → State
-    → Type 0
-ShowsThem app start sure events card = (x : List ℕ) → card.may_leave x → (kind : ℕ) → sure kind ≡ true
-    → events_in app kind x ≡ all_noted (events_in app kind start) (events kind)
-
--- WHAT A CARD SHOWS behind these seconds: each image that it may leave, of each type whose events are sure, those that
--- it had at the start with those of the run
-abbrev pub ShowsOn : Card → Registration → List CurrentUse → Application → (start : List ℕ) → RunLog → List TraceSecond
-    → State → Type 0
-ShowsOn c own uses app start log done card = ShowsThem app start (λ kind. are_sure_on c kind log (seen_of log done))
-    (λ kind. events_on c own uses kind log done) card
-
--- These events more are noted on a card, of each type whose events are sure: so it is of each image that it may leave,
--- and one that it might have left before.
-abbrev pub NotesThem : Application → (sure : ℕ → Bool) → (events : ℕ → List CardEvent) → (old new : State) → Type 0
-NotesThem app sure events old new = (y : List ℕ) → new.may_leave y
-    → (x : List ℕ) × old.may_leave x
-    × ((kind : ℕ) → sure kind ≡ true → events_in app kind y ≡ all_noted (events_in app kind x) (events kind))
-
--- Calls leave the events of a card, of every type.
-abbrev pub StillShows : Application → (old new : State) → Type 0
-StillShows app old new = (y : List ℕ) → new.may_leave y
-    → (x : List ℕ) × old.may_leave x × ((kind : ℕ) → events_in app kind y ≡ events_in app kind x)
+-- ---- the uses that were found on it
 
 -- one of its images told this use
 abbrev pub IsUse : (images : List ℕ → Type 0) → CurrentUse → Type 0
@@ -165,3 +140,120 @@ AreUses images [] [] = Unit {0}
 AreUses images [] (u ∷ us) = ⊥
 AreUses images (current ∷ uses) [] = ⊥
 AreUses images (current ∷ uses) (u ∷ us) = IsUse images current × AreUses images uses us
+
+-- the uses that are left behind those of these acceptances
+abbrev pub uses_past : (seconds : List ℕ) → List CurrentUse → List CurrentUse
+uses_past [] uses = uses
+uses_past (u ∷ us) [] = []
+uses_past (u ∷ us) (current ∷ uses) = uses_past us uses
+
+-- ---- second by second
+
+-- a second as a card meets it, with the interruption of power that ends with it
+pub record MetSecond : Type 0 where
+  pub seen : Seen
+  pub gap : List Event
+
+-- these seconds, behind others; and those of a run
+abbrev pub met_behind : RunLog → (behind seen : List Seen) → List MetSecond
+met_behind log behind [] = []
+met_behind log behind (x ∷ xs) = record { seen = x; gap = gap_by as_accepted log (seen_spans behind) x }
+    ∷ met_behind log (behind ++ x ∷ []) xs
+
+abbrev pub met_seconds : RunLog → List TraceSecond → List MetSecond
+met_seconds log ss = met_behind log [] (seen_of log ss)
+
+-- one second more
+abbrev pub met_next : RunLog → List TraceSecond → TraceSecond → MetSecond
+met_next log done s = record {
+  seen = seen_next log done s;
+  gap = gap_by as_accepted log (seen_spans (seen_of log done)) (seen_next log done s);
+}
+
+-- what comes to a card in a second: interruptions, acceptances in which the vehicle moves, sessions that were found not
+-- closed; and how often a use was to be found on it
+pub record Bringing : Type 0 where
+  pub second : ℕ
+  pub attempts : ℕ
+  pub gaps : List CardEvent
+  pub moved : List CardEvent
+  pub unclosed : List CardEvent
+
+-- the sessions that were not closed, by these uses, each found in one second
+abbrev pub unclosed_all : (second : ℕ) → List CurrentUse → List CardEvent
+unclosed_all u uses = flat_map (λ current. unclosed_at current u) uses
+
+module _ (c : Card) where
+  -- the seconds in which it was accepted, of these
+  abbrev pub met_accepted : List MetSecond → List ℕ
+  met_accepted ms = flat_map (λ m. accepted_in c m.seen) ms
+
+  -- how often a failed call tore it out in a second; and how often it was accepted in it or torn out
+  abbrev pub torn_times : Seen → ℕ
+  torn_times x = length (filter (λ v. same_card v.card c) x.told.course.torn)
+
+  abbrev pub attempts_in : Seen → ℕ
+  attempts_in x = length (accepted_in c x) + torn_times x
+
+module _ (c : Card) (own : Registration) where
+  -- what its judging brings it in a second at this speed: it was accepted then, by these uses, and torn out so often
+  abbrev pub judging : (second speed torn : ℕ) → (accepted : List ℕ) → List CurrentUse → Bringing
+  judging u speed torn us uses = record {
+    second = u;
+    attempts = length us + torn;
+    gaps = [];
+    moved = movings c own speed us;
+    unclosed = unclosed_by uses us;
+  }
+
+  -- what a second brings it, where these sessions were found not closed
+  abbrev pub bringing : MetSecond → (unclosed : List CardEvent) → Bringing
+  bringing m unclosed = record {
+    second = number_of m.seen;
+    attempts = attempts_in c m.seen;
+    gaps = gaps_on c own m.gap;
+    moved = moved_in c own m.seen;
+    unclosed = unclosed;
+  }
+
+-- THIS COMES TO THE PLACES OF A TYPE: where it is sure each event is noted, one after another. Where it is not sure
+-- each is noted, or nothing comes of it, or the one place that it takes is empty; and the sessions are those of no more
+-- uses than were to be found, each of which an image of the card told.
+abbrev pub IsBrought : (images : List ℕ → Type 0) → (kind : ℕ) → (sure : Bool) → Bringing → (old new : List (List ℕ))
+    → Type 0
+IsBrought images kind true b old new = new ≡ all_noted old (events_by kind b.gaps b.moved b.unclosed)
+IsBrought images kind false b old new = (found : List CurrentUse) × (length found ≤ b.attempts)
+    × AllByRecursion (IsUse images) found
+    × MayBeNoted old (events_by kind b.gaps b.moved (unclosed_all b.second found)) new
+
+module _ (c : Card) (own : Registration) (images : List ℕ → Type 0) (kind : ℕ) where
+  -- THE PLACES OF A TYPE BEHIND THESE SECONDS: each brings its own, one second after another, and is sure by the log or
+  -- is not
+  abbrev pub AreBrought : RunLog → List MetSecond → List CurrentUse → (old new : List (List ℕ)) → Type 0
+  AreBrought log [] uses old new = new ≡ old
+  AreBrought log (m ∷ ms) uses old new = (next : List (List ℕ))
+      × IsBrought images kind (is_sure_in c kind log m.seen)
+      (bringing c own m (unclosed_by uses (accepted_in c m.seen))) old next
+      × AreBrought log ms (uses_past (accepted_in c m.seen) uses) next new
+
+-- ---- how far it shows them
+
+-- WHAT A CARD SHOWS behind these seconds: each image that it may leave has, of every type, what they brought to the
+-- places of the image at the start
+abbrev pub ShowsOn : Card → Registration → (images : List ℕ → Type 0) → List CurrentUse → (start : List ℕ) → RunLog
+    → List MetSecond → State → Type 0
+ShowsOn c own images uses start log ms card = (x : List ℕ) → card.may_leave x → (kind : ℕ) →
+    AreBrought c own images kind log ms uses (events_in (own_sizes start) kind start)
+    (events_in (own_sizes start) kind x)
+
+-- THIS COMES TO A CARD by calls: so it is of each image that it may leave, and one that it might have left before
+abbrev pub ComesTo : (images : List ℕ → Type 0) → Application → (sure : ℕ → Bool) → Bringing → (old new : State)
+    → Type 0
+ComesTo images app sure b old new = (y : List ℕ) → new.may_leave y
+    → (x : List ℕ) × old.may_leave x
+    × ((kind : ℕ) → IsBrought images kind (sure kind) b (events_in app kind x) (events_in app kind y))
+
+-- Calls leave the events of a card, of every type.
+abbrev pub StillShows : Application → (old new : State) → Type 0
+StillShows app old new = (y : List ℕ) → new.may_leave y
+    → (x : List ℕ) × old.may_leave x × ((kind : ℕ) → events_in app kind y ≡ events_in app kind x)

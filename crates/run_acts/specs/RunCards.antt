@@ -1,7 +1,6 @@
 -- WHAT THE CARDS SHOW of their events, as a run with cards carries it (profile): between two seconds, and within one;
 -- and what calls make of that.
 use Rattle.std.specs.Prelude.{◌≡◌, ◌+◌, ◌-◌, ◌<◌, ◌++◌, ℕ, suc, Bool, true, false, not, None, List, [], ◌∷◌, length}
-use Rattle.std.specs.Prelude.{flat_map}
 use Rattle.activity_codec.specs.declared.values.Slot.{Slot}
 use Rattle.trace_model.specs.declared.Card.{Card}
 use Rattle.trace_model.specs.declared.Action.{Action}
@@ -10,7 +9,7 @@ use Rattle.trace_model.specs.Trace.{TraceSecond, driven}
 use Rattle.card_layout.specs.declared.files.Application.{Application}
 use Rattle.card_image.specs.Own.{own_sizes, IsOwnValid}
 use Rattle.card_files.specs.declared.current_use.CurrentUse.{CurrentUse}
-use Rattle.event_model.specs.Events.{Event, Seen, seen_of, seen_spans, gap_events}
+use Rattle.event_model.specs.Events.{Event, Seen, seen_of, seen_spans}
 use Rattle.minute_model.specs.declared.Minute.{Minute}
 use Rattle.log_model.specs.Log.{RunLog, In}
 use Rattle.log_model.specs.Slots.{refusal}
@@ -38,34 +37,30 @@ use Rattle.run_acts.specs.Power.{is_lit}
 use Rattle.run_acts.specs.Recording.{log_of, RunWithin, RunCut, IsNow}
 use Rattle.run_acts.specs.RunRinged.{with_cut, AreSpansNow}
 use Rattle.run_acts.specs.Settling.{settled_run}
-use Rattle.run_acts.specs.OnCards.{as_accepted, events_by, unclosed_by, accepted_on, moved_in, gaps_on, are_sure_on}
-use Rattle.run_acts.specs.OnCards.{ShowsThem, StillShows, AreUses}
+use Rattle.run_acts.specs.OnCards.{MetSecond, as_accepted, met_seconds, met_accepted, ShowsOn, StillShows, AreUses}
 
 -- the sizes of a card, by its image at the start
 abbrev pub sizes_in : Origin → Card → Application
 sizes_in o c = own_sizes (card_image o.recording c)
 
--- A CARD SHOWS the events of these seconds, and of these interruptions: at each of its acceptances a use was found on
--- it, which an image of it told, and this one where no call failed; each image that it may leave shows the events of
--- the types that are sure, on those of its image at the start.
-pub record CardShown (o : Origin) (c : Card) (log : RunLog) (gaps : List Event) (seen : List Seen)
-    (found : List CurrentUse) (d : Devices) : Type 0 where
+-- A CARD SHOWS the events of these seconds: at each of its acceptances a use was found on it, which an image of it
+-- told, and this one where no call failed; each image that it may leave shows what the seconds brought, on the events
+-- of its image at the start.
+pub record CardShown (o : Origin) (c : Card) (log : RunLog) (seconds : List MetSecond) (found : List CurrentUse)
+    (d : Devices) : Type 0 where
   pub uses : List CurrentUse
-  pub are : AreUses (images_in o d c) uses (accepted_on c seen)
+  pub are : AreUses (images_in o d c) uses (met_accepted c seconds)
   pub exact : NothingFailed log → uses ≡ found
-  pub shows : ShowsThem (sizes_in o c) (card_image o.recording c) (λ kind. are_sure_on c kind log seen)
-      (λ kind. events_by kind (gaps_on c (vehicle_in o) gaps) (flat_map (moved_in c (vehicle_in o)) seen)
-      (unclosed_by uses (accepted_on c seen))) (card_of d c)
+  pub shows : ShowsOn c (vehicle_in o) (images_in o d c) uses (card_image o.recording c) log seconds (card_of d c)
 
 -- so does each that was valid
-abbrev pub CardsShown : Origin → RunLog → List Event → List Seen → (found : Card → List CurrentUse) → Devices → Type 0
-CardsShown o log gaps seen found d = (c : Card) → IsOwnValid (card_image o.recording c)
-    → CardShown o c log gaps seen (found c) d
+abbrev pub CardsShown : Origin → RunLog → List MetSecond → (found : Card → List CurrentUse) → Devices → Type 0
+CardsShown o log seconds found d = (c : Card) → IsOwnValid (card_image o.recording c)
+    → CardShown o c log seconds (found c) d
 
 -- BETWEEN TWO SECONDS, behind these
 abbrev pub CardsBehind : Origin → List TraceSecond → RunLog → Devices → Type 0
-CardsBehind o done log d = CardsShown o log (gap_events as_accepted log done) (seen_of log done)
-    (λ c. uses_in o c (notes_in log done)) d
+CardsBehind o done log d = CardsShown o log (met_seconds log done) (λ c. uses_in o c (notes_in log done)) d
 
 -- a second with power as it has gone so far, as far as the events of cards see it
 abbrev pub so_far : Before → TraceSecond → Course → Seen
@@ -95,18 +90,23 @@ abbrev pub gap_behind : (began : RunLog) → List TraceSecond → TraceSecond �
 gap_behind began done s front log = gap_by as_accepted began (seen_spans (seen_of began done))
     (seen_behind began done s front log)
 
+-- so it is met, with this interruption before it
+abbrev pub met_so : (began : RunLog) → List TraceSecond → TraceSecond → (front : List Action) → (log : RunLog)
+    → (gap : List Event) → MetSecond
+met_so began done s front log gap = record { seen = seen_behind began done s front log; gap = gap }
+
 -- WITHIN A SECOND: the interruption before it is noted
 abbrev pub CardsIn : Origin → List TraceSecond → TraceSecond → (began : RunLog) → (front : List Action) → (log : RunLog)
     → Devices → Type 0
 CardsIn o done s began front log d =
-    CardsShown o log (gap_events as_accepted began done ++ gap_behind began done s front log)
-    (seen_of began done ++ seen_behind began done s front log ∷ []) (λ c. uses_in o c (notes_now began done log s))
-    d
+    CardsShown o log
+    (met_seconds began done ++ met_so began done s front log (gap_behind began done s front log) ∷ [])
+    (λ c. uses_in o c (notes_now began done log s)) d
 
 -- or it is not noted yet, as its cards are judged at a power-on
 abbrev pub CardsWaking : Origin → List TraceSecond → TraceSecond → (began : RunLog) → (log : RunLog) → Devices → Type 0
-CardsWaking o done s began log d = CardsShown o log (gap_events as_accepted began done)
-    (seen_of began done ++ seen_behind began done s [] log ∷ []) (λ c. uses_in o c (notes_now began done log s)) d
+CardsWaking o done s began log d = CardsShown o log (met_seconds began done ++ met_so began done s [] log [] ∷ [])
+    (λ c. uses_in o c (notes_now began done log s)) d
 
 -- calls leave the events of each card that was valid
 abbrev pub StillShow : Origin → (d e : Devices) → Type 0

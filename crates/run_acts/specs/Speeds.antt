@@ -34,7 +34,7 @@ pub record BringsBlock (n speed : ℕ) (failed : Bool) (old new : Run) (prior un
 
 -- ---- of a run
 
--- a unit carries the blocks of these seconds, as this log tells them, where its ring was dense as the run began
+-- a unit carries the blocks of these seconds, as this log tells them
 abbrev pub HasBlocks : Origin → RunLog → List TraceSecond → Devices → Type 0
 HasBlocks o log done d = HasSpeedRing o.recording.unit
     → HasSpeeds (is_sure_block log) o.recording.unit o.found.unit.began (blocks_by log done) d.unit

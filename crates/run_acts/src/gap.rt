@@ -1,17 +1,13 @@
 //! The interruption of power that ends now is noted.
-ghost use Rattle.std.specs.Prelude.{◌≡◌, ◌≢◌, ◌+◌, ◌/◌, ◌<◌, ◌≤◌, true, OnOk};
-ghost use Rattle.std.specs.Prelude.{length, is_err, is_some};
-ghost use Rattle.event_model.specs.declared.kinds.TheConstants.{POWER_INTERRUPTION};
+ghost use Rattle.std.specs.Prelude.{◌+◌, ◌/◌, ◌<◌, ◌≤◌};
+ghost use Rattle.std.specs.Prelude.{length, is_err};
 ghost use Rattle.log_model.specs.Log.{In};
 ghost use Rattle.run_promise.specs.Between.{devices};
-ghost use Rattle.run_crew.specs.Cards.{known_of, session_of};
-ghost use Rattle.run_minutes.specs.Keeping.{UnitMayBeCalled, CardMayBeCalled};
-ghost use Rattle.run_acts.specs.declared.run.Power.TheVariants.{Lit};
-ghost use Rattle.run_acts.specs.Going.{first_second, CanBeCut, RunHasPowerAllSeated, IsActing};
+ghost use Rattle.run_acts.specs.Going.{IsActing, HasPowerInSecond};
 ghost use Rattle.run_acts.specs.Room.{falls_of};
 ghost use Rattle.run_acts.specs.Noting.{IsNoteRecorded};
-ghost use Rattle.run_acts.specs.Acts.{AllGoOn, IsHeldBehind, LeavesGap, LeavesIn, NotesGap, NotesIn};
-ghost use Rattle.run_acts.specs.Acts.{NotesGapOn, PromisesGap};
+ghost use Rattle.run_acts.specs.Acts.{AllGoOn, LeavesGap, LeavesIn, NotesGap, NotesIn, RunStandsBehind};
+ghost use Rattle.run_acts.specs.Acts.{NotesGapOn, PromisesGap, IsPowerGap, MayNoteOn};
 
 use crate::run::Run;
 use activity_codec::Slot;
@@ -57,12 +53,10 @@ pub fn note_gap<M: Medium, C: Chip, D: Chip>(
     ensures leaves { LeavesGap kept (is_err result) run.old run.new breaks.old breaks.new
         (devices (M.state unit.old) (C.state card_a.old) (D.state card_b.old))
         (devices (M.state unit.new) (C.state card_a.new) (D.state card_b.new)) }
-    ensures held { IsHeldBehind (is_err result) run.new
+    ensures behind { RunStandsBehind result run.new
         (devices (M.state unit.old) (C.state card_a.old) (D.state card_b.old))
         (devices (M.state unit.new) (C.state card_a.new) (D.state card_b.new))
         (C.card card_a.new) (D.card card_b.new) }
-    ensures going { OnOk result (RunHasPowerAllSeated (run.new.next / 60) run.new (M.state unit.new) (C.card card_a.new)
-        (D.card card_b.new) (C.state card_a.new) (D.state card_b.new)) }
     ensures goes { AllGoOn 12 8 breaks.old.items breaks.new.items
         (devices (M.state unit.old) (C.state card_a.old) (D.state card_b.old))
         (devices (M.state unit.new) (C.state card_a.new) (D.state card_b.new)) }
@@ -93,14 +87,9 @@ fn note_in<M: Medium, C: Chip, D: Chip>(
     card_b: &mut D,
     breaks: &mut Lines<Break>,
 ) -> Result<(), Failed>
-    requires lit { run.old.power ≡ Lit }
-    requires low { first_second ≤ run.old.next }
-    requires held { CanBeCut (run.old.next / 60) run.old (M.state unit.old) (C.card card_a.old) (D.card card_b.old)
+    requires power { HasPowerInSecond run.old (M.state unit.old) (C.card card_a.old) (D.card card_b.old)
         (C.state card_a.old) (D.state card_b.old) }
-    requires going { RunHasPowerAllSeated (run.old.next / 60) run.old (M.state unit.old) (C.card card_a.old)
-        (D.card card_b.old) (C.state card_a.old) (D.state card_b.old) }
-    requires kind { gap.event.kind ≡ POWER_INTERRUPTION }
-    requires begin { gap.event.begin.0 ≢ 0 }
+    requires gap { IsPowerGap gap.event }
     requires breaks { length breaks.old.items + falls_of run.old.keeper.cabin ≤ breaks.old.room }
     ensures noted { NotesIn gap.slot (is_err result) run.old run.new breaks.old breaks.new }
     ensures recorded { IsNoteRecorded (In 0) (is_err result) run.old run.new breaks.old breaks.new
@@ -109,12 +98,10 @@ fn note_in<M: Medium, C: Chip, D: Chip>(
     ensures leaves { LeavesIn gap.slot gap.event (is_err result) run.old run.new breaks.old breaks.new
         (devices (M.state unit.old) (C.state card_a.old) (D.state card_b.old))
         (devices (M.state unit.new) (C.state card_a.new) (D.state card_b.new)) }
-    ensures held { IsHeldBehind (is_err result) run.new
+    ensures behind { RunStandsBehind result run.new
         (devices (M.state unit.old) (C.state card_a.old) (D.state card_b.old))
         (devices (M.state unit.new) (C.state card_a.new) (D.state card_b.new))
         (C.card card_a.new) (D.card card_b.new) }
-    ensures going { OnOk result (RunHasPowerAllSeated (run.new.next / 60) run.new (M.state unit.new) (C.card card_a.new)
-        (D.card card_b.new) (C.state card_a.new) (D.state card_b.new)) }
     ensures goes { AllGoOn 4 4 breaks.old.items breaks.new.items
         (devices (M.state unit.old) (C.state card_a.old) (D.state card_b.old))
         (devices (M.state unit.new) (C.state card_a.new) (D.state card_b.new)) }
@@ -140,14 +127,9 @@ fn note_on<M: Medium, C: Chip>(
     card: &mut C,
     breaks: &mut Lines<Break>,
 ) -> Result<(), Failed>
-    requires ready { UnitMayBeCalled run.old.keeper (M.state unit.old) }
-    requires card { CardMayBeCalled (known_of run.old.keeper.cabin.cards which) (C.card card.old) (C.state card.old) }
-    requires session { is_some (session_of run.old.keeper.cabin.cards which) ≡ true }
-    requires minute { run.old.keeper.cabin.slots.minute ≤ run.old.next / 60 }
-    requires second { run.old.next ≢ 0 }
-    requires kind { gap.event.kind ≡ POWER_INTERRUPTION }
-    requires begin { gap.event.begin.0 ≢ 0 }
-    requires room { length breaks.old.items < breaks.old.room }
+    requires may { MayNoteOn which run.old.next run.old breaks.old (M.state unit.old) (C.card card.old)
+        (C.state card.old) }
+    requires gap { IsPowerGap gap.event }
     ensures { NotesGapOn which gap.slot gap.event result run.old run.new breaks.old breaks.new
         (M.state unit.old) (M.state unit.new)
         (C.state card.old) (C.state card.new) (C.card card.new) }

@@ -1,16 +1,15 @@
 //! A place is noted.
-ghost use Rattle.std.specs.Prelude.{◌≡◌, ◌≢◌, ◌+◌, ◌/◌, ◌<◌, ◌≤◌, ◌^◌, true, OnOk};
-ghost use Rattle.std.specs.Prelude.{length, is_err, is_some, if◌then◌else◌};
+ghost use Rattle.std.specs.Prelude.{◌≡◌, ◌≢◌, ◌+◌, ◌<◌, ◌≤◌, ◌^◌};
+ghost use Rattle.std.specs.Prelude.{length, is_err, if◌then◌else◌};
 ghost use Rattle.minute_model.specs.Span.{Span, travelled_of};
 ghost use Rattle.minute_rules.specs.Kept.{CountsSpan};
 ghost use Rattle.unit_model.specs.declared.layout.TheConstants.{HIGHEST_ODOMETER};
-ghost use Rattle.run_crew.specs.Cards.{known_of, session_of};
-ghost use Rattle.run_minutes.specs.Keeping.{UnitMayBeCalled, CardMayBeCalled};
 ghost use Rattle.run_minutes.specs.Minutes.{odometer_by};
 ghost use Rattle.run_promise.specs.Between.{devices};
-ghost use Rattle.run_acts.specs.Going.{RunHasPowerAllSeated, IsActing};
+ghost use Rattle.run_acts.specs.Going.{IsActing};
 ghost use Rattle.run_acts.specs.Room.{falls_of};
-ghost use Rattle.run_acts.specs.Acts.{AllGoOn, IsHeldBehind, LeavesPlaced, NotesPlaceOn, PlacesSo, PromisesPlace};
+ghost use Rattle.run_acts.specs.Acts.{AllGoOn, LeavesPlaced, NotesPlaceOn, PlacesSo, PromisesPlace, RunStandsBehind};
+ghost use Rattle.run_acts.specs.Acts.{MayNoteOn};
 
 use crate::run::Run;
 use activity_codec::Slot;
@@ -78,12 +77,10 @@ pub fn note_place<M: Medium, C: Chip, D: Chip>(
         (is_err result) run.old run.new breaks.old breaks.new
         (devices (M.state unit.old) (C.state card_a.old) (D.state card_b.old))
         (devices (M.state unit.new) (C.state card_a.new) (D.state card_b.new)) }
-    ensures held { IsHeldBehind (is_err result) run.new
+    ensures behind { RunStandsBehind result run.new
         (devices (M.state unit.old) (C.state card_a.old) (D.state card_b.old))
         (devices (M.state unit.new) (C.state card_a.new) (D.state card_b.new))
         (C.card card_a.new) (D.card card_b.new) }
-    ensures going { OnOk result (RunHasPowerAllSeated (run.new.next / 60) run.new (M.state unit.new) (C.card card_a.new)
-        (D.card card_b.new) (C.state card_a.new) (D.state card_b.new)) }
     ensures goes { AllGoOn 9 5 breaks.old.items breaks.new.items
         (devices (M.state unit.old) (C.state card_a.old) (D.state card_b.old))
         (devices (M.state unit.new) (C.state card_a.new) (D.state card_b.new)) }
@@ -110,14 +107,10 @@ fn note_place_in<M: Medium, C: Chip>(
     card: &mut C,
     breaks: &mut Lines<Break>,
 ) -> Result<(), Failed>
-    requires ready { UnitMayBeCalled run.old.keeper (M.state unit.old) }
-    requires card { CardMayBeCalled (known_of run.old.keeper.cabin.cards which) (C.card card.old) (C.state card.old) }
-    requires session { is_some (session_of run.old.keeper.cabin.cards which) ≡ true }
-    requires minute { run.old.keeper.cabin.slots.minute ≤ place.at.second / 60 }
-    requires second { place.at.second ≢ 0 }
+    requires may { MayNoteOn which place.at.second run.old breaks.old (M.state unit.old) (C.card card.old)
+        (C.state card.old) }
     requires time { place.entry.time.0 ≢ 0 }
     requires odometer { place.entry.odometer.0 < 2 ^ 24 }
-    requires room { length breaks.old.items < breaks.old.room }
     ensures { NotesPlaceOn which place.slot place.entry place.at result run.old run.new breaks.old breaks.new
         (M.state unit.old) (M.state unit.new)
         (C.state card.old) (C.state card.new) (C.card card.new) }

@@ -1,17 +1,15 @@
 //! The minutes before that of an action are decided and kept.
-ghost use Rattle.std.specs.Prelude.{◌≡◌, ◌+◌, ◌*◌, ◌/◌, ◌≤◌, Option, OnOk, length, is_err};
+ghost use Rattle.std.specs.Prelude.{◌≡◌, ◌/◌, Option, OnOk, is_err};
 ghost use Rattle.trace_model.specs.declared.Card.{Card};
-ghost use Rattle.run_minutes.specs.Keeping.{most_tears};
 ghost use Rattle.run_promise.specs.Between.{devices};
-ghost use Rattle.run_acts.specs.declared.run.Power.TheVariants.{Lit};
-ghost use Rattle.run_acts.specs.Going.{first_second, end_of_seconds, CanBeCut, RunHasPower};
+ghost use Rattle.run_acts.specs.Going.{CanBeCut, RunHasPower, MaySettle};
 ghost use Rattle.run_acts.specs.Room.{Takes};
 ghost use Rattle.run_acts.specs.Acting.{IsSettled};
 ghost use Rattle.run_acts.specs.Keepings.{acting, KeepsSettled, IsBehindSettling};
-ghost use Rattle.run_acts.specs.Acts.{SettlingGoes};
+ghost use Rattle.run_acts.specs.Acts.{SettlingGoes, HasRoomToSettle};
 
 use crate::run::Run;
-use run_minutes::Moment;
+use run_minutes::{MinutesDecided, Moment};
 use run_outcome::Outcome;
 use tach_media::{Chip, Failed, Medium};
 
@@ -28,18 +26,10 @@ pub fn settle<M: Medium, C: Chip, D: Chip>(
     card_b: &mut D,
     outcome: &mut Outcome,
 ) -> Result<(), Failed>
-    requires lit { run.old.power ≡ Lit }
-    requires low { first_second ≤ run.old.next }
-    requires small { run.old.next ≤ end_of_seconds }
-    requires held { CanBeCut (run.old.next / 60) run.old (M.state unit.old) (C.card card_a.old) (D.card card_b.old)
-        (C.state card_a.old) (D.state card_b.old) }
-    requires going { (leaving : Option Card)
-        × RunHasPower leaving (run.old.next / 60) run.old (M.state unit.old) (C.card card_a.old) (D.card card_b.old)
-        (C.state card_a.old) (D.state card_b.old) }
+    requires may { MaySettle run.old (M.state unit.old) (C.card card_a.old) (D.card card_b.old) (C.state card_a.old)
+        (D.state card_b.old) }
     requires at { at.second ≡ run.old.next }
-    requires marks { length outcome.old.marks.items + 3 * run.old.minutes.owing ≤ outcome.old.marks.room }
-    requires breaks { length outcome.old.breaks.items + most_tears run.old.keeper.cabin.cards
-        ≤ outcome.old.breaks.room }
+    requires room { HasRoomToSettle run.old outcome.old }
     ensures settled { IsSettled at (is_err result) run.old run.new outcome.old outcome.new }
     ensures keeps { KeepsSettled at (is_err result) run.old run.new outcome.old outcome.new
         (devices (M.state unit.old) (C.state card_a.old) (D.state card_b.old))
@@ -61,13 +51,9 @@ pub fn settle<M: Medium, C: Chip, D: Chip>(
         (D.card card_b.new)) }
 {
     let decided = run.minutes.settle();
-    run.keeper.keep_all(
-        decided.as_slice(),
+    let minutes = MinutesDecided {
+        decided: decided.as_slice(),
         at,
-        unit,
-        card_a,
-        card_b,
-        &mut outcome.marks,
-        &mut outcome.breaks,
-    )
+    };
+    run.keeper.keep_all(minutes, unit, card_a, card_b, outcome)
 }

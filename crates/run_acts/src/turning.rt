@@ -1,10 +1,10 @@
 //! Seconds of one minute at one speed.
-ghost use Rattle.std.specs.Prelude.{◌≡◌, ℕ, ◌+◌, ◌*◌, ◌%◌, ◌<◌, ◌≤◌, false, length, is_err};
+ghost use Rattle.std.specs.Prelude.{◌≡◌, ℕ, ◌+◌, ◌*◌, false, length, is_err};
 ghost use Rattle.run_minutes.specs.Writes.{WroteAtMost, minute_most};
 ghost use Rattle.run_minutes.specs.Keeping.{DevicesMayBeCalled};
 ghost use Rattle.run_acts.specs.declared.run.Power.TheVariants.{Lit};
 ghost use Rattle.run_acts.specs.Power.{is_lit, passed};
-ghost use Rattle.run_acts.specs.Going.{end_of_seconds, IsInsideSecond, IsBetweenSeconds};
+ghost use Rattle.run_acts.specs.Going.{IsInsideSecond, IsBetweenSeconds, IsStretch};
 ghost use Rattle.run_acts.specs.Room.{HasRoom, HasRoomWithin};
 ghost use Rattle.run_acts.specs.Evented.{EventsTurn};
 ghost use Rattle.run_promise.specs.Between.{devices};
@@ -17,7 +17,7 @@ use crate::feeding::feed;
 use crate::run::Run;
 use minute_rules::Minute;
 use run_events::Seconds;
-use run_minutes::Moment;
+use run_minutes::{MinutesDecided, Moment};
 use run_outcome::Outcome;
 use tach_media::{Chip, Failed, Medium};
 
@@ -40,9 +40,7 @@ pub fn turn<M: Medium, C: Chip, D: Chip>(
 )
     requires going { IsInsideSecond run.old (M.state unit.old) (C.card card_a.old) (D.card card_b.old)
         (C.state card_a.old) (D.state card_b.old) }
-    requires some { 0 < stretch.n }
-    requires minute { run.old.next % 60 + stretch.n ≤ 60 }
-    requires small { run.old.next + stretch.n ≤ end_of_seconds }
+    requires stretch { IsStretch stretch.n run.old.next }
     requires room { HasRoomWithin run.old outcome.old stretch.n 0 0 0 }
     ensures turned { Turns stretch.n stretch.speed stretch.begun run.old run.new outcome.old outcome.new }
     ensures leaves { LeavesTurned stretch.n stretch.speed stretch.begun run.old run.new outcome.old outcome.new
@@ -87,9 +85,7 @@ fn lit_turn<M: Medium, C: Chip, D: Chip>(
     requires lit { run.old.power ≡ Lit }
     requires going { IsInsideSecond run.old (M.state unit.old) (C.card card_a.old) (D.card card_b.old)
         (C.state card_a.old) (D.state card_b.old) }
-    requires some { 0 < stretch.n }
-    requires minute { run.old.next % 60 + stretch.n ≤ 60 }
-    requires small { run.old.next + stretch.n ≤ end_of_seconds }
+    requires stretch { IsStretch stretch.n run.old.next }
     requires room { HasRoomWithin run.old outcome.old stretch.n 0 0 0 }
     ensures turned { LitTurns stretch.n stretch.speed stretch.begun run.old run.new outcome.old outcome.new }
     ensures leaves { LeavesLit stretch.n stretch.speed stretch.begun run.old run.new outcome.old outcome.new
@@ -167,15 +163,11 @@ fn keep_turn<M: Medium, C: Chip, D: Chip>(
     ensures bare { AreBare run.old.keeper.cabin.cards card_a.old card_a.new card_b.old card_b.new }
 {
     let crew = run.keeper.cabin.crew();
-    run.keeper.keep_all(
-        turned.decided,
-        turned.at,
-        unit,
-        card_a,
-        card_b,
-        &mut outcome.marks,
-        &mut outcome.breaks,
-    )?;
+    let minutes = MinutesDecided {
+        decided: turned.decided,
+        at: turned.at,
+    };
+    run.keeper.keep_all(minutes, unit, card_a, card_b, outcome)?;
     let first = run.next;
     let seconds = Seconds {
         first,

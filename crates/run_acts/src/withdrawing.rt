@@ -1,5 +1,5 @@
 //! A card leaves its slot by hand: it is withdrawn, or pulled out.
-ghost use Rattle.std.specs.Prelude.{◌≡◌, ◌≢◌, ℕ, ◌+◌, ◌-◌, ◌*◌, ◌/◌, ◌<◌, ◌≤◌, true, Option, None, IfSome, OnOk};
+ghost use Rattle.std.specs.Prelude.{◌≡◌, ℕ, ◌+◌, ◌-◌, ◌*◌, ◌/◌, ◌<◌, ◌≤◌, true, Option, None};
 ghost use Rattle.std.specs.Prelude.{length, is_some, is_err};
 ghost use Rattle.trace_model.specs.declared.Card.{Card};
 ghost use Rattle.tach_media.specs.Medium.{LeavesOnly, HasCause};
@@ -7,18 +7,18 @@ ghost use Rattle.message_model.specs.Records.{insertion_ring};
 ghost use Rattle.unit_model.specs.declared.layout.TheConstants.{HIGHEST_ODOMETER};
 ghost use Rattle.unit_notes.specs.Journal.{LeavesJournal};
 ghost use Rattle.card_slots.specs.Calls.{seat_in, card_in};
-ghost use Rattle.run_crew.specs.Cards.{known_of, session_of};
+ghost use Rattle.run_crew.specs.Cards.{session_of};
 ghost use Rattle.run_crew.specs.Cabin.{CabinIsSound};
 ghost use Rattle.run_speeds.specs.Speeds.{LeavesSpeeds};
-ghost use Rattle.run_minutes.specs.Keeping.{UnitMayBeCalled, CardMayBeCalled, tears_of, with_lines};
-ghost use Rattle.run_acts.specs.Going.{RunHasPowerAllSeated, IsActing};
+ghost use Rattle.run_minutes.specs.Keeping.{UnitMayBeCalled, with_lines};
+ghost use Rattle.run_acts.specs.Going.{IsActing};
 ghost use Rattle.run_acts.specs.Room.{falls_of, Takes};
 ghost use Rattle.run_promise.specs.Between.{devices};
 ghost use Rattle.run_acts.specs.Acting.{pulled_run, pulled_breaks};
 ghost use Rattle.run_acts.specs.Noting.{SaysNoMore};
 ghost use Rattle.run_acts.specs.Ringing.{WritesWithdrawal};
-ghost use Rattle.run_acts.specs.Acts.{AllGoOn, IsHeldBehind, LeavesWithdrawn, PromisesWithdrawal};
-ghost use Rattle.run_acts.specs.Acts.{ClosesSession, Withdraws};
+ghost use Rattle.run_acts.specs.Acts.{AllGoOn, LeavesWithdrawn, PromisesWithdrawal, RunStandsBehind};
+ghost use Rattle.run_acts.specs.Acts.{ClosesSession, Withdraws, MayClose};
 
 use crate::run::Run;
 use crate::settling::settle;
@@ -72,12 +72,10 @@ pub fn withdraw<M: Medium, C: Chip, D: Chip>(
         (is_err result) run.old run.new outcome.old outcome.new
         (devices (M.state unit.old) (C.state card_a.old) (D.state card_b.old))
         (devices (M.state unit.new) (C.state card_a.new) (D.state card_b.new)) }
-    ensures held { IsHeldBehind (is_err result) run.new
+    ensures behind { RunStandsBehind result run.new
         (devices (M.state unit.old) (C.state card_a.old) (D.state card_b.old))
         (devices (M.state unit.new) (C.state card_a.new) (D.state card_b.new))
         (C.card card_a.new) (D.card card_b.new) }
-    ensures going { OnOk result (RunHasPowerAllSeated (run.new.next / 60) run.new (M.state unit.new) (C.card card_a.new)
-        (D.card card_b.new) (C.state card_a.new) (D.state card_b.new)) }
     ensures takes { Takes 0 0 0 run.old run.new outcome.old outcome.new }
     ensures goes { AllGoOn 82 302 outcome.old.breaks.items outcome.new.breaks.items
         (devices (M.state unit.old) (C.state card_a.old) (D.state card_b.old))
@@ -107,13 +105,7 @@ fn close<M: Medium, C: Chip>(
     breaks: &mut Lines<Break>,
 ) -> Result<(), Failed>
     requires ready { UnitMayBeCalled run.old.keeper (M.state unit.old) }
-    requires card { CardMayBeCalled (known_of run.old.keeper.cabin.cards which) (C.card card.old) (C.state card.old) }
-    requires entry { IfSome (session_of run.old.keeper.cabin.cards which)
-        (λ s. (s.entry < insertion_ring.count) × (s.noted ≤ run.old.noted)) }
-    requires odometer { run.old.keeper.odometer ≤ HIGHEST_ODOMETER }
-    requires minute { run.old.keeper.cabin.slots.minute ≤ withdrawal.at.second / 60 }
-    requires second { withdrawal.at.second ≢ 0 }
-    requires room { length breaks.old.items + tears_of (session_of run.old.keeper.cabin.cards which) ≤ breaks.old.room }
+    requires may { MayClose which withdrawal.at.second run.old breaks.old (C.card card.old) (C.state card.old) }
     ensures closes { ClosesSession which withdrawal.slot withdrawal.at result run.old run.new breaks.old breaks.new
         (M.state unit.old) (M.state unit.new)
         (C.state card.old) (C.state card.new) (C.card card.new) }

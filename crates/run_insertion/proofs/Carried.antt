@@ -70,6 +70,7 @@ found-same f cards after same found = record {
   two = found.two;
   named = λ c valid. subst (λ (o : Option FullCardNumber). IfSome o (λ n. card_number_bytes n ≡ (found_of f c).number)) (sym (same c)) (found.named c valid);
   told = λ c valid. subst (λ (o : Option FullCardNumber). is_some o ≡ true) (sym (same c)) (found.told c valid);
+  only = λ c has. found.only c (subst (λ (o : Option FullCardNumber). is_some o ≡ true) (same c) has);
   own = found.own;
   sizes = found.sizes;
   entries = found.entries;
@@ -77,8 +78,8 @@ found-same f cards after same found = record {
 }
 
 -- a card that is accepted told the number that it had
-pub found-seated : (f : Found) (slot : Slot) (which : Card) (number : FullCardNumber) (row : ℕ) (accepted : Accepted) (cabin : Cabin) → card_number_bytes number ≡ (found_of f which).number → AreFoundCards f cabin.cards → AreFoundCards f (with_accepted slot which number row accepted cabin).cards
-found-seated f slot A number row accepted cabin is found = record { two = found.two; named = named; told = told; own = found.own; sizes = found.sizes; entries = found.entries; word = found.word }
+pub found-seated : (f : Found) (slot : Slot) (which : Card) (number : FullCardNumber) (row : ℕ) (accepted : Accepted) (cabin : Cabin) → IsOwnValid (found_of f which).image → card_number_bytes number ≡ (found_of f which).number → AreFoundCards f cabin.cards → AreFoundCards f (with_accepted slot which number row accepted cabin).cards
+found-seated f slot A number row accepted cabin sound is found = record { two = found.two; named = named; told = told; only = only; own = found.own; sizes = found.sizes; entries = found.entries; word = found.word }
   where
     named : (c : Card) → IsOwnValid (found_of f c).image → IfSome (known_of (with_accepted slot A number row accepted cabin).cards c).number (λ n. card_number_bytes n ≡ (found_of f c).number)
     named A valid = is
@@ -87,7 +88,11 @@ found-seated f slot A number row accepted cabin is found = record { two = found.
     told : (c : Card) → IsOwnValid (found_of f c).image → is_some (known_of (with_accepted slot A number row accepted cabin).cards c).number ≡ true
     told A valid = refl
     told B valid = found.told B valid
-found-seated f slot B number row accepted cabin is found = record { two = found.two; named = named; told = told; own = found.own; sizes = found.sizes; entries = found.entries; word = found.word }
+
+    only : (c : Card) → is_some (known_of (with_accepted slot A number row accepted cabin).cards c).number ≡ true → IsOwnValid (found_of f c).image
+    only A has = sound
+    only B has = found.only B has
+found-seated f slot B number row accepted cabin sound is found = record { two = found.two; named = named; told = told; only = only; own = found.own; sizes = found.sizes; entries = found.entries; word = found.word }
   where
     named : (c : Card) → IsOwnValid (found_of f c).image → IfSome (known_of (with_accepted slot B number row accepted cabin).cards c).number (λ n. card_number_bytes n ≡ (found_of f c).number)
     named A valid = found.named A valid
@@ -96,6 +101,10 @@ found-seated f slot B number row accepted cabin is found = record { two = found.
     told : (c : Card) → IsOwnValid (found_of f c).image → is_some (known_of (with_accepted slot B number row accepted cabin).cards c).number ≡ true
     told A valid = found.told A valid
     told B valid = refl
+
+    only : (c : Card) → is_some (known_of (with_accepted slot B number row accepted cabin).cards c).number ≡ true → IsOwnValid (found_of f c).image
+    only A has = found.only A has
+    only B has = sound
 
 pub has-session : (slot : Slot) (which : Card) (number : FullCardNumber) (row : ℕ) (accepted : Accepted) (cabin : Cabin) → session_of (with_accepted slot which number row accepted cabin).cards which ≡ Some accepted
 has-session slot A number row accepted cabin = refl
@@ -112,6 +121,23 @@ spared-number f cards c found valid = by (known_of cards c).number (found.told c
     by : (o : Option FullCardNumber) → is_some o ≡ true → IfSome o (λ n. card_number_bytes n ≡ (found_of f c).number) → option_map (λ (s : FullCardNumber). card_number_bytes s) o ≡ Some (found_of f c).number
     by None some is = absurd (cc)
     by (Some number) some is = ap (λ (n : List ℕ). Some n) is
+
+-- and it is one's of the cards
+pub spared-card : (f : Found) (cards : Cards) (c : Card) → AreFoundCards f cards → (n : List ℕ) → option_map (λ (s : FullCardNumber). card_number_bytes s) (known_of cards c).number ≡ Some n → IsCards f.unit n
+spared-card f cards c found n is = by (known_of cards c).number refl is
+  where
+    one : (a b : List ℕ) → Some a ≡ Some b → a ≡ b
+    one a b same = cc
+
+    none : None ≡ Some n → ⊥
+    none same = cc
+
+    by : (o : Option FullCardNumber) → (known_of cards c).number ≡ o → option_map (λ (s : FullCardNumber). card_number_bytes s) o ≡ Some n → IsCards f.unit n
+    by None told bytes = absurd (none bytes)
+    by (Some number) told bytes =
+        let valid : IsOwnValid (found_of f c).image = found.only c (ap (λ (q : Option FullCardNumber). is_some q) told) in
+        let named : card_number_bytes number ≡ (found_of f c).number = subst (λ (q : Option FullCardNumber). IfSome q (λ m. card_number_bytes m ≡ (found_of f c).number)) told (found.named c valid) in
+        subst (IsCards f.unit) (sym named ∙ one (card_number_bytes number) n bytes) (found.own c valid)
 
 -- ---- nothing is owed to a card that was put in
 
@@ -143,7 +169,7 @@ module _ (f : Found) (w : RunLedger) (cards : Cards) (c : Card) (U X Z : State) 
 
 module _ (f : Found) (w : RunLedger) (k : Keeper) (e : Entering) (look : CardLook) (session : Session) (row entry noted : ℕ) (U V W X Z : State) (m : MaySeat f w k e look session U X Z) (whole : IsCoherent U) (middle : IsCoherent V) (run : LeavesOnly U V LeavesJournal) (cause : HasCause U V false)
     (spared : Option (List ℕ)) (same : spared ≡ option_map (λ (s : FullCardNumber). card_number_bytes s) (known_of k.cabin.cards (other e.which)).number) (failed : Bool) (began : HasCause V W failed) (tells : is_some W.image ≡ is_some V.image)
-    (holds : (s : Started) (due : ℕ) (b : Book) (marks : List Mark) → IsCards s (card_number_bytes look.number) → UnitFollowsBook s due b marks V → UnitFollowsBook s due b marks W)
+    (holds : (s : Started) (due : ℕ) (b : Book) (marks : List Mark) → IsCards s (card_number_bytes look.number) → ((n : List ℕ) → spared ≡ Some n → IsCards s n) → UnitFollowsBook s due b marks V → UnitFollowsBook s due b marks W)
     (mine : (r : Both) (s : Started) (due : ℕ) (b : Book) (marks : List Mark) (newest : ℕ) → card_number_bytes look.number ≡ number_of r e.which → UnitFollowsBook s due b marks V → due ≤ e.at.second / 60 → CardHolds r e.which b Out [] [] V X → IsEntered (opened r e.which).start (opened r e.which).began e.at.second newest (card_seen X)
     → IsRowTaken r e.which b e.at.second newest failed W X)
     (others : (r : Both) (s : Started) (due : ℕ) (b : Book) (marks : List Mark) (z : Standing) (n d : List Entry) → card_number_bytes look.number ≡ number_of r e.which → spared ≡ Some (number_of r (other e.which)) → CardHolds r (other e.which) b z n d V Z → IsKeptUp r (other e.which) b z n d failed W Z) where
@@ -156,15 +182,18 @@ module _ (f : Found) (w : RunLedger) (k : Keeper) (e : Entering) (look : CardLoo
   spares : IsOwnValid (found_of f (other e.which)).image → spared ≡ Some (found_of f (other e.which)).number
   spares valid = same ∙ spared-number f k.cabin.cards (other e.which) m.found valid
 
+  spare : (n : List ℕ) → spared ≡ Some n → IsCards f.unit n
+  spare n told = spared-card f k.cabin.cards (other e.which) m.found n (sym same ∙ told)
+
   pub seat-carried : (kept : ℕ) → IsCarriedOn failed f (carried_row failed session e kept w) (seated look session row entry noted e k.cabin).cards (arranged e.which W X Z)
   seat-carried kept = by failed refl
     where
       by : (b : Bool) → failed ≡ b → IsCarriedOn b f (carried_row b session e kept w) (seated look session row entry noted e k.cabin).cards (arranged e.which W X Z)
-      by false well = begun-powered f w k.cabin.cards e.which V W X Z m.found middle e.at.second accepted m.valid m.out m.put noted-so m.late (card_number_bytes look.number) spared failed holds mine others tells m.named spares
-          well (began.works ∙ ap not well) kept (seated look session row entry noted e k.cabin).cards (found-seated f e.slot e.which look.number row accepted k.cabin m.named m.found)
+      by false well = begun-powered f w k.cabin.cards e.which V W X Z m.found middle e.at.second accepted m.valid m.out m.put noted-so m.late (card_number_bytes look.number) spared failed holds mine others tells m.named spares spare
+          well (began.works ∙ ap not well) kept (seated look session row entry noted e k.cabin).cards (found-seated f e.slot e.which look.number row accepted k.cabin m.valid m.named m.found)
           (has-session e.slot e.which look.number row accepted k.cabin) (others-session e.slot e.which look.number row accepted k.cabin)
       by true bad = begun-powerless f (with_brought e.which kept w) k.cabin.cards e.which V W X Z m.found middle e.at.second accepted m.valid m.out m.put
-          (brought-powered f w k.cabin.cards e.which V X Z m.found e.at.second session.minute m.put.entered m.late noted-so kept) m.late (card_number_bytes look.number) spared failed holds mine others tells m.named spares
+          (brought-powered f w k.cabin.cards e.which V X Z m.found e.at.second session.minute m.put.entered m.late noted-so kept) m.late (card_number_bytes look.number) spared failed holds mine others tells m.named spares spare
 
 -- ---- THE CARD IS NOTED ON: that the vehicle moves, on unit and card
 
@@ -245,11 +274,11 @@ unclosed-carried app e k v fell U V W X Y Z failed is whole books run cause = λ
     noted-carried e.which f (fallen_carried fell e a.session.minute w) v.cabin.cards V W Y Z failed (found-fallen fell f e k v is m.found) whole (books f w a m) run cause
 
 -- what was found of the cards is so still where one is seated, or is not
-pub seat-found : (look : CardLook) (session : Session) (row : ℕ) (e : Entering) (failed : Bool) (k v : Keeper) (noted noted_after : ℕ) (unit : Option (List ℕ)) (entry : Option ℕ) → IsSeatedBy look session row e failed k v noted noted_after unit entry → (f : Found) → card_number_bytes look.number ≡ (found_of f e.which).number
-    → AreFoundCards f k.cabin.cards → AreFoundCards f v.cabin.cards
-seat-found look session row e failed k v noted noted_after unit None s f named found = subst (λ (q : Keeper). AreFoundCards f q.cabin.cards) (sym s.1) found
-seat-found look session row e failed k v noted noted_after unit (Some entry) s f named found =
-    subst (λ (q : Keeper). AreFoundCards f q.cabin.cards) (sym s.1) (found-seated f e.slot e.which look.number row (record { session = session; held = none_held (e.at.second / 60); entry = entry; noted = and_one noted }) k.cabin named found)
+pub seat-found : (look : CardLook) (session : Session) (row : ℕ) (e : Entering) (failed : Bool) (k v : Keeper) (noted noted_after : ℕ) (unit : Option (List ℕ)) (entry : Option ℕ) → IsSeatedBy look session row e failed k v noted noted_after unit entry → (f : Found) → IsOwnValid (found_of f e.which).image
+    → card_number_bytes look.number ≡ (found_of f e.which).number → AreFoundCards f k.cabin.cards → AreFoundCards f v.cabin.cards
+seat-found look session row e failed k v noted noted_after unit None s f valid named found = subst (λ (q : Keeper). AreFoundCards f q.cabin.cards) (sym s.1) found
+seat-found look session row e failed k v noted noted_after unit (Some entry) s f valid named found =
+    subst (λ (q : Keeper). AreFoundCards f q.cabin.cards) (sym s.1) (found-seated f e.slot e.which look.number row (record { session = session; held = none_held (e.at.second / 60); entry = entry; noted = and_one noted }) k.cabin valid named found)
 
 -- ---- A CARD IS TAKEN IN
 
@@ -280,7 +309,7 @@ module _ (app : Application) (e : Entering) (entered : Entered) (clock : ℕ) (k
   taken-notes is (Some entry) s sizes seat value notes times = λ f w m.
       let a : Accepted = record { session = entered.session; held = none_held (e.at.second / 60); entry = entry; noted = and_one noted } in
       let may : MayNote f (carried_seated entered.session e k.journal.kept w) k1.cabin.cards e app a (arranged e.which V X Z) = record {
-        found = subst (λ (q : Keeper). AreFoundCards f q.cabin.cards) (sym s.1) (found-seated f e.slot e.which entered.look.number entered.row a k.cabin m.named m.found);
+        found = subst (λ (q : Keeper). AreFoundCards f q.cabin.cards) (sym s.1) (found-seated f e.slot e.which entered.look.number entered.row a k.cabin m.valid m.named m.found);
         powered = seat f w m;
         valid = m.valid;
         has = subst (λ (q : Keeper). session_of q.cabin.cards e.which ≡ Some a) (sym s.1) (has-session e.slot e.which entered.look.number entered.row a k.cabin);
@@ -289,6 +318,6 @@ module _ (app : Application) (e : Entering) (entered : Entered) (clock : ℕ) (k
         stands = stands-at e.which (In e.at.second entered.session.minute) w.standing;
       } in (
         lost-or-seated fell failed entered clock entry e k.journal.kept f w v.cabin.cards (arranged e.which W Y Z) (notes f (carried_seated entered.session e k.journal.kept w) a may),
-        found-fallen fell f e k1 v is (seat-found entered.look entered.session entered.row e false k k1 noted noted_after U.image (Some entry) s f m.named m.found),
+        found-fallen fell f e k1 v is (seat-found entered.look entered.session entered.row e false k k1 noted noted_after U.image (Some entry) s f m.valid m.named m.found),
         times f (carried_seated entered.session e k.journal.kept w) a may,
       )

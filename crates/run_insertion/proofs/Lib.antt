@@ -6,6 +6,7 @@ pub mod CardTables
 pub mod CardRows
 pub mod CardInserted
 pub mod CardBrought
+pub mod MayBe
 pub mod InTime
 pub mod Judged
 pub mod Opening

@@ -67,6 +67,18 @@ AreBeingNoted table (event ∷ events) new =
     (new ≡ table) ⊎ (((is_told table event ≡ false) × IsEmptied table (earliest begin_of table) new)
     ⊎ AreBeingNoted (with_event table event) events new)
 
+-- one that may have been noted: it was, or nothing has come of it, or the place that it takes is empty
+abbrev pub IsNotedOrNot : List (List ℕ) → CardEvent → List (List ℕ) → Type 0
+IsNotedOrNot table event new =
+    (new ≡ with_event table event)
+    ⊎ ((new ≡ table) ⊎ ((is_told table event ≡ false) × IsEmptied table (earliest begin_of table) new))
+
+-- THESE EVENTS MAY HAVE BEEN NOTED, one after another, each for itself
+abbrev pub MayBeNoted : List (List ℕ) → List CardEvent → List (List ℕ) → Type 0
+MayBeNoted table [] new = new ≡ table
+MayBeNoted table (event ∷ events) new = (next : List (List ℕ)) × IsNotedOrNot table event next
+    × MayBeNoted next events new
+
 -- ---- of a card
 
 -- of these events those of a type

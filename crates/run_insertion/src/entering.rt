@@ -1,20 +1,16 @@
 //! A card that was put into a slot, or meets power there, is accepted or turned away.
-ghost use Rattle.std.specs.Prelude.{◌≡◌, ◌≢◌, ◌+◌, ◌/◌, ◌<◌, ◌≤◌, ◌^◌, IfSome, OnOk};
+ghost use Rattle.std.specs.Prelude.{◌≡◌, ◌+◌, ◌/◌, ◌<◌, ◌≤◌, ◌^◌};
 ghost use Rattle.std.specs.Prelude.{length, is_err};
-ghost use Rattle.trace_model.specs.declared.Card.{Card};
-ghost use Rattle.tach_media.specs.Medium.{LeavesOnly, HasCause};
-ghost use Rattle.unit_notes.specs.Journal.{LeavesJournal};
-ghost use Rattle.run_crew.specs.Cards.{known_of, session_of};
-ghost use Rattle.run_minutes.specs.Keeping.{UnitMayBeCalled, HasItsRow};
+ghost use Rattle.run_crew.specs.Cards.{known_of};
+ghost use Rattle.run_minutes.specs.Keeping.{UnitMayBeCalled};
 ghost use Rattle.card_layout.specs.declared.files.TheConstants.{LARGEST_IMAGE};
-ghost use Rattle.card_image.specs.Own.{own_sizes};
-ghost use Rattle.card_validity.specs.Judged.{TellsSizes};
 ghost use Rattle.run_insertion.specs.Told.{BooksJudged, BooksEntered, IsEarly, WasInTime};
 ghost use Rattle.card_model.specs.declared.lengths.TheConstants.{DAYS_MOST};
 ghost use Rattle.run_insertion.specs.Entering.{Ending, Way, Unfit, Ahead, outcome_by, most_owed};
 ghost use Rattle.run_insertion.specs.Noted.{HasNoted, IsOnUnit, IsComing, notes_by};
 ghost use Rattle.run_insertion.specs.Entered.{IsJudgedSo, HasEntered};
-ghost use Rattle.run_insertion.specs.Calls.{CardGoesBy, EnteringGoes, MayBeJudged, StandsEntered};
+ghost use Rattle.run_insertion.specs.Calls.{MayBeJudged, StandsNoted};
+ghost use Rattle.run_insertion.specs.Calls.{CardTellsSizes, EnteringGoesWithin, MayTellFind, StandsJudged};
 
 use crate::lines::{Beside, Entering, find, other_card};
 use crate::noting::{note_not_valid, note_overlap};
@@ -38,17 +34,11 @@ fn refuse<M: Medium>(
     outcome: &mut Outcome,
 ) -> Result<(), Failed>
     requires ready { UnitMayBeCalled keeper.now (M.state unit.old) }
-    requires second { entering.at.second ≢ 0 }
-    requires room { length outcome.old.finds.items < outcome.old.finds.room }
+    requires may { MayTellFind entering outcome.old }
     ensures told { outcome.new ≡ outcome_by (Unfit fid place) entering outcome.old }
-    ensures journal { LeavesOnly (M.state unit.old) (M.state unit.new) LeavesJournal }
+    ensures stands { StandsNoted result keeper.now (M.state unit.old) (M.state unit.new) }
     ensures notes { HasNoted IsOnUnit IsComing (notes_by (Unfit fid place) entering 0 keeper.now.cabin) (is_err result)
         (M.state unit.old) (M.state unit.new) }
-    ensures ready { OnOk result (UnitMayBeCalled keeper.now (M.state unit.new)) }
-    ensures rows { (card : Card) → HasItsRow keeper.now.cabin.cards (M.state unit.old) card
-        → OnOk result (HasItsRow keeper.now.cabin.cards (M.state unit.new) card) }
-    ensures cause { HasCause (M.state unit.old) (M.state unit.new) (is_err result) }
-    ensures most { (M.state unit.new).clock ≤ (M.state unit.old).clock + 4 }
 {
     find(
         entering,
@@ -67,18 +57,12 @@ fn defer<M: Medium>(
     outcome: &mut Outcome,
 ) -> Result<(), Failed>
     requires ready { UnitMayBeCalled keeper.now (M.state unit.old) }
-    requires second { entering.at.second ≢ 0 }
-    requires room { length outcome.old.finds.items < outcome.old.finds.room }
+    requires may { MayTellFind entering outcome.old }
     ensures told { outcome.new ≡ outcome_by (Ahead stored) entering outcome.old }
     ensures low { stored < 2 ^ 32 }
-    ensures journal { LeavesOnly (M.state unit.old) (M.state unit.new) LeavesJournal }
+    ensures stands { StandsNoted result keeper.now (M.state unit.old) (M.state unit.new) }
     ensures notes { HasNoted IsOnUnit IsComing (notes_by (Ahead stored) entering 0 keeper.now.cabin) (is_err result)
         (M.state unit.old) (M.state unit.new) }
-    ensures ready { OnOk result (UnitMayBeCalled keeper.now (M.state unit.new)) }
-    ensures rows { (card : Card) → HasItsRow keeper.now.cabin.cards (M.state unit.old) card
-        → OnOk result (HasItsRow keeper.now.cabin.cards (M.state unit.new) card) }
-    ensures cause { HasCause (M.state unit.old) (M.state unit.new) (is_err result) }
-    ensures most { (M.state unit.new).clock ≤ (M.state unit.old).clock + 4 }
 {
     let now = entering.at.second;
     find(
@@ -108,10 +92,8 @@ fn accept_by<M: Medium, C: Chip, D: Chip>(
 ) -> Result<(), Failed>
     requires ready { UnitMayBeCalled keeper.old (M.state unit.old) }
     requires may { MayBeJudged beside.entering keeper.old outcome.old }
-    requires card { CardGoesBy beside.app (known_of keeper.old.cabin.cards beside.entering.which) (C.card card.old)
-        (C.state card.old) }
-    requires told { IfSome (C.state card.old).image (TellsSizes beside.app) }
-    requires sized { IfSome (C.state card.old).image (λ x. own_sizes x ≡ beside.app) }
+    requires card { CardTellsSizes beside.app (known_of keeper.old.cabin.cards beside.entering.which)
+        (C.card card.old) (C.state card.old) }
     ensures marks { (outcome.new.marks.room ≡ outcome.old.marks.room)
         × (length outcome.new.marks.items ≤ length outcome.old.marks.items + most_owed) }
     ensures ended { (ending : Ending)
@@ -121,18 +103,12 @@ fn accept_by<M: Medium, C: Chip, D: Chip>(
         × BooksJudged ending beside.entry.entering (is_err result) keeper.old keeper.new (M.state unit.old)
         (M.state unit.new)
         (C.state card.old) (C.state card.new) (D.state beside.entry.others.now) }
-    ensures behind { StandsEntered beside.entry.entering.which
-        (beside.entry.entering.at.second / 60) result keeper.old keeper.new
-        (M.state unit.old) (M.state unit.new)
-        (C.state card.old) (C.state card.new) (C.card card.new) }
-    ensures row { IfSome (session_of keeper.new.cabin.cards beside.entry.entering.which)
-        (λ a. OnOk result (HasItsRow keeper.new.cabin.cards (M.state unit.new) beside.entry.entering.which)) }
+    ensures behind { StandsJudged beside.entry.entering.which (beside.entry.entering.at.second / 60) result keeper.old
+        keeper.new (M.state unit.old) (M.state unit.new) (C.state card.old) (C.state card.new) (C.card card.new) }
     ensures clock { (M.state unit.old).clock ≤ (M.state unit.new).clock }
-    ensures most { ((M.state unit.new).clock ≤ (M.state unit.old).clock + 24)
-        × ((C.state card.new).clock ≤ (C.state card.old).clock + (DAYS_MOST + 88)) }
+    ensures goes { EnteringGoesWithin 24 (DAYS_MOST + 88) outcome.old.breaks.items outcome.new.breaks.items
+        (M.state unit.old) (M.state unit.new) (C.state card.old) (C.state card.new) }
     ensures in_time { IsEarly beside.entry.entering (C.state card.old) (C.state card.new) }
-    ensures goes { EnteringGoes outcome.old.breaks.items outcome.new.breaks.items
-        (C.state card.old) (C.state card.new) }
 {
     let entering = beside.entering;
     let app = beside.app;
@@ -207,18 +183,12 @@ pub fn accept<M: Medium, C: Chip, D: Chip>(
         × BooksEntered way beside.entry.entering (is_err result) keeper.old keeper.new (M.state unit.old)
         (M.state unit.new)
         (C.state card.old) (C.state card.new) (D.state beside.entry.others.now) }
-    ensures behind { StandsEntered beside.entry.entering.which
-        (beside.entry.entering.at.second / 60) result keeper.old keeper.new
-        (M.state unit.old) (M.state unit.new)
-        (C.state card.old) (C.state card.new) (C.card card.new) }
-    ensures row { IfSome (session_of keeper.new.cabin.cards beside.entry.entering.which)
-        (λ a. OnOk result (HasItsRow keeper.new.cabin.cards (M.state unit.new) beside.entry.entering.which)) }
+    ensures behind { StandsJudged beside.entry.entering.which (beside.entry.entering.at.second / 60) result keeper.old
+        keeper.new (M.state unit.old) (M.state unit.new) (C.state card.old) (C.state card.new) (C.card card.new) }
     ensures clock { (M.state unit.old).clock ≤ (M.state unit.new).clock }
-    ensures most { ((M.state unit.new).clock ≤ (M.state unit.old).clock + 24)
-        × ((C.state card.new).clock ≤ (C.state card.old).clock + (DAYS_MOST + 88)) }
+    ensures goes { EnteringGoesWithin 24 (DAYS_MOST + 88) outcome.old.breaks.items outcome.new.breaks.items
+        (M.state unit.old) (M.state unit.new) (C.state card.old) (C.state card.new) }
     ensures in_time { WasInTime beside.entry.entering (C.state card.old) (C.state card.new) }
-    ensures goes { EnteringGoes outcome.old.breaks.items outcome.new.breaks.items
-        (C.state card.old) (C.state card.new) }
 {
     let entering = beside.entering;
     let Ok(sizes) = wake(card) else {

@@ -1,20 +1,19 @@
 //! A card that is found to be accepted is so: its insertion is noted, its row begins, and what comes with it is noted.
-ghost use Rattle.std.specs.Prelude.{◌≡◌, ◌≢◌, ℕ, ◌+◌, ◌/◌, ◌<◌, ◌≤◌, ◌^◌, Bool, true, false, Option, Some, None, Ok};
-ghost use Rattle.std.specs.Prelude.{IfSome, OnOk, length, is_err, option_map};
+ghost use Rattle.std.specs.Prelude.{◌≡◌, ℕ, ◌+◌, ◌/◌, ◌≤◌, Bool, Option};
+ghost use Rattle.std.specs.Prelude.{length, is_err, option_map};
 ghost use Rattle.tacho_types.specs.CardNumber.{card_number_bytes};
-ghost use Rattle.unit_owed.specs.Rows.{IsRowFor};
 ghost use Rattle.device_rule.specs.Views.{other};
-ghost use Rattle.card_slots.specs.Calls.{seat_in, is_card};
-ghost use Rattle.log_model.specs.Slots.{other_slot};
-ghost use Rattle.run_crew.specs.Cards.{known_of, session_of};
-ghost use Rattle.run_minutes.specs.Keeping.{UnitMayBeCalled, CardMayBeCalled, HasItsRow};
+ghost use Rattle.run_crew.specs.Cards.{known_of};
+ghost use Rattle.run_minutes.specs.Keeping.{UnitMayBeCalled};
 ghost use Rattle.run_insertion.specs.Entering.{taken_as, most_owed};
 ghost use Rattle.card_session.specs.Sessions.{IsValue};
 ghost use Rattle.run_devices.specs.Told.{arranged};
 ghost use Rattle.run_insertion.specs.Told.{BooksSeat, BooksNotes, TimesNotes, BooksTaken};
 ghost use Rattle.run_insertion.specs.Entered.{FitsInsertion, IsSeated, IsMoved, IsNotedOn, IsEntry, IsTaken};
-ghost use Rattle.run_insertion.specs.Calls.{CardGoesBy, EnteringGoes, IsWithinBounds, MayComeIn, StandsEntered};
-ghost use Rattle.run_insertion.specs.Calls.{StandsSeated};
+ghost use Rattle.run_insertion.specs.Calls.{CardGoesBy, IsWithinBounds, MayComeIn, StandsEntered};
+ghost use Rattle.run_insertion.specs.Calls.{StandsSeated, CardMayBeNotedOn, EnteringGoesWithin, MaySeat, StandsJudged};
+ghost use Rattle.device_calls.specs.Calls.{MayBeginRow};
+ghost use Rattle.run_minutes.specs.Calls.{MayTear};
 
 use crate::lines::{Entering, find, insertion_of, other_card, tell_replayed};
 use crate::noting::{note_driving, note_unclosed};
@@ -58,19 +57,10 @@ fn seat<M: Medium, C: Chip, D: Chip>(
     others: &D,
 ) -> Result<(), Failed>
     requires ready { UnitMayBeCalled keeper.old (M.state unit.old) }
-    requires seat { seat_in keeper.old.cabin.slots.seats seating.entering.slot
-        ≡ Some (record { card = seating.entering.which; newest = None }) }
-    requires elsewhere { is_card
-        (seat_in keeper.old.cabin.slots.seats (other_slot seating.entering.slot)) seating.entering.which
-        ≡ false }
-    requires sizes { (known_of keeper.old.cabin.cards seating.entering.which).sizes ≡ Ok seating.session.application }
-    requires second { seating.entering.at.second ≢ 0 }
-    requires fits { seating.entering.odometer.0 < 2 ^ 24 }
-    requires low { seating.row < 8 }
-    requires row { IfSome (M.state unit.old).image
-        (IsRowFor seating.row (card_number_bytes seating.look.number)
+    requires may { MaySeat seating.entering seating.session.application keeper.old }
+    requires row { MayBeginRow seating.row (card_number_bytes seating.look.number)
         (option_map (λ n. card_number_bytes n)
-        (known_of keeper.old.cabin.cards (other seating.entering.which)).number)) }
+        (known_of keeper.old.cabin.cards (other seating.entering.which)).number) (M.state unit.old) }
     ensures seated { (entry : Option ℕ)
         × IsSeated seating.look seating.session seating.row seating.entering
         (is_err result) keeper.old keeper.new noted.old noted.new
@@ -126,13 +116,9 @@ fn note_moving<M: Medium, C: Chip, D: Chip>(
     breaks: &mut Lines<Break>,
 ) -> Result<(), Failed>
     requires ready { UnitMayBeCalled keeper.old (M.state unit.old) }
-    requires minute { keeper.old.cabin.slots.minute ≤ seated.entering.at.second / 60 }
-    requires second { seated.entering.at.second ≢ 0 }
-    requires card { CardMayBeCalled (known_of keeper.old.cabin.cards seated.entering.which) (C.card card.old)
-        (C.state card.old) }
-    requires works { (C.state card.old).works ≡ true }
-    requires sizes { (known_of keeper.old.cabin.cards seated.entering.which).sizes ≡ Ok seated.app }
-    requires room { length breaks.old.items < breaks.old.room }
+    requires may { MayTear seated.entering.at keeper.old breaks.old }
+    requires card { CardMayBeNotedOn seated.app (known_of keeper.old.cabin.cards seated.entering.which)
+        (C.card card.old) (C.state card.old) }
     ensures noted { (fell : Bool) × IsMoved seated.app seated.entering
         (is_err result) keeper.old keeper.new breaks.old breaks.new
         (M.state unit.old) (M.state unit.new) (C.state card.old) (C.state card.new) fell
@@ -145,9 +131,7 @@ fn note_moving<M: Medium, C: Chip, D: Chip>(
     ensures behind { StandsEntered seated.entering.which keeper.old.cabin.slots.minute result keeper.old keeper.new
         (M.state unit.old) (M.state unit.new)
         (C.state card.old) (C.state card.new) (C.card card.new) }
-    ensures most { ((M.state unit.new).clock ≤ (M.state unit.old).clock + 8)
-        × ((C.state card.new).clock ≤ (C.state card.old).clock + 4) }
-    ensures goes { EnteringGoes breaks.old.items breaks.new.items
+    ensures goes { EnteringGoesWithin 8 4 breaks.old.items breaks.new.items (M.state unit.old) (M.state unit.new)
         (C.state card.old) (C.state card.new) }
 {
     let entering = seated.entering;
@@ -173,13 +157,9 @@ fn note_entered<M: Medium, C: Chip, D: Chip>(
     breaks: &mut Lines<Break>,
 ) -> Result<(), Failed>
     requires ready { UnitMayBeCalled keeper.old (M.state unit.old) }
-    requires minute { keeper.old.cabin.slots.minute ≤ seated.entering.at.second / 60 }
-    requires second { seated.entering.at.second ≢ 0 }
-    requires card { CardMayBeCalled (known_of keeper.old.cabin.cards seated.entering.which) (C.card card.old)
-        (C.state card.old) }
-    requires works { (C.state card.old).works ≡ true }
-    requires sizes { (known_of keeper.old.cabin.cards seated.entering.which).sizes ≡ Ok seated.app }
-    requires room { length breaks.old.items < breaks.old.room }
+    requires may { MayTear seated.entering.at keeper.old breaks.old }
+    requires card { CardMayBeNotedOn seated.app (known_of keeper.old.cabin.cards seated.entering.which)
+        (C.card card.old) (C.state card.old) }
     ensures noted { (fell : Bool) × IsNotedOn seated.app seated.unclosed seated.entering
         (is_err result) keeper.old keeper.new breaks.old
         breaks.new (M.state unit.old) (M.state unit.new) (C.state card.old) (C.state card.new) fell
@@ -192,9 +172,7 @@ fn note_entered<M: Medium, C: Chip, D: Chip>(
     ensures behind { StandsEntered seated.entering.which keeper.old.cabin.slots.minute result keeper.old keeper.new
         (M.state unit.old) (M.state unit.new)
         (C.state card.old) (C.state card.new) (C.card card.new) }
-    ensures most { ((M.state unit.new).clock ≤ (M.state unit.old).clock + 12)
-        × ((C.state card.new).clock ≤ (C.state card.old).clock + 4) }
-    ensures goes { EnteringGoes breaks.old.items breaks.new.items
+    ensures goes { EnteringGoesWithin 12 4 breaks.old.items breaks.new.items (M.state unit.old) (M.state unit.new)
         (C.state card.old) (C.state card.new) }
 {
     let entering = seated.entering;
@@ -239,10 +217,9 @@ pub(crate) fn take_in<M: Medium, C: Chip, D: Chip>(
     requires card { CardGoesBy found.app (known_of keeper.old.cabin.cards found.entering.which) (C.card card.old)
         (C.state card.old) }
     requires session { found.entered.session.application ≡ found.app }
-    requires low { found.entered.row < 8 }
-    requires row { IfSome (M.state unit.old).image
-        (IsRowFor found.entered.row (card_number_bytes found.entered.look.number)
-        (option_map (λ n. card_number_bytes n) (known_of keeper.old.cabin.cards (other found.entering.which)).number)) }
+    requires row { MayBeginRow found.entered.row (card_number_bytes found.entered.look.number)
+        (option_map (λ n. card_number_bytes n) (known_of keeper.old.cabin.cards (other found.entering.which)).number)
+        (M.state unit.old) }
     ensures marks { (outcome.new.marks.room ≡ outcome.old.marks.room)
         × (length outcome.new.marks.items ≤ length outcome.old.marks.items + most_owed) }
     ensures ended { (fell : Bool) × (entry : Option ℕ) × IsEntry entry (is_err result) (M.state unit.old).image
@@ -255,17 +232,11 @@ pub(crate) fn take_in<M: Medium, C: Chip, D: Chip>(
         (is_err result) keeper.old
         keeper.new (M.state unit.old) (M.state unit.new) (C.state card.old) (C.state card.new)
         (D.state found.entry.others.now) }
-    ensures behind { StandsEntered found.entry.entering.which
-        (found.entry.entering.at.second / 60) result keeper.old keeper.new
-        (M.state unit.old) (M.state unit.new)
-        (C.state card.old) (C.state card.new) (C.card card.new) }
-    ensures row { IfSome (session_of keeper.new.cabin.cards found.entry.entering.which)
-        (λ a. OnOk result (HasItsRow keeper.new.cabin.cards (M.state unit.new) found.entry.entering.which)) }
+    ensures behind { StandsJudged found.entry.entering.which (found.entry.entering.at.second / 60) result keeper.old
+        keeper.new (M.state unit.old) (M.state unit.new) (C.state card.old) (C.state card.new) (C.card card.new) }
     ensures judged { IsWithinBounds found.entry.entered }
-    ensures most { ((M.state unit.new).clock ≤ (M.state unit.old).clock + 24)
-        × ((C.state card.new).clock ≤ (C.state card.old).clock + 4) }
-    ensures goes { EnteringGoes outcome.old.breaks.items outcome.new.breaks.items
-        (C.state card.old) (C.state card.new) }
+    ensures goes { EnteringGoesWithin 24 4 outcome.old.breaks.items outcome.new.breaks.items (M.state unit.old)
+        (M.state unit.new) (C.state card.old) (C.state card.new) }
 {
     let entering = found.entering;
     let app = found.app;

@@ -1,8 +1,8 @@
 //! A card is revived, and tells its sizes.
 ghost use Rattle.std.specs.Prelude.{◌≡◌, ◌≤◌, IfOk, is_err};
 ghost use Rattle.card_layout.specs.Application.{place_of_field};
-ghost use Rattle.tach_media.specs.Medium.{LeavesOnly, Unchanged, HasCause, revivable};
 ghost use Rattle.run_insertion.specs.Entered.{IsMeasured};
+ghost use Rattle.device_calls.specs.Calls.{WasRevived};
 
 use card_commands::{PortFault, read_sizes};
 use card_layout::{Application, LARGEST_IMAGE};
@@ -16,9 +16,7 @@ pub const UNTOLD: u8 = 0;
 pub(crate) fn wake<C: Chip>(card: &mut C) -> Result<Result<Application, u8>, Failed>
     requires size { LARGEST_IMAGE ≤ (C.state card.old).size }
     ensures measured { IfOk result (λ sizes. IsMeasured sizes (C.card card.new) (C.state card.new)) }
-    ensures leaves { LeavesOnly (C.state card.old) (C.state card.new) Unchanged }
-    ensures clock { (C.state card.new).clock ≡ (C.state card.old).clock }
-    ensures cause { HasCause (revivable (C.state card.old)) (C.state card.new) (is_err result) }
+    ensures revived { WasRevived (is_err result) (C.state card.old) (C.state card.new) }
 {
     card.revive()?;
     match read_sizes(card) {

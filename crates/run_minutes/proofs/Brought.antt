@@ -197,7 +197,7 @@ cards-by Fell c second cabin = refl
 
 -- the cards that were found are those
 pub found-session : (f : Found) (c : Card) (s : Option Accepted) (cards : Cards) → AreFoundCards f cards → AreFoundCards f (with_session c s cards)
-found-session f A s cards found = record { two = found.two; named = named; told = told; own = found.own; sizes = found.sizes; entries = found.entries; word = found.word }
+found-session f A s cards found = record { two = found.two; named = named; told = told; only = only; own = found.own; sizes = found.sizes; entries = found.entries; word = found.word }
   where
     named : (c : Card) → IsOwnValid (found_of f c).image → IfSome (known_of (with_session A s cards) c).number (λ n. card_number_bytes n ≡ (found_of f c).number)
     named A = found.named A
@@ -206,7 +206,11 @@ found-session f A s cards found = record { two = found.two; named = named; told 
     told : (c : Card) → IsOwnValid (found_of f c).image → is_some (known_of (with_session A s cards) c).number ≡ true
     told A = found.told A
     told B = found.told B
-found-session f B s cards found = record { two = found.two; named = named; told = told; own = found.own; sizes = found.sizes; entries = found.entries; word = found.word }
+
+    only : (c : Card) → is_some (known_of (with_session A s cards) c).number ≡ true → IsOwnValid (found_of f c).image
+    only A = found.only A
+    only B = found.only B
+found-session f B s cards found = record { two = found.two; named = named; told = told; only = only; own = found.own; sizes = found.sizes; entries = found.entries; word = found.word }
   where
     named : (c : Card) → IsOwnValid (found_of f c).image → IfSome (known_of (with_session B s cards) c).number (λ n. card_number_bytes n ≡ (found_of f c).number)
     named A = found.named A
@@ -215,6 +219,10 @@ found-session f B s cards found = record { two = found.two; named = named; told 
     told : (c : Card) → IsOwnValid (found_of f c).image → is_some (known_of (with_session B s cards) c).number ≡ true
     told A = found.told A
     told B = found.told B
+
+    only : (c : Card) → is_some (known_of (with_session B s cards) c).number ≡ true → IsOwnValid (found_of f c).image
+    only A = found.only A
+    only B = found.only B
 
 -- the other card is as it was
 timed-by : (f : Found) (values : List ℕ) (c : Card) (U V X Y Z : State) → StaysOn (found_of f c) values X Y → AreTimedOn f values (arranged c U X Z) (arranged c V Y Z)

@@ -1,5 +1,5 @@
 -- What became of the entry of a card, by the sessions before and behind.
-use Rattle.std.proofs.Common.{◌≡◌, ◌∙◌, ℕ, ◌<◌, ◌≤◌, true, List, [], ◌∷◌, ◌++◌, length, Option, Some, None, IfSome, refl, ap, sym, subst, arith}
+use Rattle.std.proofs.Common.{◌≡◌, ◌*◌, ◌+◌, ◌∙◌, ℕ, ◌<◌, ◌≤◌, true, List, [], ◌∷◌, ◌++◌, length, Option, Some, None, IfSome, refl, ap, sym, subst, arith}
 use Rattle.std.specs.Prelude.{Ok}
 use Rattle.activity_codec.specs.declared.entries.Entry.{Entry}
 use Rattle.trace_model.specs.declared.Card.{Card}
@@ -125,13 +125,13 @@ module _ (c : Card) (said : Kept) (cards : Cards) (U X : State) where
     -- it has the entry
     pub booked-has : (t : Accepted) (n : ℕ) → session_of behind c ≡ Some t → Y.works ≡ true → t.session.application ≡ a.session.application → t.session.minute ≡ said.entry.minute
         → t.session.registration ≡ a.session.registration → t.session.odometer ≡ Some said.odometer → t.held ≡ begun_by said.entry.minute a.held
-        → IfSome X.image (λ x. IfSome Y.image (λ y. IsSession a.session x → IsFirstKept a.session t.session (hands_for a.held said.entry.minute) said.entry said.odometer.0 x y)) → (Y.clock < last_count → IsSettled Y) → n ≡ Y.clock → BooksCard c said (Has t n) cards behind U X Y
-    booked-has t n is works sizes at vehicle odometer begun kept settles clock = λ f w found tells h none time valid present one.
+        → IfSome X.image (λ x. IfSome Y.image (λ y. IsSession a.session x → IsFirstKept a.session t.session (hands_for a.held said.entry.minute) said.entry said.odometer.0 x y)) → (Y.clock < last_count → IsSettled Y) → Y.clock ≤ X.clock + (17 + 4 * length (hands_for a.held said.entry.minute)) → n ≡ Y.clock → BooksCard c said (Has t n) cards behind U X Y
+    booked-has t n is works sizes at vehicle odometer begun kept settles wrote clock = λ f w found tells h none time valid present one.
         let before = subst (λ (o : Option Accepted). CardOwing f c w.book (w.standing c) (w.hands c) (w.firsts c) (w.brought c) w.marks (said.entry ∷ []) o U X) some one in (
           subst (λ (g : Holding). CardOwing f c w.book (standing_by (Has t n) m (w.standing c)) (hands_by (Has t n) g m (w.hands c)) (firsts_by (Has t n) c g m (w.firsts c)) (w.brought c) (w.marks ++ marks_by (Has t n) (Some c) m) [] (session_of behind c) U Y) (sym held-is)
               (subst (λ (o : Option Accepted). CardOwing f c w.book (standing_by (Has t n) m (w.standing c)) (hands_by (Has t n) a.held m (w.hands c)) (firsts_by (Has t n) c a.held m (w.firsts c)) (w.brought c) (w.marks ++ marks_by (Has t n) (Some c) m) [] o U Y) (sym is)
               (card-has f cards found c w.due w.book (w.standing c) (w.hands c) (w.firsts c) (w.brought c) w.marks a said.entry said.odometer.0 U X Y unit whole after tells h none valid present before fits ready-now run
-              t works sizes vehicle at begun kept (settles time) n clock)),
+              t works sizes vehicle at begun kept (settles time) wrote n clock)),
           timed-of f c w.book (w.standing c) (w.hands c) (w.firsts c) (w.brought c) w.marks (said.entry ∷ []) a U X Y (hands_for a.held m) said.entry said.odometer.0 whole before run,
           subst (λ (o : Option Accepted). KeepsOn (found_of f c) (said ∷ []) o (session_of behind c) X Y) (sym some)
               (subst (λ (o : Option Accepted). KeepsOn (found_of f c) (said ∷ []) (Some a) o X Y) (sym is)

@@ -1,5 +1,5 @@
 -- A card to which an entry is owed: it keeps it, or is torn out as it does; or nothing is asked of it, since it was torn out before.
-use Rattle.std.proofs.Common.{◌≡◌, ◌≢◌, ◌∙◌, ◌⊎◌, inl, inr, ⊎_elim, ℕ, suc, max, ◌/◌, ◌<◌, ◌≤◌, Bool, true, false, cond, List, [], ◌∷◌, ◌++◌, length, Contains, Option, Some, None, IfSome, is_some, refl, ap, sym, subst, arith}
+use Rattle.std.proofs.Common.{◌≡◌, ◌*◌, ◌+◌, ◌≢◌, ◌∙◌, ◌⊎◌, inl, inr, ⊎_elim, ℕ, suc, max, ◌/◌, ◌<◌, ◌≤◌, Bool, true, false, cond, List, [], ◌∷◌, ◌++◌, length, Contains, Option, Some, None, IfSome, is_some, refl, ap, sym, subst, arith}
 use Rattle.std.specs.Prelude.{nat_eq}
 use Rattle.std.proofs.lemmas.List.{append-nil}
 use Rattle.std.proofs.lemmas.List.Elements.{Contains-push}
@@ -64,6 +64,8 @@ use Rattle.run_minutes.proofs.FirstSame.{first-holder}
 use Rattle.run_minutes.proofs.HandsOn.{hands-run, hands-sure, hands-first}
 use Rattle.run_minutes.proofs.MarksOn.{moment-hold, kept-hold, same-marks}
 use Rattle.run_minutes.proofs.OnTheCard.{ready-here, each-kept, moment-holds, each-sure, session-on, goes-on, ends-on}
+use Rattle.card_string.specs.Deeds.{IsMadeSince}
+use Rattle.card_string.proofs.MadeSince.{keep_since}
 
 -- later than the words at the start, as the steps have them
 fresh-steps : (f : Found) (two : f.card_a.number ≢ f.card_b.number) (c : Card) (m : ℕ) → (found_of f c).start.word < m → (opened (both_of f two) c).start.word < m
@@ -192,6 +194,9 @@ module _ (f : Found) (cards : Cards) (found : AreFoundCards f cards) (c : Card) 
   keeping : LeavesOnly X Y (IsFirstKeeping s by_hand e odometer)
   keeping = weaken run (λ x y told k. k (at_image (IsSession s) told on.session))
 
+  kept-since : (n : ℕ) (x y : List ℕ) → X.image ≡ Some x → n < e.minute → IsFirstKeeping s by_hand e odometer x y → IsMadeSince (own_sizes g.image) n x y
+  kept-since n x y is later k = subst (λ (p : Application). IsMadeSince p n x y) on.sizes (keep_since n s by_hand e odometer x y later k)
+
   views : LeavesViews (of_card X) (of_card Y) (IsOnCard AnyAdded e)
   views = seen-run own_view (λ x y. IsOnCard AnyAdded e (own_view x) (own_view y)) (IsOnCard AnyAdded e) X Y whole
       (weaken run (λ x y told k. on-card s (bound_since g.image (entries_of ready.0)) (own_covered g.image) ready.1 (counted_since g.image ready.0) (all_since g.image (entries_of ready.0)) by_hand e odometer are x y
@@ -274,7 +279,7 @@ module _ (f : Found) (cards : Cards) (found : AreFoundCards f cards) (c : Card) 
     brought = brought-now;
     held = string-of (and_given by_hand hd) each-made (Torn on.time e.minute e.minute) (λ n. refl);
     goes = record { has = brought_by c g.start b; all = append-nil (brought_by c g.start b); goes = tt };
-    hold = same-marks g c b marks Y (moment-hold g c b marks e X Y whole low views one.hold);
+    hold = same-marks g c b marks Y (moment-hold g c b marks e X Y whole (IsFirstKeeping s by_hand e odometer) keeping kept-since low views one.hold);
     hands = hands-made;
   }
 
@@ -283,7 +288,7 @@ module _ (f : Found) (cards : Cards) (found : AreFoundCards f cards) (c : Card) 
 
   -- THE CARD HAS IT
   module _ (t : Accepted) (works : Y.works ≡ true) (sizes : t.session.application ≡ s.application) (vehicle : t.session.registration ≡ s.registration) (at : t.session.minute ≡ e.minute) (begun : t.held ≡ begun_by e.minute a.held)
-      (kept : IfSome X.image (λ x. IfSome Y.image (λ y. IsSession s x → IsFirstKept s t.session by_hand e odometer x y))) (settled : IsSettled Y) where
+      (kept : IfSome X.image (λ x. IfSome Y.image (λ y. IsSession s x → IsFirstKept s t.session by_hand e odometer x y))) (settled : IsSettled Y) (wrote : Y.clock ≤ X.clock + (17 + 4 * length by_hand)) where
     ends : EndsWith (of_card X) (of_card Y) (IsNowOnCard AnyAdded e)
     ends = ends-on_card (both_of f found.two) c (once_mended f.unit) due b marks on.time s (bound_since g.image (entries_of ready.0)) (own_covered g.image) ready.1 (counted_since g.image ready.0) (all_since g.image (entries_of ready.0)) by_hand e odometer are unit tells whole h none steps
         (fresh-steps f found.two c e.minute fresh) ready.2 run t.session after works rule.stands.0 sizes at kept
@@ -337,7 +342,7 @@ module _ (f : Found) (cards : Cards) (found : AreFoundCards f cards) (c : Card) 
         );
       };
       hold = subst (λ (k : ℕ). CardMarksHold g c b (marks ++ mark k ∷ []) Y) (sym is_clock)
-          (kept-hold g c b marks e X Y whole low views one.hold after valid some-view (omega (arith, rule.dark.later, run.later)) settled ends sure);
+          (kept-hold g c b marks e X Y whole (IsFirstKeeping s by_hand e odometer) keeping kept-since low views one.hold after valid some-view (told-one Y.image (run.tells ∙ held.tells)) (omega (arith, wrote, few)) (omega (arith, rule.dark.later, run.later)) settled ends sure);
       hands = hands-first g hd by_hand firsts a.held.begun (mark n) Y (brought_by c g.start b) (suc e.minute) g.began after settled is_clock are.day each-of-all (hands-sure g hd by_hand firsts Y hands-made);
     }
 

@@ -1,16 +1,16 @@
 -- The marks of a card that has kept an entry, and those of the others.
-use Rattle.std.proofs.Common.{◌≡◌, ◌∙◌, ℕ, ◌<◌, ◌≤◌, List, [], ◌∷◌, ◌++◌, All, Contains, Some, refl, ap, sym, subst, arith}
+use Rattle.std.proofs.Common.{◌≡◌, ◌-◌, ◌+◌, ◌∙◌, ℕ, ◌<◌, ◌≤◌, List, [], ◌∷◌, ◌++◌, All, Contains, Some, refl, ap, sym, subst, arith}
 use Rattle.std.proofs.lemmas.List.{append-nil}
 use Rattle.std.proofs.lemmas.List.Elements.{filter-append, All-weaker, All-push, All-head, All-tail}
 use Rattle.activity_codec.specs.declared.entries.Entry.{Entry}
 use Rattle.trace_model.specs.declared.Card.{Card}
 use Rattle.trace_model.specs.declared.Card.TheVariants.{A, B}
 use Rattle.run_model.specs.declared.Device.TheVariants.{Unit as Recorder, CardA, CardB}
-use Rattle.tach_media.specs.Medium.{State, IsCoherent, IsSettled}
+use Rattle.tach_media.specs.Medium.{State, IsCoherent, IsSettled, LeavesOnly}
 use Rattle.log_model.specs.declared.lines.Mark.{Mark}
 use Rattle.log_model.specs.Causes.{device_of}
 use Rattle.card_image.specs.View.{CardView}
-use Rattle.card_image.specs.Own.{IsOwnValid}
+use Rattle.card_image.specs.Own.{IsOwnValid, own_view, own_sizes}
 use Rattle.history_model.specs.Minutes.{card_history}
 use Rattle.history_model.specs.Book.{Book}
 use Rattle.device_rule.specs.Views.{other}
@@ -20,7 +20,10 @@ use Rattle.device_rule.specs.Marked.{of_card, AnyAdded}
 use Rattle.device_rule.proofs.Staying.{kept-marks, kept-marked}
 use Rattle.safety_model.specs.Unit.{marks_of, is_of, Increase}
 use Rattle.run_promise.specs.Found.{CardFound}
+use Rattle.unit_rule.specs.Cards.{mark_writes, IsPromptOn}
 use Rattle.run_promise.specs.Cards.{IsCardHeld, CardMarksHold}
+use Rattle.card_string.specs.Deeds.{IsMadeSince}
+use Rattle.run_devices.proofs.OnCards.{prompt-on, stood-on, stood-now}
 use Rattle.run_minutes.specs.Keeping.{Fate, Still, Has, Fell, marks_by}
 
 -- ---- whose marks they are
@@ -65,17 +68,30 @@ rise-push [] m rise each = tt
 rise-push (n ∷ []) m rise each = (All-head (λ (k : Mark). k.minute < m.minute) n [] each, tt)
 rise-push (n ∷ k ∷ marks) m rise each = (rise.0, rise-push (k ∷ marks) m rise.1 (All-tail (λ (l : Mark). l.minute < m.minute) n (k ∷ marks) each))
 
-module _ (f : CardFound) (c : Card) (b : Book) (marks : List Mark) (e : Entry) (X Y : State) (whole : IsCoherent X) (low : (x : CardView) → (of_card X).may_leave x → x.mark < e.minute)
+module _ (f : CardFound) (c : Card) (b : Book) (marks : List Mark) (e : Entry) (X Y : State) (whole : IsCoherent X) (R : List ℕ → List ℕ → Type 0) (run : LeavesOnly X Y R) (made : (n : ℕ) (x y : List ℕ) → X.image ≡ Some x → n < e.minute → R x y → IsMadeSince (own_sizes f.image) n x y) (low : (x : CardView) → (of_card X).may_leave x → x.mark < e.minute)
     (views : LeavesViews (of_card X) (of_card Y) (IsOnCard AnyAdded e)) (h : CardMarksHold f c b marks X) where
+  -- it was acknowledged of an earlier minute
+  before-it : (m : Mark) → IsCardHeld f c b X m → (x : List ℕ) → X.image ≡ Some x → m.minute < e.minute
+  before-it m k x is =
+      let at = k.holds.1 (own_view x) (x, whole.counts_now m.clock x k.holds.0 (whole.is_left x is), refl) in
+      let late = low (own_view x) (x, whole.is_left x is, refl) in
+      omega (arith, at, late)
+
   still : (m : Mark) → IsCardHeld f c b X m → IsCardHeld f c b Y m
-  still m k = record { began = k.began; holds = kept-marks e X Y whole (λ x there. omega (arith, low x there)) views m.minute m.clock k.holds; sure = k.sure }
+  still m k = record {
+    began = k.began;
+    holds = kept-marks e X Y whole (λ x there. omega (arith, low x there)) views m.minute m.clock k.holds;
+    prompt = prompt-on X Y m run.keeps k.holds.0 k.prompt;
+    stood = stood-on (own_sizes f.image) R X Y m whole run k.holds.0 (λ x y is on. made m.minute x y is (before-it m k x is) on) k.stood;
+    sure = k.sure;
+  }
 
   -- at each moment it has what it had
   pub moment-hold : CardMarksHold f c b marks Y
   moment-hold = record { held = All-weaker (IsCardHeld f c b X) (IsCardHeld f c b Y) still (marks_of (device_of c) marks) h.held; rise = h.rise; none = h.none }
 
   -- and at the end the new one
-  module _ (after : IsCoherent Y) (valid : IsOwnValid f.image) (some : (x : CardView) × (of_card X).may_leave x) (began : f.began ≤ Y.clock) (settled : IsSettled Y) (ends : EndsWith (of_card X) (of_card Y) (IsNowOnCard AnyAdded e))
+  module _ (after : IsCoherent Y) (valid : IsOwnValid f.image) (some : (x : CardView) × (of_card X).may_leave x) (told : (z : List ℕ) × (Y.image ≡ Some z)) (wrote : Y.clock ≤ X.clock + 49) (began : f.began ≤ Y.clock) (settled : IsSettled Y) (ends : EndsWith (of_card X) (of_card Y) (IsNowOnCard AnyAdded e))
       (sure : Contains (f.start.owed ++ card_history c b.sure) e) where
     abbrev new : Mark
     new = record { device = device_of c; minute = e.minute; clock = Y.clock }
@@ -86,10 +102,22 @@ module _ (f : CardFound) (c : Card) (b : Book) (marks : List Mark) (e : Entry) (
         let at = k.holds.1 some.0 (there.0, whole.counts_now m.clock there.0 k.holds.0 there.1, there.2) in
         omega (arith, at, low some.0 some.1)
 
+    -- it is told at once: the image before the keep has not come to it
+    prompt-now : IsPromptOn Y new
+    prompt-now =
+        let there = some.1 in
+        let many : mark_writes ≡ 1068 = refl in
+        let before : Y.clock - mark_writes ≤ X.clock = omega (arith, wrote, many) in
+        let late = low some.0 some.1 in (
+          there.0,
+          run.keeps (Y.clock - mark_writes) there.0 before (whole.counts_now (Y.clock - mark_writes) there.0 before there.1),
+          subst (λ (v : CardView). v.mark < e.minute) (sym there.2) late,
+        )
+
     pub kept-hold : CardMarksHold f c b (marks ++ new ∷ []) Y
     kept-hold = record {
       held = subst (All (IsCardHeld f c b Y)) (sym (mine-more c marks e.minute Y.clock))
-          (All-push (IsCardHeld f c b Y) (marks_of (device_of c) marks) new moment-hold.held (record { began = began; holds = kept-marked X Y e after settled ends; sure = (e, sure, refl) }));
+          (All-push (IsCardHeld f c b Y) (marks_of (device_of c) marks) new moment-hold.held (record { began = began; holds = kept-marked X Y e after settled ends; prompt = prompt-now; stood = stood-now (own_sizes f.image) (device_of c) e.minute Y after settled told.0 told.1; sure = (e, sure, refl) }));
       rise = subst Increase (sym (mine-more c marks e.minute Y.clock))
           (rise-push (marks_of (device_of c) marks) new h.rise (All-weaker (IsCardHeld f c b X) (λ m. m.minute < e.minute) earlier (marks_of (device_of c) marks) h.held));
       none = λ bad. absurd (bad valid);

@@ -91,7 +91,7 @@ marks-beside B marks minute clock = filter-append _ marks (unit_mark minute cloc
 
 marks-broken : (f : CardFound) (c : Card) (b : Book) (i : HistoryMinute) (marks : List Mark) (X : State) → CardMarksHold f c b marks X → CardMarksHold f c (broken i b) marks X
 marks-broken f c b i marks X h = record {
-  held = All-weaker (IsCardHeld f c b X) (IsCardHeld f c (broken i b) X) (λ m is. record { began = is.began; holds = is.holds; sure = is.sure }) (marks_of (device_of c) marks) h.held;
+  held = All-weaker (IsCardHeld f c b X) (IsCardHeld f c (broken i b) X) (λ m is. record { began = is.began; holds = is.holds; prompt = is.prompt; stood = is.stood; sure = is.sure }) (marks_of (device_of c) marks) h.held;
   rise = h.rise;
   none = h.none;
 }
@@ -112,6 +112,8 @@ marks-kept f c b i clock marks X h =
     more m is = record {
       began = is.began;
       holds = is.holds;
+      prompt = is.prompt;
+      stood = is.stood;
       sure = (
         is.sure.0,
         subst (λ (es : List Entry). Contains es is.sure.0) (sym longer) (Contains-append_left (f.start.owed ++ card_history c b.sure) (card_history c (i ∷ [])) is.sure.0 is.sure.1),

@@ -1,6 +1,6 @@
 -- What a minute that is brought to a card leaves, and a card that is torn out, each in a record (profile).
 use Rattle.std.specs.Prelude.{ℕ, ◌+◌, ◌/◌, ◌<◌, ◌^◌, ◌∷◌, ◌≡◌, ◌≢◌, ◌≤◌, IfSome, OnOk, Option, Result, [], is_err}
-use Rattle.std.specs.Prelude.{is_some, length}
+use Rattle.std.specs.Prelude.{is_some, length, OnErr}
 use Rattle.activity_codec.specs.declared.values.Slot.{Slot}
 use Rattle.card_layout.specs.declared.command.CardState.{CardState}
 use Rattle.card_session.specs.declared.session.Kept.{Kept}
@@ -8,7 +8,7 @@ use Rattle.card_session.specs.declared.words.TheConstants.{LATEST_MINUTE}
 use Rattle.event_model.specs.declared.kinds.TheConstants.{CARD_FAULT}
 use Rattle.log_model.specs.declared.lines.Break.{Break}
 use Rattle.log_model.specs.declared.lines.Mark.{Mark}
-use Rattle.run_crew.specs.Cabin.{IsReadyFor, crew_of, torn_out}
+use Rattle.run_crew.specs.Cabin.{IsReadyFor, crew_of, torn_out, AreTwo}
 use Rattle.run_crew.specs.Cards.{known_of}
 use Rattle.run_outcome.specs.Lines.{Listed}
 use Rattle.tach_media.specs.Medium.{HasBroken, HasCause, LeavesOnly, State}
@@ -21,6 +21,10 @@ use Rattle.run_minutes.specs.Keeping.{tear_of, tears_of, with_lines}
 use Rattle.run_minutes.specs.Later.{IsLater}
 use Rattle.run_minutes.specs.declared.keeper.Keeper.{Keeper}
 use Rattle.run_minutes.specs.declared.keeper.Moment.{Moment}
+use Rattle.unit_minutes.specs.declared.kept.KeptMinute.{KeptMinute}
+use Rattle.card_slots.specs.declared.seats.Present.{Present}
+use Rattle.unit_model.specs.declared.layout.TheConstants.{HIGHEST_ODOMETER}
+use Rattle.run_minutes.specs.Minutes.{unit_mark}
 
 -- HOW UNIT AND CARD STAND behind it: the unit may be called where it did not fail, with the rows of the cards, and the
 -- card may be called; the unit failed exactly where that was answered
@@ -72,3 +76,28 @@ pub record MayBring (present : Option Card) (kept : Kept) (at : Moment) (k : Kee
   pub second : at.second ≢ 0
   pub mark_room : length marks.items < marks.room
   pub break_room : length breaks.items + tears_of (session_at k.cabin.cards present) ≤ breaks.room
+
+-- A MINUTE MAY BE ACKNOWLEDGED: it is later than the last-kept one, it and its odometer are within their bounds, there
+-- is room for its mark, and no card was present in both slots
+pub record MayAcknowledge (minute : KeptMinute) (present : Present) (k : Keeper) (marks : Listed Mark) : Type 0 where
+  pub low : 1440 ≤ minute.minute
+  pub later : k.journal.kept < minute.minute
+  pub small : minute.minute ≤ LATEST_MINUTE
+  pub odometer : minute.odometer.0 ≤ HIGHEST_ODOMETER
+  pub room : length marks.items < marks.room
+  pub apart : AreTwo present.driver present.codriver
+
+-- IT IS ACKNOWLEDGED: of the keeper nothing but its journal changes; where the unit did not fail that has the minute
+-- and its odometer, and a mark more tells so; where it failed journal and marks are as they were
+pub record Acknowledges (minute : KeptMinute) (result : Result (Unit {0}) Failed) (k v : Keeper)
+    (marks after : Listed Mark) (clock : ℕ) : Type 0 where
+  pub keeper : v ≡ record k { journal = v.journal }
+  pub notes : OnOk result ((v.journal.kept ≡ minute.minute) × (v.journal.odometer ≡ minute.odometer.0))
+  pub marked : OnOk result (after ≡ with_lines (unit_mark minute.minute clock ∷ []) marks)
+  pub same : OnErr result ((v.journal ≡ k.journal) × (after ≡ marks))
+
+-- A CARD MAY BE TORN OUT at this moment: it is no earlier than the slots' minute, and there is room for the line
+pub record MayTear (at : Moment) (k : Keeper) (breaks : Listed Break) : Type 0 where
+  pub minute : k.cabin.slots.minute ≤ at.second / 60
+  pub second : at.second ≢ 0
+  pub room : length breaks.items < breaks.room

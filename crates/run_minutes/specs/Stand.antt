@@ -1,5 +1,5 @@
 -- A keeper, its lines and its devices at one moment, in one term, and what holds behind any call on them (profile).
-use Rattle.std.specs.Prelude.{◌≡◌, ◌+◌, ◌-◌, ◌/◌, ◌≤◌, Bool, false, Option, None, [], length, is_some}
+use Rattle.std.specs.Prelude.{◌≡◌, ◌+◌, ◌-◌, ◌/◌, ◌≤◌, Bool, false, Option, None, [], length, is_some, ℕ}
 use Rattle.trace_model.specs.declared.Card.{Card}
 use Rattle.trace_model.specs.declared.Card.TheVariants.{A, B}
 use Rattle.tach_media.specs.Medium.{State, HasCause, HasBroken}
@@ -19,6 +19,7 @@ use Rattle.run_minutes.specs.Keeping.{AreEmptied, SessionsGoOn, tears_of, most_t
 use Rattle.run_minutes.specs.Minutes.{KeepingState}
 use Rattle.run_minutes.specs.Faults.{NotesFaults}
 use Rattle.run_minutes.specs.Later.{AreAfter, AreCalm, RestBy}
+use Rattle.run_minutes.specs.Writes.{WroteAtMost}
 
 -- HOW A RECORDER STANDS: keeper, lines, devices, and by which state each card answers
 pub record Stand : Type 1 where
@@ -129,3 +130,14 @@ pub record AreOut {C D : Type 0} (IsOut : Card → Type 0) (a a_new : C) (b b_ne
 pub record CallsOnly {C D : Type 0} (IsOut : Card → Type 0) (cards : Cards) (a a_new : C) (b b_new : D) : Type 0 where
   pub bare : AreBare cards a a_new b b_new
   pub out : AreOut IsOut a a_new b b_new
+
+-- AND SO MANY WRITES AT MOST are begun over keepings, and the detailed speed of the unit stays
+pub record KeepingGoesWithin (on_unit on_card : ℕ) (s t : Stand) : Type 0 where
+  pub keeping : KeepingGoes s t
+  pub most : WroteAtMost on_unit on_card s.devices t.devices
+  pub speeds : LeavesSpeeds s.devices.unit t.devices.unit
+
+-- THE UNIT GOES ON so, and begins so many writes at most
+pub record UnitGoesWithin (writes : ℕ) (failed : Bool) (old new : State) : Type 0 where
+  pub all : UnitGoes failed old new
+  pub most : new.clock ≤ old.clock + writes

@@ -1,18 +1,15 @@
 //! The entry of a minute is brought onto the card that was present in a slot.
-ghost use Rattle.std.specs.Prelude.{◌≡◌, ◌≢◌, ℕ, ◌+◌, ◌-◌, ◌/◌, ◌<◌, ◌≤◌, ◌^◌, Option, Some, length};
-ghost use Rattle.std.specs.Prelude.{is_err};
+ghost use Rattle.std.specs.Prelude.{◌≡◌, ℕ, ◌+◌, ◌-◌, ◌≤◌, Option, Some, is_err};
 ghost use Rattle.trace_model.specs.declared.Card.{Card};
 ghost use Rattle.tach_media.specs.Medium.{LeavesOnly};
-ghost use Rattle.card_session.specs.declared.words.TheConstants.{LATEST_MINUTE};
 ghost use Rattle.unit_notes.specs.Journal.{LeavesJournal};
 ghost use Rattle.run_crew.specs.Cards.{known_of, session_of};
-ghost use Rattle.run_crew.specs.Cabin.{CabinIsSound, IsReadyFor, crew_of};
+ghost use Rattle.run_crew.specs.Cabin.{CabinIsSound, crew_of};
 ghost use Rattle.run_minutes.specs.Owing.{BooksCard, BooksBrought};
 ghost use Rattle.run_minutes.specs.Kept.{IsAnother};
-ghost use Rattle.run_minutes.specs.Stand.{StandsAfter, KeepingGoes, CallsOnly, standing};
-ghost use Rattle.run_minutes.specs.Writes.{WroteAtMost, keep_most};
+ghost use Rattle.run_minutes.specs.Stand.{StandsAfter, CallsOnly, standing, KeepingGoesWithin};
+ghost use Rattle.run_minutes.specs.Writes.{keep_most};
 ghost use Rattle.run_promise.specs.Between.{devices};
-ghost use Rattle.run_speeds.specs.Speeds.{LeavesSpeeds};
 ghost use Rattle.run_minutes.specs.Keeping.{UnitMayBeCalled, CardMayBeCalled};
 ghost use Rattle.run_minutes.specs.Keeping.{DevicesMayBeCalled, Fate, IsBrought, IsNotingFault, tears_of};
 ghost use Rattle.run_minutes.specs.Keeping.{state_at};
@@ -22,7 +19,7 @@ use crate::keeper::{Keeper, Moment};
 use card_session::Kept;
 use device_calls::keep_on_card;
 use log_model::{Break, Mark, device_of};
-use run_outcome::Lines;
+use run_outcome::{Lines, Outcome};
 use tach_media::{Chip, Failed, Medium};
 use trace_model::Card;
 
@@ -32,6 +29,14 @@ struct CardKeep {
     which: Card,
     kept: Kept,
     at: Moment,
+}
+
+// What a minute says on the card that was present in a slot, if one was: its entry, and the moment, as a tear tells it.
+#[derive(Clone, Copy)]
+pub(crate) struct SlotSaid {
+    pub present: Option<Card>,
+    pub kept: Kept,
+    pub at: Moment,
 }
 
 impl Keeper {
@@ -47,15 +52,7 @@ impl Keeper {
         requires ready { UnitMayBeCalled self.old (M.state unit.old) }
         requires card { CardMayBeCalled (known_of self.old.cabin.cards keep.which) (C.card card.old)
             (C.state card.old) }
-        requires behind { IsReadyFor self.old.cabin.cards keep.kept.entry.minute (Some keep.which) }
-        requires first { 1440 ≤ keep.kept.entry.minute }
-        requires last { keep.kept.entry.minute ≤ LATEST_MINUTE }
-        requires fits { keep.kept.odometer.0 < 2 ^ 24 }
-        requires minute { self.old.cabin.slots.minute ≤ keep.at.second / 60 }
-        requires second { keep.at.second ≢ 0 }
-        requires marks { length marks.old.items < marks.old.room }
-        requires breaks { length breaks.old.items + tears_of
-            (session_of self.old.cabin.cards keep.which) ≤ breaks.old.room }
+        requires may { MayBring (Some keep.which) keep.kept keep.at self.old marks.old breaks.old }
         ensures brought { (fate : Fate)
             × IsBrought (Some keep.which) keep.kept keep.at
             (is_err result) self.old self.new marks.old marks.new breaks.old
@@ -115,62 +112,64 @@ impl Keeper {
     /// `Failed` where the unit failed, as it noted the fault.
     pub(crate) fn bring<M: Medium, C: Chip, D: Chip>(
         &mut self,
-        present: Option<Card>,
-        kept: &Kept,
-        at: Moment,
+        said: SlotSaid,
         unit: &mut M,
         card_a: &mut C,
         card_b: &mut D,
-        marks: &mut Lines<Mark>,
-        breaks: &mut Lines<Break>,
+        outcome: &mut Outcome,
     ) -> Result<(), Failed>
         requires ready { DevicesMayBeCalled self.old (M.state unit.old) (C.card card_a.old) (D.card card_b.old)
             (C.state card_a.old) (D.state card_b.old) }
-        requires may { MayBring present kept.now at self.old marks.old breaks.old }
+        requires may { MayBring said.present said.kept said.at self.old outcome.old.marks outcome.old.breaks }
         ensures brought { (fate : Fate)
-            × IsBrought present kept.now at (is_err result) self.old self.new marks.old marks.new breaks.old breaks.new
-            fate (M.state unit.old) (M.state unit.new) (state_at present (C.state card_a.old) (D.state card_b.old))
-            (state_at present (C.state card_a.new) (D.state card_b.new))
-            × LeavesOnly (M.state unit.old) (M.state unit.new) (IsNotingFault fate at.second (crew_of self.new.cabin))
-            × BooksBrought present kept.now (is_err result) fate self.old.cabin.cards self.new.cabin.cards
+            × IsBrought said.present said.kept said.at (is_err result) self.old self.new outcome.old.marks
+            outcome.new.marks outcome.old.breaks outcome.new.breaks fate (M.state unit.old) (M.state unit.new)
+            (state_at said.present (C.state card_a.old) (D.state card_b.old))
+            (state_at said.present (C.state card_a.new) (D.state card_b.new))
+            × LeavesOnly (M.state unit.old) (M.state unit.new)
+            (IsNotingFault fate said.at.second (crew_of self.new.cabin))
+            × BooksBrought said.present said.kept (is_err result) fate self.old.cabin.cards self.new.cabin.cards
             (devices (M.state unit.old) (C.state card_a.old) (D.state card_b.old))
             (devices (M.state unit.new) (C.state card_a.new) (D.state card_b.new)) }
-        ensures stands { StandsAfter at (is_err result)
-            (standing self.old marks.old breaks.old (M.state unit.old) (C.state card_a.old) (D.state card_b.old)
-            (C.card card_a.old) (D.card card_b.old))
-            (standing self.new marks.new breaks.new (M.state unit.new) (C.state card_a.new) (D.state card_b.new)
-            (C.card card_a.new) (D.card card_b.new)) }
-        ensures goes { KeepingGoes
-            (standing self.old marks.old breaks.old (M.state unit.old) (C.state card_a.old) (D.state card_b.old)
-            (C.card card_a.old) (D.card card_b.old))
-            (standing self.new marks.new breaks.new (M.state unit.new) (C.state card_a.new) (D.state card_b.new)
-            (C.card card_a.new) (D.card card_b.new)) }
-        ensures speeds { LeavesSpeeds (M.state unit.old) (M.state unit.new) }
-        ensures calls { CallsOnly (IsAnother present) self.old.cabin.cards card_a.old card_a.new card_b.old card_b.new }
-        ensures most { WroteAtMost 4 keep_most (devices (M.state unit.old) (C.state card_a.old) (D.state card_b.old))
-            (devices (M.state unit.new) (C.state card_a.new) (D.state card_b.new)) }
+        ensures only { outcome.new ≡ record outcome.old { marks = outcome.new.marks; breaks = outcome.new.breaks } }
+        ensures stands { StandsAfter said.at (is_err result)
+            (standing self.old outcome.old.marks outcome.old.breaks (M.state unit.old) (C.state card_a.old)
+            (D.state card_b.old) (C.card card_a.old) (D.card card_b.old))
+            (standing self.new outcome.new.marks outcome.new.breaks (M.state unit.new) (C.state card_a.new)
+            (D.state card_b.new) (C.card card_a.new) (D.card card_b.new)) }
+        ensures goes { KeepingGoesWithin 4 keep_most
+            (standing self.old outcome.old.marks outcome.old.breaks (M.state unit.old) (C.state card_a.old)
+            (D.state card_b.old) (C.card card_a.old) (D.card card_b.old))
+            (standing self.new outcome.new.marks outcome.new.breaks (M.state unit.new) (C.state card_a.new)
+            (D.state card_b.new) (C.card card_a.new) (D.card card_b.new)) }
+        ensures calls { CallsOnly (IsAnother said.present) self.old.cabin.cards card_a.old card_a.new card_b.old
+            card_b.new }
         ensures journal { LeavesOnly (M.state unit.old) (M.state unit.new) LeavesJournal }
-        ensures cabin { (from : ℕ) (leaving : Option Card) → from ≤ kept.now.entry.minute + 1
+        ensures cabin { (from : ℕ) (leaving : Option Card) → from ≤ said.kept.entry.minute + 1
             → CabinIsSound from leaving self.old.cabin
-            → CabinIsSound (kept.now.entry.minute + 1) leaving self.new.cabin }
+            → CabinIsSound (said.kept.entry.minute + 1) leaving self.new.cabin }
     {
-        match present {
+        let kept = said.kept;
+        let at = said.at;
+        match said.present {
             None => Ok(()),
             Some(Card::A) => {
                 let keep = CardKeep {
                     which: Card::A,
-                    kept: *kept,
+                    kept,
                     at,
                 };
-                self.bring_to(keep, unit, card_a, marks, breaks)
+                let marks = &mut outcome.marks;
+                self.bring_to(keep, unit, card_a, marks, &mut outcome.breaks)
             }
             Some(Card::B) => {
                 let keep = CardKeep {
                     which: Card::B,
-                    kept: *kept,
+                    kept,
                     at,
                 };
-                self.bring_to(keep, unit, card_b, marks, breaks)
+                let marks = &mut outcome.marks;
+                self.bring_to(keep, unit, card_b, marks, &mut outcome.breaks)
             }
         }
     }

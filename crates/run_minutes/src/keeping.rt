@@ -1,27 +1,25 @@
 //! A minute is kept by the unit, and then on the cards that were present in it.
-ghost use Rattle.std.specs.Prelude.{◌≡◌, ◌+◌, ◌<◌, ◌≤◌, IfSome, ◌∷◌, [], OnOk, OnErr, length, is_err};
-ghost use Rattle.card_session.specs.declared.words.TheConstants.{LATEST_MINUTE};
-ghost use Rattle.unit_model.specs.declared.layout.TheConstants.{HIGHEST_ODOMETER};
-ghost use Rattle.run_crew.specs.Cabin.{AreTwo};
+ghost use Rattle.std.specs.Prelude.{◌≡◌, IfSome, [], is_err};
 ghost use Rattle.run_minutes.specs.Keeping.{UnitMayBeCalled, DevicesMayBeCalled, HasItsRow, HaveRows, kept_in};
-ghost use Rattle.run_minutes.specs.Keeping.{with_lines, TellsPresent};
-ghost use Rattle.run_minutes.specs.Minutes.{unit_mark};
+ghost use Rattle.run_minutes.specs.Keeping.{TellsPresent};
 ghost use Rattle.run_minutes.specs.Owing.{BooksPut, BooksOwed, TravelsOn};
 ghost use Rattle.run_minutes.specs.Kept.{IsAbsent, MayKeep, Keeps};
-ghost use Rattle.run_minutes.specs.Stand.{UnitGoes, UnitStands, StandsAfter, KeepingGoes, CallsOnly, standing};
-ghost use Rattle.run_minutes.specs.Writes.{WroteAtMost, minute_most};
+ghost use Rattle.run_minutes.specs.Stand.{UnitStands, StandsAfter, CallsOnly, standing};
+ghost use Rattle.run_minutes.specs.Stand.{KeepingGoesWithin, UnitGoesWithin};
+ghost use Rattle.run_minutes.specs.Writes.{minute_most};
 ghost use Rattle.run_promise.specs.Between.{devices};
-ghost use Rattle.run_speeds.specs.Speeds.{LeavesSpeeds};
+ghost use Rattle.run_minutes.specs.Calls.{Acknowledges, MayAcknowledge};
 
+use crate::bringing::SlotSaid;
 use crate::keeper::{Keeper, Moment};
 use activity_codec::{Entry, Slot};
 use card_session::Kept;
 use card_slots::Present;
 use device_calls::{OwedEntry, commit, owe};
-use log_model::{Break, Mark};
+use log_model::Mark;
 use run_events::number_or_zeros;
 use run_model::Device;
-use run_outcome::Lines;
+use run_outcome::{Lines, Outcome};
 use tach_media::{Chip, Failed, Medium};
 use trace_model::Card;
 use unit_minutes::KeptMinute;
@@ -45,11 +43,12 @@ fn kept_in(minute: &KeptMinute, slot: Slot) -> Kept
     }
 }
 
-// A minute that is to be kept, with the cards that were present in it.
+/// A minute that is to be kept, with the cards that were present in it, and the moment, as a tear tells it.
 #[derive(Clone, Copy)]
-struct MinuteSaid {
-    minute: KeptMinute,
-    present: Present,
+pub(crate) struct MinuteSaid {
+    pub minute: KeptMinute,
+    pub present: Present,
+    pub at: Moment,
 }
 
 impl Keeper {
@@ -66,8 +65,7 @@ impl Keeper {
         requires row { IfSome present (HasItsRow self.old.cabin.cards (M.state unit.old)) }
         ensures same { self.new ≡ self.old }
         ensures stands { UnitStands (is_err result) self.old self.new (M.state unit.old) (M.state unit.new) }
-        ensures goes { UnitGoes (is_err result) (M.state unit.old) (M.state unit.new) }
-        ensures most { (M.state unit.new).clock ≤ (M.state unit.old).clock + 3 }
+        ensures goes { UnitGoesWithin 3 (is_err result) (M.state unit.old) (M.state unit.new) }
         ensures travelled { TravelsOn (M.state unit.old) (M.state unit.new) }
         ensures booked { BooksPut present entry.now (is_err result) self.old.cabin.cards
             (devices (M.state unit.old) (C.state card_a.now) (D.state card_b.now))
@@ -101,21 +99,11 @@ impl Keeper {
     ) -> Result<(), Failed>
         requires ready { UnitMayBeCalled self.old (M.state unit.old) }
         requires rows { HaveRows self.old.cabin.cards (M.state unit.old) said.present }
-        requires low { 1440 ≤ said.minute.minute }
-        requires later { self.old.journal.kept < said.minute.minute }
-        requires small { said.minute.minute ≤ LATEST_MINUTE }
-        requires odometer { said.minute.odometer.0 ≤ HIGHEST_ODOMETER }
-        requires room { length marks.old.items < marks.old.room }
-        requires apart { AreTwo said.present.driver said.present.codriver }
-        ensures keeper { self.new ≡ record self.old { journal = self.new.journal } }
-        ensures notes { OnOk result ((self.new.journal.kept ≡ said.minute.minute)
-            × (self.new.journal.odometer ≡ said.minute.odometer.0)) }
-        ensures marked { OnOk result (marks.new
-            ≡ with_lines (unit_mark said.minute.minute (M.state unit.new).clock ∷ []) marks.old) }
-        ensures same { OnErr result ((self.new.journal ≡ self.old.journal) × (marks.new ≡ marks.old)) }
+        requires may { MayAcknowledge said.minute said.present self.old marks.old }
+        ensures kept { Acknowledges said.minute result self.old self.new marks.old marks.new
+            (M.state unit.new).clock }
         ensures stands { UnitStands (is_err result) self.old self.new (M.state unit.old) (M.state unit.new) }
-        ensures goes { UnitGoes (is_err result) (M.state unit.old) (M.state unit.new) }
-        ensures most { (M.state unit.new).clock ≤ (M.state unit.old).clock + 18 }
+        ensures goes { UnitGoesWithin 18 (is_err result) (M.state unit.old) (M.state unit.new) }
         ensures booked { TellsPresent said.minute said.present → BooksOwed said.present said.minute (is_err result)
             (record { keeper = self.old; marks = marks.old; breaks = record { items = []; room = 0 } })
             (record { keeper = self.new; marks = marks.new; breaks = record { items = []; room = 0 } })
@@ -145,66 +133,52 @@ impl Keeper {
     /// that was torn out may be noted or not.
     pub(crate) fn keep_minute<M: Medium, C: Chip, D: Chip>(
         &mut self,
-        minute: &KeptMinute,
-        present: Present,
-        at: Moment,
+        said: MinuteSaid,
         unit: &mut M,
         card_a: &mut C,
         card_b: &mut D,
-        marks: &mut Lines<Mark>,
-        breaks: &mut Lines<Break>,
+        outcome: &mut Outcome,
     ) -> Result<(), Failed>
         requires ready { DevicesMayBeCalled self.old (M.state unit.old) (C.card card_a.old) (D.card card_b.old)
             (C.state card_a.old) (D.state card_b.old) }
-        requires may { MayKeep minute.now present at
-            (standing self.old marks.old breaks.old (M.state unit.old) (C.state card_a.old) (D.state card_b.old)
-            (C.card card_a.old) (D.card card_b.old)) }
-        ensures stands { StandsAfter at (is_err result)
-            (standing self.old marks.old breaks.old (M.state unit.old) (C.state card_a.old) (D.state card_b.old)
-            (C.card card_a.old) (D.card card_b.old))
-            (standing self.new marks.new breaks.new (M.state unit.new) (C.state card_a.new) (D.state card_b.new)
-            (C.card card_a.new) (D.card card_b.new)) }
-        ensures goes { KeepingGoes
-            (standing self.old marks.old breaks.old (M.state unit.old) (C.state card_a.old) (D.state card_b.old)
-            (C.card card_a.old) (D.card card_b.old))
-            (standing self.new marks.new breaks.new (M.state unit.new) (C.state card_a.new) (D.state card_b.new)
-            (C.card card_a.new) (D.card card_b.new)) }
-        ensures kept { Keeps minute.now present at (is_err result)
-            (standing self.old marks.old breaks.old (M.state unit.old) (C.state card_a.old) (D.state card_b.old)
-            (C.card card_a.old) (D.card card_b.old))
-            (standing self.new marks.new breaks.new (M.state unit.new) (C.state card_a.new) (D.state card_b.new)
-            (C.card card_a.new) (D.card card_b.new)) }
-        ensures most { WroteAtMost 26 minute_most (devices (M.state unit.old) (C.state card_a.old) (D.state card_b.old))
-            (devices (M.state unit.new) (C.state card_a.new) (D.state card_b.new)) }
-        ensures speeds { LeavesSpeeds (M.state unit.old) (M.state unit.new) }
-        ensures calls { CallsOnly (IsAbsent present) self.old.cabin.cards card_a.old card_a.new card_b.old card_b.new }
+        requires may { MayKeep said.minute said.present said.at
+            (standing self.old outcome.old.marks outcome.old.breaks (M.state unit.old) (C.state card_a.old)
+            (D.state card_b.old) (C.card card_a.old) (D.card card_b.old)) }
+        ensures stands { StandsAfter said.at (is_err result)
+            (standing self.old outcome.old.marks outcome.old.breaks (M.state unit.old) (C.state card_a.old)
+            (D.state card_b.old) (C.card card_a.old) (D.card card_b.old))
+            (standing self.new outcome.new.marks outcome.new.breaks (M.state unit.new) (C.state card_a.new)
+            (D.state card_b.new) (C.card card_a.new) (D.card card_b.new)) }
+        ensures only { outcome.new ≡ record outcome.old { marks = outcome.new.marks; breaks = outcome.new.breaks } }
+        ensures goes { KeepingGoesWithin 26 minute_most
+            (standing self.old outcome.old.marks outcome.old.breaks (M.state unit.old) (C.state card_a.old)
+            (D.state card_b.old) (C.card card_a.old) (D.card card_b.old))
+            (standing self.new outcome.new.marks outcome.new.breaks (M.state unit.new) (C.state card_a.new)
+            (D.state card_b.new) (C.card card_a.new) (D.card card_b.new)) }
+        ensures kept { Keeps said.minute said.present said.at (is_err result)
+            (standing self.old outcome.old.marks outcome.old.breaks (M.state unit.old) (C.state card_a.old)
+            (D.state card_b.old) (C.card card_a.old) (D.card card_b.old))
+            (standing self.new outcome.new.marks outcome.new.breaks (M.state unit.new) (C.state card_a.new)
+            (D.state card_b.new) (C.card card_a.new) (D.card card_b.new)) }
+        ensures calls { CallsOnly (IsAbsent said.present) self.old.cabin.cards card_a.old card_a.new card_b.old
+            card_b.new }
     {
-        let driver = kept_in(minute, Slot::Driver);
-        let codriver = kept_in(minute, Slot::CoDriver);
-        let said = MinuteSaid {
-            minute: *minute,
-            present,
+        let minute = said.minute;
+        let present = said.present;
+        let driver = kept_in(&minute, Slot::Driver);
+        let codriver = kept_in(&minute, Slot::CoDriver);
+        self.acknowledge(said, unit, card_a, card_b, &mut outcome.marks)?;
+        let first = SlotSaid {
+            present: present.driver,
+            kept: driver,
+            at: said.at,
         };
-        self.acknowledge(said, unit, card_a, card_b, marks)?;
-        self.bring(
-            present.driver,
-            &driver,
-            at,
-            unit,
-            card_a,
-            card_b,
-            marks,
-            breaks,
-        )?;
-        self.bring(
-            present.codriver,
-            &codriver,
-            at,
-            unit,
-            card_a,
-            card_b,
-            marks,
-            breaks,
-        )
+        self.bring(first, unit, card_a, card_b, outcome)?;
+        let second = SlotSaid {
+            present: present.codriver,
+            kept: codriver,
+            at: said.at,
+        };
+        self.bring(second, unit, card_a, card_b, outcome)
     }
 }

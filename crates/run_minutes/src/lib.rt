@@ -12,5 +12,5 @@ mod recording;
 mod tearing;
 
 pub use keeper::{Keeper, Moment};
-pub use minutes::odometer_after;
+pub use minutes::{MinutesDecided, odometer_after};
 pub use recorder::{Recorder, Stands};

@@ -4,17 +4,15 @@ ghost use Rattle.unit_model.specs.declared.layout.TheConstants.{HIGHEST_ODOMETER
 ghost use Rattle.run_minutes.specs.Keeping.{DevicesMayBeCalled};
 ghost use Rattle.run_minutes.specs.Minutes.{odometer_by, kept_of};
 ghost use Rattle.run_minutes.specs.Kept.{MayKeepAll, KeepsAll};
-ghost use Rattle.run_minutes.specs.Stand.{StandsAfter, KeepingGoes, AreBare, standing};
-ghost use Rattle.run_minutes.specs.Writes.{WroteAtMost, minute_most};
-ghost use Rattle.run_promise.specs.Between.{devices};
-ghost use Rattle.run_speeds.specs.Speeds.{LeavesSpeeds};
+ghost use Rattle.run_minutes.specs.Stand.{StandsAfter, AreBare, standing, KeepingGoesWithin};
+ghost use Rattle.run_minutes.specs.Writes.{minute_most};
 
 use crate::keeper::{Keeper, Moment};
+use crate::keeping::MinuteSaid;
 use activity_codec::Activity;
 use card_slots::Present;
-use log_model::{Break, Mark};
 use minute_rules::Minute;
-use run_outcome::Lines;
+use run_outcome::Outcome;
 use tach_media::{Chip, Failed, Medium};
 use tacho_types::Odometer;
 use trace_model::Card;
@@ -53,6 +51,13 @@ fn kept_of(minute: &Minute, present: Present, stored: u32) -> KeptMinute
     }
 }
 
+/// Minutes that are decided, in their order, and the moment of their keeping.
+#[derive(Clone, Copy)]
+pub struct MinutesDecided<D> {
+    pub decided: D,
+    pub at: Moment,
+}
+
 impl Keeper {
     /// Keeps decided minutes, in their order, up to the first that fails: as `Recorder::keep_all` does, for callers
     /// that have the devices apart.
@@ -62,44 +67,47 @@ impl Keeper {
     /// `Failed` where the unit failed; then the minutes before are kept, and of the others nothing but maybe the next.
     pub fn keep_all<M: Medium, C: Chip, D: Chip>(
         &mut self,
-        decided: &[Minute],
-        at: Moment,
+        minutes: MinutesDecided<&[Minute]>,
         unit: &mut M,
         card_a: &mut C,
         card_b: &mut D,
-        marks: &mut Lines<Mark>,
-        breaks: &mut Lines<Break>,
+        outcome: &mut Outcome,
     ) -> Result<(), Failed>
         requires ready { DevicesMayBeCalled self.old (M.state unit.old) (C.card card_a.old) (D.card card_b.old)
             (C.state card_a.old) (D.state card_b.old) }
-        requires may { MayKeepAll decided.now at
-            (standing self.old marks.old breaks.old (M.state unit.old) (C.state card_a.old) (D.state card_b.old)
-            (C.card card_a.old) (D.card card_b.old)) }
-        ensures stands { StandsAfter at (is_err result)
-            (standing self.old marks.old breaks.old (M.state unit.old) (C.state card_a.old) (D.state card_b.old)
-            (C.card card_a.old) (D.card card_b.old))
-            (standing self.new marks.new breaks.new (M.state unit.new) (C.state card_a.new) (D.state card_b.new)
-            (C.card card_a.new) (D.card card_b.new)) }
-        ensures goes { KeepingGoes
-            (standing self.old marks.old breaks.old (M.state unit.old) (C.state card_a.old) (D.state card_b.old)
-            (C.card card_a.old) (D.card card_b.old))
-            (standing self.new marks.new breaks.new (M.state unit.new) (C.state card_a.new) (D.state card_b.new)
-            (C.card card_a.new) (D.card card_b.new)) }
-        ensures kept { KeepsAll decided.now at (is_err result)
-            (standing self.old marks.old breaks.old (M.state unit.old) (C.state card_a.old) (D.state card_b.old)
-            (C.card card_a.old) (D.card card_b.old))
-            (standing self.new marks.new breaks.new (M.state unit.new) (C.state card_a.new) (D.state card_b.new)
-            (C.card card_a.new) (D.card card_b.new)) }
-        ensures most { WroteAtMost (26 * length decided.now) (minute_most * length decided.now)
-            (devices (M.state unit.old) (C.state card_a.old) (D.state card_b.old))
-            (devices (M.state unit.new) (C.state card_a.new) (D.state card_b.new)) }
-        ensures speeds { LeavesSpeeds (M.state unit.old) (M.state unit.new) }
+        requires may { MayKeepAll minutes.decided.now minutes.at
+            (standing self.old outcome.old.marks outcome.old.breaks (M.state unit.old) (C.state card_a.old)
+            (D.state card_b.old) (C.card card_a.old) (D.card card_b.old)) }
+        ensures stands { StandsAfter minutes.entry.at (is_err result)
+            (standing self.old outcome.old.marks outcome.old.breaks (M.state unit.old) (C.state card_a.old)
+            (D.state card_b.old) (C.card card_a.old) (D.card card_b.old))
+            (standing self.new outcome.new.marks outcome.new.breaks (M.state unit.new) (C.state card_a.new)
+            (D.state card_b.new) (C.card card_a.new) (D.card card_b.new)) }
+        ensures only { outcome.new ≡ record outcome.old { marks = outcome.new.marks; breaks = outcome.new.breaks } }
+        ensures goes { KeepingGoesWithin (26 * length minutes.entry.decided.now)
+            (minute_most * length minutes.entry.decided.now)
+            (standing self.old outcome.old.marks outcome.old.breaks (M.state unit.old) (C.state card_a.old)
+            (D.state card_b.old) (C.card card_a.old) (D.card card_b.old))
+            (standing self.new outcome.new.marks outcome.new.breaks (M.state unit.new) (C.state card_a.new)
+            (D.state card_b.new) (C.card card_a.new) (D.card card_b.new)) }
+        ensures kept { KeepsAll minutes.entry.decided.now minutes.entry.at (is_err result)
+            (standing self.old outcome.old.marks outcome.old.breaks (M.state unit.old) (C.state card_a.old)
+            (D.state card_b.old) (C.card card_a.old) (D.card card_b.old))
+            (standing self.new outcome.new.marks outcome.new.breaks (M.state unit.new) (C.state card_a.new)
+            (D.state card_b.new) (C.card card_a.new) (D.card card_b.new)) }
         ensures bare { AreBare self.old.cabin.cards card_a.old card_a.new card_b.old card_b.new }
     {
+        let decided = minutes.decided;
+        let at = minutes.at;
         for minute in decided {
             let present = self.cabin.present(minute.minute);
             let kept = kept_of(minute, present, self.odometer);
-            self.keep_minute(&kept, present, at, unit, card_a, card_b, marks, breaks)?;
+            let said = MinuteSaid {
+                minute: kept,
+                present,
+                at,
+            };
+            self.keep_minute(said, unit, card_a, card_b, outcome)?;
         }
         Ok(())
     }

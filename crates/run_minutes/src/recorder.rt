@@ -1,18 +1,15 @@
-//! A keeper with its lines and its devices in one value.
+//! A keeper with its outcome and its devices in one value.
 ghost use Rattle.run_minutes.specs.Stand.{Stand, standing};
 
 use crate::keeper::Keeper;
-use log_model::{Break, Mark};
-use run_outcome::Lines;
+use run_outcome::Outcome;
 use tach_media::{Chip, Medium};
 
 /// What a run keeps its minutes with, and on which devices.
 pub struct Recorder<U, C> {
     pub keeper: Keeper,
-    /// Which minutes a device has.
-    pub marks: Lines<Mark>,
-    /// Cuts of power, and cards that were torn out.
-    pub breaks: Lines<Break>,
+    /// What it tells: of minutes that a device has, and of cards that were torn out.
+    pub outcome: Outcome,
     pub unit: U,
     pub card_a: C,
     pub card_b: C,
@@ -24,6 +21,6 @@ pub trait Stands {
 }
 
 impl<U: Medium, C: Chip> Stands for Recorder<U, C> {
-    ghost stand = { λ r. standing r.keeper r.marks r.breaks (U.state r.unit) (C.state r.card_a) (C.state r.card_b)
-        (C.card r.card_a) (C.card r.card_b) };
+    ghost stand = { λ r. standing r.keeper r.outcome.marks r.outcome.breaks (U.state r.unit)
+        (C.state r.card_a) (C.state r.card_b) (C.card r.card_a) (C.card r.card_b) };
 }

@@ -1,12 +1,12 @@
 //! Minutes are kept by a recorder: its calls lend its lines and devices to those of its keeper.
-ghost use Rattle.std.specs.Prelude.{◌≡◌, ◌*◌, length, is_err};
+ghost use Rattle.std.specs.Prelude.{◌*◌, length, is_err, ◌≡◌};
 ghost use Rattle.run_minutes.specs.Kept.{IsAbsent, MayKeep, Keeps, MayKeepAll, KeepsAll};
-ghost use Rattle.run_speeds.specs.Speeds.{LeavesSpeeds};
-ghost use Rattle.run_minutes.specs.Stand.{IsReadyFor, StandsAfter, KeepingGoes, AreBare, CallsOnly};
-ghost use Rattle.run_minutes.specs.Writes.{WroteAtMost, minute_most};
-ghost use Rattle.run_promise.specs.Between.{devices};
+ghost use Rattle.run_minutes.specs.Stand.{IsReadyFor, StandsAfter, AreBare, CallsOnly, KeepingGoesWithin};
+ghost use Rattle.run_minutes.specs.Writes.{minute_most};
 
 use crate::keeper::Moment;
+use crate::keeping::MinuteSaid;
+use crate::minutes::MinutesDecided;
 use crate::recorder::{Recorder, Stands};
 use card_slots::Present;
 use minute_rules::Minute;
@@ -30,25 +30,26 @@ impl<U: Medium, C: Chip> Recorder<U, C> {
         requires may { MayKeep minute.now present at (⟦<Self as Stands>⟧.stand self.old) }
         ensures stands { StandsAfter at (is_err result)
             (⟦<Self as Stands>⟧.stand self.old) (⟦<Self as Stands>⟧.stand self.new) }
-        ensures goes { KeepingGoes (⟦<Self as Stands>⟧.stand self.old) (⟦<Self as Stands>⟧.stand self.new) }
+        ensures only { self.new.outcome
+            ≡ record self.old.outcome { marks = self.new.outcome.marks; breaks = self.new.outcome.breaks } }
+        ensures goes { KeepingGoesWithin 26 minute_most (⟦<Self as Stands>⟧.stand self.old)
+            (⟦<Self as Stands>⟧.stand self.new) }
         ensures kept { Keeps minute.now present at (is_err result)
             (⟦<Self as Stands>⟧.stand self.old) (⟦<Self as Stands>⟧.stand self.new) }
-        ensures most { WroteAtMost 26 minute_most
-            (devices (U.state self.old.unit) (C.state self.old.card_a) (C.state self.old.card_b))
-            (devices (U.state self.new.unit) (C.state self.new.card_a) (C.state self.new.card_b)) }
-        ensures speeds { LeavesSpeeds (U.state self.old.unit) (U.state self.new.unit) }
         ensures calls { CallsOnly (IsAbsent present) self.old.keeper.cabin.cards
             self.old.card_a self.new.card_a self.old.card_b self.new.card_b }
     {
-        self.keeper.keep_minute(
-            minute,
+        let said = MinuteSaid {
+            minute: *minute,
             present,
             at,
+        };
+        self.keeper.keep_minute(
+            said,
             &mut self.unit,
             &mut self.card_a,
             &mut self.card_b,
-            &mut self.marks,
-            &mut self.breaks,
+            &mut self.outcome,
         )
     }
 
@@ -62,24 +63,21 @@ impl<U: Medium, C: Chip> Recorder<U, C> {
         requires may { MayKeepAll decided.now at (⟦<Self as Stands>⟧.stand self.old) }
         ensures stands { StandsAfter at (is_err result)
             (⟦<Self as Stands>⟧.stand self.old) (⟦<Self as Stands>⟧.stand self.new) }
-        ensures goes { KeepingGoes (⟦<Self as Stands>⟧.stand self.old) (⟦<Self as Stands>⟧.stand self.new) }
+        ensures only { self.new.outcome
+            ≡ record self.old.outcome { marks = self.new.outcome.marks; breaks = self.new.outcome.breaks } }
+        ensures goes { KeepingGoesWithin (26 * length decided.now) (minute_most * length decided.now)
+            (⟦<Self as Stands>⟧.stand self.old) (⟦<Self as Stands>⟧.stand self.new) }
         ensures kept { KeepsAll decided.now at (is_err result)
             (⟦<Self as Stands>⟧.stand self.old) (⟦<Self as Stands>⟧.stand self.new) }
-        ensures most { WroteAtMost (26 * length decided.now) (minute_most * length decided.now)
-            (devices (U.state self.old.unit) (C.state self.old.card_a) (C.state self.old.card_b))
-            (devices (U.state self.new.unit) (C.state self.new.card_a) (C.state self.new.card_b)) }
-        ensures speeds { LeavesSpeeds (U.state self.old.unit) (U.state self.new.unit) }
         ensures bare { AreBare self.old.keeper.cabin.cards
             self.old.card_a self.new.card_a self.old.card_b self.new.card_b }
     {
         self.keeper.keep_all(
-            decided,
-            at,
+            MinutesDecided { decided, at },
             &mut self.unit,
             &mut self.card_a,
             &mut self.card_b,
-            &mut self.marks,
-            &mut self.breaks,
+            &mut self.outcome,
         )
     }
 }

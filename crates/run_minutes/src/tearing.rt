@@ -1,9 +1,9 @@
 //! A card is torn out, since a call on it failed.
-ghost use Rattle.std.specs.Prelude.{◌≢◌, ℕ, ◌+◌, ◌/◌, ◌<◌, ◌≤◌, Option, length};
+ghost use Rattle.std.specs.Prelude.{ℕ, ◌+◌, ◌≤◌, Option};
 ghost use Rattle.trace_model.specs.declared.Card.{Card};
 ghost use Rattle.run_crew.specs.Cabin.{CabinIsSound};
 ghost use Rattle.run_minutes.specs.Keeping.{UnitMayBeCalled};
-ghost use Rattle.run_minutes.specs.Calls.{IsTorn, NotesTear, UnitStandsTorn};
+ghost use Rattle.run_minutes.specs.Calls.{IsTorn, NotesTear, UnitStandsTorn, MayTear};
 
 use crate::keeper::{Keeper, Moment};
 use activity_codec::Slot;
@@ -30,9 +30,7 @@ impl Keeper {
         breaks: &mut Lines<Break>,
     ) -> Result<(), Failed>
         requires ready { UnitMayBeCalled self.old (M.state unit.old) }
-        requires minute { self.old.cabin.slots.minute ≤ at.second / 60 }
-        requires second { at.second ≢ 0 }
-        requires room { length breaks.old.items < breaks.old.room }
+        requires may { MayTear at self.old breaks.old }
         ensures torn { IsTorn card slot at self.old self.new breaks.old breaks.new }
         ensures behind { UnitStandsTorn result self.old self.new (M.state unit.old) (M.state unit.new) }
         ensures stands { (from : ℕ) (leaving : Option Card) → CabinIsSound from leaving self.old.cabin

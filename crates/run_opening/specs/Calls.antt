@@ -1,5 +1,5 @@
 -- What an opening finds of the devices of a run, and how it leaves them, each in a record (profile).
-use Rattle.std.specs.Prelude.{ℕ, ◌/◌, ◌<◌, IfSome, false}
+use Rattle.std.specs.Prelude.{ℕ, ◌/◌, ◌<◌, IfSome, false, ◌≡◌, ◌≤◌}
 use Rattle.card_layout.specs.declared.command.CardState.{CardState}
 use Rattle.safety_model.specs.Safe.{Devices}
 use Rattle.tach_media.specs.Medium.{HasCause, State, revivable}
@@ -10,6 +10,8 @@ use Rattle.run_opening.specs.Opening.{IsAsItWas}
 use Rattle.run_opening.specs.Units.{IsLoaded}
 use Rattle.run_opening.specs.declared.on_unit.OpenedUnit.{OpenedUnit}
 use Rattle.run_opening.specs.declared.opening.Opened.{Opened}
+use Rattle.unit_model.specs.declared.layout.TheConstants.{IMAGE_SIZE}
+use Rattle.card_layout.specs.declared.files.TheConstants.{LARGEST_IMAGE}
 
 -- THE UNIT IS FOUND: it was loaded, what it was told of the vehicle is known, and its last-kept minute is earlier than
 -- that of the first second
@@ -37,3 +39,9 @@ pub record DevicesWork (old new : Devices) : Type 0 where
   pub unit : HasCause (revivable old.unit) new.unit false
   pub card_a : HasCause (revivable old.card_a) new.card_a false
   pub card_b : HasCause (revivable old.card_b) new.card_b false
+
+-- THE DEVICES HAVE THEIR SIZES: the unit that of its image, and each card that of the largest one at least
+pub record AreSized (d : Devices) : Type 0 where
+  pub unit : d.unit.size ≡ IMAGE_SIZE
+  pub card_a : LARGEST_IMAGE ≤ d.card_a.size
+  pub card_b : LARGEST_IMAGE ≤ d.card_b.size

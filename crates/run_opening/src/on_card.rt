@@ -1,10 +1,11 @@
 //! A card at an opening.
 ghost use Rattle.std.specs.Prelude.{◌≡◌, ◌≤◌, Some, None, Ok, IfOk, OnOk, IfErr, IfSome, is_err};
 ghost use Rattle.card_layout.specs.Application.{application_in};
-ghost use Rattle.tach_media.specs.Medium.{LeavesOnly, Unchanged, Reads, HasCause, revivable};
+ghost use Rattle.tach_media.specs.Medium.{Reads};
 ghost use Rattle.card_commands.specs.Ports.{IsPort, IsJudged, application_file};
 ghost use Rattle.run_opening.specs.Opening.{IsAsItWas};
 ghost use Rattle.run_opening.specs.Cards.{IsFoundOn, AreTwo, IsOneNumber, IsMediumFault};
+ghost use Rattle.device_calls.specs.Calls.{WasRevived};
 
 use crate::fault::RunFault;
 use card_commands::{PortFault, read_sizes};
@@ -51,9 +52,7 @@ fn known_by<C: Chip>(card: &mut C, app: Application) -> Result<Known, Failed>
 fn open_card<C: Chip>(card: &mut C) -> Result<Known, Failed>
     requires size { LARGEST_IMAGE ≤ (C.state card.old).size }
     ensures found { IfOk result (λ known. IsFoundOn known (C.card card.new) (C.state card.new)) }
-    ensures leaves { LeavesOnly (C.state card.old) (C.state card.new) Unchanged }
-    ensures clock { (C.state card.new).clock ≡ (C.state card.old).clock }
-    ensures cause { HasCause (revivable (C.state card.old)) (C.state card.new) (is_err result) }
+    ensures revived { WasRevived (is_err result) (C.state card.old) (C.state card.new) }
 {
     card.revive()?;
     match read_sizes(card) {
@@ -73,9 +72,7 @@ pub fn judge_card<C: Chip>(card: &mut C, device: Device) -> Result<Known, RunFau
     ensures found { IfOk result (λ known. IsFoundOn known (C.card card.new) (C.state card.new)) }
     ensures refused { IfErr result (IsMediumFault device) }
     ensures same { IsAsItWas (C.state card.old) (C.state card.new) }
-    ensures leaves { LeavesOnly (C.state card.old) (C.state card.new) Unchanged }
-    ensures clock { (C.state card.new).clock ≡ (C.state card.old).clock }
-    ensures cause { HasCause (revivable (C.state card.old)) (C.state card.new) (is_err result) }
+    ensures revived { WasRevived (is_err result) (C.state card.old) (C.state card.new) }
 {
     match open_card(card) {
         Ok(known) => Ok(known),

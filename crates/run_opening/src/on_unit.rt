@@ -1,5 +1,5 @@
 //! The unit at an opening, and at a power-on.
-ghost use Rattle.std.specs.Prelude.{◌≡◌, ◌<◌, ◌≤◌, ◌/◌, IfOk, OnOk, IfErr, IfSome, false};
+ghost use Rattle.std.specs.Prelude.{◌≡◌, ◌<◌, ◌/◌, IfOk, OnOk, IfErr, IfSome, false};
 ghost use Rattle.tach_media.specs.Medium.{LeavesOnly, Unchanged, HasCause, revivable};
 ghost use Rattle.unit_model.specs.declared.layout.TheConstants.{IMAGE_SIZE};
 ghost use Rattle.unit_model.specs.Image.{IsUnit};
@@ -9,6 +9,7 @@ ghost use Rattle.run_opening.specs.Opening.{IsAsItWas};
 ghost use Rattle.run_opening.specs.Units.{IsLoaded, IsNotLoaded, HasBrokenDown, IsClockBack, IsUnitRefused};
 ghost use Rattle.run_opening.specs.Units.{opening_fault};
 ghost use Rattle.run_opening.specs.Calls.{UnitIsFound};
+ghost use Rattle.device_calls.specs.Calls.{WasRevived};
 
 use crate::fault::RunFault;
 use run_model::Device;
@@ -36,9 +37,7 @@ fn load<M: Medium>(unit: &mut M) -> Result<Journal, UnitFault>
     ensures bad { IfErr result (IsNotLoaded (M.state unit.old) (M.state unit.new)) }
     ensures broke { IfErr result (HasBrokenDown (M.state unit.old) (M.state unit.new)) }
     ensures unit { IsUnit (M.state unit.old) → IsUnit (M.state unit.new) }
-    ensures leaves { LeavesOnly (M.state unit.old) (M.state unit.new) Unchanged }
-    ensures clock { (M.state unit.new).clock ≡ (M.state unit.old).clock }
-    ensures cause { HasCause (revivable (M.state unit.old)) (M.state unit.new) (has_failed result) }
+    ensures revived { WasRevived (has_failed result) (M.state unit.old) (M.state unit.new) }
 {
     unit.revive()?;
     let journal = Journal::load(unit)?;
@@ -54,9 +53,7 @@ pub fn open_unit<M: Medium>(unit: &mut M) -> Result<OpenedUnit, UnitFault>
     ensures bad { IfErr result (IsNotLoaded (M.state unit.old) (M.state unit.new)) }
     ensures broke { IfErr result (HasBrokenDown (M.state unit.old) (M.state unit.new)) }
     ensures unit { IsUnit (M.state unit.old) → IsUnit (M.state unit.new) }
-    ensures leaves { LeavesOnly (M.state unit.old) (M.state unit.new) Unchanged }
-    ensures clock { (M.state unit.new).clock ≡ (M.state unit.old).clock }
-    ensures cause { HasCause (revivable (M.state unit.old)) (M.state unit.new) (has_failed result) }
+    ensures revived { WasRevived (has_failed result) (M.state unit.old) (M.state unit.new) }
 {
     let journal = load(unit)?;
     let memory = UnitMemory::read(unit)?;

@@ -1,16 +1,14 @@
 //! The opening of a run.
-ghost use Rattle.std.specs.Prelude.{◌≡◌, ◌≤◌, IfOk, OnOk, IfErr};
-ghost use Rattle.unit_model.specs.declared.layout.TheConstants.{IMAGE_SIZE};
+ghost use Rattle.std.specs.Prelude.{IfOk, OnOk, IfErr};
 ghost use Rattle.safety_model.specs.Recording.{Recording};
 ghost use Rattle.run_promise.specs.Between.{devices};
 ghost use Rattle.run_opening.specs.Opening.{IsRefused};
 ghost use Rattle.run_opening.specs.Begun.{Begin, IsBegun};
-ghost use Rattle.run_opening.specs.Calls.{DevicesAreAsTheyWere, DevicesAreFound, DevicesWork};
+ghost use Rattle.run_opening.specs.Calls.{DevicesAreAsTheyWere, DevicesAreFound, DevicesWork, AreSized};
 
 use crate::fault::RunFault;
 use crate::on_card::{judge_card, judge_numbers};
 use crate::on_unit::{OpenedUnit, judge_unit};
-use card_layout::LARGEST_IMAGE;
 use run_crew::Known;
 use run_model::Device;
 use tach_media::{Chip, Medium};
@@ -31,9 +29,7 @@ fn judge_each<M: Medium, C: Chip, D: Chip>(
     card_b: &mut D,
     start: u32,
 ) -> Result<Opened, RunFault>
-    requires unit { (M.state unit.old).size ≡ IMAGE_SIZE }
-    requires card_a { LARGEST_IMAGE ≤ (C.state card_a.old).size }
-    requires card_b { LARGEST_IMAGE ≤ (D.state card_b.old).size }
+    requires sized { AreSized (devices (M.state unit.old) (C.state card_a.old) (D.state card_b.old)) }
     ensures found { IfOk result (DevicesAreFound start (M.state unit.new) (C.state card_a.new) (D.state card_b.new)
         (C.card card_a.new) (D.card card_b.new)) }
     ensures refused { IfErr result (IsRefused start
@@ -69,9 +65,7 @@ pub fn judge<M: Medium, C: Chip, D: Chip>(
     card_b: &mut D,
     start: u32,
 ) -> Result<Opened, RunFault>
-    requires unit { (M.state unit.old).size ≡ IMAGE_SIZE }
-    requires card_a { LARGEST_IMAGE ≤ (C.state card_a.old).size }
-    requires card_b { LARGEST_IMAGE ≤ (D.state card_b.old).size }
+    requires sized { AreSized (devices (M.state unit.old) (C.state card_a.old) (D.state card_b.old)) }
     ensures found { IfOk result (DevicesAreFound start (M.state unit.new) (C.state card_a.new) (D.state card_b.new)
         (C.card card_a.new) (D.card card_b.new)) }
     ensures refused { IfErr result (IsRefused start

@@ -1,4 +1,5 @@
-use Rattle.std.proofs.Common.{rules, ◌≡◌, ◌∙◌, ℕ, ◌<◌, Some, List, ap, sym, subst}
+use Rattle.std.proofs.lemmas.Grind.{common_steps}
+use Rattle.std.proofs.Common.{rules, ◌≡◌, ◌∙◌, ℕ, ◌<◌, Some, List, ap, sym, subst, arith}
 use Rattle.card_layout.specs.declared.files.Application.{Application}
 use Rattle.card_layout.specs.Files.{place_of, size_of}
 use Rattle.std.specs.Prelude.{OnOk, IfSome, Result}
@@ -22,28 +23,36 @@ pub note_place-requires-clause-writable : goal.note_place-requires-clause-writab
 note_place-requires-clause-writable g c =
     subst (λ (a : Application). LiesInside (writable_of a) (place_of c.args.app (file 0x0506)) (size_of c.args.app (file 0x0506))) (sym c.resume-port.ensures.sizes) (places_may c.args.app)
 
-pub returns-clause-moments : goal.returns-clause-moments
-returns-clause-moments g c =
-    let name = c.resume-port.result.chip.ghost_name in
-    let after = c.note_place.new.medium.chip.ghost_name in
-    let X = g.C.Chip.state c.resume-port.result.chip.now in
-    let Y = g.C.Chip.state c.note_place.new.medium.chip.now in
-    let was : g.C.Chip.state c.resume-port.result.chip.now ≡ g.C.Chip.state c.args.card.now = search rules in
-    let same = port_same c.resume-port.result.application c.note_place.new.medium.application name after X Y c.note_place.ensures.moments in
-    let run = port_leaves c.resume-port.result.application c.note_place.new.medium.application name after X Y same c.note_place.ensures.moments in
-    let moved = subst (λ (s : State). LeavesOnly s (g.C.Chip.state c.note_place.new.medium.chip.now) (IsNotingPlace c.args.app c.args.entry.now)) was run in
-    search (rules, moved)
+pub returns-clause-note : goal.returns-clause-note
+returns-clause-note g c = record {
+  noted = first_of (search rules, grind (arith, common_steps));
+  bad = first_of (search rules, grind (arith, common_steps));
+  moments =
+      let name = c.resume-port.result.chip.ghost_name in
+      let after = c.note_place.new.medium.chip.ghost_name in
+      let X = g.C.Chip.state c.resume-port.result.chip.now in
+      let Y = g.C.Chip.state c.note_place.new.medium.chip.now in
+      let was : g.C.Chip.state c.resume-port.result.chip.now ≡ g.C.Chip.state c.args.card.now = search rules in
+      let same = port_same c.resume-port.result.application c.note_place.new.medium.application name after X Y c.note_place.ensures.moments in
+      let run = port_leaves c.resume-port.result.application c.note_place.new.medium.application name after X Y same c.note_place.ensures.moments in
+      let moved = subst (λ (s : State). LeavesOnly s (g.C.Chip.state c.note_place.new.medium.chip.now) (IsNotingPlace c.args.app c.args.entry.now)) was run in
+      search (rules, moved);
+}
 
 settled-on : {E : Type 0} (r : Result (Unit {0}) E) (s t : State) → s ≡ t → OnOk r (s.clock < last_count → IsSettled s) → OnOk r (t.clock < last_count → IsSettled t)
 settled-on r s t same settled = subst (λ (k : State). OnOk r (k.clock < last_count → IsSettled k)) same settled
 
-pub returns-clause-settled : goal.returns-clause-settled
-returns-clause-settled g c = λ x told inside.
-    let was : g.C.Chip.state c.resume-port.result.chip.now ≡ g.C.Chip.state c.args.card.now = search rules in
-    let here : (g.C.Chip.state c.resume-port.result.chip.now).image ≡ Some x = ap (λ (s : State). s.image) was ∙ told in
-    let all : OnOk c.note_place.result (IfSome (g.C.Chip.state c.resume-port.result.chip.now).image (λ x. PointsInside (place_ring c.args.app) x → (g.C.Chip.state c.note_place.new.medium.chip.now).clock < last_count → IsSettled (g.C.Chip.state c.note_place.new.medium.chip.now))) =
-    c.note_place.ensures.settled in
-    let settled : OnOk c.note_place.result ((g.C.Chip.state c.note_place.new.medium.chip.now).clock < last_count → IsSettled (g.C.Chip.state c.note_place.new.medium.chip.now)) =
-    on_ok c.note_place.result (λ fine. at_image (λ (x : List ℕ). PointsInside (place_ring c.args.app) x → (g.C.Chip.state c.note_place.new.medium.chip.now).clock < last_count → IsSettled (g.C.Chip.state c.note_place.new.medium.chip.now)) here
-    (ok_gives c.note_place.result all fine) inside) in
-    settled-on c.note_place.result (g.C.Chip.state c.note_place.new.medium.chip.now) (g.C.Chip.state _) (search rules) settled
+pub returns-clause-card : goal.returns-clause-card
+returns-clause-card g c = record {
+  settled = λ x told inside.
+      let was : g.C.Chip.state c.resume-port.result.chip.now ≡ g.C.Chip.state c.args.card.now = search rules in
+      let here : (g.C.Chip.state c.resume-port.result.chip.now).image ≡ Some x = ap (λ (s : State). s.image) was ∙ told in
+      let all : OnOk c.note_place.result (IfSome (g.C.Chip.state c.resume-port.result.chip.now).image (λ x. PointsInside (place_ring c.args.app) x → (g.C.Chip.state c.note_place.new.medium.chip.now).clock < last_count → IsSettled (g.C.Chip.state c.note_place.new.medium.chip.now))) =
+      c.note_place.ensures.settled in
+      let settled : OnOk c.note_place.result ((g.C.Chip.state c.note_place.new.medium.chip.now).clock < last_count → IsSettled (g.C.Chip.state c.note_place.new.medium.chip.now)) =
+      on_ok c.note_place.result (λ fine. at_image (λ (x : List ℕ). PointsInside (place_ring c.args.app) x → (g.C.Chip.state c.note_place.new.medium.chip.now).clock < last_count → IsSettled (g.C.Chip.state c.note_place.new.medium.chip.now)) here
+      (ok_gives c.note_place.result all fine) inside) in
+      settled-on c.note_place.result (g.C.Chip.state c.note_place.new.medium.chip.now) (g.C.Chip.state _) (search rules) settled;
+  port = first_of (search rules, grind (arith, common_steps));
+  cause = first_of (search rules, grind (arith, common_steps));
+}

@@ -43,12 +43,12 @@ returns-clause-leaves g c = record {
   keeps = c.keep.ensures.moments.keeps;
 }
 
-pub returns-clause-goes : goal.returns-clause-goes
-returns-clause-goes g c = record {
-  clock = c.keep.ensures.moments.later;
-  tells = c.keep.ensures.moments.tells;
-  cause = c.keep.ensures.cause;
+pub returns-clause-answers : goal.returns-clause-answers
+returns-clause-answers g c = record {
+  goes = record {
+    clock = c.keep.ensures.moments.later;
+    tells = c.keep.ensures.moments.tells;
+    cause = c.keep.ensures.cause;
+  };
+  most = most-begun _ _ _ _ c.keep.ensures.puts.clock;
 }
-
-pub returns-clause-most : goal.returns-clause-most
-returns-clause-most g c = most-begun _ _ _ _ c.keep.ensures.puts.clock

@@ -14,8 +14,11 @@ use Rattle.device_calls.proofs.Ported.{may_insert_port, port_same, port_leaves, 
 use Rattle.device_calls.proofs.entering.enter.Goals as goal
 
 pub enter_by-requires-clause-card : goal.enter_by-requires-clause-card
-enter_by-requires-clause-card g c =
-    subst (λ (a : Application). MayInsert a (port_state c.resume-port.result.application (lent c.resume-port.result.chip.ghost_name (g.C.Chip.state c.resume-port.result.chip.now)))) c.resume-port.ensures.sizes (may_insert_port c.resume-port.result.sound)
+enter_by-requires-clause-card g c = record {
+  sizes = first_of (search rules, grind (arith, common_steps));
+  card = subst (λ (a : Application). MayInsert a (port_state c.resume-port.result.application (lent c.resume-port.result.chip.ghost_name (g.C.Chip.state c.resume-port.result.chip.now)))) c.resume-port.ensures.sizes (may_insert_port c.resume-port.result.sound);
+  told = first_of (search rules, grind (arith, common_steps));
+}
 
 pub returns-clause-enters : goal.returns-clause-enters
 returns-clause-enters g c =
@@ -24,17 +27,14 @@ returns-clause-enters g c =
     let X = g.C.Chip.state c.resume-port.result.chip.now in
     let Y = g.C.Chip.state c.enter_by.new.card.chip.now in
     let was : g.C.Chip.state c.resume-port.result.chip.now ≡ g.C.Chip.state c.args.card.now = search rules in
-    let same = port_same c.resume-port.result.application c.enter_by.new.card.application name after X Y c.enter_by.ensures.leaves in
+    let same = port_same c.resume-port.result.application c.enter_by.new.card.application name after X Y c.enter_by.ensures.put.leaves in
     let enters = port_enters c.resume-port.result.application c.enter_by.new.card.application name after X Y c.args.insertion.app c.args.insertion.registration c.args.insertion.odometer.0 c.args.insertion.time.0 (g.M.Medium.state c.args.unit.now) (g.M.Medium.state c.enter_by.new.unit) same
     c.enter_by.result c.enter_by.ensures.enters in
     let moved = subst (λ (k : State). IsEntering c.args.insertion.app c.args.insertion.registration c.args.insertion.odometer.0 c.args.insertion.time.0 (g.M.Medium.state c.args.unit.now) (g.M.Medium.state c.enter_by.new.unit) k (g.C.Chip.state c.enter_by.new.card.chip.now) c.enter_by.result) was enters in
     search (rules, moved)
 
 pub returns-clause-row : goal.returns-clause-row
-returns-clause-row g c = record {
-  own = c.enter_by.ensures.row;
-  low = c.enter_by.ensures.low;
-}
+returns-clause-row g c = c.enter_by.ensures.row
 
 pub returns-clause-rules : goal.returns-clause-rules
 returns-clause-rules g c = record {
@@ -64,8 +64,8 @@ returns-clause-card g c = record {
       let X = g.C.Chip.state c.resume-port.result.chip.now in
       let Y = g.C.Chip.state c.enter_by.new.card.chip.now in
       let was : g.C.Chip.state c.resume-port.result.chip.now ≡ g.C.Chip.state c.args.card.now = search rules in
-      let same = port_same c.resume-port.result.application c.enter_by.new.card.application name after X Y c.enter_by.ensures.leaves in
-      let run = port_leaves c.resume-port.result.application c.enter_by.new.card.application name after X Y same c.enter_by.ensures.leaves in
+      let same = port_same c.resume-port.result.application c.enter_by.new.card.application name after X Y c.enter_by.ensures.put.leaves in
+      let run = port_leaves c.resume-port.result.application c.enter_by.new.card.application name after X Y same c.enter_by.ensures.put.leaves in
       let leaves = subst (λ (s : State). LeavesOnly s (g.C.Chip.state c.enter_by.new.card.chip.now) Anything) was run in
       search (rules, leaves);
   in_time =
@@ -74,8 +74,8 @@ returns-clause-card g c = record {
       let X = g.C.Chip.state c.resume-port.result.chip.now in
       let Y = g.C.Chip.state c.enter_by.new.card.chip.now in
       let was : g.C.Chip.state c.resume-port.result.chip.now ≡ g.C.Chip.state c.args.card.now = search rules in
-      let same = port_same c.resume-port.result.application c.enter_by.new.card.application name after X Y c.enter_by.ensures.leaves in
-      let in_time = port_in_time c.resume-port.result.application c.enter_by.new.card.application name after X Y c.args.insertion.app c.args.insertion.registration c.args.insertion.odometer.0 c.args.insertion.time.0 (g.M.Medium.state c.args.unit.now) (g.M.Medium.state c.enter_by.new.unit) same c.enter_by.ensures.in_time in
+      let same = port_same c.resume-port.result.application c.enter_by.new.card.application name after X Y c.enter_by.ensures.put.leaves in
+      let in_time = port_in_time c.resume-port.result.application c.enter_by.new.card.application name after X Y c.args.insertion.app c.args.insertion.registration c.args.insertion.odometer.0 c.args.insertion.time.0 (g.M.Medium.state c.args.unit.now) (g.M.Medium.state c.enter_by.new.unit) same c.enter_by.ensures.put.in_time in
       let moved = subst (λ (s : State). IsInTime c.args.insertion.app c.args.insertion.time.0 s (g.C.Chip.state c.enter_by.new.card.chip.now)) was in_time in
       search (rules, moved);
   port = first_of (search rules, grind (arith, common_steps));

@@ -1,5 +1,6 @@
+use Rattle.std.proofs.lemmas.Grind.{common_steps}
 use Rattle.std.specs.Prelude.{Err}
-use Rattle.std.proofs.Common.{sym, subst, refl}
+use Rattle.std.proofs.Common.{sym, subst, refl, rules, arith}
 use Rattle.card_session.specs.declared.insert.Inserted.{Inserted}
 use Rattle.device_calls.specs.declared.entering.NotEntered.{NotEntered}
 use Rattle.device_calls.specs.Entering.{IsInsertedWith}
@@ -19,14 +20,16 @@ returns-in-Err-clause-inserted g c =
     (insert_refused c.args.insertion.app c.args.insertion.registration c.args.insertion.odometer.0 c.args.insertion.time.0 c.args.owed.items c.args.look (g.C.Medium.state c.args.card.now) (g.C.Medium.state c.insert.new.port) Inserted c.in-Err.fault
     c.in-Err.ensures.bad c.in-Err.ensures.late c.in-Err.ensures.refused c.in-Err.ensures.refused_late c.in-Err.ensures.moments c.in-Err.ensures.cause)
 
-pub returns-in-Ok-clause-leaves : goal.returns-in-Ok-clause-leaves
-returns-in-Ok-clause-leaves g c = weaken {R = Anything} c.in-Ok.ensures.moments (λ x y told k. tt)
+pub returns-in-Ok-clause-put : goal.returns-in-Ok-clause-put
+returns-in-Ok-clause-put g c = record {
+  leaves = weaken {R = Anything} c.in-Ok.ensures.moments (λ x y told k. tt);
+  in_time = c.in-Ok.ensures.in_time;
+  most = first_of (search rules, grind (arith, common_steps));
+}
 
-pub returns-in-Err-clause-leaves : goal.returns-in-Err-clause-leaves
-returns-in-Err-clause-leaves g c = weaken {R = Anything} c.in-Err.ensures.moments (λ x y told k. tt)
-
-pub returns-in-Ok-clause-in_time : goal.returns-in-Ok-clause-in_time
-returns-in-Ok-clause-in_time g c = c.in-Ok.ensures.in_time
-
-pub returns-in-Err-clause-in_time : goal.returns-in-Err-clause-in_time
-returns-in-Err-clause-in_time g c = c.in-Err.ensures.in_time
+pub returns-in-Err-clause-put : goal.returns-in-Err-clause-put
+returns-in-Err-clause-put g c = record {
+  leaves = weaken {R = Anything} c.in-Err.ensures.moments (λ x y told k. tt);
+  in_time = c.in-Err.ensures.in_time;
+  most = first_of (search rules, grind (arith, common_steps));
+}

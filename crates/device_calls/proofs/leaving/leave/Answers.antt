@@ -1,3 +1,4 @@
+use Rattle.std.proofs.lemmas.Grind.{common_steps}
 use Rattle.std.proofs.Common.{rules, ◌≡◌, ◌≤◌, IfSome, sym, ◌∙◌, subst, arith}
 use Rattle.activity_codec.specs.Activity.{activity_of}
 use Rattle.card_layout.specs.Application.{IsApplication}
@@ -18,11 +19,21 @@ close-requires g c = record {
       (may_close_port c.resume-port.result.sound);
 }
 
-pub returns-clause-moments : goal.returns-clause-moments
-returns-clause-moments g c = search rules
+pub returns-clause-closes : goal.returns-clause-closes
+returns-clause-closes g c = record {
+  closed = first_of (search rules, grind (arith, common_steps));
+  moments = search rules;
+}
 
 pub returns-clause-rule : goal.returns-clause-rule
 returns-clause-rule g c = λ r s due b marks time newest tells h none known rule.
     take-out r c.args.which s due b marks c.args.session (activity_of c.args.selected) time newest (subst IsApplication (sym c.requires.sizes) c.requires.port.good) (g.met.M.Medium.coherent c.args.unit.now) tells h none (g.met.C.Chip.coherent c.args.card.now)
     (subst (λ (a : Application). image_size_of a ≤ (g.C.Chip.state c.args.card.now).size) (sym c.requires.sizes) (omega (arith, largest_image c.args.app c.requires.port.good, c.requires.port.size)))
-    (subst (λ (a : Application). IfSome (g.C.Chip.state c.args.card.now).image (λ x. (own_sizes x ≡ a) × IsSession c.args.session x)) (sym c.requires.sizes) known) (returns-clause-moments g c) rule
+    (subst (λ (a : Application). IfSome (g.C.Chip.state c.args.card.now).image (λ x. (own_sizes x ≡ a) × IsSession c.args.session x)) (sym c.requires.sizes) known) (returns-clause-closes g c).moments rule
+
+pub returns-clause-card : goal.returns-clause-card
+returns-clause-card g c = record {
+  port = first_of (search rules, grind (arith, common_steps));
+  settled = first_of (search rules, grind (arith, common_steps));
+  cause = first_of (search rules, grind (arith, common_steps));
+}

@@ -33,12 +33,12 @@ returns-clause-leaves g c = record {
   moments = c.mend.ensures.moments;
 }
 
-pub returns-clause-goes : goal.returns-clause-goes
-returns-clause-goes g c = record {
-  clock = c.mend.ensures.moments.later;
-  tells = c.mend.ensures.moments.tells;
-  cause = c.mend.ensures.cause;
+pub returns-clause-answers : goal.returns-clause-answers
+returns-clause-answers g c = record {
+  goes = record {
+    clock = c.mend.ensures.moments.later;
+    tells = c.mend.ensures.moments.tells;
+    cause = c.mend.ensures.cause;
+  };
+  most = c.mend.ensures.most;
 }
-
-pub returns-clause-most : goal.returns-clause-most
-returns-clause-most g c = c.mend.ensures.most

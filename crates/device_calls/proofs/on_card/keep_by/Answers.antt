@@ -1,32 +1,32 @@
+use Rattle.std.proofs.lemmas.Grind.{common_steps}
+use Rattle.std.proofs.Common.{rules, arith}
 use Rattle.tach_media.proofs.Runs.{ok_gives, weaken}
 use Rattle.device_calls.specs.OnCard.{Anything, hands_for}
 use Rattle.device_calls.proofs.EntryOwed.{worked}
 use Rattle.device_calls.proofs.OnCard.{hands-are, shown, kept-torn, ends-on_card, all-done}
 use Rattle.device_calls.proofs.on_card.keep_by.Goals as goal
 
-pub returns-clause-session : goal.returns-clause-session
-returns-clause-session g c = record {
-  same = c.keep_with_hands.ensures.same;
-  last = c.keep_with_hands.ensures.last;
-  held = c.keep_with_hands.ensures.held;
-}
-
 pub returns-clause-keeps : goal.returns-clause-keeps
 returns-clause-keeps g c = record {
-  is = c.keep_with_hands.ensures.kept;
-  moments = c.keep_with_hands.ensures.moments;
-}
-
-pub returns-clause-string : goal.returns-clause-string
-returns-clause-string g c = record {
-  shown =
-      λ slack covered from count all.
-      weaken c.keep_with_hands.ensures.moments (λ x y told k ready. shown _ slack covered from count all (hands_for c.args.held.now c.args.kept.now.entry.minute) c.args.kept.now.entry c.args.kept.now.odometer.0
-      (hands-are c.args.session.now c.args.held.now c.args.kept.now.entry.minute c.requires.may.later) x y ready (k ready.carried.session));
-  done =
-      λ slack covered from count all.
-      all-done _ _ slack covered from count all (hands_for c.args.held.now c.args.kept.now.entry.minute) c.args.kept.now.entry c.args.kept.now.odometer.0 (hands-are c.args.session.now c.args.held.now c.args.kept.now.entry.minute c.requires.may.later)
-      c.keep_with_hands.ensures.same.0 _ _ _ c.keep_with_hands.ensures.kept;
+  session = record {
+    same = c.keep_with_hands.ensures.same;
+    last = c.keep_with_hands.ensures.last;
+    held = c.keep_with_hands.ensures.held;
+  };
+  keeps = record {
+    is = c.keep_with_hands.ensures.kept;
+    moments = c.keep_with_hands.ensures.moments;
+  };
+  string = record {
+    shown =
+        λ slack covered from count all.
+        weaken c.keep_with_hands.ensures.moments (λ x y told k ready. shown _ slack covered from count all (hands_for c.args.held.now c.args.kept.now.entry.minute) c.args.kept.now.entry c.args.kept.now.odometer.0
+        (hands-are c.args.session.now c.args.held.now c.args.kept.now.entry.minute c.requires.may.later) x y ready (k ready.carried.session));
+    done =
+        λ slack covered from count all.
+        all-done _ _ slack covered from count all (hands_for c.args.held.now c.args.kept.now.entry.minute) c.args.kept.now.entry c.args.kept.now.odometer.0 (hands-are c.args.session.now c.args.held.now c.args.kept.now.entry.minute c.requires.may.later)
+        c.keep_with_hands.ensures.same.0 _ _ _ c.keep_with_hands.ensures.kept;
+  };
 }
 
 pub returns-clause-rule : goal.returns-clause-rule
@@ -37,5 +37,9 @@ returns-clause-rule g c = λ r which s due b marks time slack covered from count
     (λ well. ends-on_card r which s due b marks time _ slack covered from count all hands c.args.kept.now.entry c.args.kept.now.odometer.0 are (g.met.M.Medium.coherent c.args.unit.now) tells (g.met.C.Medium.coherent c.args.card.now) h none rule fresh ready c.keep_with_hands.ensures.moments
     _ (g.met.C.Medium.coherent c.keep_with_hands.new.port) (worked well c.keep_with_hands.ensures.cause).0 (worked well c.keep_with_hands.ensures.cause).1 c.keep_with_hands.ensures.same.0 (ok_gives _ c.keep_with_hands.ensures.last well).0 (ok_gives _ c.keep_with_hands.ensures.kept well))
 
-pub returns-clause-leaves : goal.returns-clause-leaves
-returns-clause-leaves g c = weaken {R = Anything} c.keep_with_hands.ensures.moments (λ x y told k. tt)
+pub returns-clause-card : goal.returns-clause-card
+returns-clause-card g c = record {
+  leaves = weaken {R = Anything} c.keep_with_hands.ensures.moments (λ x y told k. tt);
+  settled = first_of (search rules, grind (arith, common_steps));
+  cause = first_of (search rules, grind (arith, common_steps));
+}

@@ -17,46 +17,44 @@ keep_by-requires-clause-card g c =
     subst (λ (a : Application). MayKeep a (port_state c.resume-port.result.application (lent c.resume-port.result.chip.ghost_name (g.C.Chip.state c.resume-port.result.chip.now)))) (c.resume-port.ensures.sizes ∙ sym c.requires.sizes)
     (may_keep_port c.resume-port.result.sound)
 
-pub returns-clause-session : goal.returns-clause-session
-returns-clause-session g c = record {
-  same = c.keep_by.ensures.session.same;
-  last = c.keep_by.ensures.session.last;
-  held = c.keep_by.ensures.session.held;
-}
-
 pub returns-clause-keeps : goal.returns-clause-keeps
 returns-clause-keeps g c = record {
-  is = let kept = c.keep_by.ensures.keeps.is in search (rules, kept);
-  moments =
-      let name = c.resume-port.result.chip.ghost_name in
-      let after = c.keep_by.new.card.chip.ghost_name in
-      let X = g.C.Chip.state c.resume-port.result.chip.now in
-      let Y = g.C.Chip.state c.keep_by.new.card.chip.now in
-      let was : g.C.Chip.state c.resume-port.result.chip.now ≡ g.C.Chip.state c.args.card.now = search rules in
-      let same = port_same c.resume-port.result.application c.keep_by.new.card.application name after X Y c.keep_by.ensures.leaves in
-      let run = port_leaves c.resume-port.result.application c.keep_by.new.card.application name after X Y same c.keep_by.ensures.keeps.moments in
-      let moments = subst (λ (s : State). LeavesOnly s (g.C.Chip.state c.keep_by.new.card.chip.now) (λ x y. IsSession c.args.session.now x → IsFirstKeeping c.args.session.now (hands_for c.args.held.now c.args.kept.now.entry.minute) c.args.kept.now.entry c.args.kept.now.odometer.0 x y)) was run in
-      search (rules, moments);
-}
-
-pub returns-clause-string : goal.returns-clause-string
-returns-clause-string g c = record {
-  shown =
-      λ slack covered from count all.
-      let name = c.resume-port.result.chip.ghost_name in
-      let after = c.keep_by.new.card.chip.ghost_name in
-      let X = g.C.Chip.state c.resume-port.result.chip.now in
-      let Y = g.C.Chip.state c.keep_by.new.card.chip.now in
-      let was : g.C.Chip.state c.resume-port.result.chip.now ≡ g.C.Chip.state c.args.card.now = search rules in
-      let same = port_same c.resume-port.result.application c.keep_by.new.card.application name after X Y c.keep_by.ensures.leaves in
-      let run = port_leaves c.resume-port.result.application c.keep_by.new.card.application name after X Y same (c.keep_by.ensures.string.shown slack covered from count all) in
-      let shown = subst (λ (s : State). LeavesOnly s (g.C.Chip.state c.keep_by.new.card.chip.now)
-      (λ x y. CardMayTake c.args.session.now slack covered from count all (hands_for c.args.held.now c.args.kept.now.entry.minute) c.args.kept.now.entry x → IsFirstShown c.args.session.now.application slack covered count all (hands_for c.args.held.now c.args.kept.now.entry.minute) c.args.kept.now.entry x y)) was run in
-      search (rules, shown);
-  done =
-      λ slack covered from count all.
-      let done = c.keep_by.ensures.string.done slack covered from count all in
-      search (rules, done);
+  session = record {
+    same = c.keep_by.ensures.keeps.session.same;
+    last = c.keep_by.ensures.keeps.session.last;
+    held = c.keep_by.ensures.keeps.session.held;
+  };
+  keeps = record {
+    is = let kept = c.keep_by.ensures.keeps.keeps.is in search (rules, kept);
+    moments =
+        let name = c.resume-port.result.chip.ghost_name in
+        let after = c.keep_by.new.card.chip.ghost_name in
+        let X = g.C.Chip.state c.resume-port.result.chip.now in
+        let Y = g.C.Chip.state c.keep_by.new.card.chip.now in
+        let was : g.C.Chip.state c.resume-port.result.chip.now ≡ g.C.Chip.state c.args.card.now = search rules in
+        let same = port_same c.resume-port.result.application c.keep_by.new.card.application name after X Y c.keep_by.ensures.card.leaves in
+        let run = port_leaves c.resume-port.result.application c.keep_by.new.card.application name after X Y same c.keep_by.ensures.keeps.keeps.moments in
+        let moments = subst (λ (s : State). LeavesOnly s (g.C.Chip.state c.keep_by.new.card.chip.now) (λ x y. IsSession c.args.session.now x → IsFirstKeeping c.args.session.now (hands_for c.args.held.now c.args.kept.now.entry.minute) c.args.kept.now.entry c.args.kept.now.odometer.0 x y)) was run in
+        search (rules, moments);
+  };
+  string = record {
+    shown =
+        λ slack covered from count all.
+        let name = c.resume-port.result.chip.ghost_name in
+        let after = c.keep_by.new.card.chip.ghost_name in
+        let X = g.C.Chip.state c.resume-port.result.chip.now in
+        let Y = g.C.Chip.state c.keep_by.new.card.chip.now in
+        let was : g.C.Chip.state c.resume-port.result.chip.now ≡ g.C.Chip.state c.args.card.now = search rules in
+        let same = port_same c.resume-port.result.application c.keep_by.new.card.application name after X Y c.keep_by.ensures.card.leaves in
+        let run = port_leaves c.resume-port.result.application c.keep_by.new.card.application name after X Y same (c.keep_by.ensures.keeps.string.shown slack covered from count all) in
+        let shown = subst (λ (s : State). LeavesOnly s (g.C.Chip.state c.keep_by.new.card.chip.now)
+        (λ x y. CardMayTake c.args.session.now slack covered from count all (hands_for c.args.held.now c.args.kept.now.entry.minute) c.args.kept.now.entry x → IsFirstShown c.args.session.now.application slack covered count all (hands_for c.args.held.now c.args.kept.now.entry.minute) c.args.kept.now.entry x y)) was run in
+        search (rules, shown);
+    done =
+        λ slack covered from count all.
+        let done = c.keep_by.ensures.keeps.string.done slack covered from count all in
+        search (rules, done);
+  };
 }
 
 pub returns-clause-card : goal.returns-clause-card

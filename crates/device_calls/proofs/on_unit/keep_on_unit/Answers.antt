@@ -157,11 +157,14 @@ returns-clause-stands g c = record {
   rows = λ r n has. c.commit.ensures.stands.rows r n (c.in_ok-owe_some-2.ensures.stands.rows r n (c.in_ok-owe_some.ensures.stands.rows r n has));
 }
 
-pub returns-clause-goes : goal.returns-clause-goes
-returns-clause-goes g c = record {
-  clock = omega (arith, c.in_ok-owe_some.ensures.clock, c.in_ok-owe_some-2.ensures.clock, c.commit.ensures.goes.clock);
-  tells = c.commit.ensures.goes.tells ∙ c.in_ok-owe_some-2.ensures.tells ∙ c.in_ok-owe_some.ensures.tells;
-  cause = cause_twice c.in_ok-owe_some.ensures.cause c.in_ok-owe_some-2.ensures.cause c.commit.ensures.goes.cause;
+pub returns-clause-answers : goal.returns-clause-answers
+returns-clause-answers g c = record {
+  goes = record {
+    clock = omega (arith, c.in_ok-owe_some.ensures.answers.clock, c.in_ok-owe_some-2.ensures.answers.clock, c.commit.ensures.answers.goes.clock);
+    tells = c.commit.ensures.answers.goes.tells ∙ c.in_ok-owe_some-2.ensures.answers.tells ∙ c.in_ok-owe_some.ensures.answers.tells;
+    cause = cause_twice c.in_ok-owe_some.ensures.answers.cause c.in_ok-owe_some-2.ensures.answers.cause c.commit.ensures.answers.goes.cause;
+  };
+  most = let one = c.in_ok-owe_some.ensures.answers.most in let two = c.in_ok-owe_some-2.ensures.answers.most in let last = c.commit.ensures.answers.most in omega (arith, one, two, last);
 }
 
 pub returns-in_err-owe_some-2-clause-stands : goal.returns-in_err-owe_some-2-clause-stands
@@ -175,25 +178,31 @@ returns-in_err-owe_some-2-clause-stands g c =
       rows = λ r n has. on_ok c.from_residual-in_err-owe_some-2.result (λ well. absurd (cc));
     }
 
-pub returns-in_err-owe_some-2-clause-goes : goal.returns-in_err-owe_some-2-clause-goes
-returns-in_err-owe_some-2-clause-goes g c =
-    let failed : true ≡ is_err c.from_residual-in_err-owe_some-2.result = search rules in
-    record {
-      clock = omega (arith, c.in_ok-owe_some.ensures.clock, c.in_err-owe_some-2.ensures.clock);
-      tells = c.in_err-owe_some-2.ensures.tells ∙ c.in_ok-owe_some.ensures.tells;
-      cause = called_then c.in_ok-owe_some.ensures.cause (cause_failed (is_err c.from_residual-in_err-owe_some-2.result) failed c.in_err-owe_some-2.ensures.cause);
-    }
+pub returns-in_err-owe_some-2-clause-answers : goal.returns-in_err-owe_some-2-clause-answers
+returns-in_err-owe_some-2-clause-answers g c = record {
+  goes =
+      let failed : true ≡ is_err c.from_residual-in_err-owe_some-2.result = search rules in
+      record {
+        clock = omega (arith, c.in_ok-owe_some.ensures.answers.clock, c.in_err-owe_some-2.ensures.answers.clock);
+        tells = c.in_err-owe_some-2.ensures.answers.tells ∙ c.in_ok-owe_some.ensures.answers.tells;
+        cause = called_then c.in_ok-owe_some.ensures.answers.cause (cause_failed (is_err c.from_residual-in_err-owe_some-2.result) failed c.in_err-owe_some-2.ensures.answers.cause);
+      };
+  most = let one = c.in_ok-owe_some.ensures.answers.most in let two = c.in_err-owe_some-2.ensures.answers.most in omega (arith, one, two);
+}
 
 -- ---- eighteen writes at most
 
-pub returns-in_err-owe_some-clause-most : goal.returns-in_err-owe_some-clause-most
-returns-in_err-owe_some-clause-most g c = let one = c.in_err-owe_some.ensures.most in omega (arith, one)
-
-pub returns-in_err-owe_some-2-clause-most : goal.returns-in_err-owe_some-2-clause-most
-returns-in_err-owe_some-2-clause-most g c = let one = c.in_ok-owe_some.ensures.most in let two = c.in_err-owe_some-2.ensures.most in omega (arith, one, two)
-
-pub returns-clause-most : goal.returns-clause-most
-returns-clause-most g c = let one = c.in_ok-owe_some.ensures.most in let two = c.in_ok-owe_some-2.ensures.most in let last = c.commit.ensures.most in omega (arith, one, two, last)
+pub returns-in_err-owe_some-clause-answers : goal.returns-in_err-owe_some-clause-answers
+returns-in_err-owe_some-clause-answers g c = record {
+  goes =
+      let failed : true ≡ is_err c.from_residual.result = search rules in
+      record {
+        clock = c.in_err-owe_some.ensures.answers.clock;
+        tells = c.in_err-owe_some.ensures.answers.tells;
+        cause = cause_failed (is_err c.from_residual.result) failed c.in_err-owe_some.ensures.answers.cause;
+      };
+  most = let one = c.in_err-owe_some.ensures.answers.most in omega (arith, one);
+}
 
 pub returns-in_err-owe_some-clause-stands : goal.returns-in_err-owe_some-clause-stands
 returns-in_err-owe_some-clause-stands g c =
@@ -204,15 +213,6 @@ returns-in_err-owe_some-clause-stands g c =
       same = on_err c.from_residual.result c.in_err-owe_some.ensures.stands.same;
       agrees = on_ok c.from_residual.result (λ well. absurd (cc));
       rows = λ r n has. on_ok c.from_residual.result (λ well. absurd (cc));
-    }
-
-pub returns-in_err-owe_some-clause-goes : goal.returns-in_err-owe_some-clause-goes
-returns-in_err-owe_some-clause-goes g c =
-    let failed : true ≡ is_err c.from_residual.result = search rules in
-    record {
-      clock = c.in_err-owe_some.ensures.clock;
-      tells = c.in_err-owe_some.ensures.tells;
-      cause = cause_failed (is_err c.from_residual.result) failed c.in_err-owe_some.ensures.cause;
     }
 
 pub owe_some-requires-clause-ready : goal.owe_some-requires-clause-ready

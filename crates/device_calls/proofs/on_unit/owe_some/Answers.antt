@@ -1,4 +1,5 @@
-use Rattle.std.proofs.Common.{◌<◌, ◌≤◌, inl, inr, false, [], Option, IfSome, is_err, refl, sym, subst, arith}
+use Rattle.std.proofs.lemmas.Grind.{common_steps}
+use Rattle.std.proofs.Common.{◌<◌, ◌≤◌, inl, inr, false, [], Option, IfSome, is_err, refl, sym, subst, arith, rules}
 use Rattle.std.specs.Prelude.{option_to_list}
 use Rattle.activity_codec.specs.declared.entries.Entry.{Entry}
 use Rattle.tacho_types.specs.CardNumber.{card_number_bytes}
@@ -28,8 +29,13 @@ returns-in-None-clause-rules g c = record {
   others = λ r s due b marks y z m d named h says mine others. held_up r (other c.args.said.card) b z m d (g.M.Medium.state c.args.unit.now) (g.D.Chip.state c.args.others.now) others;
 }
 
-pub returns-in-None-clause-cause : goal.returns-in-None-clause-cause
-returns-in-None-clause-cause g c = inr (refl, idle (g.M.Medium.state c.args.unit.now))
+pub returns-in-None-clause-answers : goal.returns-in-None-clause-answers
+returns-in-None-clause-answers g c = record {
+  clock = first_of (search rules, grind (arith, common_steps));
+  tells = first_of (search rules, grind (arith, common_steps));
+  cause = inr (refl, idle (g.M.Medium.state c.args.unit.now));
+  most = omega arith;
+}
 
 pub returns-in-Some-clause-stands : goal.returns-in-Some-clause-stands
 returns-in-Some-clause-stands g c = c.owe.ensures.stands
@@ -48,24 +54,21 @@ returns-in-Some-clause-rules g c = record {
       c.owe.ensures.rules.others r s due b marks y z m d named h here.0 here.1 mine others;
 }
 
-pub returns-in-Some-clause-cause : goal.returns-in-Some-clause-cause
-returns-in-Some-clause-cause g c = inl c.owe.ensures.goes.cause
-
-pub owe-requires-clause-low : goal.owe-requires-clause-low
-owe-requires-clause-low g c =
-    (subst (λ (o : Option Entry). IfSome o (λ e. (c.args.said.row < 8) × IfSome (g.M.Medium.state c.args.unit.now).image (IsRowAt c.args.said.row (card_number_bytes c.args.said.number)))) c.in-Some.is c.requires.row).0
+pub returns-in-Some-clause-answers : goal.returns-in-Some-clause-answers
+returns-in-Some-clause-answers g c = record {
+  clock = first_of (search rules, grind (arith, common_steps));
+  tells = first_of (search rules, grind (arith, common_steps));
+  cause = inl c.owe.ensures.answers.goes.cause;
+  most = c.owe.ensures.answers.most;
+}
 
 pub owe-requires-clause-row : goal.owe-requires-clause-row
-owe-requires-clause-row g c =
-    (subst (λ (o : Option Entry). IfSome o (λ e. (c.args.said.row < 8) × IfSome (g.M.Medium.state c.args.unit.now).image (IsRowAt c.args.said.row (card_number_bytes c.args.said.number)))) c.in-Some.is c.requires.row).1
+owe-requires-clause-row g c = record {
+  low = (subst (λ (o : Option Entry). IfSome o (λ e. (c.args.said.row < 8) × IfSome (g.M.Medium.state c.args.unit.now).image (IsRowAt c.args.said.row (card_number_bytes c.args.said.number)))) c.in-Some.is c.requires.row).0;
+  row = (subst (λ (o : Option Entry). IfSome o (λ e. (c.args.said.row < 8) × IfSome (g.M.Medium.state c.args.unit.now).image (IsRowAt c.args.said.row (card_number_bytes c.args.said.number)))) c.in-Some.is c.requires.row).1;
+}
 
 -- ---- three writes at most
-
-pub returns-in-None-clause-most : goal.returns-in-None-clause-most
-returns-in-None-clause-most g c = omega arith
-
-pub returns-in-Some-clause-most : goal.returns-in-Some-clause-most
-returns-in-Some-clause-most g c = c.owe.ensures.most
 
 pub owe-requires-clause-ready : goal.owe-requires-clause-ready
 owe-requires-clause-ready g c = c.requires.ready

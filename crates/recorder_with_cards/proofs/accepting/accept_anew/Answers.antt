@@ -1,3 +1,4 @@
+use Rattle.std.proofs.lemmas.Grind.{common_steps}
 use Rattle.std.proofs.Common.{rules, ◌≡◌, ◌∙◌, ℕ, false, Option, Some, None, sym, subst, arith, ◌*◌, ◌+◌, length, ◌≤◌, refl}
 use Rattle.std.specs.Prelude.{is_err}
 use Rattle.trace_model.specs.declared.Card.{Card}
@@ -40,7 +41,7 @@ module _ (g : Over) (c : After-accept_in g) where
   sits = sym c.card.ensures ∙ c.in-Some.is
 
   one : bare_count seat ≡ 1
-  one = bare-one seat c.in-Some.card sits c.requires.bare
+  one = bare-one seat c.in-Some.card sits c.requires.may.bare
 
   room-here : length c.args.outcome.now.marks.items + MOST_OWED * bare_count seat ≤ c.args.outcome.now.marks.room → length c.args.outcome.now.marks.items + MOST_OWED ≤ c.args.outcome.now.marks.room
   room-here room = let same = one in omega (arith, room, same)
@@ -101,10 +102,14 @@ returns-in_default-clause-leaves g c = record {
       (none-noting c.args.anew.slot c.args.anew.at c.args.anew.speed c.args.run.now c.args.outcome.now (g.M.Medium.state c.args.unit.now) (g.C.Chip.state c.args.card_a.now) (g.D.Chip.state c.args.card_b.now));
 }
 
-pub returns-in_default-clause-held : goal.returns-in_default-clause-held
-returns-in_default-clause-held g c = record {
-  held = c.requires.acting.held;
-  cause = (no_reads (g.M.Medium.state c.args.unit.now) c.requires.acting.going.ready.unit_ready.works).cause;
+pub returns-in_default-clause-behind : goal.returns-in_default-clause-behind
+returns-in_default-clause-behind g c = record {
+  held =
+      record {
+        held = c.requires.acting.held;
+        cause = (no_reads (g.M.Medium.state c.args.unit.now) c.requires.acting.going.ready.unit_ready.works).cause;
+      };
+  going = first_of (search rules, grind (arith, common_steps));
 }
 
 pub returns-in_default-clause-goes : goal.returns-in_default-clause-goes
@@ -148,10 +153,14 @@ returns-clause-leaves g c = record {
   noted = subst (λ (q : Option Card). NotesAnew q c.args.anew.slot c.args.anew.at c.args.anew.speed (is_err c.accept_in.result) c.args.run.now c.accept_in.new.run c.args.outcome.now c.accept_in.new.outcome (before g c) (behind g c)) (sym (sits g c)) c.accept_in.ensures.leaves.noted;
 }
 
-pub returns-clause-held : goal.returns-clause-held
-returns-clause-held g c = record {
-  held = c.accept_in.ensures.held.held;
-  cause = c.accept_in.ensures.held.cause;
+pub returns-clause-behind : goal.returns-clause-behind
+returns-clause-behind g c = record {
+  held =
+      record {
+        held = c.accept_in.ensures.behind.held.held;
+        cause = c.accept_in.ensures.behind.held.cause;
+      };
+  going = first_of (search rules, grind (arith, common_steps));
 }
 
 pub returns-clause-goes : goal.returns-clause-goes
@@ -159,4 +168,13 @@ returns-clause-goes g c = record {
   later = c.accept_in.ensures.goes.later;
   calm = c.accept_in.ensures.goes.calm;
   most = c.accept_in.ensures.goes.most;
+}
+
+pub accept_in-requires-clause-may : goal.accept_in-requires-clause-may
+accept_in-requires-clause-may g c = record {
+  none = c.requires.may.none;
+  at = c.requires.may.at;
+  seat = first_of (search rules, grind (arith, common_steps));
+  breaks = c.requires.may.breaks;
+  finds = first_of (search rules, grind (arith, common_steps));
 }

@@ -96,17 +96,17 @@ module _ (g : Over) (c : After-len-most g) where
   comes =
       let w = c.accept-answer.ensures.entered in
       let h = c.requires.acting.going in
-      comes-of c.args.entering run.keeper c.accept-answer.new.keeper run.noted c.accept-answer.new.noted c.args.outcome.now c.accept-answer.new.outcome _ _ _ _ _ (ungiven_of h.span) h.cabin c.requires.seat (omega arith) w.0 w.1.is w.1.left
+      comes-of c.args.entering run.keeper c.accept-answer.new.keeper run.noted c.accept-answer.new.noted c.args.outcome.now c.accept-answer.new.outcome _ _ _ _ _ (ungiven_of h.span) h.cabin c.requires.may.seat (omega arith) w.0 w.1.is w.1.left
 
   seated : (is_card (seat_in run.keeper.cabin.slots.seats (other_slot c.args.entering.slot)) c.args.entering.which ≡ false) × (session_of run.keeper.cabin.cards c.args.entering.which ≡ None)
-  seated = seat-answers (ungiven_of c.requires.acting.going.span) run.keeper.cabin c.args.entering.slot c.args.entering.which c.requires.acting.going.cabin c.requires.seat
+  seated = seat-answers (ungiven_of c.requires.acting.going.span) run.keeper.cabin c.args.entering.slot c.args.entering.which c.requires.acting.going.cabin c.requires.may.seat
 
   gone : HasGone c.args.entering (is_err c.accept-answer.result) run.keeper c.accept-answer.new.keeper run.noted c.accept-answer.new.noted c.args.outcome.now c.accept-answer.new.outcome unit0 unit1 card0 card1 beside way
   gone = record {
     entered = c.accept-answer.ensures.entered.1;
     books = c.accept-answer.ensures.entered.2;
-    cause = c.accept-answer.ensures.behind.cause;
-    calm = c.accept-answer.ensures.goes.calm;
+    cause = c.accept-answer.ensures.behind.entered.cause;
+    calm = c.accept-answer.ensures.goes.card.calm;
     in_time = c.accept-answer.ensures.in_time;
   }
 
@@ -120,7 +120,7 @@ module _ (g : Over) (c : After-len-most g) where
   }
 
   second-small : (s : TraceSecond) (n : ℕ) → c.args.entering.at ≡ moment_in s n → s.number < 2 ^ 32
-  second-small s n at = let second = c.requires.at in let here = ap (λ (m : Moment). m.second) at in let most = c.requires.acting.small in omega (arith, second, here, most)
+  second-small s n at = let second = c.requires.may.at in let here = ap (λ (m : Moment). m.second) at in let most = c.requires.acting.small in omega (arith, second, here, most)
 
   -- the card is judged now
   may-judge : length c.args.outcome.now.marks.items + MOST_OWED ≤ c.args.outcome.now.marks.room → (o : Origin) (done : List TraceSecond) (s : TraceSecond) (n : ℕ) (waits fewer : List Visit) → c.args.entering.at ≡ moment_in s n →
@@ -129,12 +129,12 @@ module _ (g : Over) (c : After-len-most g) where
   may-judge room o done s n waits fewer at next = record {
     origin = found-by o next.goes.origin;
     moment = at;
-    last = let second = c.requires.at in let most = c.requires.acting.small in omega (arith, second, most);
+    last = let second = c.requires.may.at in let most = c.requires.acting.small in omega (arith, second, most);
     next_ = next.next;
     none = next.none;
     order = next.order;
     ready = c.requires.acting.going.ready.unit_ready;
-    seat = c.requires.seat;
+    seat = c.requires.may.seat;
     elsewhere = seated.0;
     bare = seated.1;
     vehicle = next.goes.vehicle ∙ sym (next.goes.origin.vehicle c.args.entering.which);
@@ -148,11 +148,11 @@ returns-clause-held g c =
     let old = c.args.run.now.keeper.cabin.cards in let new = c.accept-answer.new.keeper.cabin.cards in
     let k = comes g c in
     let sum = owing-sum c.args.run.now.minutes h.span h.stands in
-    let end = h.next in let none = c.requires.none in let minute = held.minute in let at = c.requires.at in
+    let end = h.next in let none = c.requires.may.none in let minute = held.minute in let at = c.requires.may.at in
     let mine = mine-at old (g.C.Chip.card c.args.card.now) (g.D.Chip.card c.args.others.now) (g.C.Chip.state c.args.card.now) (g.D.Chip.state c.args.others.now) e.which held.card_a held.card_b in
     let others = other-at old (g.C.Chip.card c.args.card.now) (g.D.Chip.card c.args.others.now) (g.C.Chip.state c.args.card.now) (g.D.Chip.state c.args.others.now) e.which held.card_a held.card_b in
     let now : CardAt (known_of new e.which) (g.C.Chip.card c.accept-answer.new.card) (g.C.Chip.state c.accept-answer.new.card) =
-    record { port = c.accept-answer.ensures.behind.card.port; size = let was = mine.size in let same = c.accept-answer.ensures.behind.size in omega (arith, was, same) } in
+    record { port = c.accept-answer.ensures.behind.entered.card.port; size = let was = mine.size in let same = c.accept-answer.ensures.behind.entered.size in omega (arith, was, same) } in
     let still : CardAt (known_of new (other e.which)) (g.D.Chip.card c.args.others.now) (g.D.Chip.state c.args.others.now) =
     subst (λ (q : Known). CardAt q (g.D.Chip.card c.args.others.now) (g.D.Chip.state c.args.others.now)) (sym k.others) others in
     let both = both-at new (g.C.Chip.card c.accept-answer.new.card) (g.D.Chip.card c.args.others.now) (g.C.Chip.state c.accept-answer.new.card) (g.D.Chip.state c.args.others.now) e.which now still in
@@ -162,7 +162,7 @@ returns-clause-held g c =
       minute = k.minute (c.args.run.now.next / 60) minute (let is = ap (λ (n : ℕ). n / 60) at in omega (arith, is));
       card_a = both.0;
       card_b = both.1;
-      stand = (ungiven_of h.span, None, c.accept-answer.ensures.behind.stands (ungiven_of h.span) (let here = ap (λ (n : ℕ). n / 60) at in omega (arith, sum, end, none, here)) h.cabin);
+      stand = (ungiven_of h.span, None, c.accept-answer.ensures.behind.entered.stands (ungiven_of h.span) (let here = ap (λ (n : ℕ). n / 60) at in omega (arith, sum, end, none, here)) h.cabin);
     }
 
 -- it leaves the blocks of detailed speed
@@ -180,27 +180,27 @@ returns-clause-going g c = on_ok c.accept-answer.result (λ well.
     let old = c.args.run.now.keeper.cabin.cards in let new = c.accept-answer.new.keeper.cabin.cards in
     let k = comes g c in
     let sum = owing-sum c.args.run.now.minutes h.span h.stands in
-    let end = h.next in let none = c.requires.none in let at = c.requires.at in
+    let end = h.next in let none = c.requires.may.none in let at = c.requires.may.at in
     let same = others-session e.which old new k.others in
-    let rows : (card : Card) → HasItsRow old U card → HasItsRow new V card = λ card had. ok_gives c.accept-answer.result (c.accept-answer.ensures.behind.rows card had) well in
+    let rows : (card : Card) → HasItsRow old U card → HasItsRow new V card = λ card had. ok_gives c.accept-answer.result (c.accept-answer.ensures.behind.entered.rows card had) well in
     let others = other-ready old (g.C.Chip.card c.args.card.now) (g.D.Chip.card c.args.others.now) (g.C.Chip.state c.args.card.now) (g.D.Chip.state c.args.others.now) e.which h.ready.card_a h.ready.card_b in
     let still : CardMayBeCalled (known_of new (other e.which)) (g.D.Chip.card c.args.others.now) (g.D.Chip.state c.args.others.now) =
     subst (λ (q : Known). CardMayBeCalled q (g.D.Chip.card c.args.others.now) (g.D.Chip.state c.args.others.now)) (sym k.others) others in
-    let both = both-ready new (g.C.Chip.card c.accept-answer.new.card) (g.D.Chip.card c.args.others.now) (g.C.Chip.state c.accept-answer.new.card) (g.D.Chip.state c.args.others.now) e.which c.accept-answer.ensures.behind.card still in
+    let both = both-ready new (g.C.Chip.card c.accept-answer.new.card) (g.D.Chip.card c.args.others.now) (g.C.Chip.state c.accept-answer.new.card) (g.D.Chip.state c.args.others.now) e.which c.accept-answer.ensures.behind.entered.card still in
     record {
-      ready = record { unit_ready = ok_gives c.accept-answer.result c.accept-answer.ensures.behind.ready well; card_a = both.0; card_b = both.1 };
+      ready = record { unit_ready = ok_gives c.accept-answer.result c.accept-answer.ensures.behind.entered.ready well; card_a = both.0; card_b = both.1 };
       span = h.span;
       stands = h.stands;
       next = h.next;
       low = h.low;
       due = h.due;
       later = let is = ap (λ (q : Keeper). q.journal.kept) w.1.left.keeper in let less = h.later in omega (arith, is, less);
-      cabin = c.accept-answer.ensures.behind.stands (ungiven_of h.span) (let here = ap (λ (n : ℕ). n / 60) at in omega (arith, sum, end, none, here)) h.cabin;
+      cabin = c.accept-answer.ensures.behind.entered.stands (ungiven_of h.span) (let here = ap (λ (n : ℕ). n / 60) at in omega (arith, sum, end, none, here)) h.cabin;
       ended = ended-went (ungiven_of h.span) (c.args.run.now.next / 60) c.args.run.now.keeper.cabin.slots c.accept-answer.new.keeper.cabin.slots k.past h.ended;
       rows = λ card some.
           ⊎_elim
           (λ is. subst (λ (d : Card). HasItsRow new V d) (sym is)
-          (ok_gives c.accept-answer.result (some-gives (session_of new e.which) c.accept-answer.ensures.row (subst (λ (d : Card). is_some (session_of new d) ≡ true) is some)) well))
+          (ok_gives c.accept-answer.result (some-gives (session_of new e.which) c.accept-answer.ensures.behind.row (subst (λ (d : Card). is_some (session_of new d) ≡ true) is some)) well))
           (λ is. rows card (h.rows card
           (subst (λ (d : Card). is_some (session_of old d) ≡ true) (sym is) (ap (λ (o : Option Accepted). is_some o) (sym same) ∙ subst (λ (d : Card). is_some (session_of new d) ≡ true) is some)))) (card-or-other e.which card);
       present = λ m le. subst (λ (l : List Ended). IfSome (present_in l m) (HaveRows new V)) (sym k.past) (rows-went old new U V rows (present_in c.args.run.now.keeper.cabin.slots.past m) (h.present m le));
@@ -271,11 +271,11 @@ returns-clause-promises g c = record {
       let seen = found-in o done s n waits fewer e run.keeper c.args.outcome.now run.unfound run.next run.begun run.minutes U X Y next.goes.within may failed c.accept-answer.new.keeper run.noted c.accept-answer.new.noted c.accept-answer.new.outcome V Z w.0 gone sound in
       let there = unit-told o done s n waits fewer e run.keeper c.args.outcome.now run.unfound run.next run.begun run.minutes U X Y next.goes.within may in
       let writes = accept-writes U V X Z sound.unit_before sound.unit_behind e failed run.keeper c.accept-answer.new.keeper run.noted c.accept-answer.new.noted c.args.outcome.now c.accept-answer.new.outcome w.0 (ap (λ (q : Option (List ℕ)). is_some q) there.1) gone.cause w.1 in
-      let low : e.at.second < 2 ^ 32 = let second = c.requires.at in let small = c.requires.acting.small in omega (arith, second, small) in
+      let low : e.at.second < 2 ^ 32 = let second = c.requires.may.at in let small = c.requires.acting.small in omega (arith, second, small) in
       judged-by failed o done s n waits fewer run new c.args.outcome.now c.accept-answer.new.outcome (arranged e.which U X Y) (arranged e.which V Z Y) next.goes c.requires.acting.lit (ap (λ (q : Keeper). q.odometer) w.1.left.keeper) (ap (λ (q : Keeper). q.memory) w.1.left.keeper)
       (entered-recorded o done s n waits fewer e run.keeper c.args.outcome.now run.unfound run.next run.begun run.minutes U X Y next.goes.within may failed c.accept-answer.new.keeper run.noted c.accept-answer.new.noted c.accept-answer.new.outcome V Z sound w.0 gone)
       (λ well. entered-stays o e failed well run.keeper c.accept-answer.new.keeper run.noted c.accept-answer.new.noted c.args.outcome.now c.accept-answer.new.outcome U V X Z Y (λ log. notes_within next.goes.within.b done s (In n) log)
-      (finds-noted o done s n waits fewer (values_of run c.args.outcome.now) (arranged e.which U X Y) next.goes.within e at next.next next.none next.order) c.requires.seat sits.0 (marked c.accept-answer.new.outcome.marks.items (truths_within o next.goes.within.b.run.log done s)) s.number room
+      (finds-noted o done s n waits fewer (values_of run c.args.outcome.now) (arranged e.which U X Y) next.goes.within e at next.next next.none next.order) c.requires.may.seat sits.0 (marked c.accept-answer.new.outcome.marks.items (truths_within o next.goes.within.b.run.log done s)) s.number room
       (λ y at_ valid. subst IsOwnValid (sym (may.origin.image e.which)) (was-valid o done s n waits fewer e run.keeper c.args.outcome.now run.unfound run.next run.begun run.minutes U X Y next.goes.within may sound.card_before y at_ valid))
       (λ none_ verdict. (
         subst (λ (k : ℕ). IsOdometerBefore (rule_of o) (odometer_at o.recording.unit) (past_of next.goes.within.b.run.log (done ++ s ∷ [])).spans k e.odometer.0) (sym (ap (λ (m : Moment). m.second) at))
@@ -307,7 +307,7 @@ returns-clause-promises g c = record {
       let may = may-judge g c room o done s n waits fewer at next in
       judged-evented o done s n waits fewer e run.keeper c.args.outcome.now run.unfound run.next run.begun run.minutes (unit0 g c) (card0 g c) (beside g c) next.goes.within may next.goes.origin turn speed (second-small g c s n at) (ungiven_of c.requires.acting.going.span) c.requires.acting.going.cabin
       (is_err c.accept-answer.result) c.accept-answer.new.keeper run.noted c.accept-answer.new.noted c.accept-answer.new.outcome (unit1 g c) (card1 g c) (way g c) (gone g c) (sound g c time) next.goes.stay events
-      (judged-notes e (is_err c.accept-answer.result) (way g c) run.keeper run.noted (unit0 g c) (unit1 g c) (card0 g c) (card1 g c) (beside g c) (g.met.M.Medium.coherent c.args.unit.now) (g.met.M.Medium.coherent c.accept-answer.new.unit) c.requires.acting.held.is_unit c.accept-answer.ensures.behind.cause.works c.accept-answer.ensures.entered.1.notes);
+      (judged-notes e (is_err c.accept-answer.result) (way g c) run.keeper run.noted (unit0 g c) (unit1 g c) (card0 g c) (card1 g c) (beside g c) (g.met.M.Medium.coherent c.args.unit.now) (g.met.M.Medium.coherent c.accept-answer.new.unit) c.requires.acting.held.is_unit c.accept-answer.ensures.behind.entered.cause.works c.accept-answer.ensures.entered.1.notes);
   ringed =
       λ room o done s n waits fewer at next spans odometer counted time.
       let run = c.args.run.now in
@@ -326,7 +326,7 @@ returns-clause-promises g c = record {
       let may = may-judge g c room o done s n waits fewer at next in
       judged-cards o done s n waits fewer e run.keeper c.args.outcome.now run.unfound run.next run.begun run.minutes (unit0 g c) (card0 g c) (beside g c) next.goes.within may next.goes.origin vehicle speed
       (is_err c.accept-answer.result) c.accept-answer.new.keeper run.noted c.accept-answer.new.noted c.accept-answer.new.outcome (unit1 g c) (card1 g c) (way g c) (gone g c) (sound g c time)
-      (sits-works e (measured (way g c) e run.keeper) c.accept-answer.new.keeper run.noted (ending_of (way g c)) (g.C.Chip.card c.accept-answer.new.card) (card1 g c) c.accept-answer.ensures.entered.1.left.keeper c.accept-answer.ensures.behind.card)
+      (sits-works e (measured (way g c) e run.keeper) c.accept-answer.new.keeper run.noted (ending_of (way g c)) (g.C.Chip.card c.accept-answer.new.card) (card1 g c) c.accept-answer.ensures.entered.1.left.keeper c.accept-answer.ensures.behind.entered.card)
       next.goes.stay;
 }
 
@@ -338,7 +338,7 @@ returns-clause-leaves g c = record {
       record {
         accepted = record { way = w.0; only = refl; left = w.1.left };
         writes = λ tells. accept-writes (g.M.Medium.state c.args.unit.now) (g.M.Medium.state c.accept-answer.new.unit) (g.C.Chip.state c.args.card.now) (g.C.Chip.state c.accept-answer.new.card)
-            (g.met.M.Medium.coherent c.args.unit.now) (g.met.M.Medium.coherent c.accept-answer.new.unit) c.args.entering (is_err c.accept-answer.result) run.keeper c.accept-answer.new.keeper run.noted c.accept-answer.new.noted c.args.outcome.now c.accept-answer.new.outcome w.0 tells c.accept-answer.ensures.behind.cause w.1;
+            (g.met.M.Medium.coherent c.args.unit.now) (g.met.M.Medium.coherent c.accept-answer.new.unit) c.args.entering (is_err c.accept-answer.result) run.keeper c.accept-answer.new.keeper run.noted c.accept-answer.new.noted c.args.outcome.now c.accept-answer.new.outcome w.0 tells c.accept-answer.ensures.behind.entered.cause w.1;
       };
   noted =
       let run = c.args.run.now in
@@ -346,36 +346,36 @@ returns-clause-leaves g c = record {
       let new : Run = record run { keeper = c.accept-answer.new.keeper; noted = c.accept-answer.new.noted } in
       let a : IsAccepted c.args.entering run new c.args.outcome.now c.accept-answer.new.outcome = record { way = w.0; only = refl; left = w.1.left } in
       judged-noting c.args.entering (is_err c.accept-answer.result) run new c.args.outcome.now c.accept-answer.new.outcome a (g.M.Medium.state c.args.unit.now) (g.M.Medium.state c.accept-answer.new.unit) (g.C.Chip.state c.args.card.now) (g.C.Chip.state c.accept-answer.new.card) (g.D.Chip.state c.args.others.now)
-      (g.met.M.Medium.coherent c.args.unit.now) (g.met.M.Medium.coherent c.accept-answer.new.unit) c.requires.acting.held.is_unit c.accept-answer.ensures.behind.cause.works w.1.notes;
+      (g.met.M.Medium.coherent c.args.unit.now) (g.met.M.Medium.coherent c.accept-answer.new.unit) c.requires.acting.held.is_unit c.accept-answer.ensures.behind.entered.cause.works w.1.notes;
 }
 
 pub returns-clause-goes : goal.returns-clause-goes
 returns-clause-goes g c = record {
   clock = c.accept-answer.ensures.clock;
-  later = c.accept-answer.ensures.goes.later;
+  later = c.accept-answer.ensures.goes.card.later;
   speeds = speeds-left g c;
-  calm = c.accept-answer.ensures.goes.calm;
+  calm = c.accept-answer.ensures.goes.card.calm;
   most =
-      let most = c.accept-answer.ensures.most.1 in
+      let most = c.accept-answer.ensures.goes.most.1 in
       let days : DAYS_MOST ≡ 984 = refl in
-      (c.accept-answer.ensures.most.0, omega (arith, most, days));
+      (c.accept-answer.ensures.goes.most.0, omega (arith, most, days));
 }
 
 -- ---- what is asked of the card that enters
 
 pub accept-answer-requires-clause-may : goal.accept-answer-requires-clause-may
 accept-answer-requires-clause-may g c =
-    let alone = seat-answers (ungiven_of c.requires.acting.going.span) c.args.run.now.keeper.cabin c.args.entering.slot c.args.entering.which c.requires.acting.going.cabin c.requires.seat in
+    let alone = seat-answers (ungiven_of c.requires.acting.going.span) c.args.run.now.keeper.cabin c.args.entering.slot c.args.entering.which c.requires.acting.going.cabin c.requires.may.seat in
     record {
       come = record {
-        seat = c.requires.seat;
+        seat = c.requires.may.seat;
         elsewhere = alone.0;
         minute = first_of (search rules, grind (arith, common_steps));
         second = first_of (search rules, grind (arith, common_steps));
         fits = c.requires.fits;
         bare = alone.1;
         break_room = first_of (search rules, grind (arith, common_steps));
-        find_room = c.requires.finds;
+        find_room = c.requires.may.finds;
       };
       late = first_of (search rules, grind (arith, common_steps));
       last = first_of (search rules, grind (arith, common_steps));

@@ -1,4 +1,5 @@
-use Rattle.std.proofs.Common.{◌∙◌, ℕ, sym, subst, refl, arith}
+use Rattle.std.proofs.lemmas.Grind.{common_steps}
+use Rattle.std.proofs.Common.{◌∙◌, ℕ, sym, subst, refl, arith, rules}
 use Rattle.std.specs.Prelude.{is_err}
 use Rattle.trace_model.specs.declared.Card.{Card}
 use Rattle.safety_model.specs.Safe.{Devices}
@@ -61,10 +62,14 @@ returns-in-A-clause-leaves g c = record {
   noted = (record { which = A; slot = c.args.put.slot; at = c.args.put.at; speed = c.args.put.speed; odometer = c.odometer_now-odometer.result }, record { which = sym c.in-A.is; slot_is = refl; moment = refl; speed_is = refl; odometer = c.odometer_now-odometer.ensures.value }, c.accept_here.ensures.leaves.noted);
 }
 
-pub returns-in-A-clause-held : goal.returns-in-A-clause-held
-returns-in-A-clause-held g c = record {
-  held = c.accept_here.ensures.held;
-  cause = c.accept_here.ensures.cause;
+pub returns-in-A-clause-behind : goal.returns-in-A-clause-behind
+returns-in-A-clause-behind g c = record {
+  held =
+      record {
+        held = c.accept_here.ensures.held;
+        cause = c.accept_here.ensures.cause;
+      };
+  going = first_of (search rules, grind (arith, common_steps));
 }
 
 pub returns-in-A-clause-goes : goal.returns-in-A-clause-goes
@@ -115,10 +120,14 @@ returns-in-B-clause-leaves g c = record {
   noted = (record { which = B; slot = c.args.put.slot; at = c.args.put.at; speed = c.args.put.speed; odometer = c.odometer_now-odometer.result }, record { which = sym c.in-B.is; slot_is = refl; moment = refl; speed_is = refl; odometer = c.odometer_now-odometer.ensures.value }, c.accept_here-in-B.ensures.leaves.noted);
 }
 
-pub returns-in-B-clause-held : goal.returns-in-B-clause-held
-returns-in-B-clause-held g c = record {
-  held = c.accept_here-in-B.ensures.held;
-  cause = c.accept_here-in-B.ensures.cause;
+pub returns-in-B-clause-behind : goal.returns-in-B-clause-behind
+returns-in-B-clause-behind g c = record {
+  held =
+      record {
+        held = c.accept_here-in-B.ensures.held;
+        cause = c.accept_here-in-B.ensures.cause;
+      };
+  going = first_of (search rules, grind (arith, common_steps));
 }
 
 pub returns-in-B-clause-goes : goal.returns-in-B-clause-goes
@@ -126,4 +135,22 @@ returns-in-B-clause-goes g c = record {
   later = later-of-b (g.M.Medium.state c.args.unit.now) (g.M.Medium.state c.accept_here-in-B.new.unit) (g.C.Chip.state c.args.card_a.now) (g.D.Chip.state c.args.card_b.now) (g.D.Chip.state c.accept_here-in-B.new.card) (state-by (g.M.Medium.state c.args.unit.now) (g.M.Medium.state c.accept_here-in-B.new.unit) _ c.accept_here-in-B.ensures.goes.clock c.accept_here-in-B.ensures.cause) c.accept_here-in-B.ensures.goes.later c.accept_here-in-B.ensures.goes.speeds;
   calm = calm-of-b (g.M.Medium.state c.args.unit.now) (g.M.Medium.state c.accept_here-in-B.new.unit) (g.C.Chip.state c.args.card_a.now) (g.D.Chip.state c.args.card_b.now) (g.D.Chip.state c.accept_here-in-B.new.card) c.accept_here-in-B.ensures.goes.calm;
   most = record { unit = c.accept_here-in-B.ensures.goes.most.0; card_a = omega arith; card_b = c.accept_here-in-B.ensures.goes.most.1 };
+}
+
+pub accept_here-requires-clause-may : goal.accept_here-requires-clause-may
+accept_here-requires-clause-may g c = record {
+  none = c.requires.may.none;
+  at = c.requires.may.at;
+  seat = first_of (search rules, grind (arith, common_steps));
+  breaks = c.requires.may.breaks;
+  finds = c.requires.may.finds;
+}
+
+pub accept_here-requires-in-B-clause-may : goal.accept_here-requires-in-B-clause-may
+accept_here-requires-in-B-clause-may g c = record {
+  none = c.requires.may.none;
+  at = c.requires.may.at;
+  seat = first_of (search rules, grind (arith, common_steps));
+  breaks = c.requires.may.breaks;
+  finds = c.requires.may.finds;
 }

@@ -31,29 +31,29 @@ returns-clause-still g c = λ none.
 
 -- ---- what is recorded, with its events and rings
 
-pub returns-then-not-has_power-clause-ringed : goal.returns-then-not-has_power-clause-ringed
-returns-then-not-has_power-clause-ringed g c = λ power. absurd (let no : false ≡ true = sym c.if-not-has_power.true ∙ power in cc)
+pub returns-then-not-has_power-clause-promises : goal.returns-then-not-has_power-clause-promises
+returns-then-not-has_power-clause-promises g c = record {
+  ringed = λ power. absurd (let no : false ≡ true = sym c.if-not-has_power.true ∙ power in cc);
+  cards = λ power. absurd (let no : false ≡ true = sym c.if-not-has_power.true ∙ power in cc);
+}
 
-pub returns-then-not-is_lit-clause-ringed : goal.returns-then-not-is_lit-clause-ringed
-returns-then-not-is_lit-clause-ringed g c = λ power o done s now front rest are begun in_ time.
-    let dark : is_lit c.args.run.now.power ≡ false = sym c.is_lit.ensures ∙ c.if-not-is_lit.true in
-    ringed-over o done s c.args.run.now c.args.outcome.now (devices (g.M.Medium.state c.args.unit.now) (g.C.Chip.state c.args.card_a.now) (g.D.Chip.state c.args.card_b.now)) (length front) c.args.deed.begun dark in_
+pub returns-then-not-is_lit-clause-promises : goal.returns-then-not-is_lit-clause-promises
+returns-then-not-is_lit-clause-promises g c = record {
+  ringed =
+      λ power o done s now front rest are begun in_ time.
+      let dark : is_lit c.args.run.now.power ≡ false = sym c.is_lit.ensures ∙ c.if-not-is_lit.true in
+      ringed-over o done s c.args.run.now c.args.outcome.now (devices (g.M.Medium.state c.args.unit.now) (g.C.Chip.state c.args.card_a.now) (g.D.Chip.state c.args.card_b.now)) (length front) c.args.deed.begun dark in_;
+  cards =
+      λ power o done s now front rest are begun in_ time.
+      let dark : is_lit c.args.run.now.power ≡ false = sym c.is_lit.ensures ∙ c.if-not-is_lit.true in
+      carded-over o done s c.args.run.now c.args.outcome.now (devices (g.M.Medium.state c.args.unit.now) (g.C.Chip.state c.args.card_a.now) (g.D.Chip.state c.args.card_b.now)) (length front) c.args.deed.begun dark in_;
+}
 
-pub returns-clause-ringed : goal.returns-clause-ringed
-returns-clause-ringed g c = λ power. c.act_lit.ensures.promises.ringed
-
--- ---- what the cards show
-
-pub returns-then-not-has_power-clause-cards : goal.returns-then-not-has_power-clause-cards
-returns-then-not-has_power-clause-cards g c = λ power. absurd (let no : false ≡ true = sym c.if-not-has_power.true ∙ power in cc)
-
-pub returns-then-not-is_lit-clause-cards : goal.returns-then-not-is_lit-clause-cards
-returns-then-not-is_lit-clause-cards g c = λ power o done s now front rest are begun in_ time.
-    let dark : is_lit c.args.run.now.power ≡ false = sym c.is_lit.ensures ∙ c.if-not-is_lit.true in
-    carded-over o done s c.args.run.now c.args.outcome.now (devices (g.M.Medium.state c.args.unit.now) (g.C.Chip.state c.args.card_a.now) (g.D.Chip.state c.args.card_b.now)) (length front) c.args.deed.begun dark in_
-
-pub returns-clause-cards : goal.returns-clause-cards
-returns-clause-cards g c = λ power. c.act_lit.ensures.promises.cards
+pub returns-clause-promises : goal.returns-clause-promises
+returns-clause-promises g c = record {
+  ringed = λ power. c.act_lit.ensures.promises.ringed;
+  cards = λ power. c.act_lit.ensures.promises.cards;
+}
 
 -- ---- where no tear of a failed call is told no card has broken down
 

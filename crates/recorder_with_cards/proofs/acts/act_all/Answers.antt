@@ -108,10 +108,10 @@ loop-i-preserved g c =
       going = e.going;
       acted = subst (λ (xs : List Item). AreActed c.args.due.has_power c.args.due.speed 0 xs c.args.run.now c.act_item.new.run c.args.outcome.now c.act_item.new.outcome) (sym (between-more items c.args.due.from c.loop-i.i c.get.result.now c.loop-i.auto.i c.get.ensures))
           (acted-more c.args.due.has_power c.args.due.speed 0 (c.loop-i.i - c.args.due.from + 1) (between c.args.due.from c.loop-i.i items) c.get.result.now c.args.run.now c.loop-i.run c.act_item.new.run c.args.outcome.now c.loop-i.outcome c.act_item.new.outcome v.acted
-          (let long = length-take (c.loop-i.i - c.args.due.from) (drop c.args.due.from items) in let rest = length-drop c.args.due.from items in let last = c.requires.last in let low = c.loop-i.auto.i in omega (arith, long, rest, last, low, less))
+          (let long = length-take (c.loop-i.i - c.args.due.from) (drop c.args.due.from items) in let rest = length-drop c.args.due.from items in let last = c.requires.among.last in let low = c.loop-i.auto.i in omega (arith, long, rest, last, low, less))
           (subst (λ (n : ℕ). IsItemActed c.get.result.now c.args.due.has_power (is_lit c.loop-i.run.power) n c.args.due.speed c.loop-i.run c.act_item.new.run c.loop-i.outcome c.act_item.new.outcome) c.number_of.ensures e.acted.done));
-      ringed = λ power many few. one-more g (goal.at.loop-i-preserved g c).After-act_item InSecondRinged many few (v.ringed power) (e.ringed power);
-      cards = λ power many few. one-more g (goal.at.loop-i-preserved g c).After-act_item InSecondCarded many few (v.cards power) (e.cards power);
+      ringed = λ power many few. one-more g (goal.at.loop-i-preserved g c).After-act_item InSecondRinged many few (v.ringed power) (e.promises.ringed power);
+      cards = λ power many few. one-more g (goal.at.loop-i-preserved g c).After-act_item InSecondCarded many few (v.cards power) (e.promises.cards power);
       still = λ dark.
           let was = v.still dark in
           let now = e.still was.0 in
@@ -140,7 +140,7 @@ pub returns-clause-room : goal.returns-clause-room
 returns-clause-room g c = λ left offs insertions actions h.
     let items = c.args.due.items.now in
     let end : c.args.due.to ≤ c.loop-i.i = c.loop-i-test.false in
-    let some : c.loop-i.i ≤ c.args.due.to = c.loop-i.auto.i-end c.requires.first in
+    let some : c.loop-i.i ≤ c.args.due.to = c.loop-i.auto.i-end c.requires.among.first in
     let same : c.loop-i.i ≡ c.args.due.to = omega (arith, end, some) in
     let none = ap (λ (i : ℕ). insertions_in i c.args.due.to items) same ∙ none-in items c.args.due.to in
     room-less cuts_within c.loop-i.run c.loop-i.outcome (1 + left) (1 + left) offs offs (insertions_in c.loop-i.i c.args.due.to items + insertions) insertions (c.args.due.to - c.loop-i.i + actions) actions
@@ -152,7 +152,7 @@ pub returns-clause-acted : goal.returns-clause-acted
 returns-clause-acted g c = record {
   done =
       let end : c.args.due.to ≤ c.loop-i.i = c.loop-i-test.false in
-      let some : c.loop-i.i ≤ c.args.due.to = c.loop-i.auto.i-end c.requires.first in
+      let some : c.loop-i.i ≤ c.args.due.to = c.loop-i.auto.i-end c.requires.among.first in
       subst (λ (n : ℕ). AreActed c.args.due.has_power c.args.due.speed 0 (between c.args.due.from n c.args.due.items.now) c.args.run.now c.loop-i.run c.args.outcome.now c.loop-i.outcome) (let same : c.loop-i.i ≡ c.args.due.to = omega (arith, end, some) in same) c.loop-i.invariant.acted;
   next = c.loop-i.invariant.next;
   unfound = c.loop-i.invariant.unfound;
@@ -162,13 +162,13 @@ pub returns-clause-promises : goal.returns-clause-promises
 returns-clause-promises g c = record {
   ringed =
       let end : c.args.due.to ≤ c.loop-i.i = c.loop-i-test.false in
-      let some : c.loop-i.i ≤ c.args.due.to = c.loop-i.auto.i-end c.requires.first in
+      let some : c.loop-i.i ≤ c.args.due.to = c.loop-i.auto.i-end c.requires.among.first in
       subst (λ (n : ℕ). c.args.due.has_power ≡ true → length (actions_in (between c.args.due.from n c.args.due.items.now)) ≡ n - c.args.due.from → n - c.args.due.from ≤ largest_number
       → RingsActions (actions_in (between c.args.due.from n c.args.due.items.now)) (n - c.args.due.from) c.args.due.speed c.args.run.now c.loop-i.run c.args.outcome.now c.loop-i.outcome (devices (g.M.Medium.state c.args.unit.now) (g.C.Chip.state c.args.card_a.now) (g.D.Chip.state c.args.card_b.now)) (devices (g.M.Medium.state c.loop-i.unit) (g.C.Chip.state c.loop-i.card_a) (g.D.Chip.state c.loop-i.card_b)))
       (let same : c.loop-i.i ≡ c.args.due.to = omega (arith, end, some) in same) c.loop-i.invariant.ringed;
   cards =
       let end : c.args.due.to ≤ c.loop-i.i = c.loop-i-test.false in
-      let some : c.loop-i.i ≤ c.args.due.to = c.loop-i.auto.i-end c.requires.first in
+      let some : c.loop-i.i ≤ c.args.due.to = c.loop-i.auto.i-end c.requires.among.first in
       subst (λ (n : ℕ). c.args.due.has_power ≡ true → length (actions_in (between c.args.due.from n c.args.due.items.now)) ≡ n - c.args.due.from → n - c.args.due.from ≤ largest_number
       → CardsActions (actions_in (between c.args.due.from n c.args.due.items.now)) (n - c.args.due.from) c.args.due.speed c.args.run.now c.loop-i.run c.args.outcome.now c.loop-i.outcome (devices (g.M.Medium.state c.args.unit.now) (g.C.Chip.state c.args.card_a.now) (g.D.Chip.state c.args.card_b.now)) (devices (g.M.Medium.state c.loop-i.unit) (g.C.Chip.state c.loop-i.card_a) (g.D.Chip.state c.loop-i.card_b)))
       (let same : c.loop-i.i ≡ c.args.due.to = omega (arith, end, some) in same) c.loop-i.invariant.cards;
@@ -182,6 +182,6 @@ returns-clause-goes g c = record {
   broke = c.loop-i.invariant.broke;
   most =
       let end : c.args.due.to ≤ c.loop-i.i = c.loop-i-test.false in
-      let some : c.loop-i.i ≤ c.args.due.to = c.loop-i.auto.i-end c.requires.first in
+      let some : c.loop-i.i ≤ c.args.due.to = c.loop-i.auto.i-end c.requires.among.first in
       writes-more 0 0 (c.loop-i.i - c.args.due.from) (c.args.due.to - c.args.due.from) (devices (g.M.Medium.state c.args.unit.now) (g.C.Chip.state c.args.card_a.now) (g.D.Chip.state c.args.card_b.now)) (devices (g.M.Medium.state c.loop-i.unit) (g.C.Chip.state c.loop-i.card_a) (g.D.Chip.state c.loop-i.card_b)) (omega arith) (omega (arith, end, some)) c.loop-i.invariant.most;
 }

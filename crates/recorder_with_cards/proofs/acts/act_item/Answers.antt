@@ -30,35 +30,39 @@ returns-in-Act-clause-still g c = λ dark.
 
 -- ---- what is recorded, with its events and rings
 
-pub returns-in-Act-clause-ringed : goal.returns-in-Act-clause-ringed
-returns-in-Act-clause-ringed g c = λ power.
-    subst (λ (xs : List Action). RingsActions xs c.args.due.begun c.args.due.speed c.args.run.now c.act.new.run c.args.outcome.now c.act.new.outcome (devices (g.M.Medium.state c.args.unit.now) (g.C.Chip.state c.args.card_a.now) (g.D.Chip.state c.args.card_b.now)) (devices (g.M.Medium.state c.act.new.unit) (g.C.Chip.state c.act.new.card_a) (g.D.Chip.state c.act.new.card_b))) (sym (ap action_of c.in-Act.is)) (c.act.ensures.ringed power)
+pub returns-in-Act-clause-promises : goal.returns-in-Act-clause-promises
+returns-in-Act-clause-promises g c = record {
+  ringed =
+      λ power.
+      subst (λ (xs : List Action). RingsActions xs c.args.due.begun c.args.due.speed c.args.run.now c.act.new.run c.args.outcome.now c.act.new.outcome (devices (g.M.Medium.state c.args.unit.now) (g.C.Chip.state c.args.card_a.now) (g.D.Chip.state c.args.card_b.now)) (devices (g.M.Medium.state c.act.new.unit) (g.C.Chip.state c.act.new.card_a) (g.D.Chip.state c.act.new.card_b))) (sym (ap action_of c.in-Act.is)) (c.act.ensures.promises.ringed power);
+  cards =
+      λ power.
+      subst (λ (xs : List Action). CardsActions xs c.args.due.begun c.args.due.speed c.args.run.now c.act.new.run c.args.outcome.now c.act.new.outcome (devices (g.M.Medium.state c.args.unit.now) (g.C.Chip.state c.args.card_a.now) (g.D.Chip.state c.args.card_b.now)) (devices (g.M.Medium.state c.act.new.unit) (g.C.Chip.state c.act.new.card_a) (g.D.Chip.state c.act.new.card_b))) (sym (ap action_of c.in-Act.is)) (c.act.ensures.promises.cards power);
+}
 
-pub returns-in-Run-clause-ringed : goal.returns-in-Run-clause-ringed
-returns-in-Run-clause-ringed g c = λ power.
-    let d : Devices = devices (g.M.Medium.state c.args.unit.now) (g.C.Chip.state c.args.card_a.now) (g.D.Chip.state c.args.card_b.now) in
-    subst (λ (xs : List Action). RingsActions xs c.args.due.begun c.args.due.speed c.args.run.now c.args.run.now c.args.outcome.now c.args.outcome.now d d) (sym (ap action_of c.in-Run.is)) (no-action InSecondRinged c.args.due.begun c.args.due.speed c.args.run.now c.args.outcome.now d)
+pub returns-in-Run-clause-promises : goal.returns-in-Run-clause-promises
+returns-in-Run-clause-promises g c = record {
+  ringed =
+      λ power.
+      let d : Devices = devices (g.M.Medium.state c.args.unit.now) (g.C.Chip.state c.args.card_a.now) (g.D.Chip.state c.args.card_b.now) in
+      subst (λ (xs : List Action). RingsActions xs c.args.due.begun c.args.due.speed c.args.run.now c.args.run.now c.args.outcome.now c.args.outcome.now d d) (sym (ap action_of c.in-Run.is)) (no-action InSecondRinged c.args.due.begun c.args.due.speed c.args.run.now c.args.outcome.now d);
+  cards =
+      λ power.
+      let d : Devices = devices (g.M.Medium.state c.args.unit.now) (g.C.Chip.state c.args.card_a.now) (g.D.Chip.state c.args.card_b.now) in
+      subst (λ (xs : List Action). CardsActions xs c.args.due.begun c.args.due.speed c.args.run.now c.args.run.now c.args.outcome.now c.args.outcome.now d d) (sym (ap action_of c.in-Run.is)) (no-action InSecondCarded c.args.due.begun c.args.due.speed c.args.run.now c.args.outcome.now d);
+}
 
-pub returns-in-Off-clause-ringed : goal.returns-in-Off-clause-ringed
-returns-in-Off-clause-ringed g c = λ power.
-    let d : Devices = devices (g.M.Medium.state c.args.unit.now) (g.C.Chip.state c.args.card_a.now) (g.D.Chip.state c.args.card_b.now) in
-    subst (λ (xs : List Action). RingsActions xs c.args.due.begun c.args.due.speed c.args.run.now c.args.run.now c.args.outcome.now c.args.outcome.now d d) (sym (ap action_of c.in-Off.is)) (no-action InSecondRinged c.args.due.begun c.args.due.speed c.args.run.now c.args.outcome.now d)
-
--- ---- what the cards show
-
-pub returns-in-Act-clause-cards : goal.returns-in-Act-clause-cards
-returns-in-Act-clause-cards g c = λ power.
-    subst (λ (xs : List Action). CardsActions xs c.args.due.begun c.args.due.speed c.args.run.now c.act.new.run c.args.outcome.now c.act.new.outcome (devices (g.M.Medium.state c.args.unit.now) (g.C.Chip.state c.args.card_a.now) (g.D.Chip.state c.args.card_b.now)) (devices (g.M.Medium.state c.act.new.unit) (g.C.Chip.state c.act.new.card_a) (g.D.Chip.state c.act.new.card_b))) (sym (ap action_of c.in-Act.is)) (c.act.ensures.cards power)
-
-pub returns-in-Run-clause-cards : goal.returns-in-Run-clause-cards
-returns-in-Run-clause-cards g c = λ power.
-    let d : Devices = devices (g.M.Medium.state c.args.unit.now) (g.C.Chip.state c.args.card_a.now) (g.D.Chip.state c.args.card_b.now) in
-    subst (λ (xs : List Action). CardsActions xs c.args.due.begun c.args.due.speed c.args.run.now c.args.run.now c.args.outcome.now c.args.outcome.now d d) (sym (ap action_of c.in-Run.is)) (no-action InSecondCarded c.args.due.begun c.args.due.speed c.args.run.now c.args.outcome.now d)
-
-pub returns-in-Off-clause-cards : goal.returns-in-Off-clause-cards
-returns-in-Off-clause-cards g c = λ power.
-    let d : Devices = devices (g.M.Medium.state c.args.unit.now) (g.C.Chip.state c.args.card_a.now) (g.D.Chip.state c.args.card_b.now) in
-    subst (λ (xs : List Action). CardsActions xs c.args.due.begun c.args.due.speed c.args.run.now c.args.run.now c.args.outcome.now c.args.outcome.now d d) (sym (ap action_of c.in-Off.is)) (no-action InSecondCarded c.args.due.begun c.args.due.speed c.args.run.now c.args.outcome.now d)
+pub returns-in-Off-clause-promises : goal.returns-in-Off-clause-promises
+returns-in-Off-clause-promises g c = record {
+  ringed =
+      λ power.
+      let d : Devices = devices (g.M.Medium.state c.args.unit.now) (g.C.Chip.state c.args.card_a.now) (g.D.Chip.state c.args.card_b.now) in
+      subst (λ (xs : List Action). RingsActions xs c.args.due.begun c.args.due.speed c.args.run.now c.args.run.now c.args.outcome.now c.args.outcome.now d d) (sym (ap action_of c.in-Off.is)) (no-action InSecondRinged c.args.due.begun c.args.due.speed c.args.run.now c.args.outcome.now d);
+  cards =
+      λ power.
+      let d : Devices = devices (g.M.Medium.state c.args.unit.now) (g.C.Chip.state c.args.card_a.now) (g.D.Chip.state c.args.card_b.now) in
+      subst (λ (xs : List Action). CardsActions xs c.args.due.begun c.args.due.speed c.args.run.now c.args.run.now c.args.outcome.now c.args.outcome.now d d) (sym (ap action_of c.in-Off.is)) (no-action InSecondCarded c.args.due.begun c.args.due.speed c.args.run.now c.args.outcome.now d);
+}
 
 -- ---- where no tear of a failed call is told no card has broken down
 

@@ -174,7 +174,7 @@ module _ (g : Over) (c : After-carry_out g) where
 pub returns-then-is_err-clause-going : goal.returns-then-is_err-clause-going
 returns-then-is_err-clause-going g c =
     let new : Run = c.carry_out.new.run in
-    let held = c.carry_out.ensures.held.held in
+    let held = c.carry_out.ensures.behind.held.held in
     let same = c.carry_out.ensures.done.stays.next in
     let low = c.requires.going.low in
     let small = c.requires.going.small in
@@ -185,7 +185,7 @@ pub returns-then-is_err-clause-room : goal.returns-then-is_err-clause-room
 returns-then-is_err-clause-room g c = λ left offs insertions actions h.
     let run = c.args.run.now in
     let new : Run = c.carry_out.new.run in
-    let stand = c.carry_out.ensures.held.held.stand in
+    let stand = c.carry_out.ensures.behind.held.held.stand in
     let dark = ap (λ (r : Run). falls_of r.keeper.cabin) c.cut.ensures.run in
     let less = cut-falls new.next stand.0 stand.1 new.keeper.cabin stand.2 in
     room-cut run new c.args.outcome.now c.carry_out.new.outcome (put_count c.args.deed.action) c.carry_out.ensures.done.stays.next c.requires.lit c.carry_out.ensures.takes c.cut.new.self (record c.carry_out.new.outcome { breaks = c.cut.new.breaks })
@@ -204,9 +204,9 @@ returns-else-is_err-clause-going g c =
     record {
       low = omega (arith, low, same);
       small = omega (arith, small, same);
-      held = c.carry_out.ensures.held.held;
+      held = c.carry_out.ensures.behind.held.held;
       dark = λ no. absurd (let bad : true ≡ false = sym lit ∙ no in cc);
-      lit = λ yes. ok_gives c.carry_out.result c.carry_out.ensures.going (let well : is_err c.carry_out.result ≡ false = sym c.is_err.ensures.value ∙ c.if-is_err.false in well);
+      lit = λ yes. ok_gives c.carry_out.result c.carry_out.ensures.behind.going (let well : is_err c.carry_out.result ≡ false = sym c.is_err.ensures.value ∙ c.if-is_err.false in well);
     }
 
 -- a line more tells of a refusal, with which so many actions have begun
@@ -331,7 +331,7 @@ returns-then-is_err-clause-goes g c = record {
       let more = c.carry_out.ensures.goes.more in
       let told = ap (λ (l : Listed Break). length l.items) c.cut.ensures.breaks ∙ lines-length (cut_at c.carry_out.new.run.next true c.args.deed.begun ∷ []) c.carry_out.new.outcome.breaks in
       omega (arith, more, told);
-  broke = cut-broke _ _ _ _ _ (g.M.Medium.state c.args.unit.now) (g.M.Medium.state c.carry_out.new.unit) (is_err c.carry_out.result) (c.requires.going.lit (ap is_lit c.requires.lit)).ready.unit_ready.works c.carry_out.ensures.held.cause (sym c.is_err.ensures.value ∙ c.if-is_err.true) (done-uncut c.args.deed.action _ c.args.deed.speed _ _ _ _ _ c.carry_out.ensures.done.action_done) (ap (λ (l : Listed Break). l.items) c.cut.ensures.breaks);
+  broke = cut-broke _ _ _ _ _ (g.M.Medium.state c.args.unit.now) (g.M.Medium.state c.carry_out.new.unit) (is_err c.carry_out.result) (c.requires.going.lit (ap is_lit c.requires.lit)).ready.unit_ready.works c.carry_out.ensures.behind.held.cause (sym c.is_err.ensures.value ∙ c.if-is_err.true) (done-uncut c.args.deed.action _ c.args.deed.speed _ _ _ _ _ c.carry_out.ensures.done.action_done) (ap (λ (l : Listed Break). l.items) c.cut.ensures.breaks);
   most = c.carry_out.ensures.goes.most;
 }
 
@@ -375,6 +375,6 @@ returns-else-is_err-clause-goes g c = record {
   later = c.carry_out.ensures.goes.later;
   calm = c.carry_out.ensures.goes.calm;
   more = c.carry_out.ensures.goes.more;
-  broke = uncut-broke _ _ (g.M.Medium.state c.args.unit.now) (g.M.Medium.state c.carry_out.new.unit) (is_err c.carry_out.result) c.carry_out.ensures.held.cause (sym c.is_err.ensures.value ∙ c.if-is_err.false) (done-uncut c.args.deed.action _ c.args.deed.speed _ _ _ _ _ c.carry_out.ensures.done.action_done);
+  broke = uncut-broke _ _ (g.M.Medium.state c.args.unit.now) (g.M.Medium.state c.carry_out.new.unit) (is_err c.carry_out.result) c.carry_out.ensures.behind.held.cause (sym c.is_err.ensures.value ∙ c.if-is_err.false) (done-uncut c.args.deed.action _ c.args.deed.speed _ _ _ _ _ c.carry_out.ensures.done.action_done);
   most = c.carry_out.ensures.goes.most;
 }

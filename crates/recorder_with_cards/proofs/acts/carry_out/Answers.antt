@@ -1,4 +1,5 @@
-use Rattle.std.proofs.Common.{◌≡◌, ◌∙◌, ℕ, ◌/◌, false, [], None, refl, ap, sym, subst, arith, ◌*◌, ◌+◌, Option, length, ◌≤◌}
+use Rattle.std.proofs.lemmas.Grind.{common_steps}
+use Rattle.std.proofs.Common.{◌≡◌, ◌∙◌, ℕ, ◌/◌, false, [], None, refl, ap, sym, subst, arith, ◌*◌, ◌+◌, Option, length, ◌≤◌, rules}
 use Rattle.std.specs.Prelude.{is_err}
 use Rattle.trace_model.specs.declared.Action.{Action}
 use Rattle.trace_model.specs.declared.Action.TheVariants.{Insert, Withdraw, Tear, Place, Manual}
@@ -131,16 +132,32 @@ withdraw-requires-clause-acting g c = record { lit = c.requires.lit; low = c.req
 pub note_place-requires-clause-acting : goal.note_place-requires-clause-acting
 note_place-requires-clause-acting g c = record { lit = c.requires.lit; low = c.requires.going.low; small = c.requires.going.small; held = c.requires.going.held; going = c.requires.going.lit (ap is_lit c.requires.lit) }
 
-pub insert-requires-clause-elsewhere : goal.insert-requires-clause-elsewhere
-insert-requires-clause-elsewhere g c =
-    let seats = c.args.run.now.keeper.cabin.slots.seats in
-    insert-elsewhere seats c.in-Insert.slot c.in-Insert.card c.args.deed.speed
-    (none-of-both c.args.run.now c.args.deed.speed (Insert c.in-Insert.slot c.in-Insert.card) (subst (λ (a : Action). stopped_in c.args.run.now c.args.deed.speed a ≡ None) c.in-Insert.is c.requires.allowed)).0
+pub insert-requires-clause-may : goal.insert-requires-clause-may
+insert-requires-clause-may g c = record {
+  at = first_of (search rules, grind (arith, common_steps));
+  empty = first_of (search rules, grind (arith, common_steps));
+  elsewhere =
+      let seats = c.args.run.now.keeper.cabin.slots.seats in
+      insert-elsewhere seats c.in-Insert.slot c.in-Insert.card c.args.deed.speed
+      (none-of-both c.args.run.now c.args.deed.speed (Insert c.in-Insert.slot c.in-Insert.card) (subst (λ (a : Action). stopped_in c.args.run.now c.args.deed.speed a ≡ None) c.in-Insert.is c.requires.allowed)).0;
+  marks = first_of (search rules, grind (arith, common_steps));
+  breaks = first_of (search rules, grind (arith, common_steps));
+  finds = first_of (search rules, grind (arith, common_steps));
+}
 
-pub returns-in-Select-clause-going : goal.returns-in-Select-clause-going
-returns-in-Select-clause-going g c =
-    let lit = c.requires.going.lit (ap is_lit c.requires.lit) in
-    picked-going (c.args.run.now.next / 60) c.args.run.now c.select.new.self c.in-Select.slot c.in-Select.pick lit (c.select.ensures.picked lit.span lit.stands)
+pub returns-in-Select-clause-behind : goal.returns-in-Select-clause-behind
+returns-in-Select-clause-behind g c = record {
+  held =
+      record {
+        held =
+            let h = c.requires.going.held in
+            record { is_unit = h.is_unit; odometer = h.odometer; minute = h.minute; card_a = h.card_a; card_b = h.card_b; stand = h.stand };
+        cause = (no_reads (g.M.Medium.state c.args.unit.now) (c.requires.going.lit (ap is_lit c.requires.lit)).ready.unit_ready.works).cause;
+      };
+  going =
+      let lit = c.requires.going.lit (ap is_lit c.requires.lit) in
+      picked-going (c.args.run.now.next / 60) c.args.run.now c.select.new.self c.in-Select.slot c.in-Select.pick lit (c.select.ensures.picked lit.span lit.stands);
+}
 
 -- ---- a session takes an entry by hand
 
@@ -164,10 +181,19 @@ module _ (g : Over) (c : After-enter g) where
   by-hand : (P : Action → Run → Type 0) → P (Manual c.in-Manual.slot c.in-Manual.pick c.in-Manual.minute) (entered_run c.in-Manual.slot c.in-Manual.pick c.in-Manual.minute c.args.run.now) → P c.args.deed.action c.enter.new.run
   by-hand P h = subst (λ (a : Action). P a c.enter.new.run) (sym c.in-Manual.is) (subst (λ (r : Run). P (Manual c.in-Manual.slot c.in-Manual.pick c.in-Manual.minute) r) (sym c.enter.ensures.entered) h)
 
-pub returns-in-Manual-clause-going : goal.returns-in-Manual-clause-going
-returns-in-Manual-clause-going g c =
-    by-hand g c (λ a r. RunHasPowerAllSeated (r.next / 60) r (g.M.Medium.state c.args.unit.now) (g.C.Chip.card c.args.card_a.now) (g.D.Chip.card c.args.card_b.now) (g.C.Chip.state c.args.card_a.now) (g.D.Chip.state c.args.card_b.now))
-    (holding-going (hand g c) c.args.run.now (c.args.run.now.next / 60) (hand_card g c) (hand-stands g c) (c.requires.going.lit (ap is_lit c.requires.lit)))
+pub returns-in-Manual-clause-behind : goal.returns-in-Manual-clause-behind
+returns-in-Manual-clause-behind g c = record {
+  held =
+      record {
+        held =
+            by-hand g c (λ a r. CanBeCut (r.next / 60) r (g.M.Medium.state c.args.unit.now) (g.C.Chip.card c.args.card_a.now) (g.D.Chip.card c.args.card_b.now) (g.C.Chip.state c.args.card_a.now) (g.D.Chip.state c.args.card_b.now))
+            (holding-held (hand g c) c.args.run.now (c.args.run.now.next / 60) (hand_card g c) (hand-stands g c) c.requires.going.held);
+        cause = (no_reads (g.M.Medium.state c.args.unit.now) (c.requires.going.lit (ap is_lit c.requires.lit)).ready.unit_ready.works).cause;
+      };
+  going =
+      by-hand g c (λ a r. RunHasPowerAllSeated (r.next / 60) r (g.M.Medium.state c.args.unit.now) (g.C.Chip.card c.args.card_a.now) (g.D.Chip.card c.args.card_b.now) (g.C.Chip.state c.args.card_a.now) (g.D.Chip.state c.args.card_b.now))
+      (holding-going (hand g c) c.args.run.now (c.args.run.now.next / 60) (hand_card g c) (hand-stands g c) (c.requires.going.lit (ap is_lit c.requires.lit)));
+}
 
 pub returns-in-Manual-clause-takes : goal.returns-in-Manual-clause-takes
 returns-in-Manual-clause-takes g c =
@@ -178,13 +204,25 @@ returns-in-Manual-clause-takes g c =
 
 -- ---- a card is pulled out
 
-pub returns-in-Tear-clause-going : goal.returns-in-Tear-clause-going
-returns-in-Tear-clause-going g c =
-    let run = c.args.run.now in
-    let o = card_in (seat_in run.keeper.cabin.slots.seats c.in-Tear.slot) in
-    let at = ap (λ (m : Moment). m.second / 60) c.moment-at.ensures in
-    subst (λ (r : Run). RunHasPowerAllSeated (r.next / 60) r (g.M.Medium.state c.args.unit.now) (g.C.Chip.card c.args.card_a.now) (g.D.Chip.card c.args.card_b.now) (g.C.Chip.state c.args.card_a.now) (g.D.Chip.state c.args.card_b.now)) (sym c.pull.ensures.run)
-    (pulled-going run c.moment-at.result.second (omega (arith, at)) o (λ from leaving s. subst (λ (r : Run). CabinIsSound from leaving r.keeper.cabin) c.pull.ensures.run (c.pull.ensures.stands from leaving s)) (c.requires.going.lit (ap is_lit c.requires.lit)))
+pub returns-in-Tear-clause-behind : goal.returns-in-Tear-clause-behind
+returns-in-Tear-clause-behind g c = record {
+  held =
+      record {
+        held =
+            let run = c.args.run.now in
+            let o = card_in (seat_in run.keeper.cabin.slots.seats c.in-Tear.slot) in
+            let at = ap (λ (m : Moment). m.second / 60) c.moment-at.ensures in
+            subst (λ (r : Run). CanBeCut (r.next / 60) r (g.M.Medium.state c.args.unit.now) (g.C.Chip.card c.args.card_a.now) (g.D.Chip.card c.args.card_b.now) (g.C.Chip.state c.args.card_a.now) (g.D.Chip.state c.args.card_b.now)) (sym c.pull.ensures.run)
+            (pulled-held run c.moment-at.result.second (omega (arith, at)) o (λ from leaving s. subst (λ (r : Run). CabinIsSound from leaving r.keeper.cabin) c.pull.ensures.run (c.pull.ensures.stands from leaving s)) c.requires.going.held);
+        cause = (no_reads (g.M.Medium.state c.args.unit.now) (c.requires.going.lit (ap is_lit c.requires.lit)).ready.unit_ready.works).cause;
+      };
+  going =
+      let run = c.args.run.now in
+      let o = card_in (seat_in run.keeper.cabin.slots.seats c.in-Tear.slot) in
+      let at = ap (λ (m : Moment). m.second / 60) c.moment-at.ensures in
+      subst (λ (r : Run). RunHasPowerAllSeated (r.next / 60) r (g.M.Medium.state c.args.unit.now) (g.C.Chip.card c.args.card_a.now) (g.D.Chip.card c.args.card_b.now) (g.C.Chip.state c.args.card_a.now) (g.D.Chip.state c.args.card_b.now)) (sym c.pull.ensures.run)
+      (pulled-going run c.moment-at.result.second (omega (arith, at)) o (λ from leaving s. subst (λ (r : Run). CabinIsSound from leaving r.keeper.cabin) c.pull.ensures.run (c.pull.ensures.stands from leaving s)) (c.requires.going.lit (ap is_lit c.requires.lit)));
+}
 
 pub returns-in-Tear-clause-takes : goal.returns-in-Tear-clause-takes
 returns-in-Tear-clause-takes g c =
@@ -244,10 +282,14 @@ returns-in-Insert-clause-leaves g c = record {
   rings = λ tells. by-insert g c (λ a m. RingsDone a m c.args.deed.speed (is_err c.insert.result) c.args.run.now c.insert.new.run c.args.outcome.now c.insert.new.outcome (g.M.Medium.state c.args.unit.now) (g.M.Medium.state c.insert.new.unit)) (c.insert.ensures.leaves.rings tells);
 }
 
-pub returns-in-Insert-clause-held : goal.returns-in-Insert-clause-held
-returns-in-Insert-clause-held g c = record {
-  held = c.insert.ensures.held.held;
-  cause = c.insert.ensures.held.cause;
+pub returns-in-Insert-clause-behind : goal.returns-in-Insert-clause-behind
+returns-in-Insert-clause-behind g c = record {
+  held =
+      record {
+        held = c.insert.ensures.behind.held.held;
+        cause = c.insert.ensures.behind.held.cause;
+      };
+  going = first_of (search rules, grind (arith, common_steps));
 }
 
 pub returns-in-Insert-clause-goes : goal.returns-in-Insert-clause-goes
@@ -283,10 +325,14 @@ returns-in-Withdraw-clause-leaves g c = record {
   rings = λ tells. by-withdraw g c (λ a m. RingsDone a m c.args.deed.speed (is_err c.withdraw.result) c.args.run.now c.withdraw.new.run c.args.outcome.now c.withdraw.new.outcome (g.M.Medium.state c.args.unit.now) (g.M.Medium.state c.withdraw.new.unit)) (c.withdraw.ensures.leaves.rings tells);
 }
 
-pub returns-in-Withdraw-clause-held : goal.returns-in-Withdraw-clause-held
-returns-in-Withdraw-clause-held g c = record {
-  held = c.withdraw.ensures.held.held;
-  cause = c.withdraw.ensures.held.cause;
+pub returns-in-Withdraw-clause-behind : goal.returns-in-Withdraw-clause-behind
+returns-in-Withdraw-clause-behind g c = record {
+  held =
+      record {
+        held = c.withdraw.ensures.behind.held.held;
+        cause = c.withdraw.ensures.behind.held.cause;
+      };
+  going = first_of (search rules, grind (arith, common_steps));
 }
 
 pub returns-in-Withdraw-clause-goes : goal.returns-in-Withdraw-clause-goes
@@ -327,10 +373,14 @@ returns-in-Place-clause-leaves g c = record {
       (sym c.in-Place.is) (c.place-entry.result, place-now g c, c.note_place.ensures.leaves.rings tells);
 }
 
-pub returns-in-Place-clause-held : goal.returns-in-Place-clause-held
-returns-in-Place-clause-held g c = record {
-  held = c.note_place.ensures.held.held;
-  cause = c.note_place.ensures.held.cause;
+pub returns-in-Place-clause-behind : goal.returns-in-Place-clause-behind
+returns-in-Place-clause-behind g c = record {
+  held =
+      record {
+        held = c.note_place.ensures.behind.held.held;
+        cause = c.note_place.ensures.behind.held.cause;
+      };
+  going = first_of (search rules, grind (arith, common_steps));
 }
 
 pub returns-in-Place-clause-goes : goal.returns-in-Place-clause-goes
@@ -393,14 +443,6 @@ returns-in-Select-clause-leaves g c = record {
       subst (λ (a : Action). RingsDone a (moment_of c.args.deed.begun run) c.args.deed.speed false run (record run { minutes = c.select.new.self }) o o U U) (sym c.in-Select.is) (rings-left U);
 }
 
-pub returns-in-Select-clause-held : goal.returns-in-Select-clause-held
-returns-in-Select-clause-held g c = record {
-  held =
-      let h = c.requires.going.held in
-      record { is_unit = h.is_unit; odometer = h.odometer; minute = h.minute; card_a = h.card_a; card_b = h.card_b; stand = h.stand };
-  cause = (no_reads (g.M.Medium.state c.args.unit.now) (c.requires.going.lit (ap is_lit c.requires.lit)).ready.unit_ready.works).cause;
-}
-
 pub returns-in-Select-clause-goes : goal.returns-in-Select-clause-goes
 returns-in-Select-clause-goes g c = record {
   later = later-same (devices (g.M.Medium.state c.args.unit.now) (g.C.Chip.state c.args.card_a.now) (g.D.Chip.state c.args.card_b.now));
@@ -460,14 +502,6 @@ returns-in-Manual-clause-leaves g c = record {
       by-hand g c (λ a r. RingsDone a (moment_of c.args.deed.begun run) c.args.deed.speed false run r o o U U) (rings-left U);
 }
 
-pub returns-in-Manual-clause-held : goal.returns-in-Manual-clause-held
-returns-in-Manual-clause-held g c = record {
-  held =
-      by-hand g c (λ a r. CanBeCut (r.next / 60) r (g.M.Medium.state c.args.unit.now) (g.C.Chip.card c.args.card_a.now) (g.D.Chip.card c.args.card_b.now) (g.C.Chip.state c.args.card_a.now) (g.D.Chip.state c.args.card_b.now))
-      (holding-held (hand g c) c.args.run.now (c.args.run.now.next / 60) (hand_card g c) (hand-stands g c) c.requires.going.held);
-  cause = (no_reads (g.M.Medium.state c.args.unit.now) (c.requires.going.lit (ap is_lit c.requires.lit)).ready.unit_ready.works).cause;
-}
-
 pub returns-in-Manual-clause-goes : goal.returns-in-Manual-clause-goes
 returns-in-Manual-clause-goes g c = record {
   later = later-same (devices (g.M.Medium.state c.args.unit.now) (g.C.Chip.state c.args.card_a.now) (g.D.Chip.state c.args.card_b.now));
@@ -514,17 +548,6 @@ returns-in-Tear-clause-leaves g c = record {
       let o = c.args.outcome.now in
       let U = g.M.Medium.state c.args.unit.now in
       subst (λ (a : Action). RingsDone a (moment_of c.args.deed.begun run) c.args.deed.speed false run c.pull.new.run o (record o { breaks = c.pull.new.breaks }) U U) (sym c.in-Tear.is) (rings-left U);
-}
-
-pub returns-in-Tear-clause-held : goal.returns-in-Tear-clause-held
-returns-in-Tear-clause-held g c = record {
-  held =
-      let run = c.args.run.now in
-      let o = card_in (seat_in run.keeper.cabin.slots.seats c.in-Tear.slot) in
-      let at = ap (λ (m : Moment). m.second / 60) c.moment-at.ensures in
-      subst (λ (r : Run). CanBeCut (r.next / 60) r (g.M.Medium.state c.args.unit.now) (g.C.Chip.card c.args.card_a.now) (g.D.Chip.card c.args.card_b.now) (g.C.Chip.state c.args.card_a.now) (g.D.Chip.state c.args.card_b.now)) (sym c.pull.ensures.run)
-      (pulled-held run c.moment-at.result.second (omega (arith, at)) o (λ from leaving s. subst (λ (r : Run). CabinIsSound from leaving r.keeper.cabin) c.pull.ensures.run (c.pull.ensures.stands from leaving s)) c.requires.going.held);
-  cause = (no_reads (g.M.Medium.state c.args.unit.now) (c.requires.going.lit (ap is_lit c.requires.lit)).ready.unit_ready.works).cause;
 }
 
 pub returns-in-Tear-clause-goes : goal.returns-in-Tear-clause-goes

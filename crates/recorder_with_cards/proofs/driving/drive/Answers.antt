@@ -81,7 +81,7 @@ module _ (g : Over) (c : After-drive_on g) where
   begun-all many few = let n = c.number_of-begun.ensures in omega (arith, n, few)
 
   time-three : HaveTime dev4 → HaveTime dev3
-  time-three = after-time c.drive_on.ensures.later
+  time-three = after-time c.drive_on.ensures.goes.later
 
   time-two : HaveTime dev4 → HaveTime dev2
   time-two time = after-time c.turn.ensures.goes.later (time-three time)
@@ -148,9 +148,12 @@ module _ (g : Over) (c : After-drive_on g) where
       (λ away was_. still away (λ (x : Devices). R o (done ++ driven 1 c.args.run.now.next c.args.due.speed acts) c.turn.new.run c.turn.new.outcome x) (dark_so away))
 
 pub begin_second-requires-clause-room : goal.begin_second-requires-clause-room
-begin_second-requires-clause-room g c =
-    let some = c.requires.some in
-    room-less cuts_from c.args.run.now c.args.outcome.now c.args.due.seconds 1 0 0 (insertions_in c.args.due.from c.args.due.to c.args.due.items.now) 0 (c.args.due.to - c.args.due.from) 0 (omega (arith, some)) (omega arith) (omega arith) (omega arith) c.requires.room
+begin_second-requires-clause-room g c = record {
+  room =
+      let some = c.requires.some in
+      room-less cuts_from c.args.run.now c.args.outcome.now c.args.due.seconds 1 0 0 (insertions_in c.args.due.from c.args.due.to c.args.due.items.now) 0 (c.args.due.to - c.args.due.from) 0 (omega (arith, some)) (omega arith) (omega arith) (omega arith) c.requires.may.room;
+  unfound = first_of (search rules, grind (arith, common_steps));
+}
 
 pub act_all-requires-clause-dark : goal.act_all-requires-clause-dark
 act_all-requires-clause-dark g c = λ no.
@@ -165,7 +168,7 @@ act_all-requires-clause-room g c =
     let k : ℕ = insertions_in c.args.due.from c.args.due.to c.args.due.items.now in
     let a : ℕ = c.args.due.to - c.args.due.from in
     room-less cuts_within c.begin_second.new.run c.begin_second.new.outcome (1 + (s - 1)) 1 0 0 k k a a (omega arith) (omega arith) (omega arith) (omega arith)
-    (c.in_ok-has_power.ensures.room (s - 1) 0 k a (room-less cuts_from c.args.run.now c.args.outcome.now s (1 + (s - 1)) 0 0 k k a a (omega (arith, some)) (omega arith) (omega arith) (omega arith) c.requires.room))
+    (c.in_ok-has_power.ensures.room (s - 1) 0 k a (room-less cuts_from c.args.run.now c.args.outcome.now s (1 + (s - 1)) 0 0 k k a a (omega (arith, some)) (omega arith) (omega arith) (omega arith) c.requires.may.room))
 
 pub turn-requires-clause-room : goal.turn-requires-clause-room
 turn-requires-clause-room g c =
@@ -176,35 +179,33 @@ turn-requires-clause-room g c =
     room-less cuts_within c.act_all.new.run c.act_all.new.outcome (1 + (s - 1)) 1 0 0 0 0 0 0 (omega arith) (omega arith) (omega arith) (omega arith)
     (c.act_all.ensures.room (s - 1) 0 0 0
     (room-less cuts_within c.begin_second.new.run c.begin_second.new.outcome (1 + (s - 1)) (1 + (s - 1)) 0 0 k (k + 0) a (a + 0) (omega arith) (omega arith) (omega arith) (omega arith)
-    (c.in_ok-has_power.ensures.room (s - 1) 0 k a (room-less cuts_from c.args.run.now c.args.outcome.now s (1 + (s - 1)) 0 0 k k a a (omega (arith, some)) (omega arith) (omega arith) (omega arith) c.requires.room))))
+    (c.in_ok-has_power.ensures.room (s - 1) 0 k a (room-less cuts_from c.args.run.now c.args.outcome.now s (1 + (s - 1)) 0 0 k k a a (omega (arith, some)) (omega arith) (omega arith) (omega arith) c.requires.may.room))))
 
-pub drive_on-requires-clause-room : goal.drive_on-requires-clause-room
-drive_on-requires-clause-room g c =
-    let some = c.requires.some in
-    let s : ℕ = c.args.due.seconds in
-    let k : ℕ = insertions_in c.args.due.from c.args.due.to c.args.due.items.now in
-    let a : ℕ = c.args.due.to - c.args.due.from in
-    c.turn.ensures.room (s - 1) 0 0 0 (c.act_all.ensures.room (s - 1) 0 0 0
-    (room-less cuts_within c.begin_second.new.run c.begin_second.new.outcome (1 + (s - 1)) (1 + (s - 1)) 0 0 k (k + 0) a (a + 0) (omega arith) (omega arith) (omega arith) (omega arith)
-    (c.in_ok-has_power.ensures.room (s - 1) 0 k a (room-less cuts_from c.args.run.now c.args.outcome.now s (1 + (s - 1)) 0 0 k k a a (omega (arith, some)) (omega arith) (omega arith) (omega arith) c.requires.room))))
-
-pub drive_on-requires-clause-small : goal.drive_on-requires-clause-small
-drive_on-requires-clause-small g c =
-    let turned = c.turn.ensures.turned.next in
-    let acted = c.act_all.ensures.acted.next in
-    let begun = c.in_ok-has_power.ensures.begun.next in
-    let some = c.requires.some in
-    let small = c.requires.small in
-    omega (arith, turned, acted, begun, some, small)
-
-pub drive_on-requires-clause-unfound : goal.drive_on-requires-clause-unfound
-drive_on-requires-clause-unfound g c =
-    let turned = c.turn.ensures.turned.unfound in
-    let acted = c.act_all.ensures.acted.unfound in
-    let begun = c.in_ok-has_power.ensures.begun.unfound in
-    let more = c.turn.ensures.goes.more in
-    let some = c.act_all.ensures.goes.more in
-    omega (arith, turned, acted, begun, more, some)
+pub drive_on-requires-clause-may : goal.drive_on-requires-clause-may
+drive_on-requires-clause-may g c = record {
+  small =
+      let turned = c.turn.ensures.turned.next in
+      let acted = c.act_all.ensures.acted.next in
+      let begun = c.in_ok-has_power.ensures.begun.next in
+      let some = c.requires.some in
+      let small = c.requires.may.small in
+      omega (arith, turned, acted, begun, some, small);
+  room =
+      let some = c.requires.some in
+      let s : ℕ = c.args.due.seconds in
+      let k : ℕ = insertions_in c.args.due.from c.args.due.to c.args.due.items.now in
+      let a : ℕ = c.args.due.to - c.args.due.from in
+      c.turn.ensures.room (s - 1) 0 0 0 (c.act_all.ensures.room (s - 1) 0 0 0
+      (room-less cuts_within c.begin_second.new.run c.begin_second.new.outcome (1 + (s - 1)) (1 + (s - 1)) 0 0 k (k + 0) a (a + 0) (omega arith) (omega arith) (omega arith) (omega arith)
+      (c.in_ok-has_power.ensures.room (s - 1) 0 k a (room-less cuts_from c.args.run.now c.args.outcome.now s (1 + (s - 1)) 0 0 k k a a (omega (arith, some)) (omega arith) (omega arith) (omega arith) c.requires.may.room))));
+  unfound =
+      let turned = c.turn.ensures.turned.unfound in
+      let acted = c.act_all.ensures.acted.unfound in
+      let begun = c.in_ok-has_power.ensures.begun.unfound in
+      let more = c.turn.ensures.goes.more in
+      let some = c.act_all.ensures.goes.more in
+      omega (arith, turned, acted, begun, more, some);
+}
 
 pub returns-clause-room : goal.returns-clause-room
 returns-clause-room g c = λ left offs insertions actions h.
@@ -242,87 +243,83 @@ returns-in_err-has_power-clause-gone g c = record {
   is_unit = c.in_err-has_power.ensures.unit;
 }
 
-pub returns-clause-later : goal.returns-clause-later
-returns-clause-later g c = after-then (dev0 g c) (dev1 g c) (dev4 g c) (after-of (dev0 g c) (dev1 g c) c.in_ok-has_power.ensures.goes.later) (after-then (dev1 g c) (dev2 g c) (dev4 g c) (after-of (dev1 g c) (dev2 g c) c.act_all.ensures.goes.later) (after-then (dev2 g c) (dev3 g c) (dev4 g c) c.turn.ensures.goes.later c.drive_on.ensures.later))
+pub returns-clause-goes : goal.returns-clause-goes
+returns-clause-goes g c = record {
+  later = after-then (dev0 g c) (dev1 g c) (dev4 g c) (after-of (dev0 g c) (dev1 g c) c.in_ok-has_power.ensures.goes.later) (after-then (dev1 g c) (dev2 g c) (dev4 g c) (after-of (dev1 g c) (dev2 g c) c.act_all.ensures.goes.later) (after-then (dev2 g c) (dev3 g c) (dev4 g c) c.turn.ensures.goes.later c.drive_on.ensures.goes.later));
+  calm = calm-then (dev0 g c) (dev1 g c) (dev4 g c) c.in_ok-has_power.ensures.goes.calm (calm-then (dev1 g c) (dev2 g c) (dev4 g c) c.act_all.ensures.goes.calm (calm-then (dev2 g c) (dev3 g c) (dev4 g c) c.turn.ensures.goes.calm c.drive_on.ensures.goes.calm));
+  broke = broke-then c.in_ok-has_power.ensures.goes.broke (broke-then c.act_all.ensures.goes.broke (broke-then c.turn.ensures.goes.broke c.drive_on.ensures.goes.broke));
+  most = writes-driven c.args.due.seconds (c.args.due.to - c.args.due.from) (dev0 g c) (dev1 g c) (dev2 g c) (dev3 g c) (dev4 g c) c.requires.some c.in_ok-has_power.ensures.goes.most c.act_all.ensures.goes.most c.turn.ensures.goes.most c.drive_on.ensures.goes.most;
+}
 
-pub returns-in_err-has_power-clause-later : goal.returns-in_err-has_power-clause-later
-returns-in_err-has_power-clause-later g c =
-    after-of (devices (g.M.Medium.state c.args.unit.now) (g.C.Chip.state c.args.card_a.now) (g.D.Chip.state c.args.card_b.now)) (devices (g.M.Medium.state c.begin_second.new.unit) (g.C.Chip.state c.begin_second.new.card_a) (g.D.Chip.state c.begin_second.new.card_b))
-    c.in_err-has_power.ensures.goes.later
+pub returns-in_err-has_power-clause-goes : goal.returns-in_err-has_power-clause-goes
+returns-in_err-has_power-clause-goes g c = record {
+  later =
+      after-of (devices (g.M.Medium.state c.args.unit.now) (g.C.Chip.state c.args.card_a.now) (g.D.Chip.state c.args.card_b.now)) (devices (g.M.Medium.state c.begin_second.new.unit) (g.C.Chip.state c.begin_second.new.card_a) (g.D.Chip.state c.begin_second.new.card_b))
+      c.in_err-has_power.ensures.goes.later;
+  calm = c.in_err-has_power.ensures.goes.calm;
+  broke = c.in_err-has_power.ensures.goes.broke;
+  most = writes-begun c.args.due.seconds (c.args.due.to - c.args.due.from) (devices (g.M.Medium.state c.args.unit.now) (g.C.Chip.state c.args.card_a.now) (g.D.Chip.state c.args.card_b.now)) (devices (g.M.Medium.state c.begin_second.new.unit) (g.C.Chip.state c.begin_second.new.card_a) (g.D.Chip.state c.begin_second.new.card_b)) c.requires.some c.in_err-has_power.ensures.goes.most;
+}
 
 -- ---- what is recorded, with its events and rings
 
-pub returns-clause-ringed : goal.returns-clause-ringed
-returns-clause-ringed g c = λ many few o done r time.
-    let number = begun-all g c many few in
-    let whole : c.args.due.to - c.args.due.from ≡ 0 + length (acts g c) = omega (arith, many) in
-    let s : TraceSecond = second g c in
-    let begun = c.in_ok-has_power.ensures.promises.ringed o done s (record { number = refl; given = refl; speed_is = refl }) r (time-one g c time) in
-    let behind = first-second g c RunRinged InSecondRinged o done begun
-    (λ lit in_.
-    let acted = c.act_all.ensures.promises.ringed lit many few o done s (now-begun g c) [] [] (sym (append-nil (acts g c))) whole in_ (time-two g c time) in
-    c.turn.ensures.promises.ringed o done s (now-acted g c) (many ∙ sym number) (λ more. absurd (omega (arith, more)))
-    (subst (λ (n : ℕ). InSecondRinged o done s n c.act_all.new.run c.act_all.new.outcome (dev2 g c)) (sym number) acted) (time-three g c time))
-    (λ away. dark-ringed o done c.args.run.now c.args.outcome.now (dev0 g c) r 1 c.args.due.speed c.number_of-begun.result (acts g c) (omega arith) (none-given g c away) (omega arith) c.turn.new.run c.turn.new.outcome (passed-on g c away many few) (refused-all g c away many few)) in
-    run-then RunRinged c.drive_on.result o done c.args.due.seconds c.args.run.now.next c.turn.new.run.next c.args.due.speed (acts g c) c.drive_on.new.run c.drive_on.new.outcome (dev4 g c) c.requires.some (later-by-one g c)
-    (c.drive_on.ensures.ringed o (done ++ driven 1 c.args.run.now.next c.args.due.speed (acts g c)) (done, s, refl, refl) behind time)
+pub returns-clause-promises : goal.returns-clause-promises
+returns-clause-promises g c = record {
+  ringed =
+      λ many few o done r time.
+      let number = begun-all g c many few in
+      let whole : c.args.due.to - c.args.due.from ≡ 0 + length (acts g c) = omega (arith, many) in
+      let s : TraceSecond = second g c in
+      let begun = c.in_ok-has_power.ensures.promises.ringed o done s (record { number = refl; given = refl; speed_is = refl }) r (time-one g c time) in
+      let behind = first-second g c RunRinged InSecondRinged o done begun
+      (λ lit in_.
+      let acted = c.act_all.ensures.promises.ringed lit many few o done s (now-begun g c) [] [] (sym (append-nil (acts g c))) whole in_ (time-two g c time) in
+      c.turn.ensures.promises.ringed o done s (now-acted g c) (many ∙ sym number) (λ more. absurd (omega (arith, more)))
+      (subst (λ (n : ℕ). InSecondRinged o done s n c.act_all.new.run c.act_all.new.outcome (dev2 g c)) (sym number) acted) (time-three g c time))
+      (λ away. dark-ringed o done c.args.run.now c.args.outcome.now (dev0 g c) r 1 c.args.due.speed c.number_of-begun.result (acts g c) (omega arith) (none-given g c away) (omega arith) c.turn.new.run c.turn.new.outcome (passed-on g c away many few) (refused-all g c away many few)) in
+      run-then RunRinged c.drive_on.result o done c.args.due.seconds c.args.run.now.next c.turn.new.run.next c.args.due.speed (acts g c) c.drive_on.new.run c.drive_on.new.outcome (dev4 g c) c.requires.some (later-by-one g c)
+      (c.drive_on.ensures.promises.ringed o (done ++ driven 1 c.args.run.now.next c.args.due.speed (acts g c)) (done, s, refl, refl) behind time);
+  cards =
+      λ many few o done r time.
+      let number = begun-all g c many few in
+      let whole : c.args.due.to - c.args.due.from ≡ 0 + length (acts g c) = omega (arith, many) in
+      let s : TraceSecond = second g c in
+      let low = c.requires.going.low in
+      let positive : 0 < c.args.run.now.next = omega (arith, low) in
+      let begun = c.in_ok-has_power.ensures.promises.cards o done s (record { number = refl; given = refl; speed_is = refl }) r (time-one g c time) in
+      let behind = first-second g c RunCarded InSecondCarded o done begun
+      (λ lit in_.
+      let acted = c.act_all.ensures.promises.cards lit many few o done s (now-begun g c) [] [] (sym (append-nil (acts g c))) whole in_ (time-two g c time) in
+      turned-carded o done s 1 c.args.due.speed c.number_of-begun.result c.act_all.new.run c.turn.new.run c.act_all.new.outcome c.turn.new.outcome (dev2 g c) (dev3 g c) (many ∙ sym number) positive
+      (subst (λ (n : ℕ). InSecondCarded o done s n c.act_all.new.run c.act_all.new.outcome (dev2 g c)) (sym number) acted) c.turn.ensures.turned.seconds
+      (λ x. c.turn.ensures.promises.ringed o done s (now-acted g c) (many ∙ sym number) (λ more. absurd (omega (arith, more))) x (time-three g c time))
+      (λ x. c.turn.ensures.promises.cards o done s (now-acted g c) (many ∙ sym number) (λ more. absurd (omega (arith, more))) x (time-three g c time))
+      (c.turn.ensures.promises.speeds o done s (now-acted g c) (many ∙ sym number) (λ more. absurd (omega (arith, more)))
+      (in-second o done s c.args.run.now c.act_all.new.run c.args.outcome.now c.act_all.new.outcome (dev0 g c) (dev2 g c) r.ringed.evented.recorded r.speeds refl refl (has-given g c lit) (came g c lit) (leaves g c) c.number_of-begun.result
+      (carded-in (is_lit c.act_all.new.run.power) o done s c.number_of-begun.result c.act_all.new.run c.act_all.new.outcome (dev2 g c) (subst (λ (n : ℕ). InSecondCarded o done s n c.act_all.new.run c.act_all.new.outcome (dev2 g c)) (sym number) acted))) (time-three g c time)))
+      (λ away. dark-carded o done c.args.run.now c.args.outcome.now (dev0 g c) r c.requires.going.low 1 c.args.due.speed c.number_of-begun.result (acts g c) (omega arith) (none-given g c away) (omega arith) c.turn.new.run c.turn.new.outcome (passed-on g c away many few) (refused-all g c away many few)) in
+      run-then RunCarded c.drive_on.result o done c.args.due.seconds c.args.run.now.next c.turn.new.run.next c.args.due.speed (acts g c) c.drive_on.new.run c.drive_on.new.outcome (dev4 g c) c.requires.some (later-by-one g c)
+      (c.drive_on.ensures.promises.cards o (done ++ driven 1 c.args.run.now.next c.args.due.speed (acts g c)) (done, s, refl, refl) behind time);
+}
 
-pub returns-in_err-has_power-clause-ringed : goal.returns-in_err-has_power-clause-ringed
-returns-in_err-has_power-clause-ringed g c = λ many few o done r time.
-    let s : TraceSecond = record { number = c.args.run.now.next; has_power = true; speed = c.args.due.speed; actions = actions_in (between c.args.due.from c.args.due.to c.args.due.items.now) } in
-    absurd (c.in_err-has_power.ensures.promises.ringed o done s (record { number = refl; given = refl; speed_is = refl }) r time)
+pub returns-in_err-has_power-clause-promises : goal.returns-in_err-has_power-clause-promises
+returns-in_err-has_power-clause-promises g c = record {
+  ringed =
+      λ many few o done r time.
+      let s : TraceSecond = record { number = c.args.run.now.next; has_power = true; speed = c.args.due.speed; actions = actions_in (between c.args.due.from c.args.due.to c.args.due.items.now) } in
+      absurd (c.in_err-has_power.ensures.promises.ringed o done s (record { number = refl; given = refl; speed_is = refl }) r time);
+  cards =
+      λ many few o done r time.
+      let s : TraceSecond = record { number = c.args.run.now.next; has_power = true; speed = c.args.due.speed; actions = actions_in (between c.args.due.from c.args.due.to c.args.due.items.now) } in
+      absurd (c.in_err-has_power.ensures.promises.cards o done s (record { number = refl; given = refl; speed_is = refl }) r time);
+}
 
--- ---- and the events on the cards
+pub turn-requires-clause-stretch : goal.turn-requires-clause-stretch
+turn-requires-clause-stretch g c = record {
+  some = first_of (search rules, grind (arith, common_steps));
+  minute = first_of (search rules, grind (arith, common_steps));
+  small = first_of (search rules, grind (arith, common_steps));
+}
 
-pub returns-clause-cards : goal.returns-clause-cards
-returns-clause-cards g c = λ many few o done r time.
-    let number = begun-all g c many few in
-    let whole : c.args.due.to - c.args.due.from ≡ 0 + length (acts g c) = omega (arith, many) in
-    let s : TraceSecond = second g c in
-    let low = c.requires.going.low in
-    let positive : 0 < c.args.run.now.next = omega (arith, low) in
-    let begun = c.in_ok-has_power.ensures.promises.cards o done s (record { number = refl; given = refl; speed_is = refl }) r (time-one g c time) in
-    let behind = first-second g c RunCarded InSecondCarded o done begun
-    (λ lit in_.
-    let acted = c.act_all.ensures.promises.cards lit many few o done s (now-begun g c) [] [] (sym (append-nil (acts g c))) whole in_ (time-two g c time) in
-    turned-carded o done s 1 c.args.due.speed c.number_of-begun.result c.act_all.new.run c.turn.new.run c.act_all.new.outcome c.turn.new.outcome (dev2 g c) (dev3 g c) (many ∙ sym number) positive
-    (subst (λ (n : ℕ). InSecondCarded o done s n c.act_all.new.run c.act_all.new.outcome (dev2 g c)) (sym number) acted) c.turn.ensures.turned.seconds
-    (λ x. c.turn.ensures.promises.ringed o done s (now-acted g c) (many ∙ sym number) (λ more. absurd (omega (arith, more))) x (time-three g c time))
-    (λ x. c.turn.ensures.promises.cards o done s (now-acted g c) (many ∙ sym number) (λ more. absurd (omega (arith, more))) x (time-three g c time))
-    (c.turn.ensures.promises.speeds o done s (now-acted g c) (many ∙ sym number) (λ more. absurd (omega (arith, more)))
-    (in-second o done s c.args.run.now c.act_all.new.run c.args.outcome.now c.act_all.new.outcome (dev0 g c) (dev2 g c) r.ringed.evented.recorded r.speeds refl refl (has-given g c lit) (came g c lit) (leaves g c) c.number_of-begun.result
-    (carded-in (is_lit c.act_all.new.run.power) o done s c.number_of-begun.result c.act_all.new.run c.act_all.new.outcome (dev2 g c) (subst (λ (n : ℕ). InSecondCarded o done s n c.act_all.new.run c.act_all.new.outcome (dev2 g c)) (sym number) acted))) (time-three g c time)))
-    (λ away. dark-carded o done c.args.run.now c.args.outcome.now (dev0 g c) r c.requires.going.low 1 c.args.due.speed c.number_of-begun.result (acts g c) (omega arith) (none-given g c away) (omega arith) c.turn.new.run c.turn.new.outcome (passed-on g c away many few) (refused-all g c away many few)) in
-    run-then RunCarded c.drive_on.result o done c.args.due.seconds c.args.run.now.next c.turn.new.run.next c.args.due.speed (acts g c) c.drive_on.new.run c.drive_on.new.outcome (dev4 g c) c.requires.some (later-by-one g c)
-    (c.drive_on.ensures.cards o (done ++ driven 1 c.args.run.now.next c.args.due.speed (acts g c)) (done, s, refl, refl) behind time)
-
-pub returns-in_err-has_power-clause-cards : goal.returns-in_err-has_power-clause-cards
-returns-in_err-has_power-clause-cards g c = λ many few o done r time.
-    let s : TraceSecond = record { number = c.args.run.now.next; has_power = true; speed = c.args.due.speed; actions = actions_in (between c.args.due.from c.args.due.to c.args.due.items.now) } in
-    absurd (c.in_err-has_power.ensures.promises.cards o done s (record { number = refl; given = refl; speed_is = refl }) r time)
-
--- ---- how often the unit broke down
-
-pub returns-clause-broke : goal.returns-clause-broke
-returns-clause-broke g c = broke-then c.in_ok-has_power.ensures.goes.broke (broke-then c.act_all.ensures.goes.broke (broke-then c.turn.ensures.goes.broke c.drive_on.ensures.broke))
-
-pub returns-in_err-has_power-clause-broke : goal.returns-in_err-has_power-clause-broke
-returns-in_err-has_power-clause-broke g c = c.in_err-has_power.ensures.goes.broke
-
--- ---- where no tear of a failed call is told no card has broken down
-
-pub returns-clause-calm : goal.returns-clause-calm
-returns-clause-calm g c = calm-then (dev0 g c) (dev1 g c) (dev4 g c) c.in_ok-has_power.ensures.goes.calm (calm-then (dev1 g c) (dev2 g c) (dev4 g c) c.act_all.ensures.goes.calm (calm-then (dev2 g c) (dev3 g c) (dev4 g c) c.turn.ensures.goes.calm c.drive_on.ensures.calm))
-
-pub returns-in_err-has_power-clause-calm : goal.returns-in_err-has_power-clause-calm
-returns-in_err-has_power-clause-calm g c = c.in_err-has_power.ensures.goes.calm
-
--- ---- its writes
-
-pub returns-clause-most : goal.returns-clause-most
-returns-clause-most g c =
-    writes-driven c.args.due.seconds (c.args.due.to - c.args.due.from) (dev0 g c) (dev1 g c) (dev2 g c) (dev3 g c) (dev4 g c) c.requires.some c.in_ok-has_power.ensures.goes.most c.act_all.ensures.goes.most c.turn.ensures.goes.most c.drive_on.ensures.most
-
-pub returns-in_err-has_power-clause-most : goal.returns-in_err-has_power-clause-most
-returns-in_err-has_power-clause-most g c =
-    writes-begun c.args.due.seconds (c.args.due.to - c.args.due.from) (devices (g.M.Medium.state c.args.unit.now) (g.C.Chip.state c.args.card_a.now) (g.D.Chip.state c.args.card_b.now)) (devices (g.M.Medium.state c.begin_second.new.unit) (g.C.Chip.state c.begin_second.new.card_a) (g.D.Chip.state c.begin_second.new.card_b)) c.requires.some c.in_err-has_power.ensures.goes.most
+pub act_all-requires-clause-among : goal.act_all-requires-clause-among
+act_all-requires-clause-among g c = c.requires.among

@@ -22,7 +22,7 @@ pub loop-left-init : goal.loop-left-init
 loop-left-init g c = record {
   going = c.requires.going;
   next = refl;
-  enough = c.requires.room;
+  enough = c.requires.may.room;
   room = λ left offs insertions actions h. h;
   few = omega arith;
   ringed = λ o done last r time.
@@ -37,13 +37,16 @@ loop-left-init g c = record {
   calm = calm-same (devices (g.M.Medium.state c.args.unit.now) (g.C.Chip.state c.args.card_a.now) (g.D.Chip.state c.args.card_b.now));
   broke = broke-none c.args.outcome.now.breaks.items {old = (g.M.Medium.state c.args.unit.now)} {new = (g.M.Medium.state c.args.unit.now)} (omega arith);
   most = writes-none (c.args.more.seconds - c.args.more.seconds) 0 (devices (g.M.Medium.state c.args.unit.now) (g.C.Chip.state c.args.card_a.now) (g.D.Chip.state c.args.card_b.now));
-  unfound = c.requires.unfound;
+  unfound = c.requires.may.unfound;
 }
 
 pub step-requires-clause-room : goal.step-requires-clause-room
-step-requires-clause-room g c =
-    let most = c.turn_length-n.ensures.most in
-    room-less cuts_from c.loop-left.run c.loop-left.outcome c.loop-left.left c.turn_length-n.result 0 0 0 0 0 0 (omega (arith, most)) (omega arith) (omega arith) (omega arith) c.loop-left.invariant.enough
+step-requires-clause-room g c = record {
+  room =
+      let most = c.turn_length-n.ensures.most in
+      room-less cuts_from c.loop-left.run c.loop-left.outcome c.loop-left.left c.turn_length-n.result 0 0 0 0 0 0 (omega (arith, most)) (omega arith) (omega arith) (omega arith) c.loop-left.invariant.enough;
+  unfound = first_of (search rules, grind (arith, common_steps));
+}
 
 pub loop-left-preserved : goal.loop-left-preserved
 loop-left-preserved g c =
@@ -64,7 +67,7 @@ loop-left-preserved g c =
       few = let few = v.few in omega (arith, few);
       ringed = λ o done last r time.
           let so : ℕ = c.args.more.seconds - left in
-          let was = v.ringed o done last r (after-time c.in_ok-step.ensures.later time) in
+          let was = v.ringed o done last r (after-time c.in_ok-step.ensures.goes.later time) in
           let few = v.few in
           let start = v.next in
           let here : c.loop-left.run.next ≡ c.args.run.now.next + so = omega (arith, start, few) in
@@ -73,10 +76,10 @@ loop-left-preserved g c =
           (append_assoc done (driven so c.args.run.now.next c.args.more.speed []) (driven n c.loop-left.run.next c.args.more.speed [])
           ∙ ap (λ (ss : List TraceSecond). done ++ ss) (ap (λ (m : ℕ). driven so c.args.run.now.next c.args.more.speed [] ++ driven n m c.args.more.speed []) here ∙ sym (plain-parts so n c.args.run.now.next c.args.more.speed)
           ∙ ap (λ (m : ℕ). driven m c.args.run.now.next c.args.more.speed []) (let e : so + n ≡ c.args.more.seconds - (left - n) = omega (arith, few, most) in e)))
-          (last-more n c.loop-left.run.next c.args.more.speed (done ++ driven so c.args.run.now.next c.args.more.speed []) was.0, c.in_ok-step.ensures.ringed o (done ++ driven so c.args.run.now.next c.args.more.speed []) was.0 was.1 time);
+          (last-more n c.loop-left.run.next c.args.more.speed (done ++ driven so c.args.run.now.next c.args.more.speed []) was.0, c.in_ok-step.ensures.promises.ringed o (done ++ driven so c.args.run.now.next c.args.more.speed []) was.0 was.1 time);
       cards = λ o done last r time.
           let so : ℕ = c.args.more.seconds - left in
-          let was = v.cards o done last r (after-time c.in_ok-step.ensures.later time) in
+          let was = v.cards o done last r (after-time c.in_ok-step.ensures.goes.later time) in
           let few = v.few in
           let start = v.next in
           let here : c.loop-left.run.next ≡ c.args.run.now.next + so = omega (arith, start, few) in
@@ -85,14 +88,14 @@ loop-left-preserved g c =
           (append_assoc done (driven so c.args.run.now.next c.args.more.speed []) (driven n c.loop-left.run.next c.args.more.speed [])
           ∙ ap (λ (ss : List TraceSecond). done ++ ss) (ap (λ (m : ℕ). driven so c.args.run.now.next c.args.more.speed [] ++ driven n m c.args.more.speed []) here ∙ sym (plain-parts so n c.args.run.now.next c.args.more.speed)
           ∙ ap (λ (m : ℕ). driven m c.args.run.now.next c.args.more.speed []) (let e : so + n ≡ c.args.more.seconds - (left - n) = omega (arith, few, most) in e)))
-          (last-more n c.loop-left.run.next c.args.more.speed (done ++ driven so c.args.run.now.next c.args.more.speed []) was.0, c.in_ok-step.ensures.cards o (done ++ driven so c.args.run.now.next c.args.more.speed []) was.0 was.1 time);
-      later = after-then (devices (g.M.Medium.state c.args.unit.now) (g.C.Chip.state c.args.card_a.now) (g.D.Chip.state c.args.card_b.now)) (devices (g.M.Medium.state c.loop-left.unit) (g.C.Chip.state c.loop-left.card_a) (g.D.Chip.state c.loop-left.card_b)) (devices (g.M.Medium.state c.step.new.unit) (g.C.Chip.state c.step.new.card_a) (g.D.Chip.state c.step.new.card_b)) v.later c.in_ok-step.ensures.later;
-      calm = calm-then (devices (g.M.Medium.state c.args.unit.now) (g.C.Chip.state c.args.card_a.now) (g.D.Chip.state c.args.card_b.now)) (devices (g.M.Medium.state c.loop-left.unit) (g.C.Chip.state c.loop-left.card_a) (g.D.Chip.state c.loop-left.card_b)) (devices (g.M.Medium.state c.step.new.unit) (g.C.Chip.state c.step.new.card_a) (g.D.Chip.state c.step.new.card_b)) v.calm c.in_ok-step.ensures.calm;
+          (last-more n c.loop-left.run.next c.args.more.speed (done ++ driven so c.args.run.now.next c.args.more.speed []) was.0, c.in_ok-step.ensures.promises.cards o (done ++ driven so c.args.run.now.next c.args.more.speed []) was.0 was.1 time);
+      later = after-then (devices (g.M.Medium.state c.args.unit.now) (g.C.Chip.state c.args.card_a.now) (g.D.Chip.state c.args.card_b.now)) (devices (g.M.Medium.state c.loop-left.unit) (g.C.Chip.state c.loop-left.card_a) (g.D.Chip.state c.loop-left.card_b)) (devices (g.M.Medium.state c.step.new.unit) (g.C.Chip.state c.step.new.card_a) (g.D.Chip.state c.step.new.card_b)) v.later c.in_ok-step.ensures.goes.later;
+      calm = calm-then (devices (g.M.Medium.state c.args.unit.now) (g.C.Chip.state c.args.card_a.now) (g.D.Chip.state c.args.card_b.now)) (devices (g.M.Medium.state c.loop-left.unit) (g.C.Chip.state c.loop-left.card_a) (g.D.Chip.state c.loop-left.card_b)) (devices (g.M.Medium.state c.step.new.unit) (g.C.Chip.state c.step.new.card_a) (g.D.Chip.state c.step.new.card_b)) v.calm c.in_ok-step.ensures.goes.calm;
       most =
           let few = v.few in
           writes-more (c.args.more.seconds - left + n) (c.args.more.seconds - (left - n)) 0 0 (devices (g.M.Medium.state c.args.unit.now) (g.C.Chip.state c.args.card_a.now) (g.D.Chip.state c.args.card_b.now)) (devices (g.M.Medium.state c.step.new.unit) (g.C.Chip.state c.step.new.card_a) (g.D.Chip.state c.step.new.card_b)) (omega (arith, few, most)) (omega arith)
-          (writes-then (c.args.more.seconds - left) n 0 0 (devices (g.M.Medium.state c.args.unit.now) (g.C.Chip.state c.args.card_a.now) (g.D.Chip.state c.args.card_b.now)) (devices (g.M.Medium.state c.loop-left.unit) (g.C.Chip.state c.loop-left.card_a) (g.D.Chip.state c.loop-left.card_b)) (devices (g.M.Medium.state c.step.new.unit) (g.C.Chip.state c.step.new.card_a) (g.D.Chip.state c.step.new.card_b)) v.most c.in_ok-step.ensures.most);
-      broke = broke-then c.loop-left.invariant.broke c.in_ok-step.ensures.broke;
+          (writes-then (c.args.more.seconds - left) n 0 0 (devices (g.M.Medium.state c.args.unit.now) (g.C.Chip.state c.args.card_a.now) (g.D.Chip.state c.args.card_b.now)) (devices (g.M.Medium.state c.loop-left.unit) (g.C.Chip.state c.loop-left.card_a) (g.D.Chip.state c.loop-left.card_b)) (devices (g.M.Medium.state c.step.new.unit) (g.C.Chip.state c.step.new.card_a) (g.D.Chip.state c.step.new.card_b)) v.most c.in_ok-step.ensures.goes.most);
+      broke = broke-then c.loop-left.invariant.broke c.in_ok-step.ensures.goes.broke;
       unfound = e.unfound;
     }
 
@@ -121,63 +124,57 @@ returns-in_err-step-clause-gone g c = record {
   is_unit = c.in_err-step.ensures.gone.is_unit;
 }
 
-pub returns-clause-later : goal.returns-clause-later
-returns-clause-later g c = c.loop-left.invariant.later
+pub returns-clause-goes : goal.returns-clause-goes
+returns-clause-goes g c = record {
+  later = c.loop-left.invariant.later;
+  calm = c.loop-left.invariant.calm;
+  broke = c.loop-left.invariant.broke;
+  most = writes-more (c.args.more.seconds - c.loop-left.left) c.args.more.seconds 0 0 (devices (g.M.Medium.state c.args.unit.now) (g.C.Chip.state c.args.card_a.now) (g.D.Chip.state c.args.card_b.now)) (devices (g.M.Medium.state c.loop-left.unit) (g.C.Chip.state c.loop-left.card_a) (g.D.Chip.state c.loop-left.card_b)) (omega arith) (omega arith) c.loop-left.invariant.most;
+}
 
-pub returns-in_err-step-clause-later : goal.returns-in_err-step-clause-later
-returns-in_err-step-clause-later g c = after-then (devices (g.M.Medium.state c.args.unit.now) (g.C.Chip.state c.args.card_a.now) (g.D.Chip.state c.args.card_b.now)) (devices (g.M.Medium.state c.loop-left.unit) (g.C.Chip.state c.loop-left.card_a) (g.D.Chip.state c.loop-left.card_b)) (devices (g.M.Medium.state c.step.new.unit) (g.C.Chip.state c.step.new.card_a) (g.D.Chip.state c.step.new.card_b)) c.loop-left.invariant.later c.in_err-step.ensures.later
+pub returns-in_err-step-clause-goes : goal.returns-in_err-step-clause-goes
+returns-in_err-step-clause-goes g c = record {
+  later = after-then (devices (g.M.Medium.state c.args.unit.now) (g.C.Chip.state c.args.card_a.now) (g.D.Chip.state c.args.card_b.now)) (devices (g.M.Medium.state c.loop-left.unit) (g.C.Chip.state c.loop-left.card_a) (g.D.Chip.state c.loop-left.card_b)) (devices (g.M.Medium.state c.step.new.unit) (g.C.Chip.state c.step.new.card_a) (g.D.Chip.state c.step.new.card_b)) c.loop-left.invariant.later c.in_err-step.ensures.goes.later;
+  calm = calm-then (devices (g.M.Medium.state c.args.unit.now) (g.C.Chip.state c.args.card_a.now) (g.D.Chip.state c.args.card_b.now)) (devices (g.M.Medium.state c.loop-left.unit) (g.C.Chip.state c.loop-left.card_a) (g.D.Chip.state c.loop-left.card_b)) (devices (g.M.Medium.state c.step.new.unit) (g.C.Chip.state c.step.new.card_a) (g.D.Chip.state c.step.new.card_b)) c.loop-left.invariant.calm c.in_err-step.ensures.goes.calm;
+  broke = broke-then c.loop-left.invariant.broke c.in_err-step.ensures.goes.broke;
+  most =
+      let few = c.loop-left.invariant.few in
+      let most = c.turn_length-n.ensures.most in
+      writes-more (c.args.more.seconds - c.loop-left.left + c.turn_length-n.result) c.args.more.seconds 0 0 (devices (g.M.Medium.state c.args.unit.now) (g.C.Chip.state c.args.card_a.now) (g.D.Chip.state c.args.card_b.now)) (devices (g.M.Medium.state c.step.new.unit) (g.C.Chip.state c.step.new.card_a) (g.D.Chip.state c.step.new.card_b)) (omega (arith, few, most)) (omega arith)
+      (writes-then (c.args.more.seconds - c.loop-left.left) c.turn_length-n.result 0 0 (devices (g.M.Medium.state c.args.unit.now) (g.C.Chip.state c.args.card_a.now) (g.D.Chip.state c.args.card_b.now)) (devices (g.M.Medium.state c.loop-left.unit) (g.C.Chip.state c.loop-left.card_a) (g.D.Chip.state c.loop-left.card_b)) (devices (g.M.Medium.state c.step.new.unit) (g.C.Chip.state c.step.new.card_a) (g.D.Chip.state c.step.new.card_b)) c.loop-left.invariant.most c.in_err-step.ensures.goes.most);
+}
 
 -- ---- what is recorded, with its events and rings
 
-pub returns-clause-ringed : goal.returns-clause-ringed
-returns-clause-ringed g c = λ o done last r time.
-    let none = c.loop-left-test.false in
-    subst (λ (n : ℕ). RunRinged o (done ++ driven n c.args.run.now.next c.args.more.speed []) c.loop-left.run c.loop-left.outcome (devices (g.M.Medium.state c.loop-left.unit) (g.C.Chip.state c.loop-left.card_a) (g.D.Chip.state c.loop-left.card_b))) (let e : c.args.more.seconds - c.loop-left.left ≡ c.args.more.seconds = omega (arith, none) in e)
-    ((c.loop-left.invariant.ringed o done last r time).1)
+pub returns-clause-promises : goal.returns-clause-promises
+returns-clause-promises g c = record {
+  ringed =
+      λ o done last r time.
+      let none = c.loop-left-test.false in
+      subst (λ (n : ℕ). RunRinged o (done ++ driven n c.args.run.now.next c.args.more.speed []) c.loop-left.run c.loop-left.outcome (devices (g.M.Medium.state c.loop-left.unit) (g.C.Chip.state c.loop-left.card_a) (g.D.Chip.state c.loop-left.card_b))) (let e : c.args.more.seconds - c.loop-left.left ≡ c.args.more.seconds = omega (arith, none) in e)
+      ((c.loop-left.invariant.ringed o done last r time).1);
+  cards =
+      λ o done last r time.
+      let none = c.loop-left-test.false in
+      subst (λ (n : ℕ). RunCarded o (done ++ driven n c.args.run.now.next c.args.more.speed []) c.loop-left.run c.loop-left.outcome (devices (g.M.Medium.state c.loop-left.unit) (g.C.Chip.state c.loop-left.card_a) (g.D.Chip.state c.loop-left.card_b))) (let e : c.args.more.seconds - c.loop-left.left ≡ c.args.more.seconds = omega (arith, none) in e)
+      ((c.loop-left.invariant.cards o done last r time).1);
+}
 
-pub returns-in_err-step-clause-ringed : goal.returns-in_err-step-clause-ringed
-returns-in_err-step-clause-ringed g c = λ o done last r time.
-    let was = c.loop-left.invariant.ringed o done last r (after-time c.in_err-step.ensures.later time) in
-    absurd (c.in_err-step.ensures.ringed o (done ++ driven (c.args.more.seconds - c.loop-left.left) c.args.run.now.next c.args.more.speed []) was.0 was.1 time)
+pub returns-in_err-step-clause-promises : goal.returns-in_err-step-clause-promises
+returns-in_err-step-clause-promises g c = record {
+  ringed =
+      λ o done last r time.
+      let was = c.loop-left.invariant.ringed o done last r (after-time c.in_err-step.ensures.goes.later time) in
+      absurd (c.in_err-step.ensures.promises.ringed o (done ++ driven (c.args.more.seconds - c.loop-left.left) c.args.run.now.next c.args.more.speed []) was.0 was.1 time);
+  cards =
+      λ o done last r time.
+      let was = c.loop-left.invariant.cards o done last r (after-time c.in_err-step.ensures.goes.later time) in
+      absurd (c.in_err-step.ensures.promises.cards o (done ++ driven (c.args.more.seconds - c.loop-left.left) c.args.run.now.next c.args.more.speed []) was.0 was.1 time);
+}
 
--- ---- and the events on the cards
-
-pub returns-clause-cards : goal.returns-clause-cards
-returns-clause-cards g c = λ o done last r time.
-    let none = c.loop-left-test.false in
-    subst (λ (n : ℕ). RunCarded o (done ++ driven n c.args.run.now.next c.args.more.speed []) c.loop-left.run c.loop-left.outcome (devices (g.M.Medium.state c.loop-left.unit) (g.C.Chip.state c.loop-left.card_a) (g.D.Chip.state c.loop-left.card_b))) (let e : c.args.more.seconds - c.loop-left.left ≡ c.args.more.seconds = omega (arith, none) in e)
-    ((c.loop-left.invariant.cards o done last r time).1)
-
-pub returns-in_err-step-clause-cards : goal.returns-in_err-step-clause-cards
-returns-in_err-step-clause-cards g c = λ o done last r time.
-    let was = c.loop-left.invariant.cards o done last r (after-time c.in_err-step.ensures.later time) in
-    absurd (c.in_err-step.ensures.cards o (done ++ driven (c.args.more.seconds - c.loop-left.left) c.args.run.now.next c.args.more.speed []) was.0 was.1 time)
-
--- ---- how often the unit broke down
-
-pub returns-clause-broke : goal.returns-clause-broke
-returns-clause-broke g c = c.loop-left.invariant.broke
-
-pub returns-in_err-step-clause-broke : goal.returns-in_err-step-clause-broke
-returns-in_err-step-clause-broke g c = broke-then c.loop-left.invariant.broke c.in_err-step.ensures.broke
-
--- ---- where no tear of a failed call is told no card has broken down
-
-pub returns-clause-calm : goal.returns-clause-calm
-returns-clause-calm g c = c.loop-left.invariant.calm
-
-pub returns-in_err-step-clause-calm : goal.returns-in_err-step-clause-calm
-returns-in_err-step-clause-calm g c = calm-then (devices (g.M.Medium.state c.args.unit.now) (g.C.Chip.state c.args.card_a.now) (g.D.Chip.state c.args.card_b.now)) (devices (g.M.Medium.state c.loop-left.unit) (g.C.Chip.state c.loop-left.card_a) (g.D.Chip.state c.loop-left.card_b)) (devices (g.M.Medium.state c.step.new.unit) (g.C.Chip.state c.step.new.card_a) (g.D.Chip.state c.step.new.card_b)) c.loop-left.invariant.calm c.in_err-step.ensures.calm
-
--- ---- its writes
-
-pub returns-clause-most : goal.returns-clause-most
-returns-clause-most g c =
-    writes-more (c.args.more.seconds - c.loop-left.left) c.args.more.seconds 0 0 (devices (g.M.Medium.state c.args.unit.now) (g.C.Chip.state c.args.card_a.now) (g.D.Chip.state c.args.card_b.now)) (devices (g.M.Medium.state c.loop-left.unit) (g.C.Chip.state c.loop-left.card_a) (g.D.Chip.state c.loop-left.card_b)) (omega arith) (omega arith) c.loop-left.invariant.most
-
-pub returns-in_err-step-clause-most : goal.returns-in_err-step-clause-most
-returns-in_err-step-clause-most g c =
-    let few = c.loop-left.invariant.few in
-    let most = c.turn_length-n.ensures.most in
-    writes-more (c.args.more.seconds - c.loop-left.left + c.turn_length-n.result) c.args.more.seconds 0 0 (devices (g.M.Medium.state c.args.unit.now) (g.C.Chip.state c.args.card_a.now) (g.D.Chip.state c.args.card_b.now)) (devices (g.M.Medium.state c.step.new.unit) (g.C.Chip.state c.step.new.card_a) (g.D.Chip.state c.step.new.card_b)) (omega (arith, few, most)) (omega arith)
-    (writes-then (c.args.more.seconds - c.loop-left.left) c.turn_length-n.result 0 0 (devices (g.M.Medium.state c.args.unit.now) (g.C.Chip.state c.args.card_a.now) (g.D.Chip.state c.args.card_b.now)) (devices (g.M.Medium.state c.loop-left.unit) (g.C.Chip.state c.loop-left.card_a) (g.D.Chip.state c.loop-left.card_b)) (devices (g.M.Medium.state c.step.new.unit) (g.C.Chip.state c.step.new.card_a) (g.D.Chip.state c.step.new.card_b)) c.loop-left.invariant.most c.in_err-step.ensures.most)
+pub step-requires-clause-stretch : goal.step-requires-clause-stretch
+step-requires-clause-stretch g c = record {
+  some = first_of (search rules, grind (arith, common_steps));
+  minute = first_of (search rules, grind (arith, common_steps));
+  small = first_of (search rules, grind (arith, common_steps));
+}

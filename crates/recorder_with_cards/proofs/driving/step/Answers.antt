@@ -91,22 +91,25 @@ module _ (g : Over) (c : After-turn g) where
       (c.in_ok-begin_second.field-0 ≡ false → R o (done ++ driven c.args.more.seconds c.args.run.now.next c.args.more.speed []) c.turn.new.run c.turn.new.outcome dev0) → R o (done ++ driven c.args.more.seconds c.args.run.now.next c.args.more.speed []) c.turn.new.run c.turn.new.outcome dev2
   stepped R I o done begun lit dark_so =
       by-power R I c.in_ok-begin_second.field-0 o done second c.begin_second.new.run c.begin_second.new.outcome dev1 begun
-      (λ lit_ in_. subst (λ (ss : List TraceSecond). R o ss c.turn.new.run c.turn.new.outcome dev2) (ap (λ (ss : List TraceSecond). done ++ ss) (sym (first-driven c.args.more.seconds c.args.run.now.next c.args.more.speed [] c.requires.some))) (lit lit_ in_))
+      (λ lit_ in_. subst (λ (ss : List TraceSecond). R o ss c.turn.new.run c.turn.new.outcome dev2) (ap (λ (ss : List TraceSecond). done ++ ss) (sym (first-driven c.args.more.seconds c.args.run.now.next c.args.more.speed [] c.requires.stretch.some))) (lit lit_ in_))
       (λ away was_. still away (λ (x : Devices). R o (done ++ driven c.args.more.seconds c.args.run.now.next c.args.more.speed []) c.turn.new.run c.turn.new.outcome x) (dark_so away))
 
 pub begin_second-requires-clause-room : goal.begin_second-requires-clause-room
-begin_second-requires-clause-room g c = let some = c.requires.some in room-less cuts_from c.args.run.now c.args.outcome.now c.args.more.seconds 1 0 0 0 0 0 0 (omega (arith, some)) (omega arith) (omega arith) (omega arith) c.requires.room
+begin_second-requires-clause-room g c = record {
+  room = let some = c.requires.stretch.some in room-less cuts_from c.args.run.now c.args.outcome.now c.args.more.seconds 1 0 0 0 0 0 0 (omega (arith, some)) (omega arith) (omega arith) (omega arith) c.requires.room.room;
+  unfound = first_of (search rules, grind (arith, common_steps));
+}
 
 pub turn-requires-clause-room : goal.turn-requires-clause-room
 turn-requires-clause-room g c =
-    let some = c.requires.some in
+    let some = c.requires.stretch.some in
     let n : ℕ = c.args.more.seconds in
     room-less cuts_within c.begin_second.new.run c.begin_second.new.outcome (1 + (n - 1)) n 0 0 0 0 0 0 (omega arith) (omega arith) (omega arith) (omega arith)
-    (c.in_ok-begin_second.ensures.room (n - 1) 0 0 0 (room-less cuts_from c.args.run.now c.args.outcome.now n (1 + (n - 1)) 0 0 0 0 0 0 (omega (arith, some)) (omega arith) (omega arith) (omega arith) c.requires.room))
+    (c.in_ok-begin_second.ensures.room (n - 1) 0 0 0 (room-less cuts_from c.args.run.now c.args.outcome.now n (1 + (n - 1)) 0 0 0 0 0 0 (omega (arith, some)) (omega arith) (omega arith) (omega arith) c.requires.room.room))
 
 pub returns-clause-room : goal.returns-clause-room
 returns-clause-room g c = λ left offs insertions actions h.
-    let some = c.requires.some in
+    let some = c.requires.stretch.some in
     let n : ℕ = c.args.more.seconds in
     c.turn.ensures.room left offs insertions actions
     (room-less cuts_within c.begin_second.new.run c.begin_second.new.outcome (1 + (n - 1 + left)) (n + left) offs offs insertions insertions actions actions (omega arith) (omega arith) (omega arith) (omega arith)
@@ -130,68 +133,62 @@ returns-in_err-begin_second-clause-gone g c = record {
   is_unit = c.in_err-begin_second.ensures.unit;
 }
 
-pub returns-clause-later : goal.returns-clause-later
-returns-clause-later g c = after-then (dev0 g c) (dev1 g c) (dev2 g c) (after-of (dev0 g c) (dev1 g c) c.in_ok-begin_second.ensures.goes.later) c.turn.ensures.goes.later
+pub returns-clause-goes : goal.returns-clause-goes
+returns-clause-goes g c = record {
+  later = after-then (dev0 g c) (dev1 g c) (dev2 g c) (after-of (dev0 g c) (dev1 g c) c.in_ok-begin_second.ensures.goes.later) c.turn.ensures.goes.later;
+  calm = calm-then (dev0 g c) (dev1 g c) (dev2 g c) c.in_ok-begin_second.ensures.goes.calm c.turn.ensures.goes.calm;
+  broke = broke-then c.in_ok-begin_second.ensures.goes.broke c.turn.ensures.goes.broke;
+  most = writes-second c.args.more.seconds (dev0 g c) (dev1 g c) (dev2 g c) c.requires.stretch.some c.in_ok-begin_second.ensures.goes.most c.turn.ensures.goes.most;
+}
 
-pub returns-in_err-begin_second-clause-later : goal.returns-in_err-begin_second-clause-later
-returns-in_err-begin_second-clause-later g c =
-    after-of (devices (g.M.Medium.state c.args.unit.now) (g.C.Chip.state c.args.card_a.now) (g.D.Chip.state c.args.card_b.now)) (devices (g.M.Medium.state c.begin_second.new.unit) (g.C.Chip.state c.begin_second.new.card_a) (g.D.Chip.state c.begin_second.new.card_b))
-    c.in_err-begin_second.ensures.goes.later
+pub returns-in_err-begin_second-clause-goes : goal.returns-in_err-begin_second-clause-goes
+returns-in_err-begin_second-clause-goes g c = record {
+  later =
+      after-of (devices (g.M.Medium.state c.args.unit.now) (g.C.Chip.state c.args.card_a.now) (g.D.Chip.state c.args.card_b.now)) (devices (g.M.Medium.state c.begin_second.new.unit) (g.C.Chip.state c.begin_second.new.card_a) (g.D.Chip.state c.begin_second.new.card_b))
+      c.in_err-begin_second.ensures.goes.later;
+  calm = c.in_err-begin_second.ensures.goes.calm;
+  broke = c.in_err-begin_second.ensures.goes.broke;
+  most = writes-begun c.args.more.seconds 0 (devices (g.M.Medium.state c.args.unit.now) (g.C.Chip.state c.args.card_a.now) (g.D.Chip.state c.args.card_b.now)) (devices (g.M.Medium.state c.begin_second.new.unit) (g.C.Chip.state c.begin_second.new.card_a) (g.D.Chip.state c.begin_second.new.card_b)) c.requires.stretch.some c.in_err-begin_second.ensures.goes.most;
+}
 
 -- ---- what is recorded, with its events and rings
 
-pub returns-clause-ringed : goal.returns-clause-ringed
-returns-clause-ringed g c = λ o done last r time.
-    stepped g c RunRinged InSecondRinged o done (c.in_ok-begin_second.ensures.promises.ringed o done (second g c) (record { number = refl; given = refl; speed_is = refl }) r (time-begun g c time))
-    (λ lit_ in_. c.turn.ensures.promises.ringed o done (second g c) (now-begun g c) refl (λ more. (refl, last)) in_ time)
-    (λ away. dark-ringed o done c.args.run.now c.args.outcome.now (dev0 g c) r c.args.more.seconds c.args.more.speed 0 [] c.requires.some (none-given g c away) c.requires.minute c.turn.new.run c.turn.new.outcome (passed-on g c away) (refused-none g c away))
+pub returns-clause-promises : goal.returns-clause-promises
+returns-clause-promises g c = record {
+  ringed =
+      λ o done last r time.
+      stepped g c RunRinged InSecondRinged o done (c.in_ok-begin_second.ensures.promises.ringed o done (second g c) (record { number = refl; given = refl; speed_is = refl }) r (time-begun g c time))
+      (λ lit_ in_. c.turn.ensures.promises.ringed o done (second g c) (now-begun g c) refl (λ more. (refl, last)) in_ time)
+      (λ away. dark-ringed o done c.args.run.now c.args.outcome.now (dev0 g c) r c.args.more.seconds c.args.more.speed 0 [] c.requires.stretch.some (none-given g c away) c.requires.stretch.minute c.turn.new.run c.turn.new.outcome (passed-on g c away) (refused-none g c away));
+  cards =
+      λ o done last r time.
+      let low = c.requires.going.low in
+      let positive : 0 < c.args.run.now.next = omega (arith, low) in
+      stepped g c RunCarded InSecondCarded o done (c.in_ok-begin_second.ensures.promises.cards o done (second g c) (record { number = refl; given = refl; speed_is = refl }) r (time-begun g c time))
+      (λ lit_ in_. turned-carded o done (second g c) c.args.more.seconds c.args.more.speed 0 c.begin_second.new.run c.turn.new.run c.begin_second.new.outcome c.turn.new.outcome (dev1 g c) (dev2 g c) refl positive in_ c.turn.ensures.turned.seconds
+      (λ x. c.turn.ensures.promises.ringed o done (second g c) (now-begun g c) refl (λ more. (refl, last)) x time)
+      (λ x. c.turn.ensures.promises.cards o done (second g c) (now-begun g c) refl (λ more. refl) x time)
+      (c.turn.ensures.promises.speeds o done (second g c) (now-begun g c) refl (λ more. refl)
+      (in-second o done (second g c) c.args.run.now c.begin_second.new.run c.args.outcome.now c.begin_second.new.outcome (dev0 g c) (dev1 g c) r.ringed.evented.recorded r.speeds refl refl (has-given g c lit_) (came g c lit_) c.in_ok-begin_second.ensures.goes.later.speeds 0
+      (carded-in (is_lit c.begin_second.new.run.power) o done (second g c) 0 c.begin_second.new.run c.begin_second.new.outcome (dev1 g c) in_)) time))
+      (λ away. dark-carded o done c.args.run.now c.args.outcome.now (dev0 g c) r c.requires.going.low c.args.more.seconds c.args.more.speed 0 [] c.requires.stretch.some (none-given g c away) c.requires.stretch.minute c.turn.new.run c.turn.new.outcome (passed-on g c away) (refused-none g c away));
+}
 
-pub returns-in_err-begin_second-clause-ringed : goal.returns-in_err-begin_second-clause-ringed
-returns-in_err-begin_second-clause-ringed g c = λ o done last r time.
-    let s : TraceSecond = record { number = c.args.run.now.next; has_power = true; speed = c.args.more.speed; actions = [] } in
-    absurd (c.in_err-begin_second.ensures.promises.ringed o done s (record { number = refl; given = refl; speed_is = refl }) r time)
+pub returns-in_err-begin_second-clause-promises : goal.returns-in_err-begin_second-clause-promises
+returns-in_err-begin_second-clause-promises g c = record {
+  ringed =
+      λ o done last r time.
+      let s : TraceSecond = record { number = c.args.run.now.next; has_power = true; speed = c.args.more.speed; actions = [] } in
+      absurd (c.in_err-begin_second.ensures.promises.ringed o done s (record { number = refl; given = refl; speed_is = refl }) r time);
+  cards =
+      λ o done last r time.
+      let s : TraceSecond = record { number = c.args.run.now.next; has_power = true; speed = c.args.more.speed; actions = [] } in
+      absurd (c.in_err-begin_second.ensures.promises.cards o done s (record { number = refl; given = refl; speed_is = refl }) r time);
+}
 
--- ---- and the events on the cards
-
-pub returns-clause-cards : goal.returns-clause-cards
-returns-clause-cards g c = λ o done last r time.
-    let low = c.requires.going.low in
-    let positive : 0 < c.args.run.now.next = omega (arith, low) in
-    stepped g c RunCarded InSecondCarded o done (c.in_ok-begin_second.ensures.promises.cards o done (second g c) (record { number = refl; given = refl; speed_is = refl }) r (time-begun g c time))
-    (λ lit_ in_. turned-carded o done (second g c) c.args.more.seconds c.args.more.speed 0 c.begin_second.new.run c.turn.new.run c.begin_second.new.outcome c.turn.new.outcome (dev1 g c) (dev2 g c) refl positive in_ c.turn.ensures.turned.seconds
-    (λ x. c.turn.ensures.promises.ringed o done (second g c) (now-begun g c) refl (λ more. (refl, last)) x time)
-    (λ x. c.turn.ensures.promises.cards o done (second g c) (now-begun g c) refl (λ more. refl) x time)
-    (c.turn.ensures.promises.speeds o done (second g c) (now-begun g c) refl (λ more. refl)
-    (in-second o done (second g c) c.args.run.now c.begin_second.new.run c.args.outcome.now c.begin_second.new.outcome (dev0 g c) (dev1 g c) r.ringed.evented.recorded r.speeds refl refl (has-given g c lit_) (came g c lit_) c.in_ok-begin_second.ensures.goes.later.speeds 0
-    (carded-in (is_lit c.begin_second.new.run.power) o done (second g c) 0 c.begin_second.new.run c.begin_second.new.outcome (dev1 g c) in_)) time))
-    (λ away. dark-carded o done c.args.run.now c.args.outcome.now (dev0 g c) r c.requires.going.low c.args.more.seconds c.args.more.speed 0 [] c.requires.some (none-given g c away) c.requires.minute c.turn.new.run c.turn.new.outcome (passed-on g c away) (refused-none g c away))
-
-pub returns-in_err-begin_second-clause-cards : goal.returns-in_err-begin_second-clause-cards
-returns-in_err-begin_second-clause-cards g c = λ o done last r time.
-    let s : TraceSecond = record { number = c.args.run.now.next; has_power = true; speed = c.args.more.speed; actions = [] } in
-    absurd (c.in_err-begin_second.ensures.promises.cards o done s (record { number = refl; given = refl; speed_is = refl }) r time)
-
--- ---- how often the unit broke down
-
-pub returns-clause-broke : goal.returns-clause-broke
-returns-clause-broke g c = broke-then c.in_ok-begin_second.ensures.goes.broke c.turn.ensures.goes.broke
-
-pub returns-in_err-begin_second-clause-broke : goal.returns-in_err-begin_second-clause-broke
-returns-in_err-begin_second-clause-broke g c = c.in_err-begin_second.ensures.goes.broke
-
--- ---- where no tear of a failed call is told no card has broken down
-
-pub returns-clause-calm : goal.returns-clause-calm
-returns-clause-calm g c = calm-then (dev0 g c) (dev1 g c) (dev2 g c) c.in_ok-begin_second.ensures.goes.calm c.turn.ensures.goes.calm
-
-pub returns-in_err-begin_second-clause-calm : goal.returns-in_err-begin_second-clause-calm
-returns-in_err-begin_second-clause-calm g c = c.in_err-begin_second.ensures.goes.calm
-
--- ---- its writes
-
-pub returns-clause-most : goal.returns-clause-most
-returns-clause-most g c = writes-second c.args.more.seconds (dev0 g c) (dev1 g c) (dev2 g c) c.requires.some c.in_ok-begin_second.ensures.goes.most c.turn.ensures.goes.most
-
-pub returns-in_err-begin_second-clause-most : goal.returns-in_err-begin_second-clause-most
-returns-in_err-begin_second-clause-most g c =
-    writes-begun c.args.more.seconds 0 (devices (g.M.Medium.state c.args.unit.now) (g.C.Chip.state c.args.card_a.now) (g.D.Chip.state c.args.card_b.now)) (devices (g.M.Medium.state c.begin_second.new.unit) (g.C.Chip.state c.begin_second.new.card_a) (g.D.Chip.state c.begin_second.new.card_b)) c.requires.some c.in_err-begin_second.ensures.goes.most
+pub turn-requires-clause-stretch : goal.turn-requires-clause-stretch
+turn-requires-clause-stretch g c = record {
+  some = first_of (search rules, grind (arith, common_steps));
+  minute = first_of (search rules, grind (arith, common_steps));
+  small = first_of (search rules, grind (arith, common_steps));
+}

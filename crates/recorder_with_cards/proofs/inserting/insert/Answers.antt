@@ -1,5 +1,6 @@
+use Rattle.std.proofs.lemmas.Grind.{common_steps}
 use Rattle.std.proofs.Common.{rules, ◌≡◌, ◌∙◌, ℕ, inl, inr, ◌+◌, ◌/◌, ◌≤◌, Bool, true, false, Some, None, List, [], ◌∷◌, ◌++◌, length, refl, ap, sym, subst, arith, ◌*◌}
-use Rattle.tach_media.proofs.Runs.{cause_after}
+use Rattle.tach_media.proofs.Runs.{cause_after, on_ok}
 use Rattle.minute_model.specs.Span.{ungiven_of}
 use Rattle.run_crew.specs.declared.cabin.Cabin.{Cabin}
 use Rattle.run_crew.specs.Cabin.{CabinIsSound, with_card_in}
@@ -98,7 +99,7 @@ module _ (g : Over) (c : After-from_residual g) where
 -- and where the card was judged
 module _ (g : Over) (c : After-accept_in g) where
   abbrev settling : After-settle g
-  settling = (goal.at.returns-clause-held g c).After-settle
+  settling = (goal.at.returns-clause-behind g c).After-settle
 
   abbrev behind : Devices
   behind = devices (g.M.Medium.state c.accept_in.new.unit) (g.C.Chip.state c.accept_in.new.card_a) (g.D.Chip.state c.accept_in.new.card_b)
@@ -120,31 +121,34 @@ module _ (g : Over) (c : After-accept_in g) where
       let was = ap (λ (p : Power). waiting p c.args.run.now.minutes.owing) c.requires.acting.lit in
       omega (arith, room, marks, rooms, was)
 
-pub settle-requires-clause-held : goal.settle-requires-clause-held
-settle-requires-clause-held g c =
-    let run = c.args.run.now in let h = c.requires.acting.going in
-    let stands = subst (λ (b : Cabin). CabinIsSound (ungiven_of h.span) None b) c.put_in.ensures.kept (c.put_in.ensures.stands (ungiven_of h.span) h.cabin) in
-    subst (λ (b : Cabin). CanBeCut (run.next / 60) (with_cabin b run) (g.M.Medium.state c.args.unit.now) (g.C.Chip.card c.args.card_a.now) (g.D.Chip.card c.args.card_b.now) (g.C.Chip.state c.args.card_a.now) (g.D.Chip.state c.args.card_b.now))
-    (sym c.put_in.ensures.kept) (put-held c.args.put.slot c.args.put.card (run.next / 60) run (ungiven_of h.span) stands c.requires.acting.held)
-
-pub settle-requires-clause-going : goal.settle-requires-clause-going
-settle-requires-clause-going g c =
-    let run = c.args.run.now in (
-      None,
-      subst (λ (b : Cabin). RunHasPowerAllSeated (run.next / 60) (with_cabin b run) (g.M.Medium.state c.args.unit.now) (g.C.Chip.card c.args.card_a.now) (g.D.Chip.card c.args.card_b.now) (g.C.Chip.state c.args.card_a.now) (g.D.Chip.state c.args.card_b.now))
-          (sym c.put_in.ensures.kept) (put-going c.args.put.slot c.args.put.card (run.next / 60) run (λ from s. subst (λ (b : Cabin). CabinIsSound from None b) c.put_in.ensures.kept (c.put_in.ensures.stands from s)) c.requires.acting.going),
-    )
+pub settle-requires-clause-may : goal.settle-requires-clause-may
+settle-requires-clause-may g c = record {
+  lit = c.requires.acting.lit;
+  low = c.requires.acting.low;
+  small = c.requires.acting.small;
+  held =
+      let run = c.args.run.now in let h = c.requires.acting.going in
+      let stands = subst (λ (b : Cabin). CabinIsSound (ungiven_of h.span) None b) c.put_in.ensures.kept (c.put_in.ensures.stands (ungiven_of h.span) h.cabin) in
+      subst (λ (b : Cabin). CanBeCut (run.next / 60) (with_cabin b run) (g.M.Medium.state c.args.unit.now) (g.C.Chip.card c.args.card_a.now) (g.D.Chip.card c.args.card_b.now) (g.C.Chip.state c.args.card_a.now) (g.D.Chip.state c.args.card_b.now))
+      (sym c.put_in.ensures.kept) (put-held c.args.put.slot c.args.put.card (run.next / 60) run (ungiven_of h.span) stands c.requires.acting.held);
+  going =
+      let run = c.args.run.now in (
+        None,
+        subst (λ (b : Cabin). RunHasPowerAllSeated (run.next / 60) (with_cabin b run) (g.M.Medium.state c.args.unit.now) (g.C.Chip.card c.args.card_a.now) (g.D.Chip.card c.args.card_b.now) (g.C.Chip.state c.args.card_a.now) (g.D.Chip.state c.args.card_b.now))
+            (sym c.put_in.ensures.kept) (put-going c.args.put.slot c.args.put.card (run.next / 60) run (λ from s. subst (λ (b : Cabin). CabinIsSound from None b) c.put_in.ensures.kept (c.put_in.ensures.stands from s)) c.requires.acting.going),
+      );
+}
 
 pub returns-in_err-settle-clause-takes : goal.returns-in_err-settle-clause-takes
 returns-in_err-settle-clause-takes g c =
     let run = c.args.run.now in
-    put-takes c.args.put.slot c.args.put.card run c.requires.empty c.settle.new.run c.args.outcome.now c.settle.new.outcome
+    put-takes c.args.put.slot c.args.put.card run c.requires.may.empty c.settle.new.run c.args.outcome.now c.settle.new.outcome
     (taken g (goal.at.returns-in_err-settle-clause-takes g c).After-settle)
 
 pub returns-clause-takes : goal.returns-clause-takes
 returns-clause-takes g c =
     let run = c.args.run.now in
-    put-then c.args.put.slot c.args.put.card run c.requires.empty c.settle.new.run c.accept_in.new.run c.args.outcome.now c.settle.new.outcome c.accept_in.new.outcome
+    put-then c.args.put.slot c.args.put.card run c.requires.may.empty c.settle.new.run c.accept_in.new.run c.args.outcome.now c.settle.new.outcome c.accept_in.new.outcome
     (taken g (settling g c)) c.accept_in.ensures.takes
 
 pub accept_in-requires-clause-acting : goal.accept_in-requires-clause-acting
@@ -166,15 +170,18 @@ accept_in-requires-clause-acting g c = record {
       (sym c.put_in.ensures.kept) (put-going c.args.put.slot c.args.put.card (run.next / 60) run (λ from s. subst (λ (b : Cabin). CabinIsSound from None b) c.put_in.ensures.kept (c.put_in.ensures.stands from s)) c.requires.acting.going));
 }
 
-pub accept_in-requires-clause-seat : goal.accept_in-requires-clause-seat
-accept_in-requires-clause-seat g c = seat-there g (goal.at.accept_in-requires-clause-seat g c).In_ok-settle
-
-pub accept_in-requires-clause-breaks : goal.accept_in-requires-clause-breaks
-accept_in-requires-clause-breaks g c =
-    let t = (taken g (goal.at.accept_in-requires-clause-breaks g c).After-settle).breaks in
-    let room = c.settle.ensures.takes.rooms.1 in let f = put-falls c.args.put.slot c.args.put.card c.args.run.now.keeper.cabin c.requires.empty in
-    let had = c.requires.breaks in
-    omega (arith, t, room, f, had)
+pub accept_in-requires-clause-may : goal.accept_in-requires-clause-may
+accept_in-requires-clause-may g c = record {
+  none = first_of (search rules, grind (arith, common_steps));
+  at = first_of (search rules, grind (arith, common_steps));
+  seat = seat-there g (goal.at.accept_in-requires-clause-may g c).In_ok-settle;
+  breaks =
+      let t = (taken g (goal.at.accept_in-requires-clause-may g c).After-settle).breaks in
+      let room = c.settle.ensures.takes.rooms.1 in let f = put-falls c.args.put.slot c.args.put.card c.args.run.now.keeper.cabin c.requires.may.empty in
+      let had = c.requires.may.breaks in
+      omega (arith, t, room, f, had);
+  finds = first_of (search rules, grind (arith, common_steps));
+}
 
 -- ---- where no tear of a failed call is told no card has broken down
 
@@ -194,14 +201,14 @@ returns-in_err-settle-clause-promises g c = record {
       let at = (goal.at.returns-in_err-settle-clause-promises g c).After-settle in
       let r = c.in_err-settle.ensures.keeps in
       let records = subst (λ (b : Cabin). RecordsSettling r.decided c.args.put.at true (with_cabin b c.args.run.now) c.settle.new.run c.args.outcome.now c.settle.new.outcome (found g at) (settled g at)) c.put_in.ensures.kept r.recorded in
-      let fails = unsettled c.args.put.slot c.args.put.card c.args.put.at c.args.put.speed c.args.run.now c.args.outcome.now (found g at) o done s now front rest actions c.requires.at begun late allowed within (ungiven_of c.requires.acting.going.span) c.requires.acting.going.cabin c.settle.new.run c.settle.new.outcome true (unsettles g c) r.decided r.given (settled g at) records time refl in
+      let fails = unsettled c.args.put.slot c.args.put.card c.args.put.at c.args.put.speed c.args.run.now c.args.outcome.now (found g at) o done s now front rest actions c.requires.may.at begun late allowed within (ungiven_of c.requires.acting.going.span) c.requires.acting.going.cabin c.settle.new.run c.settle.new.outcome true (unsettles g c) r.decided r.given (settled g at) records time refl in
       subst (λ (f : Bool). GoesOnOrFails f o done s (In c.args.put.at.begun) [] c.settle.new.run c.settle.new.outcome (settled g at) within.within.b) (failed g c) fails;
   evented =
       λ late room o done s now front rest actions begun allowed within events time.
       let at = (goal.at.returns-in_err-settle-clause-promises g c).After-settle in
       let r = c.in_err-settle.ensures.keeps in
       let notes = subst (λ (b : Cabin). EventsSettling r.decided c.args.put.at true (with_cabin b c.args.run.now) c.settle.new.run c.args.outcome.now c.settle.new.outcome (found g at) (settled g at)) c.put_in.ensures.kept r.evented in
-      let fails = unsettled-evented c.args.put.slot c.args.put.card c.args.put.at c.args.put.speed c.args.run.now c.args.outcome.now (found g at) o done s now front rest actions c.requires.at begun late allowed within (ungiven_of c.requires.acting.going.span) c.requires.acting.going.cabin (bare g at) c.settle.new.run c.settle.new.outcome true (unsettles g c) r.decided r.given (settled g at) notes time events refl in
+      let fails = unsettled-evented c.args.put.slot c.args.put.card c.args.put.at c.args.put.speed c.args.run.now c.args.outcome.now (found g at) o done s now front rest actions c.requires.may.at begun late allowed within (ungiven_of c.requires.acting.going.span) c.requires.acting.going.cabin (bare g at) c.settle.new.run c.settle.new.outcome true (unsettles g c) r.decided r.given (settled g at) notes time events refl in
       subst (λ (f : Bool). EventsGoOn f o done s within.within.b.run (In c.args.put.at.begun) Acting (log_of c.settle.new.outcome) (settled g at)) (failed g c) fails;
   ringed =
       λ late room o done s now front rest actions begun allowed within spans t rings time.
@@ -216,10 +223,10 @@ returns-in_err-settle-clause-promises g c = record {
       let e : Devices = devices V (g.C.Chip.state c.settle.new.card_a) (g.D.Chip.state c.settle.new.card_b) in
       let settles = unsettles g c in
       let lines = up-to-tells c.args.put.at settles.decided true (told_of put out) (told_of mid told) settles.kept in
-      let at = at-is c.args.put.slot c.args.put.card c.args.put.at c.args.put.speed run out d o done s now front rest actions c.requires.at begun late allowed within (ungiven_of c.requires.acting.going.span) c.requires.acting.going.cabin in
+      let at = at-is c.args.put.slot c.args.put.card c.args.put.at c.args.put.speed run out d o done s now front rest actions c.requires.may.at begun late allowed within (ungiven_of c.requires.acting.going.span) c.requires.acting.going.cabin in
       let v = c.in_err-settle.ensures.keeps in
       let stay = subst (λ (b : Cabin). PlacesSettling v.decided c.args.put.at (with_cabin b run) mid out d e) c.put_in.ensures.kept v.places in
-      let places = settled-places c.args.put.slot c.args.put.card c.args.put.at c.args.put.speed run out d o done s now front rest actions c.requires.at begun late allowed within (ungiven_of c.requires.acting.going.span) c.requires.acting.going.cabin mid told true settles v.decided v.given
+      let places = settled-places c.args.put.slot c.args.put.card c.args.put.at c.args.put.speed run out d o done s now front rest actions c.requires.may.at begun late allowed within (ungiven_of c.requires.acting.going.span) c.requires.acting.going.cabin mid told true settles v.decided v.given
       e stay time spans t (spans-here o done s within.within.b.run.log front run (log_of out) spans t d rings) in
       let rung = unsettled-ringed o done s front rest c.args.put.slot c.args.put.card actions run out d within spans t rings (refuses o done s c.args.put.speed run out d now front (Insert c.args.put.slot c.args.put.card) rest actions within None allowed)
       mid told e lines.lines (ap log_of settles.outcome ∙ ap (λ (bs : List Break). record (log_of out) { breaks = bs }) lines.are) (subst (λ (m : Moment). AreTears m lines.lines) at lines.tears)
@@ -238,11 +245,11 @@ returns-in_err-settle-clause-promises g c = record {
       let e : Devices = devices (g.M.Medium.state c.settle.new.unit) (g.C.Chip.state c.settle.new.card_a) (g.D.Chip.state c.settle.new.card_b) in
       let settles = unsettles g c in
       let lines = up-to-tells c.args.put.at settles.decided true (told_of put out) (told_of mid told) settles.kept in
-      let at = at-is c.args.put.slot c.args.put.card c.args.put.at c.args.put.speed run out d o done s now front rest actions c.requires.at begun late allowed within (ungiven_of c.requires.acting.going.span) c.requires.acting.going.cabin in
+      let at = at-is c.args.put.slot c.args.put.card c.args.put.at c.args.put.speed run out d o done s now front rest actions c.requires.may.at begun late allowed within (ungiven_of c.requires.acting.going.span) c.requires.acting.going.cabin in
       let v = c.in_err-settle.ensures.keeps in
       let shows = subst (λ (b : Cabin). CardsSettling v.decided c.args.put.at (with_cabin b run) mid out d e) c.put_in.ensures.kept v.cards in
       let still : StillShow o d e = shows o done s (length front) (entering_by (length front) (Insert c.args.put.slot c.args.put.card)) at
-      (waits-within c.args.put.slot c.args.put.card c.args.put.at c.args.put.speed run out d o done s now front rest actions c.requires.at begun late allowed within (ungiven_of c.requires.acting.going.span) c.requires.acting.going.cabin mid told true settles v.decided v.given) time in
+      (waits-within c.args.put.slot c.args.put.card c.args.put.at c.args.put.speed run out d o done s now front rest actions c.requires.may.at begun late allowed within (ungiven_of c.requires.acting.going.span) c.requires.acting.going.cabin mid told true settles v.decided v.given) time in
       let goes = unsettled-cards o done s front rest c.args.put.slot c.args.put.card actions run out d within cards (refuses o done s c.args.put.speed run out d now front (Insert c.args.put.slot c.args.put.card) rest actions within None allowed)
       told e lines.lines (ap log_of settles.outcome ∙ ap (λ (bs : List Break). record (log_of out) { breaks = bs }) lines.are) (subst (λ (m : Moment). AreTears m lines.lines) at lines.tears)
       (more-left o d e (within.within.powered.lit.unit.unit_holds [] []).later within.within.there.clocks (settled-left c.settle.ensures.goes.keeping)) still in
@@ -277,10 +284,14 @@ returns-in_err-settle-clause-leaves g c = record {
       };
 }
 
-pub returns-in_err-settle-clause-held : goal.returns-in_err-settle-clause-held
-returns-in_err-settle-clause-held g c = record {
-  held = c.settle.ensures.held;
-  cause = subst (λ (b : Bool). HasCause (g.M.Medium.state c.args.unit.now) (g.M.Medium.state c.settle.new.unit) b) (failed g c) c.in_err-settle.ensures.behind.cause;
+pub returns-in_err-settle-clause-behind : goal.returns-in_err-settle-clause-behind
+returns-in_err-settle-clause-behind g c = record {
+  held =
+      record {
+        held = c.settle.ensures.held;
+        cause = subst (λ (b : Bool). HasCause (g.M.Medium.state c.args.unit.now) (g.M.Medium.state c.settle.new.unit) b) (failed g c) c.in_err-settle.ensures.behind.cause;
+      };
+  going = on_ok c.from_residual.result (λ well. absurd (let bad : true ≡ false = (failed g c) ∙ well in cc));
 }
 
 pub returns-in_err-settle-clause-goes : goal.returns-in_err-settle-clause-goes
@@ -315,7 +326,7 @@ returns-clause-promises g c = record {
   recorded =
       λ late room o done s now front rest actions begun allowed within time.
       let r = c.in_ok-settle.ensures.keeps in
-      inserted c.args.put.slot c.args.put.card c.args.put.at c.args.put.speed c.args.run.now c.args.outcome.now (found g (settling g c)) o done s now front rest actions c.requires.at begun late allowed within (ungiven_of c.requires.acting.going.span) c.requires.acting.going.cabin c.settle.new.run c.settle.new.outcome false (settles g c) r.decided r.given (settled g (settling g c)) (records g c)
+      inserted c.args.put.slot c.args.put.card c.args.put.at c.args.put.speed c.args.run.now c.args.outcome.now (found g (settling g c)) o done s now front rest actions c.requires.may.at begun late allowed within (ungiven_of c.requires.acting.going.span) c.requires.acting.going.cabin c.settle.new.run c.settle.new.outcome false (settles g c) r.decided r.given (settled g (settling g c)) (records g c)
       (time-settled g c time) refl (seat-there g (goal.at.returns-clause-promises g c).In_ok-settle) (is_err c.accept_in.result) c.accept_in.new.run c.accept_in.new.outcome (behind g c)
       (c.accept_in.ensures.promises.recorded (room-then g c room)) time;
   evented =
@@ -323,7 +334,7 @@ returns-clause-promises g c = record {
       let r = c.in_ok-settle.ensures.keeps in
       let q = c.in_ok-settle.ensures.keeps in
       let notes = subst (λ (b : Cabin). EventsSettling r.decided c.args.put.at false (with_cabin b c.args.run.now) c.settle.new.run c.args.outcome.now c.settle.new.outcome (found g (settling g c)) (settled g (settling g c))) c.put_in.ensures.kept r.evented in
-      inserted-evented c.args.put.slot c.args.put.card c.args.put.at c.args.put.speed c.args.run.now c.args.outcome.now (found g (settling g c)) o done s now front rest actions c.requires.at begun late allowed within (ungiven_of c.requires.acting.going.span) c.requires.acting.going.cabin (bare g (settling g c)) c.settle.new.run c.settle.new.outcome false (settles g c) r.decided r.given (settled g (settling g c)) notes (time-settled g c time) events
+      inserted-evented c.args.put.slot c.args.put.card c.args.put.at c.args.put.speed c.args.run.now c.args.outcome.now (found g (settling g c)) o done s now front rest actions c.requires.may.at begun late allowed within (ungiven_of c.requires.acting.going.span) c.requires.acting.going.cabin (bare g (settling g c)) c.settle.new.run c.settle.new.outcome false (settles g c) r.decided r.given (settled g (settling g c)) notes (time-settled g c time) events
       q.decided q.given (records g c) refl (seat-there g (goal.at.returns-clause-promises g c).In_ok-settle) (is_err c.accept_in.result) c.accept_in.new.run c.accept_in.new.outcome (behind g c) (c.accept_in.ensures.promises.evented (room-then g c room)) time;
   ringed =
       λ late room o done s now front rest actions begun allowed within spans t rings time.
@@ -341,7 +352,7 @@ returns-clause-promises g c = record {
       let settles = settles g c in
       let before = time-settled g c time in
       let lines = up-to-tells c.args.put.at settles.decided false (told_of put out) (told_of mid told) settles.kept in
-      let at = at-is c.args.put.slot c.args.put.card c.args.put.at c.args.put.speed run out d o done s now front rest actions c.requires.at begun late allowed within (ungiven_of c.requires.acting.going.span) c.requires.acting.going.cabin in
+      let at = at-is c.args.put.slot c.args.put.card c.args.put.at c.args.put.speed run out d o done s now front rest actions c.requires.may.at begun late allowed within (ungiven_of c.requires.acting.going.span) c.requires.acting.going.cabin in
       let fine = refuses o done s c.args.put.speed run out d now front (Insert c.args.put.slot c.args.put.card) rest actions within None allowed in
       let log : log_of told ≡ record (log_of out) { breaks = (log_of out).breaks ++ lines.lines } = ap log_of settles.outcome ∙ ap (λ (bs : List Break). record (log_of out) { breaks = bs }) lines.are in
       let tears = subst (λ (m : Moment). AreTears m lines.lines) at lines.tears in
@@ -349,12 +360,12 @@ returns-clause-promises g c = record {
       let left = more-left o d e (within.within.powered.lit.unit.unit_holds [] []).later within.within.there.clocks (settled-left c.settle.ensures.goes.keeping) in
       let v = c.in_ok-settle.ensures.keeps in
       let stay = subst (λ (b : Cabin). PlacesSettling v.decided c.args.put.at (with_cabin b run) mid out d e) c.put_in.ensures.kept v.places in
-      let places = settled-places c.args.put.slot c.args.put.card c.args.put.at c.args.put.speed run out d o done s now front rest actions c.requires.at begun late allowed within (ungiven_of c.requires.acting.going.span) c.requires.acting.going.cabin mid told false settles v.decided v.given
+      let places = settled-places c.args.put.slot c.args.put.card c.args.put.at c.args.put.speed run out d o done s now front rest actions c.requires.may.at begun late allowed within (ungiven_of c.requires.acting.going.span) c.requires.acting.going.cabin mid told false settles v.decided v.given
       e stay before spans t (spans-here o done s within.within.b.run.log front run (log_of out) spans t d rings) in
       let noted : mid.noted ≡ run.noted = ap (λ (r : Run). r.noted) settles.only in
       let fewer = fewer-seats put mid noted lines.sessions in
       let counted : mid.noted ≤ length (log_of told).finds = let few = rings.counted in let same = ap (λ (l : RunLog). length l.finds) log in omega (arith, few, same, noted) in
-      let j = next-judged c.args.put.slot c.args.put.card c.args.put.at c.args.put.speed run out d o done s now front rest actions c.requires.at begun late allowed within (ungiven_of c.requires.acting.going.span) c.requires.acting.going.cabin mid told false settles q.decided q.given e (records g c) before refl (seat-there g (goal.at.returns-clause-promises g c).In_ok-settle) (with_second spans run.keeper.odometer t)
+      let j = next-judged c.args.put.slot c.args.put.card c.args.put.at c.args.put.speed run out d o done s now front rest actions c.requires.may.at begun late allowed within (ungiven_of c.requires.acting.going.span) c.requires.acting.going.cabin mid told false settles q.decided q.given e (records g c) before refl (seat-there g (goal.at.returns-clause-promises g c).In_ok-settle) (with_second spans run.keeper.odometer t)
       (odometer-mid o done s front rest c.args.put.slot c.args.put.card actions run out d within spans t rings fine mid told e lines.lines log tears leaves left places fewer lines.odometer noted (entering_by (length front) (Insert c.args.put.slot c.args.put.card)))
       counted (is_err c.accept_in.result) c.accept_in.new.run c.accept_in.new.outcome last (c.accept_in.ensures.promises.ringed (room-then g c room)) time in
       inserted-ringed o done s front rest c.args.put.slot c.args.put.card actions run out d within spans t rings fine mid told e lines.lines log tears leaves left places fewer lines.odometer noted
@@ -375,15 +386,15 @@ returns-clause-promises g c = record {
       let shows = subst (λ (b : Cabin). CardsSettling v.decided c.args.put.at (with_cabin b run) mid out d e) c.put_in.ensures.kept v.cards in
       let before = time-settled g c time in
       let lines = up-to-tells c.args.put.at settles.decided false (told_of put out) (told_of mid told) settles.kept in
-      let at = at-is c.args.put.slot c.args.put.card c.args.put.at c.args.put.speed run out d o done s now front rest actions c.requires.at begun late allowed within (ungiven_of c.requires.acting.going.span) c.requires.acting.going.cabin in
+      let at = at-is c.args.put.slot c.args.put.card c.args.put.at c.args.put.speed run out d o done s now front rest actions c.requires.may.at begun late allowed within (ungiven_of c.requires.acting.going.span) c.requires.acting.going.cabin in
       let fine = refuses o done s c.args.put.speed run out d now front (Insert c.args.put.slot c.args.put.card) rest actions within None allowed in
       let log : log_of told ≡ record (log_of out) { breaks = (log_of out).breaks ++ lines.lines } = ap log_of settles.outcome ∙ ap (λ (bs : List Break). record (log_of out) { breaks = bs }) lines.are in
       let tears = subst (λ (m : Moment). AreTears m lines.lines) at lines.tears in
       let left = more-left o d e (within.within.powered.lit.unit.unit_holds [] []).later within.within.there.clocks (settled-left c.settle.ensures.goes.keeping) in
       let still : StillShow o d e = shows o done s (length front) (entering_by (length front) (Insert c.args.put.slot c.args.put.card)) at
-      (waits-within c.args.put.slot c.args.put.card c.args.put.at c.args.put.speed run out d o done s now front rest actions c.requires.at begun late allowed within (ungiven_of c.requires.acting.going.span) c.requires.acting.going.cabin mid told false settles v.decided v.given) before in
+      (waits-within c.args.put.slot c.args.put.card c.args.put.at c.args.put.speed run out d o done s now front rest actions c.requires.may.at begun late allowed within (ungiven_of c.requires.acting.going.span) c.requires.acting.going.cabin mid told false settles v.decided v.given) before in
       let own : mid.keeper.memory.registration ≡ vehicle_in o = ap (λ m. m.registration) (settled-watched c.args.put.at false put mid out told settles).memory ∙ vehicle in
-      let j = next-cards c.args.put.slot c.args.put.card c.args.put.at c.args.put.speed run out d o done s now front rest actions c.requires.at begun late allowed within (ungiven_of c.requires.acting.going.span) c.requires.acting.going.cabin mid told false settles q.decided q.given e (records g c) before refl (seat-there g (goal.at.returns-clause-promises g c).In_ok-settle)
+      let j = next-cards c.args.put.slot c.args.put.card c.args.put.at c.args.put.speed run out d o done s now front rest actions c.requires.may.at begun late allowed within (ungiven_of c.requires.acting.going.span) c.requires.acting.going.cabin mid told false settles q.decided q.given e (records g c) before refl (seat-there g (goal.at.returns-clause-promises g c).In_ok-settle)
       (is_err c.accept_in.result) c.accept_in.new.outcome last (c.accept_in.ensures.promises.cards (room-then g c room)) own time in
       inserted-cards o done s front rest c.args.put.slot c.args.put.card actions run out d within cards fine told e lines.lines log tears left still (is_err c.accept_in.result) c.accept_in.new.outcome last j;
 }
@@ -436,10 +447,14 @@ returns-clause-leaves g c = record {
       };
 }
 
-pub returns-clause-held : goal.returns-clause-held
-returns-clause-held g c = record {
-  held = c.accept_in.ensures.held.held;
-  cause = cause_after c.in_ok-settle.ensures.behind.cause c.accept_in.ensures.held.cause;
+pub returns-clause-behind : goal.returns-clause-behind
+returns-clause-behind g c = record {
+  held =
+      record {
+        held = c.accept_in.ensures.behind.held.held;
+        cause = cause_after c.in_ok-settle.ensures.behind.cause c.accept_in.ensures.behind.held.cause;
+      };
+  going = first_of (search rules, grind (arith, common_steps));
 }
 
 pub returns-clause-goes : goal.returns-clause-goes
@@ -447,4 +462,10 @@ returns-clause-goes g c = record {
   later = later-then (found g (settling g c)) (settled g (settling g c)) (behind g c) (settled-later c.settle.ensures.goes.keeping c.settle.ensures.goes.speeds) c.accept_in.ensures.goes.later;
   calm = calm-then (found g (settling g c)) (settled g (settling g c)) (behind g c) c.settle.ensures.goes.keeping.all.calm c.accept_in.ensures.goes.calm;
   most = wrote-more (78 + 24) 102 (294 + 1072) 1366 _ _ (omega arith) (omega arith) (wrote-then 78 24 294 1072 _ _ _ c.settle.ensures.goes.most c.accept_in.ensures.goes.most);
+}
+
+pub settle-requires-clause-room : goal.settle-requires-clause-room
+settle-requires-clause-room g c = record {
+  marks = c.requires.may.marks;
+  breaks = first_of (search rules, grind (arith, common_steps));
 }

@@ -93,7 +93,7 @@ returns-then-not-has_power-clause-begun g c = record {
   late = tt;
   has = sym (sym c.has_power.ensures ∙ c.if-not-has_power.true);
   next = refl;
-  unfound = c.requires.unfound;
+  unfound = c.requires.room.unfound;
   refused = refl;
 }
 
@@ -185,13 +185,13 @@ returns-in_err-power_on-clause-promises g c = record {
       let run = c.args.run.now in
       let dark : is_lit run.power ≡ false = sym c.is_lit.ensures ∙ c.if-is_lit.false in
       let has : has_power run.power run.next ≡ true = sym c.has_power.ensures ∙ c.if-not-has_power.false in
-      absurd (c.in_err-power_on.ensures.promises.ringed (marks-due run c.args.outcome.now dark has c.requires.room) o done s now rec has time);
+      absurd (c.in_err-power_on.ensures.promises.ringed (marks-due run c.args.outcome.now dark has c.requires.room.room) o done s now rec has time);
   cards =
       λ o done s now rec time.
       let run = c.args.run.now in
       let dark : is_lit run.power ≡ false = sym c.is_lit.ensures ∙ c.if-is_lit.false in
       let has : has_power run.power run.next ≡ true = sym c.has_power.ensures ∙ c.if-not-has_power.false in
-      absurd (c.in_err-power_on.ensures.promises.cards (marks-due run c.args.outcome.now dark has c.requires.room) o done s now rec has time);
+      absurd (c.in_err-power_on.ensures.promises.cards (marks-due run c.args.outcome.now dark has c.requires.room.room) o done s now rec has time);
   noted = first_of (search rules, grind (arith, common_steps));
 }
 
@@ -219,13 +219,13 @@ returns-clause-promises g c = record {
       let run = c.args.run.now in
       let dark : is_lit run.power ≡ false = sym c.is_lit.ensures ∙ c.if-is_lit.false in
       let has : has_power run.power run.next ≡ true = sym c.has_power.ensures ∙ c.if-not-has_power.false in
-      c.in_ok-power_on.ensures.promises.ringed (marks-due run c.args.outcome.now dark has c.requires.room) o done s now rec has time;
+      c.in_ok-power_on.ensures.promises.ringed (marks-due run c.args.outcome.now dark has c.requires.room.room) o done s now rec has time;
   cards =
       λ o done s now rec time.
       let run = c.args.run.now in
       let dark : is_lit run.power ≡ false = sym c.is_lit.ensures ∙ c.if-is_lit.false in
       let has : has_power run.power run.next ≡ true = sym c.has_power.ensures ∙ c.if-not-has_power.false in
-      c.in_ok-power_on.ensures.promises.cards (marks-due run c.args.outcome.now dark has c.requires.room) o done s now rec has time;
+      c.in_ok-power_on.ensures.promises.cards (marks-due run c.args.outcome.now dark has c.requires.room.room) o done s now rec has time;
   noted = λ dark has. c.in_ok-power_on.ensures.noted;
 }
 
@@ -235,4 +235,11 @@ returns-clause-goes g c = record {
   calm = c.power_on.ensures.goes.calm;
   broke = c.power_on.ensures.goes.broke;
   most = c.power_on.ensures.goes.most;
+}
+
+pub power_on-requires-clause-may : goal.power_on-requires-clause-may
+power_on-requires-clause-may g c = record {
+  dark = first_of (search rules, grind (arith, common_steps));
+  breaks = first_of (search rules, grind (arith, common_steps));
+  finds = first_of (search rules, grind (arith, common_steps));
 }

@@ -110,7 +110,7 @@ module _ (g : Over) (c : After-resume g) where
     room_learnt = let same = ap (λ (r : Run). bare_seats r.keeper.cabin.slots.seats) c.learn.ensures.run in omega (arith, room, same)
 
     may : (rec : RunRecorded o done run out dev0) → MayPower rec.supply run.next
-    may rec = may-of run.power rec.supply run.next rec.powers c.requires.dark has
+    may rec = may-of run.power rec.supply run.next rec.powers c.requires.may.dark has
 
     stay : RunRecorded o done run out dev0 → AllStay o (marked out.marks.items (truths_of o (log_of out) done)) 0 (log_of out) (notes_in (log_of out) done) c.learn.new.self.keeper.memory.registration run.keeper.cabin dev0
     stay rec = all-of o (marked out.marks.items (truths_of o (log_of out) done)) 0 (log_of out) (notes_in (log_of out) done) run.keeper.memory.registration c.learn.new.self.keeper.memory.registration run.keeper.cabin dev0 (ap (λ (r : Run). r.keeper.memory.registration) c.learn.ensures.run) rec.stay
@@ -136,7 +136,7 @@ module _ (g : Over) (c : After-resume g) where
         let counted = all.counted in
         let ringed : RingedBehind o done began s.number all.spans (seats_of run) dev0 = subst (λ (l : RunLog). RingedBehind o done l s.number all.spans (seats_of run) dev0) (sym log)
         (learned-ringed o done (log_of out) run.unfound c.last_kept-kept.result run.next s.number rec.recorded.recorded.followed.order now.number all.spans (seats_of run) dev0 all.ringed) in
-        let off : StoresOff o (log_of out) run.unfound all.spans dev0 = subst (λ (b : Bool). Stores b o (log_of out) run.unfound run.keeper.odometer all.spans dev0) c.requires.dark all.stored in
+        let off : StoresOff o (log_of out) run.unfound all.spans dev0 = subst (λ (b : Bool). Stores b o (log_of out) run.unfound run.keeper.odometer all.spans dev0) c.requires.may.dark all.stored in
         c.resume.ensures.promises.ringed room_learnt o rec.origin (vehicle rec) done s rec.supply (values_of run out) rec.recorded (stay rec) (may rec) now.number now.given values all.spans (seats_of run) ringed (omega (arith, counted, noted)) off time
 
     shown : RunCarded o done run out dev0 → CardsWoken (is_err c.resume.result) began o done s mid (log_of told) dev1
@@ -156,10 +156,10 @@ module _ (g : Over) (c : After-from_residual g) where
   never o done rec has =
       let run : Run = c.args.run.now in
       let U : State = g.M.Medium.state c.args.unit.now in
-      let powered = may-of run.power rec.supply run.next rec.powers c.requires.dark has in
+      let powered = may-of run.power rec.supply run.next rec.powers c.requires.may.dark has in
       let image = image-of U.image (unit-tells o done rec.supply (values_of run c.args.outcome.now) before rec.recorded powered) in
       let early = kept-early o done rec.supply (values_of run c.args.outcome.now) before rec.recorded powered image.0 ((g.met.M.Medium.coherent c.args.unit.now).is_left image.0 image.1) in
-      let is = (at-image (IsFoundBy c.args.waking.journal) U.image image.0 image.1 c.requires.loaded.found).kept in
+      let is = (at-image (IsFoundBy c.args.waking.journal) U.image image.0 image.1 c.requires.told.loaded.found).kept in
       let kept = c.last_kept-kept.ensures.kept in
       let same = ap (λ (r : Run). r.next) c.learn.ensures.run in
       let back = c.in_err-judge_clock.ensures.back.1 in
@@ -201,11 +201,11 @@ module _ (g : Over) (c : After-cut g) where
 pub cut-requires-clause-room : goal.cut-requires-clause-room
 cut-requires-clause-room g c =
     up-room c.args.run.now c.learn.new.self c.resume.new.run c.args.outcome.now c.learn.new.breaks c.resume.new.outcome (ap (λ (r : Run). r.keeper) c.learn.ensures.run) c.learn.ensures.same (ap (λ (l : Listed Break). l.room) c.learn.ensures.breaks) c.resume.ensures.takes
-    c.requires.breaks
+    c.requires.may.breaks
 
 pub returns-then-is_err-clause-takes : goal.returns-then-is_err-clause-takes
 returns-then-is_err-clause-takes g c =
-    let stand = c.resume.ensures.held.held.stand in
+    let stand = c.resume.ensures.behind.held.held.stand in
     up-lost c.args.run.now c.learn.new.self c.resume.new.run c.args.outcome.now c.learn.new.breaks c.resume.new.outcome (ap (λ (r : Run). r.keeper) c.learn.ensures.run) c.learn.ensures.same (ap (λ (l : Listed Break). l.room) c.learn.ensures.breaks) c.resume.ensures.takes
     c.resume.new.run.next stand.0 stand.1 (cut_at c.resume.new.run.next true 0) c.cut.new.self c.cut.new.breaks stand.2 c.cut.ensures.run c.cut.ensures.breaks
 
@@ -216,7 +216,7 @@ returns-clause-takes g c =
 pub returns-then-is_err-clause-going : goal.returns-then-is_err-clause-going
 returns-then-is_err-clause-going g c =
     let woken_run : Run = c.resume.new.run in
-    let held = c.resume.ensures.held.held in
+    let held = c.resume.ensures.behind.held.held in
     let same = next g (resuming g c) in
     let low = c.requires.going.low in
     let small = c.requires.going.small in
@@ -303,7 +303,7 @@ returns-then-is_err-clause-goes g c = record {
   calm = calm-then (dev0 g (resuming g c)) (dev0 g (resuming g c)) (dev1 g (resuming g c)) {mids = c.learn.new.breaks.items} (calm g (resuming g c)) (calm-more (dev0 g (resuming g c)) (dev1 g (resuming g c)) _ c.resume.ensures.goes.calm (ap (λ (l : Listed Break). l.items) c.cut.ensures.breaks) refl);
   broke =
       broke-then (broke g (resuming g c))
-      (cut-broke _ _ _ _ _ (g.M.Medium.state c.args.unit.now) (g.M.Medium.state c.resume.new.unit) (is_err c.resume.result) c.requires.loaded.works c.resume.ensures.held.cause (failed g c) c.resume.ensures.resumed.uncut (ap (λ (l : Listed Break). l.items) c.cut.ensures.breaks));
+      (cut-broke _ _ _ _ _ (g.M.Medium.state c.args.unit.now) (g.M.Medium.state c.resume.new.unit) (is_err c.resume.result) c.requires.told.loaded.works c.resume.ensures.behind.held.cause (failed g c) c.resume.ensures.resumed.uncut (ap (λ (l : Listed Break). l.items) c.cut.ensures.breaks));
   most = c.resume.ensures.goes.most;
 }
 
@@ -359,6 +359,16 @@ returns-clause-goes g c = record {
   calm =
       let here = (goal.at.returns-clause-goes g c).After-resume in
       calm-then (dev0 g here) (dev0 g here) (dev1 g here) {mids = c.learn.new.breaks.items} (calm g here) c.resume.ensures.goes.calm;
-  broke = broke-then (broke g (goal.at.returns-clause-goes g c).After-resume) (uncut-broke _ _ (g.M.Medium.state c.args.unit.now) (g.M.Medium.state c.resume.new.unit) (is_err c.resume.result) c.resume.ensures.held.cause (sym c.is_err.ensures.value ∙ c.if-is_err.false) c.resume.ensures.resumed.uncut);
+  broke = broke-then (broke g (goal.at.returns-clause-goes g c).After-resume) (uncut-broke _ _ (g.M.Medium.state c.args.unit.now) (g.M.Medium.state c.resume.new.unit) (is_err c.resume.result) c.resume.ensures.behind.held.cause (sym c.is_err.ensures.value ∙ c.if-is_err.false) c.resume.ensures.resumed.uncut);
   most = c.resume.ensures.goes.most;
 }
+
+pub resume-requires-clause-may : goal.resume-requires-clause-may
+resume-requires-clause-may g c = record {
+  dark = first_of (search rules, grind (arith, common_steps));
+  breaks = first_of (search rules, grind (arith, common_steps));
+  finds = first_of (search rules, grind (arith, common_steps));
+}
+
+pub resume-requires-clause-told : goal.resume-requires-clause-told
+resume-requires-clause-told g c = c.requires.told

@@ -85,15 +85,15 @@ module _ (g : Over) (c : After-open_unit g) where
   whole = g.met.M.Medium.coherent c.args.unit.now
 
   never-lit : run.power ≡ Lit → ⊥
-  never-lit lit = let bad : false ≡ true = sym c.requires.dark ∙ ap is_lit lit in cc
+  never-lit lit = let bad : false ≡ true = sym c.requires.may.dark ∙ ap is_lit lit in cc
 
   off-now : (o : Origin) (spans : List SpanFrom) → Stores (is_lit run.power) o (log_of out) run.unfound run.keeper.odometer spans dev0 → StoresOff o (log_of out) run.unfound spans dev1
   off-now o spans stored =
-      stays-stored o (log_of out) run.unfound spans dev0 dev1 (read-stays dev0 dev1 whole c.open_unit.ensures.leaves) (subst (λ (b : Bool). Stores b o (log_of out) run.unfound run.keeper.odometer spans dev0) c.requires.dark stored)
+      stays-stored o (log_of out) run.unfound spans dev0 dev1 (read-stays dev0 dev1 whole c.open_unit.ensures.revived.leaves) (subst (λ (b : Bool). Stores b o (log_of out) run.unfound run.keeper.odometer spans dev0) c.requires.may.dark stored)
 
   behind : (o : Origin) (done : List TraceSecond) (all : RunRinged o done run out dev0) → HaveLeftMore o dev0 dev1 → RingedBehind o done (log_of out) run.next all.spans (seats_of run) dev1
   behind o done all left =
-      behind-stays dev0 dev1 o done (log_of out) run.next all.spans (seats_of run) all.ringed (read-leaves (g.M.Medium.state c.args.unit.now) (g.M.Medium.state c.open_unit.new.unit) whole c.open_unit.ensures.leaves) left
+      behind-stays dev0 dev1 o done (log_of out) run.next all.spans (seats_of run) all.ringed (read-leaves (g.M.Medium.state c.args.unit.now) (g.M.Medium.state c.open_unit.new.unit) whole c.open_unit.ensures.revived.leaves) left
       (cards-beside o all.spans (g.M.Medium.state c.args.unit.now) (g.M.Medium.state c.open_unit.new.unit) (g.C.Chip.state c.args.card_a.now) (g.D.Chip.state c.args.card_b.now))
 
   shown : (o : Origin) (done : List TraceSecond) → CardsBehind o done (log_of out) dev0 → CardsBehind o done (log_of out) dev1
@@ -103,14 +103,14 @@ module _ (g : Over) (c : After-open_unit g) where
   speeds : (o : Origin) (done : List TraceSecond) → SpeedsBehind o done run out dev0 → SpeedsBehind o done run out dev1
   speeds o done h = record {
     watched = λ lit. absurd (never-lit lit);
-    blocks = blocks-same o (log_of out) (log_of out) (λ u has. has) done done dev0 dev1 refl (reading-leaves (g.M.Medium.state c.args.unit.now) (g.M.Medium.state c.open_unit.new.unit) whole c.open_unit.ensures.leaves) h.blocks;
+    blocks = blocks-same o (log_of out) (log_of out) (λ u has. has) done done dev0 dev1 refl (reading-leaves (g.M.Medium.state c.args.unit.now) (g.M.Medium.state c.open_unit.new.unit) whole c.open_unit.ensures.revived.leaves) h.blocks;
   }
 
   later : AreLater dev0 dev1
   later =
-      let same = c.open_unit.ensures.clock in
-      later-of-unit (g.M.Medium.state c.args.unit.now) (g.M.Medium.state c.open_unit.new.unit) (g.C.Chip.state c.args.card_a.now) (g.D.Chip.state c.args.card_b.now) (state-revived (g.M.Medium.state c.args.unit.now) (g.M.Medium.state c.open_unit.new.unit) _ (omega (arith, same)) c.open_unit.ensures.cause)
-      (reading-leaves (g.M.Medium.state c.args.unit.now) (g.M.Medium.state c.open_unit.new.unit) whole c.open_unit.ensures.leaves)
+      let same = c.open_unit.ensures.revived.clock in
+      later-of-unit (g.M.Medium.state c.args.unit.now) (g.M.Medium.state c.open_unit.new.unit) (g.C.Chip.state c.args.card_a.now) (g.D.Chip.state c.args.card_b.now) (state-revived (g.M.Medium.state c.args.unit.now) (g.M.Medium.state c.open_unit.new.unit) _ (omega (arith, same)) c.open_unit.ensures.revived.cause)
+      (reading-leaves (g.M.Medium.state c.args.unit.now) (g.M.Medium.state c.open_unit.new.unit) whole c.open_unit.ensures.revived.leaves)
 
   calm : AreCalm out.breaks.items out.breaks.items dev0 dev1
   calm = calm-of-unit (g.M.Medium.state c.args.unit.now) (g.M.Medium.state c.open_unit.new.unit) (g.C.Chip.state c.args.card_a.now) (g.D.Chip.state c.args.card_b.now)
@@ -118,13 +118,13 @@ module _ (g : Over) (c : After-open_unit g) where
   -- power comes, behind what is recorded
   module _ (o : Origin) (done : List TraceSecond) (has : has_power run.power run.next ≡ true) where
     may : (rec : RunRecorded o done run out dev0) → MayPower rec.supply run.next
-    may rec = may-of run.power rec.supply run.next rec.powers c.requires.dark has
+    may rec = may-of run.power rec.supply run.next rec.powers c.requires.may.dark has
 
     read : (rec : RunRecorded o done run out dev0) → RecordBetweenSeconds o done rec.supply (values_of run out) dev1
-    read rec = read-on o done rec.supply (values_of run out) dev0 rec.recorded (may rec) (g.M.Medium.state c.open_unit.new.unit) whole c.open_unit.ensures.leaves c.open_unit.ensures.cause.breakdowns
+    read rec = read-on o done rec.supply (values_of run out) dev0 rec.recorded (may rec) (g.M.Medium.state c.open_unit.new.unit) whole c.open_unit.ensures.revived.leaves c.open_unit.ensures.revived.cause.breakdowns
 
     left : RunRecorded o done run out dev0 → HaveLeftMore o dev0 dev1
-    left rec = left-on o done rec.supply (values_of run out) dev0 rec.recorded (may rec) (g.M.Medium.state c.open_unit.new.unit) whole c.open_unit.ensures.leaves c.open_unit.ensures.cause.breakdowns
+    left rec = left-on o done rec.supply (values_of run out) dev0 rec.recorded (may rec) (g.M.Medium.state c.open_unit.new.unit) whole c.open_unit.ensures.revived.leaves c.open_unit.ensures.revived.cause.breakdowns
 
     -- it stays so behind the reading
     abbrev recorded : RunRecorded o done run out dev0 → RunRecorded o done run out dev1
@@ -136,13 +136,13 @@ module _ (g : Over) (c : After-open_unit g) where
       recorded = read rec;
       odometer = λ lit. absurd (never-lit lit);
       stay = all-unit o (marked out.marks.items (truths_of o (log_of out) done)) 0 (log_of out) (notes_in (log_of out) done) run.keeper.memory.registration run.keeper.cabin (g.M.Medium.state c.args.unit.now) (g.M.Medium.state c.open_unit.new.unit) (g.C.Chip.state c.args.card_a.now) (g.D.Chip.state c.args.card_b.now)
-          (leaves-more (g.M.Medium.state c.args.unit.now) (g.M.Medium.state c.open_unit.new.unit) (read-leaves (g.M.Medium.state c.args.unit.now) (g.M.Medium.state c.open_unit.new.unit) whole c.open_unit.ensures.leaves)) rec.stay;
+          (leaves-more (g.M.Medium.state c.args.unit.now) (g.M.Medium.state c.open_unit.new.unit) (read-leaves (g.M.Medium.state c.args.unit.now) (g.M.Medium.state c.open_unit.new.unit) whole c.open_unit.ensures.revived.leaves)) rec.stay;
     }
 
     abbrev evented : RunEvented o done run out dev0 → RunEvented o done run out dev1
     evented all = record {
       recorded = recorded all.recorded;
-      evented = events-stay dev0 dev1 o done (log_of out) run.unfound run.next all.recorded.supply all.evented (read-says (g.M.Medium.state c.args.unit.now) (g.M.Medium.state c.open_unit.new.unit) c.open_unit.ensures.leaves) (left all.recorded);
+      evented = events-stay dev0 dev1 o done (log_of out) run.unfound run.next all.recorded.supply all.evented (read-says (g.M.Medium.state c.args.unit.now) (g.M.Medium.state c.open_unit.new.unit) c.open_unit.ensures.revived.leaves) (left all.recorded);
       limit = all.limit;
       watched = λ lit. absurd (never-lit lit);
     }
@@ -154,7 +154,7 @@ module _ (g : Over) (c : After-open_unit g) where
       base = λ lit. absurd (never-lit lit);
       counted = all.counted;
       ringed = behind o done all (left all.evented.recorded);
-      stored = subst (λ (b : Bool). Stores b o (log_of out) run.unfound run.keeper.odometer all.spans dev1) (sym c.requires.dark) (off-now o all.spans all.stored);
+      stored = subst (λ (b : Bool). Stores b o (log_of out) run.unfound run.keeper.odometer all.spans dev1) (sym c.requires.may.dark) (off-now o all.spans all.stored);
     }
 
     -- no place of such a unit is bad
@@ -181,8 +181,8 @@ module _ (g : Over) (c : After-cut g) where
   module _ (o : Origin) (done : List TraceSecond) (s : TraceSecond) (now : IsNow s c.args.speed (run g reading)) (has : has_power (run g reading).power (run g reading).next ≡ true) where
     unread : (rec : RunRecorded o done (run g reading) (out g reading) (dev0 g reading)) → IsNotRead o done rec.supply (values_of (run g reading) (out g reading)) (dev0 g reading) rec.recorded (dev1 g reading)
     unread rec =
-        let cause = rw c.in-Err-Failed.field-0-is at c.in-Err-Failed.ensures.cause in
-        not-read o done rec.supply (values_of (run g reading) (out g reading)) (dev0 g reading) rec.recorded (may g reading o done has rec) (g.M.Medium.state c.open_unit.new.unit) (whole g reading) c.open_unit.ensures.leaves cause
+        let cause = rw c.in-Err-Failed.field-0-is at c.in-Err-Failed.ensures.revived.cause in
+        not-read o done rec.supply (values_of (run g reading) (out g reading)) (dev0 g reading) rec.recorded (may g reading o done has rec) (g.M.Medium.state c.open_unit.new.unit) (whole g reading) c.open_unit.ensures.revived.leaves cause
 
     recorded_cut : RunRecorded o done (run g reading) (out g reading) (dev0 g reading) → RunCut o done s c.cut.new.self lost (dev1 g reading)
     recorded_cut rec =
@@ -195,7 +195,7 @@ module _ (g : Over) (c : After-cut g) where
         let rec = all.recorded in
         let none = unread rec in
         let broken = power-on_broken (dev0 g reading) (dev1 g reading) o done (progress (values_of (run g reading) (out g reading)) rec.supply rec.recorded.book) rec.recorded.recorded.followed all.evented (may g reading o done has rec) s now.number now.given
-        (breakdowns_of (dev0 g reading)) (breakdowns_of (dev1 g reading)) none.goes.breakdowns none.broke (read-says (g.M.Medium.state c.args.unit.now) (g.M.Medium.state c.open_unit.new.unit) c.open_unit.ensures.leaves) none.goes.left in
+        (breakdowns_of (dev0 g reading)) (breakdowns_of (dev1 g reading)) none.goes.breakdowns none.broke (read-says (g.M.Medium.state c.args.unit.now) (g.M.Medium.state c.open_unit.new.unit) c.open_unit.ensures.revived.leaves) none.goes.left in
         cut-woken o done s (run g reading) c.cut.new.self (out g reading) lost (dev1 g reading) (log_of (out g reading)) (broken, all.limit) (recorded_cut rec) c.cut.ensures.run line now.number
 
     comes : (rec : RunRecorded o done (run g reading) (out g reading) (dev0 g reading)) → Comes (went (log_of (out g reading)) done).before (run g reading).next
@@ -205,7 +205,7 @@ module _ (g : Over) (c : After-cut g) where
     ringed_cut all =
         let rec = all.evented.recorded in
         let progressed = progress (values_of (run g reading) (out g reading)) rec.supply rec.recorded.book in
-        let image = image-of (g.M.Medium.state c.open_unit.new.unit).image (c.open_unit.ensures.leaves.tells ∙ unit-tells o done rec.supply (values_of (run g reading) (out g reading)) (dev0 g reading) rec.recorded (may g reading o done has rec)) in
+        let image = image-of (g.M.Medium.state c.open_unit.new.unit).image (c.open_unit.ensures.revived.leaves.tells ∙ unit-tells o done rec.supply (values_of (run g reading) (out g reading)) (dev0 g reading) rec.recorded (may g reading o done has rec)) in
         let base : ℕ = odometer_at image.0 in
         let stored = unread-stored o done s progressed rec.recorded.recorded.followed (comes rec) now.number now.given all.spans (dev1 g reading) image.0 ((g.met.M.Medium.coherent c.open_unit.new.unit).is_left image.0 image.1) (off-now g reading o all.spans all.stored) in
         let rung = unpowered-ringed o done s progressed rec.recorded.recorded.followed (comes rec) now.number now.given (dev1 g reading) all.spans (seats_of (run g reading))
@@ -225,8 +225,11 @@ returns-in-Err-Failed-clause-going g c =
 
 -- ---- BY THE UNIT'S RULE
 
-pub found-requires-clause-rule : goal.found-requires-clause-rule
-found-requires-clause-rule g c = rule-known (g.M.Medium.state c.open_unit.new.unit).image c.in-Ok.opened.memory c.rule-rule.result c.in-Ok.ensures.facts c.rule-rule.ensures
+pub found-requires-clause-told : goal.found-requires-clause-told
+found-requires-clause-told g c = record {
+  loaded = first_of (search rules, grind (arith, common_steps));
+  rule = rule-known (g.M.Medium.state c.open_unit.new.unit).image c.in-Ok.opened.memory c.rule-rule.result c.in-Ok.ensures.facts c.rule-rule.ensures;
+}
 
 -- ---- what is noted
 
@@ -234,13 +237,13 @@ pub returns-in-Ok-clause-noted : goal.returns-in-Ok-clause-noted
 returns-in-Ok-clause-noted g c = on_ok c.found.result (λ well.
     let at = (goal.at.returns-in-Ok-clause-noted g c).After-open_unit in
     let dev2 : Devices = devices (g.M.Medium.state c.found.new.unit) (g.C.Chip.state c.found.new.card_a) (g.D.Chip.state c.found.new.card_b) in
-    let quiet = read-noted (g.M.Medium.state c.args.unit.now) (g.M.Medium.state c.open_unit.new.unit) (g.C.Chip.state c.args.card_a.now) (g.D.Chip.state c.args.card_b.now) c.open_unit.ensures.leaves false in
+    let quiet = read-noted (g.M.Medium.state c.args.unit.now) (g.M.Medium.state c.open_unit.new.unit) (g.C.Chip.state c.args.card_a.now) (g.D.Chip.state c.args.card_b.now) c.open_unit.ensures.revived.leaves false in
     inl (c.in-Ok.opened.journal.kept, read-then c.in-Ok.opened.journal.kept c.args.speed c.args.run.now c.found.new.run c.args.outcome.now c.found.new.outcome (dev0 g at) (dev1 g at) dev2 quiet (ok_gives c.found.result c.found.ensures.noted well)))
 
 pub returns-in-Err-Failed-clause-noted : goal.returns-in-Err-Failed-clause-noted
 returns-in-Err-Failed-clause-noted g c = inr (record {
   ends = (c.cut.ensures.run, line g c);
-  notes = read-noted (g.M.Medium.state c.args.unit.now) (g.M.Medium.state c.open_unit.new.unit) (g.C.Chip.state c.args.card_a.now) (g.D.Chip.state c.args.card_b.now) c.open_unit.ensures.leaves true;
+  notes = read-noted (g.M.Medium.state c.args.unit.now) (g.M.Medium.state c.open_unit.new.unit) (g.C.Chip.state c.args.card_a.now) (g.D.Chip.state c.args.card_b.now) c.open_unit.ensures.revived.leaves true;
 })
 
 -- ---- where no tear of a failed call is told no card has broken down
@@ -273,9 +276,9 @@ returns-in-Ok-clause-goes g c = record {
   calm =
       let at = (goal.at.returns-in-Ok-clause-goes g c).After-open_unit in
       calm-then (dev0 g at) (dev1 g at) (devices (g.M.Medium.state c.found.new.unit) (g.C.Chip.state c.found.new.card_a) (g.D.Chip.state c.found.new.card_b)) (calm g at) c.found.ensures.goes.calm;
-  broke = broke-then (broke-none c.args.outcome.now.breaks.items {old = (g.M.Medium.state c.args.unit.now)} {new = (g.M.Medium.state c.open_unit.new.unit)} (c.in-Ok.ensures.cause.unbroken refl)) c.found.ensures.goes.broke;
+  broke = broke-then (broke-none c.args.outcome.now.breaks.items {old = (g.M.Medium.state c.args.unit.now)} {new = (g.M.Medium.state c.open_unit.new.unit)} (c.in-Ok.ensures.revived.cause.unbroken refl)) c.found.ensures.goes.broke;
   most =
-      let same = c.open_unit.ensures.clock in
+      let same = c.open_unit.ensures.revived.clock in
       let last = c.found.ensures.goes.most in
       record { unit = (let a = last.unit in omega (arith, same, a)); card_a = last.card_a; card_b = last.card_b };
 }
@@ -304,9 +307,9 @@ returns-in-Err-BadUnit-clause-goes g c = record {
   later = later g (goal.at.returns-in-Err-BadUnit-clause-goes g c).After-open_unit;
   calm = calm g (goal.at.returns-in-Err-BadUnit-clause-goes g c).After-open_unit;
   broke =
-      let cause = rw c.in-Err-BadUnit.field-0-is at c.in-Err-BadUnit.ensures.cause in
+      let cause = rw c.in-Err-BadUnit.field-0-is at c.in-Err-BadUnit.ensures.revived.cause in
       broke-none c.args.outcome.now.breaks.items {old = (g.M.Medium.state c.args.unit.now)} {new = (g.M.Medium.state c.open_unit.new.unit)} (cause.unbroken refl);
-  most = let same = c.open_unit.ensures.clock in record { unit = omega (arith, same); card_a = omega arith; card_b = omega arith };
+  most = let same = c.open_unit.ensures.revived.clock in record { unit = omega (arith, same); card_a = omega arith; card_b = omega arith };
 }
 
 pub returns-in-Err-Failed-clause-woken : goal.returns-in-Err-Failed-clause-woken
@@ -345,6 +348,9 @@ returns-in-Err-Failed-clause-goes g c = record {
   calm = calm-more (dev0 g (reading g c)) (dev1 g (reading g c)) _ (calm g (reading g c)) (ap (λ (l : Listed Break). l.items) c.cut.ensures.breaks) refl;
   broke =
       let rose = rw c.in-Err-Failed.field-0-is at c.in-Err-Failed.ensures.broke in
-      broke-once _ _ (ap (λ (l : Listed Break). l.items) c.cut.ensures.breaks) rose c.open_unit.ensures.cause.once;
-  most = let same = c.open_unit.ensures.clock in record { unit = omega (arith, same); card_a = omega arith; card_b = omega arith };
+      broke-once _ _ (ap (λ (l : Listed Break). l.items) c.cut.ensures.breaks) rose c.open_unit.ensures.revived.cause.once;
+  most = let same = c.open_unit.ensures.revived.clock in record { unit = omega (arith, same); card_a = omega arith; card_b = omega arith };
 }
+
+pub found-requires-clause-may : goal.found-requires-clause-may
+found-requires-clause-may g c = c.requires.may

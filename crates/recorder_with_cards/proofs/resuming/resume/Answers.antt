@@ -186,12 +186,12 @@ module _ (g : Over) (c : After-moment-at g) where
 
   bare : IsBare mid.keeper.cabin.slots.seats.driver
   bare =
-      let dark = c.requires.going.dark c.requires.dark in
+      let dark = c.requires.going.dark c.requires.may.dark in
       subst (λ (b : Cabin). IsBare b.slots.seats.driver) (sym cabin) (dark-bare 0 run.keeper.cabin.cards run.keeper.cabin.slots.seats.driver dark.bare (dark.stands 0).driver)
 
   bare_too : IsBare mid.keeper.cabin.slots.seats.codriver
   bare_too =
-      let dark = c.requires.going.dark c.requires.dark in
+      let dark = c.requires.going.dark c.requires.may.dark in
       subst (λ (b : Cabin). IsBare b.slots.seats.codriver) (sym cabin) (dark-bare 0 run.keeper.cabin.cards run.keeper.cabin.slots.seats.codriver dark.bare (dark.stands 0).codriver)
 
   falls : falls_of mid.keeper.cabin ≡ falls_of run.keeper.cabin
@@ -206,7 +206,7 @@ module _ (g : Over) (c : After-moment-at g) where
   ready : UnitMayBeCalled mid.keeper (g.M.Medium.state c.mend.new.unit)
   ready = record {
     is_unit = c.mend.ensures.stands.unit;
-    works = c.in_ok-mend.ensures.goes.cause.works;
+    works = c.in_ok-mend.ensures.answers.goes.cause.works;
     agrees = subst (λ (k : Keeper). IfSome (g.M.Medium.state c.mend.new.unit).image (Agrees k.journal)) (sym c.begin_span.ensures.begun.keeper) c.in_ok-mend.ensures.stands.agrees;
   }
 
@@ -217,13 +217,13 @@ module _ (g : Over) (c : After-moment-at g) where
   noted = mended-noted c.args.waking.journal (g.M.Medium.state c.args.unit.now) (g.M.Medium.state c.mend.new.unit) (g.C.Chip.state c.args.card_a.now) (g.D.Chip.state c.args.card_b.now) (g.met.M.Medium.coherent c.args.unit.now) c.mend.ensures.leaves.moments false
 
   later : AreLater dev0 mended
-  later = later-of-unit (g.M.Medium.state c.args.unit.now) (g.M.Medium.state c.mend.new.unit) (g.C.Chip.state c.args.card_a.now) (g.D.Chip.state c.args.card_b.now) (state-by (g.M.Medium.state c.args.unit.now) (g.M.Medium.state c.mend.new.unit) _ c.mend.ensures.goes.clock c.mend.ensures.goes.cause)
+  later = later-of-unit (g.M.Medium.state c.args.unit.now) (g.M.Medium.state c.mend.new.unit) (g.C.Chip.state c.args.card_a.now) (g.D.Chip.state c.args.card_b.now) (state-by (g.M.Medium.state c.args.unit.now) (g.M.Medium.state c.mend.new.unit) _ c.mend.ensures.answers.goes.clock c.mend.ensures.answers.goes.cause)
       (mending-leaves c.args.waking.journal (g.M.Medium.state c.args.unit.now) (g.M.Medium.state c.mend.new.unit) (g.met.M.Medium.coherent c.args.unit.now) c.mend.ensures.leaves.moments)
 
   -- no block is added yet: the pointer is an index, as in each image that decodes
   newest : KnowsNewest None (g.M.Medium.state c.mend.new.unit)
   newest =
-      let loaded = c.requires.loaded in
+      let loaded = c.requires.told.loaded in
       knows-left None (g.M.Medium.state c.args.unit.now) (g.M.Medium.state c.mend.new.unit) (g.met.M.Medium.coherent c.args.unit.now) (g.met.M.Medium.coherent c.mend.new.unit) loaded.works later.speeds
       (from_told (g.M.Medium.state c.args.unit.now).image Decodes (PointsInside speed_ring) loaded.decodes (λ x is decodes. speeds-inside x decodes))
 
@@ -241,9 +241,9 @@ module _ (g : Over) (c : After-moment-at g) where
         let X : State = g.C.Chip.state c.args.card_a.now in
         let Y : State = g.D.Chip.state c.args.card_b.now in
         let ok = c.in_ok-mend.ensures in
-        let loaded = c.requires.loaded in
+        let loaded = c.requires.told.loaded in
         awake p.o p.origin p.done p.s p.supply p.v U X Y p.r p.may p.number p.given (g.met.M.Medium.coherent c.args.unit.now) (wholes-of U X Y (g.met.C.Chip.coherent c.args.card_a.now) (g.met.D.Chip.coherent c.args.card_b.now)) loaded.works c.args.waking.journal (kept-of c.args.waking.journal U.image loaded.found)
-        (g.M.Medium.state c.mend.new.unit) false c.mend.ensures.leaves.moments c.mend.ensures.goes.tells ok.goes.cause c.mend.ensures.rules.holds ok.rules.first ok.rules.second run p.vehicle out p.values refl c.mend.new.journal ok.stands.agrees c.args.waking.rule c.requires.rule mid c.begin_span.ensures.begun (g.met.M.Medium.coherent c.mend.new.unit) p.stay
+        (g.M.Medium.state c.mend.new.unit) false c.mend.ensures.leaves.moments c.mend.ensures.answers.goes.tells ok.answers.goes.cause c.mend.ensures.rules.holds ok.rules.first ok.rules.second run p.vehicle out p.values refl c.mend.new.journal ok.stands.agrees c.args.waking.rule c.requires.told.rule mid c.begin_span.ensures.begun (g.met.M.Medium.coherent c.mend.new.unit) p.stay
 
     is : (woke.0.run ≡ found_again c.args.waking.journal.kept (progress p.v p.supply p.r.book)) × (woke.0.span ≡ []) × HaveLeftMore p.o dev0 mended
     unfolding woke
@@ -252,9 +252,9 @@ module _ (g : Over) (c : After-moment-at g) where
         let X : State = g.C.Chip.state c.args.card_a.now in
         let Y : State = g.D.Chip.state c.args.card_b.now in
         let ok = c.in_ok-mend.ensures in
-        let loaded = c.requires.loaded in
+        let loaded = c.requires.told.loaded in
         awake-is p.o p.origin p.done p.s p.supply p.v U X Y p.r p.may p.number p.given (g.met.M.Medium.coherent c.args.unit.now) (wholes-of U X Y (g.met.C.Chip.coherent c.args.card_a.now) (g.met.D.Chip.coherent c.args.card_b.now)) loaded.works c.args.waking.journal (kept-of c.args.waking.journal U.image loaded.found)
-        (g.M.Medium.state c.mend.new.unit) false c.mend.ensures.leaves.moments c.mend.ensures.goes.tells ok.goes.cause c.mend.ensures.rules.holds ok.rules.first ok.rules.second run p.vehicle out p.values refl c.mend.new.journal ok.stands.agrees c.args.waking.rule c.requires.rule mid c.begin_span.ensures.begun (g.met.M.Medium.coherent c.mend.new.unit) p.stay
+        (g.M.Medium.state c.mend.new.unit) false c.mend.ensures.leaves.moments c.mend.ensures.answers.goes.tells ok.answers.goes.cause c.mend.ensures.rules.holds ok.rules.first ok.rules.second run p.vehicle out p.values refl c.mend.new.journal ok.stands.agrees c.args.waking.rule c.requires.told.rule mid c.begin_span.ensures.begun (g.met.M.Medium.coherent c.mend.new.unit) p.stay
 
     next_is : run.next ≡ p.s.number
     next_is = ap (λ (x : Values). x.next) p.values ∙ sym p.number
@@ -290,7 +290,7 @@ module _ (g : Over) (c : After-moment-at g) where
           let W : State = g.M.Medium.state c.mend.new.unit in
           wakes-ringed p.o p.done p.s woke.0 (waiting_in Driver first_card ++ others) mid out mended woke.1 (sym began_log) q.spans q.seats
           (behind-stays dev0 mended p.o p.done (log_of out) p.s.number q.spans q.seats q.ringed (mend-leaves c.args.waking.journal U W (g.met.M.Medium.coherent c.args.unit.now) c.mend.ensures.leaves.moments) is.2 (cards-beside p.o q.spans U W (g.C.Chip.state c.args.card_a.now) (g.D.Chip.state c.args.card_b.now)))
-          (λ card. ap (option_map (seating_of mid.noted)) (ap (λ (b : Cabin). session_of b.cards card) cabin ∙ (c.requires.going.dark c.requires.dark).bare card)) (omega (arith, counted, noted_so))
+          (λ card. ap (option_map (seating_of mid.noted)) (ap (λ (b : Cabin). session_of b.cards card) cabin ∙ (c.requires.going.dark c.requires.may.dark).bare card)) (omega (arith, counted, noted_so))
 
       stands : StandsOn p.o (log_of out) mid.unfound q.spans mid.keeper.odometer
       stands =
@@ -298,11 +298,11 @@ module _ (g : Over) (c : After-moment-at g) where
           let X : State = g.C.Chip.state c.args.card_a.now in
           let Y : State = g.D.Chip.state c.args.card_b.now in
           let ok = c.in_ok-mend.ensures in
-          let loaded = c.requires.loaded in
+          let loaded = c.requires.told.loaded in
           let kept_now : c.mend.new.journal.kept ≡ c.args.waking.journal.kept = ap (λ (j : Notes). j.kept) ok.stands.notes in
           subst (λ (n : ℕ). StandsOn p.o (log_of out) n q.spans mid.keeper.odometer) (sym c.begin_span.ensures.begun.unfound)
           (awake-stands p.o p.origin p.done p.s p.supply p.v U X Y p.r p.may p.number p.given (g.met.M.Medium.coherent c.args.unit.now) (wholes-of U X Y (g.met.C.Chip.coherent c.args.card_a.now) (g.met.D.Chip.coherent c.args.card_b.now)) loaded.works c.args.waking.journal (kept-of c.args.waking.journal U.image loaded.found)
-          (g.M.Medium.state c.mend.new.unit) false c.mend.ensures.leaves.moments c.mend.ensures.goes.tells ok.goes.cause c.mend.ensures.rules.holds ok.rules.first ok.rules.second run p.vehicle out p.values refl c.mend.new.journal ok.stands.agrees c.args.waking.rule c.requires.rule mid c.begin_span.ensures.begun (g.met.M.Medium.coherent c.mend.new.unit) p.stay
+          (g.M.Medium.state c.mend.new.unit) false c.mend.ensures.leaves.moments c.mend.ensures.answers.goes.tells ok.answers.goes.cause c.mend.ensures.rules.holds ok.rules.first ok.rules.second run p.vehicle out p.values refl c.mend.new.journal ok.stands.agrees c.args.waking.rule c.requires.told.rule mid c.begin_span.ensures.begun (g.met.M.Medium.coherent c.mend.new.unit) p.stay
           kept_now q.spans (spans-before p.o p.done p.supply p.v dev0 p.r c.args.waking.journal.kept (log_of out) log_is q.spans q.ringed.spans_are) q.off)
 
       -- behind the calls that follow
@@ -553,7 +553,7 @@ module _ (g : Over) (c : After-accept_anew-2 g) where
       comes = comes-waking p.o p.done p.s (woke g start p).0 [] [] two out2 dev2 (goes-on fine)
 
       lit : RunHasPowerAllSeated (two.next / 60) two (g.M.Medium.state c.accept_anew-2.new.unit) (g.C.Chip.card c.accept_anew-2.new.card_a) (g.D.Chip.card c.accept_anew-2.new.card_b) (g.C.Chip.state c.accept_anew-2.new.card_a) (g.D.Chip.state c.accept_anew-2.new.card_b)
-      lit = ok_gives c.accept_anew-2.result c.accept_anew-2.ensures.going fine
+      lit = ok_gives c.accept_anew-2.result c.accept_anew-2.ensures.behind.going fine
 
       began-here : within.within.b.run.log ≡ log_of (out g start)
       began-here = ap (λ (b : Beginning). b.run.log) began ∙ began_log g start p
@@ -643,9 +643,9 @@ module _ (g : Over) (c : After-from_residual g) where
         let X : State = g.C.Chip.state c.args.card_a.now in
         let Y : State = g.D.Chip.state c.args.card_b.now in
         let bad = c.in_err-mend.ensures in
-        let loaded = c.requires.loaded in
+        let loaded = c.requires.told.loaded in
         unmended-read p.o p.origin p.done p.s p.supply p.v U X Y p.r p.may p.number p.given (g.met.M.Medium.coherent c.args.unit.now) (wholes-of U X Y (g.met.C.Chip.coherent c.args.card_a.now) (g.met.D.Chip.coherent c.args.card_b.now)) loaded.works c.args.waking.journal (kept-of c.args.waking.journal U.image loaded.found)
-        (g.M.Medium.state c.mend.new.unit) true c.mend.ensures.leaves.moments c.mend.ensures.goes.tells bad.goes.cause c.mend.ensures.rules.holds bad.rules.first bad.rules.second c.args.run.now p.vehicle c.args.outcome.now p.values refl
+        (g.M.Medium.state c.mend.new.unit) true c.mend.ensures.leaves.moments c.mend.ensures.answers.goes.tells bad.answers.goes.cause c.mend.ensures.rules.holds bad.rules.first bad.rules.second c.args.run.now p.vehicle c.args.outcome.now p.values refl
 
     log-found : log_of c.args.outcome.now ≡ (found_again c.args.waking.journal.kept (progress p.v p.supply p.r.book)).log
     log-found = ap (λ (x : Values). x.log) p.values
@@ -692,7 +692,7 @@ accept_anew-requires-clause-acting g c = record {
       let kept = ap (λ (j : Notes). j.kept) c.in_ok-mend.ensures.stands.notes in
       let early = c.requires.later in
       subst (λ (m : ℕ). RunHasPowerAllSeated (m / 60) (mid g at) (g.M.Medium.state c.mend.new.unit) (g.C.Chip.card c.args.card_a.now) (g.D.Chip.card c.args.card_b.now) (g.C.Chip.state c.args.card_a.now) (g.D.Chip.state c.args.card_b.now)) (sym c.begin_span.ensures.begun.next)
-      (span-lit c.args.waking.rule (run g at) (mid g at) c.mend.new.journal c.requires.dark c.requires.going c.begin_span.ensures.begun (omega (arith, kept, early)) (ready g at) (newest g at));
+      (span-lit c.args.waking.rule (run g at) (mid g at) c.mend.new.journal c.requires.may.dark c.requires.going c.begin_span.ensures.begun (omega (arith, kept, early)) (ready g at) (newest g at));
 }
 
 pub accept_anew-requires-2-clause-acting : goal.accept_anew-requires-2-clause-acting
@@ -706,8 +706,8 @@ accept_anew-requires-2-clause-acting g c = record {
       let next = ap (λ (r : Run). r.next) c.accept_anew.ensures.accepted.run ∙ c.begin_span.ensures.begun.next in
       let small = c.requires.going.small in
       omega (arith, next, small);
-  held = c.accept_anew.ensures.held.held;
-  going = c.in_ok-accept_anew.ensures.going;
+  held = c.accept_anew.ensures.behind.held.held;
+  going = c.in_ok-accept_anew.ensures.behind.going;
 }
 
 pub note_gap-requires-clause-acting : goal.note_gap-requires-clause-acting
@@ -721,53 +721,47 @@ note_gap-requires-clause-acting g c = record {
       let next = ap (λ (r : Run). r.next) c.accept_anew-2.ensures.accepted.run ∙ ap (λ (r : Run). r.next) c.accept_anew.ensures.accepted.run ∙ c.begin_span.ensures.begun.next in
       let small = c.requires.going.small in
       omega (arith, next, small);
-  held = c.accept_anew-2.ensures.held.held;
-  going = c.in_ok-accept_anew-2.ensures.going;
+  held = c.accept_anew-2.ensures.behind.held.held;
+  going = c.in_ok-accept_anew-2.ensures.behind.going;
 }
 
-pub accept_anew-requires-clause-none : goal.accept_anew-requires-clause-none
-accept_anew-requires-clause-none g c = none g (goal.at.accept_anew-requires-clause-none g c).After-moment-at
-
-pub accept_anew-requires-clause-bare : goal.accept_anew-requires-clause-bare
-accept_anew-requires-clause-bare g c = bare g (goal.at.accept_anew-requires-clause-bare g c).After-moment-at
-
-pub accept_anew-requires-clause-breaks : goal.accept_anew-requires-clause-breaks
-accept_anew-requires-clause-breaks g c =
-    let same = falls g (goal.at.accept_anew-requires-clause-breaks g c).After-moment-at in
-    let room = c.requires.breaks in
-    omega (arith, same, room)
-
-pub accept_anew-requires-clause-finds : goal.accept_anew-requires-clause-finds
-accept_anew-requires-clause-finds g c =
-    let same = few g (goal.at.accept_anew-requires-clause-finds g c).After-moment-at in
-    let room = c.requires.finds in
-    omega (arith, same, room)
+pub accept_anew-requires-clause-may : goal.accept_anew-requires-clause-may
+accept_anew-requires-clause-may g c = record {
+  none = none g (goal.at.accept_anew-requires-clause-may g c).After-moment-at;
+  at = first_of (search rules, grind (arith, common_steps));
+  bare = bare g (goal.at.accept_anew-requires-clause-may g c).After-moment-at;
+  breaks =
+      let same = falls g (goal.at.accept_anew-requires-clause-may g c).After-moment-at in
+      let room = c.requires.may.breaks in
+      omega (arith, same, room);
+  finds =
+      let same = few g (goal.at.accept_anew-requires-clause-may g c).After-moment-at in
+      let room = c.requires.may.finds in
+      omega (arith, same, room);
+}
 
 -- ---- the co-driver's slot
 
-pub accept_anew-requires-2-clause-none : goal.accept_anew-requires-2-clause-none
-accept_anew-requires-2-clause-none g c = ap (λ (r : Run). r.minutes.owing) c.accept_anew.ensures.accepted.run ∙ none g (goal.at.accept_anew-requires-2-clause-none g c).After-moment-at
-
-pub accept_anew-requires-2-clause-bare : goal.accept_anew-requires-2-clause-bare
-accept_anew-requires-2-clause-bare g c = subst IsBare (sym c.accept_anew.ensures.accepted.beside) (bare_too g (goal.at.accept_anew-requires-2-clause-bare g c).After-moment-at)
-
-pub accept_anew-requires-2-clause-breaks : goal.accept_anew-requires-2-clause-breaks
-accept_anew-requires-2-clause-breaks g c =
-    let same = falls g (goal.at.accept_anew-requires-2-clause-breaks g c).After-moment-at in
-    let told_so = c.accept_anew.ensures.takes.breaks in
-    let rooms = c.accept_anew.ensures.takes.rooms.1 in
-    let room = c.requires.breaks in
-    omega (arith, same, room, told_so, rooms)
-
-pub accept_anew-requires-2-clause-finds : goal.accept_anew-requires-2-clause-finds
-accept_anew-requires-2-clause-finds g c =
-    let at = (goal.at.accept_anew-requires-2-clause-finds g c).After-moment-at in
-    let driver_few = few g at in
-    let codriver_few = ap bare_count c.accept_anew.ensures.accepted.beside ∙ few_too g at in
-    let told_so = c.accept_anew.ensures.takes.finds in
-    let rooms = c.accept_anew.ensures.takes.rooms.2 in
-    let room = c.requires.finds in
-    omega (arith, driver_few, codriver_few, told_so, rooms, room)
+pub accept_anew-requires-2-clause-may : goal.accept_anew-requires-2-clause-may
+accept_anew-requires-2-clause-may g c = record {
+  none = ap (λ (r : Run). r.minutes.owing) c.accept_anew.ensures.accepted.run ∙ none g (goal.at.accept_anew-requires-2-clause-may g c).After-moment-at;
+  at = first_of (search rules, grind (arith, common_steps));
+  bare = subst IsBare (sym c.accept_anew.ensures.accepted.beside) (bare_too g (goal.at.accept_anew-requires-2-clause-may g c).After-moment-at);
+  breaks =
+      let same = falls g (goal.at.accept_anew-requires-2-clause-may g c).After-moment-at in
+      let told_so = c.accept_anew.ensures.takes.breaks in
+      let rooms = c.accept_anew.ensures.takes.rooms.1 in
+      let room = c.requires.may.breaks in
+      omega (arith, same, room, told_so, rooms);
+  finds =
+      let at = (goal.at.accept_anew-requires-2-clause-may g c).After-moment-at in
+      let driver_few = few g at in
+      let codriver_few = ap bare_count c.accept_anew.ensures.accepted.beside ∙ few_too g at in
+      let told_so = c.accept_anew.ensures.takes.finds in
+      let rooms = c.accept_anew.ensures.takes.rooms.2 in
+      let room = c.requires.may.finds in
+      omega (arith, driver_few, codriver_few, told_so, rooms, room);
+}
 
 -- ---- what is held and taken up
 
@@ -884,10 +878,10 @@ returns-in_err-mend-clause-promises g c = record {
       let Y : State = g.D.Chip.state c.args.card_b.now in
       let W : State = g.M.Medium.state c.mend.new.unit in
       let bad = c.in_err-mend.ensures in
-      let loaded = c.requires.loaded in
+      let loaded = c.requires.told.loaded in
       subst (λ (f : Bool). GoesOnOrCut f o done s (In 0) [] c.args.run.now c.args.outcome.now (as_left g c)) (failed-mend g c)
       (unmended o origin done s supply v U X Y r may number given (g.met.M.Medium.coherent c.args.unit.now) (wholes-of U X Y (g.met.C.Chip.coherent c.args.card_a.now) (g.met.D.Chip.coherent c.args.card_b.now)) loaded.works c.args.waking.journal (kept-of c.args.waking.journal U.image loaded.found)
-      W true c.mend.ensures.leaves.moments c.mend.ensures.goes.tells bad.goes.cause c.mend.ensures.rules.holds bad.rules.first bad.rules.second c.args.run.now vehicle c.args.outcome.now values refl c.requires.dark);
+      W true c.mend.ensures.leaves.moments c.mend.ensures.answers.goes.tells bad.answers.goes.cause c.mend.ensures.rules.holds bad.rules.first bad.rules.second c.args.run.now vehicle c.args.outcome.now values refl c.requires.may.dark);
   evented =
       λ room o origin vehicle done s supply v r stay may number given speed_is values evented limit time.
       let p : Behind c.args.waking.journal.kept c.args.run.now c.args.outcome.now (as_found g c) = record { room = room; o = o; origin = origin; vehicle = vehicle; done = done; s = s; supply = supply; v = v; r = r; stay = stay; may = may; number = number; given = given; values = values } in
@@ -905,7 +899,7 @@ returns-in_err-mend-clause-promises g c = record {
       let Y : State = g.D.Chip.state c.args.card_b.now in
       let W : State = g.M.Medium.state c.mend.new.unit in
       let bad = c.in_err-mend.ensures in
-      let loaded = c.requires.loaded in
+      let loaded = c.requires.told.loaded in
       let p : Behind c.args.waking.journal.kept c.args.run.now c.args.outcome.now (as_found g c) = record { room = room; o = o; origin = origin; vehicle = vehicle; done = done; s = s; supply = supply; v = v; r = r; stay = stay; may = may; number = number; given = given; values = values } in
       let q : Progress = found_again c.args.waking.journal.kept (progress v supply r.book) in
       let behind = behind-stays (as_found g c) (as_left g c) o done (log_of c.args.outcome.now) s.number spans seats ringed (mend-leaves c.args.waking.journal U W (g.met.M.Medium.coherent c.args.unit.now) c.mend.ensures.leaves.moments) (read g c p).left (cards-beside o spans U W X Y) in
@@ -913,7 +907,7 @@ returns-in_err-mend-clause-promises g c = record {
       let are = spans-before o done supply v (as_found g c) r c.args.waking.journal.kept (log_of c.args.outcome.now) log_now spans ringed.spans_are in
       let stands_so =
       unmended-stands o origin done s supply v U X Y r may number given (g.met.M.Medium.coherent c.args.unit.now) (wholes-of U X Y (g.met.C.Chip.coherent c.args.card_a.now) (g.met.D.Chip.coherent c.args.card_b.now)) loaded.works c.args.waking.journal (kept-of c.args.waking.journal U.image loaded.found)
-      W true c.mend.ensures.leaves.moments c.mend.ensures.goes.tells bad.goes.cause c.mend.ensures.rules.holds bad.rules.first bad.rules.second c.args.run.now vehicle c.args.outcome.now values refl spans are off in
+      W true c.mend.ensures.leaves.moments c.mend.ensures.answers.goes.tells bad.answers.goes.cause c.mend.ensures.rules.holds bad.rules.first bad.rules.second c.args.run.now vehicle c.args.outcome.now values refl spans are off in
       let base = stands_so.0 in
       let cut = unpowered-ringed o done s q (read g c p).followed (read g c p).followed.power number given (as_left g c) spans seats (subst (λ (l : RunLog). RingedBehind o done l s.number spans seats (as_left g c)) (log-found g c p) behind) base in
       let kept_so = stays-stored o v.log v.unfound spans (as_found g c) (as_left g c) (mend-stays c.args.waking.journal (as_found g c) (as_left g c) (g.met.M.Medium.coherent c.args.unit.now) c.mend.ensures.leaves.moments) off in
@@ -937,22 +931,26 @@ returns-in_err-mend-clause-promises g c = record {
       subst (λ (f : Bool). CardsWoken f (log_of c.args.outcome.now) o done s c.args.run.now (log_of c.args.outcome.now) (as_left g c)) (failed-mend g c) (vehicle, subst (λ (l : RunLog). CardsBehind o (done ++ s ∷ []) (with_cut l s []) (as_left g c)) (sym (log-found g c p)) cut);
 }
 
-pub returns-in_err-mend-clause-held : goal.returns-in_err-mend-clause-held
-returns-in_err-mend-clause-held g c = record {
+pub returns-in_err-mend-clause-behind : goal.returns-in_err-mend-clause-behind
+returns-in_err-mend-clause-behind g c = record {
   held =
-      let h = c.requires.going.held in
-      record { is_unit = c.mend.ensures.stands.unit; odometer = h.odometer; minute = h.minute; card_a = h.card_a; card_b = h.card_b; stand = h.stand };
-  cause = subst (λ (f : Bool). HasCause (g.M.Medium.state c.args.unit.now) (g.M.Medium.state c.mend.new.unit) f) (failed-mend g c) c.in_err-mend.ensures.goes.cause;
+      record {
+        held =
+            let h = c.requires.going.held in
+            record { is_unit = c.mend.ensures.stands.unit; odometer = h.odometer; minute = h.minute; card_a = h.card_a; card_b = h.card_b; stand = h.stand };
+        cause = subst (λ (f : Bool). HasCause (g.M.Medium.state c.args.unit.now) (g.M.Medium.state c.mend.new.unit) f) (failed-mend g c) c.in_err-mend.ensures.answers.goes.cause;
+      };
+  going = on_ok c.from_residual.result (λ well. absurd (let bad : true ≡ false = (failed-mend g c) ∙ well in cc));
 }
 
 pub returns-in_err-mend-clause-goes : goal.returns-in_err-mend-clause-goes
 returns-in_err-mend-clause-goes g c = record {
   later =
-      later-of-unit (g.M.Medium.state c.args.unit.now) (g.M.Medium.state c.mend.new.unit) (g.C.Chip.state c.args.card_a.now) (g.D.Chip.state c.args.card_b.now) (state-by (g.M.Medium.state c.args.unit.now) (g.M.Medium.state c.mend.new.unit) _ c.mend.ensures.goes.clock c.mend.ensures.goes.cause)
+      later-of-unit (g.M.Medium.state c.args.unit.now) (g.M.Medium.state c.mend.new.unit) (g.C.Chip.state c.args.card_a.now) (g.D.Chip.state c.args.card_b.now) (state-by (g.M.Medium.state c.args.unit.now) (g.M.Medium.state c.mend.new.unit) _ c.mend.ensures.answers.goes.clock c.mend.ensures.answers.goes.cause)
       (mending-leaves c.args.waking.journal (g.M.Medium.state c.args.unit.now) (g.M.Medium.state c.mend.new.unit) (g.met.M.Medium.coherent c.args.unit.now) c.mend.ensures.leaves.moments);
   calm = calm-of-unit (g.M.Medium.state c.args.unit.now) (g.M.Medium.state c.mend.new.unit) (g.C.Chip.state c.args.card_a.now) (g.D.Chip.state c.args.card_b.now);
   more = omega arith;
-  most = wrote-more 34 94 0 2152 (devices (g.M.Medium.state c.args.unit.now) (g.C.Chip.state c.args.card_a.now) (g.D.Chip.state c.args.card_b.now)) (devices (g.M.Medium.state c.mend.new.unit) (g.C.Chip.state c.args.card_a.now) (g.D.Chip.state c.args.card_b.now)) (omega arith) (omega arith) (wrote-unit 34 0 (g.M.Medium.state c.args.unit.now) (g.M.Medium.state c.mend.new.unit) (g.C.Chip.state c.args.card_a.now) (g.D.Chip.state c.args.card_b.now) c.mend.ensures.most);
+  most = wrote-more 34 94 0 2152 (devices (g.M.Medium.state c.args.unit.now) (g.C.Chip.state c.args.card_a.now) (g.D.Chip.state c.args.card_b.now)) (devices (g.M.Medium.state c.mend.new.unit) (g.C.Chip.state c.args.card_a.now) (g.D.Chip.state c.args.card_b.now)) (omega arith) (omega arith) (wrote-unit 34 0 (g.M.Medium.state c.args.unit.now) (g.M.Medium.state c.mend.new.unit) (g.C.Chip.state c.args.card_a.now) (g.D.Chip.state c.args.card_b.now) c.mend.ensures.answers.most);
 }
 
 pub returns-in_err-accept_anew-clause-resumed : goal.returns-in_err-accept_anew-clause-resumed
@@ -1000,10 +998,14 @@ returns-in_err-accept_anew-clause-promises g c = record {
       );
 }
 
-pub returns-in_err-accept_anew-clause-held : goal.returns-in_err-accept_anew-clause-held
-returns-in_err-accept_anew-clause-held g c = record {
-  held = c.accept_anew.ensures.held.held;
-  cause = subst (λ (f : Bool). HasCause (g.M.Medium.state c.args.unit.now) (g.M.Medium.state c.accept_anew.new.unit) f) (failed-one g c) (cause_after c.in_ok-mend.ensures.goes.cause c.in_err-accept_anew.ensures.held.cause);
+pub returns-in_err-accept_anew-clause-behind : goal.returns-in_err-accept_anew-clause-behind
+returns-in_err-accept_anew-clause-behind g c = record {
+  held =
+      record {
+        held = c.accept_anew.ensures.behind.held.held;
+        cause = subst (λ (f : Bool). HasCause (g.M.Medium.state c.args.unit.now) (g.M.Medium.state c.accept_anew.new.unit) f) (failed-one g c) (cause_after c.in_ok-mend.ensures.answers.goes.cause c.in_err-accept_anew.ensures.behind.held.cause);
+      };
+  going = on_ok c.from_residual-in_err-accept_anew.result (λ well. absurd (let bad : true ≡ false = (failed-one g c) ∙ well in cc));
 }
 
 pub returns-in_err-accept_anew-clause-goes : goal.returns-in_err-accept_anew-clause-goes
@@ -1015,15 +1017,15 @@ returns-in_err-accept_anew-clause-goes g c = record {
       anew-more (first_card g at) Driver c.moment-at.result c.args.waking.speed (mid g at) c.accept_anew.new.run (out g at) c.accept_anew.new.outcome c.accept_anew.ensures.accepted.enters;
   most =
       wrote-more (34 + 24) 94 (0 + 1072) 2152 (devices (g.M.Medium.state c.args.unit.now) (g.C.Chip.state c.args.card_a.now) (g.D.Chip.state c.args.card_b.now)) (devices (g.M.Medium.state c.accept_anew.new.unit) (g.C.Chip.state c.accept_anew.new.card_a) (g.D.Chip.state c.accept_anew.new.card_b)) (omega arith) (omega arith)
-      (wrote-then 34 24 0 1072 (devices (g.M.Medium.state c.args.unit.now) (g.C.Chip.state c.args.card_a.now) (g.D.Chip.state c.args.card_b.now)) (devices (g.M.Medium.state c.mend.new.unit) (g.C.Chip.state c.args.card_a.now) (g.D.Chip.state c.args.card_b.now)) (devices (g.M.Medium.state c.accept_anew.new.unit) (g.C.Chip.state c.accept_anew.new.card_a) (g.D.Chip.state c.accept_anew.new.card_b)) (wrote-unit 34 0 (g.M.Medium.state c.args.unit.now) (g.M.Medium.state c.mend.new.unit) (g.C.Chip.state c.args.card_a.now) (g.D.Chip.state c.args.card_b.now) c.mend.ensures.most) c.accept_anew.ensures.goes.most);
+      (wrote-then 34 24 0 1072 (devices (g.M.Medium.state c.args.unit.now) (g.C.Chip.state c.args.card_a.now) (g.D.Chip.state c.args.card_b.now)) (devices (g.M.Medium.state c.mend.new.unit) (g.C.Chip.state c.args.card_a.now) (g.D.Chip.state c.args.card_b.now)) (devices (g.M.Medium.state c.accept_anew.new.unit) (g.C.Chip.state c.accept_anew.new.card_a) (g.D.Chip.state c.accept_anew.new.card_b)) (wrote-unit 34 0 (g.M.Medium.state c.args.unit.now) (g.M.Medium.state c.mend.new.unit) (g.C.Chip.state c.args.card_a.now) (g.D.Chip.state c.args.card_b.now) c.mend.ensures.answers.most) c.accept_anew.ensures.goes.most);
 }
 
 pub returns-in_err-accept_anew-2-clause-resumed : goal.returns-in_err-accept_anew-2-clause-resumed
 returns-in_err-accept_anew-2-clause-resumed g c = record {
   next = ap (λ (r : Run). r.next) c.accept_anew-2.ensures.accepted.run ∙ ap (λ (r : Run). r.next) c.accept_anew.ensures.accepted.run ∙ c.begin_span.ensures.begun.next;
   unfound = ap (λ (r : Run). r.unfound) c.accept_anew-2.ensures.accepted.run ∙ ap (λ (r : Run). r.unfound) c.accept_anew.ensures.accepted.run ∙ c.begin_span.ensures.begun.unfound;
-  power = search rules;
-  owes = search rules;
+  power = on_ok c.from_residual-in_err-accept_anew-2.result (λ well. absurd (let bad : true ≡ false = (failed-two g c) ∙ well in cc));
+  owes = on_ok c.from_residual-in_err-accept_anew-2.result (λ well. absurd (let bad : true ≡ false = (failed-two g c) ∙ well in cc));
   refused = c.accept_anew-2.ensures.accepted.refused ∙ c.accept_anew.ensures.accepted.refused;
   uncut = uncut-two g (goal.at.returns-in_err-accept_anew-2-clause-resumed g c).After-accept_anew-2;
 }
@@ -1061,10 +1063,14 @@ returns-in_err-accept_anew-2-clause-promises g c = record {
       );
 }
 
-pub returns-in_err-accept_anew-2-clause-held : goal.returns-in_err-accept_anew-2-clause-held
-returns-in_err-accept_anew-2-clause-held g c = record {
-  held = c.accept_anew-2.ensures.held.held;
-  cause = subst (λ (f : Bool). HasCause (g.M.Medium.state c.args.unit.now) (g.M.Medium.state c.accept_anew-2.new.unit) f) (failed-two g c) (cause_after c.in_ok-mend.ensures.goes.cause (cause_after c.in_ok-accept_anew.ensures.held.cause c.in_err-accept_anew-2.ensures.held.cause));
+pub returns-in_err-accept_anew-2-clause-behind : goal.returns-in_err-accept_anew-2-clause-behind
+returns-in_err-accept_anew-2-clause-behind g c = record {
+  held =
+      record {
+        held = c.accept_anew-2.ensures.behind.held.held;
+        cause = subst (λ (f : Bool). HasCause (g.M.Medium.state c.args.unit.now) (g.M.Medium.state c.accept_anew-2.new.unit) f) (failed-two g c) (cause_after c.in_ok-mend.ensures.answers.goes.cause (cause_after c.in_ok-accept_anew.ensures.behind.held.cause c.in_err-accept_anew-2.ensures.behind.held.cause));
+      };
+  going = on_ok c.from_residual-in_err-accept_anew-2.result (λ well. absurd (let bad : true ≡ false = (failed-two g c) ∙ well in cc));
 }
 
 pub returns-in_err-accept_anew-2-clause-goes : goal.returns-in_err-accept_anew-2-clause-goes
@@ -1074,7 +1080,7 @@ returns-in_err-accept_anew-2-clause-goes g c = record {
   more = more-two g (goal.at.returns-in_err-accept_anew-2-clause-goes g c).After-accept_anew-2;
   most =
       wrote-more (34 + 24 + 24) 94 (0 + 1072 + 1072) 2152 (devices (g.M.Medium.state c.args.unit.now) (g.C.Chip.state c.args.card_a.now) (g.D.Chip.state c.args.card_b.now)) (devices (g.M.Medium.state c.accept_anew-2.new.unit) (g.C.Chip.state c.accept_anew-2.new.card_a) (g.D.Chip.state c.accept_anew-2.new.card_b)) (omega arith) (omega arith)
-      (wrote-then (34 + 24) 24 (0 + 1072) 1072 (devices (g.M.Medium.state c.args.unit.now) (g.C.Chip.state c.args.card_a.now) (g.D.Chip.state c.args.card_b.now)) (devices (g.M.Medium.state c.accept_anew.new.unit) (g.C.Chip.state c.accept_anew.new.card_a) (g.D.Chip.state c.accept_anew.new.card_b)) (devices (g.M.Medium.state c.accept_anew-2.new.unit) (g.C.Chip.state c.accept_anew-2.new.card_a) (g.D.Chip.state c.accept_anew-2.new.card_b)) (wrote-then 34 24 0 1072 (devices (g.M.Medium.state c.args.unit.now) (g.C.Chip.state c.args.card_a.now) (g.D.Chip.state c.args.card_b.now)) (devices (g.M.Medium.state c.mend.new.unit) (g.C.Chip.state c.args.card_a.now) (g.D.Chip.state c.args.card_b.now)) (devices (g.M.Medium.state c.accept_anew.new.unit) (g.C.Chip.state c.accept_anew.new.card_a) (g.D.Chip.state c.accept_anew.new.card_b)) (wrote-unit 34 0 (g.M.Medium.state c.args.unit.now) (g.M.Medium.state c.mend.new.unit) (g.C.Chip.state c.args.card_a.now) (g.D.Chip.state c.args.card_b.now) c.mend.ensures.most) c.accept_anew.ensures.goes.most) c.accept_anew-2.ensures.goes.most);
+      (wrote-then (34 + 24) 24 (0 + 1072) 1072 (devices (g.M.Medium.state c.args.unit.now) (g.C.Chip.state c.args.card_a.now) (g.D.Chip.state c.args.card_b.now)) (devices (g.M.Medium.state c.accept_anew.new.unit) (g.C.Chip.state c.accept_anew.new.card_a) (g.D.Chip.state c.accept_anew.new.card_b)) (devices (g.M.Medium.state c.accept_anew-2.new.unit) (g.C.Chip.state c.accept_anew-2.new.card_a) (g.D.Chip.state c.accept_anew-2.new.card_b)) (wrote-then 34 24 0 1072 (devices (g.M.Medium.state c.args.unit.now) (g.C.Chip.state c.args.card_a.now) (g.D.Chip.state c.args.card_b.now)) (devices (g.M.Medium.state c.mend.new.unit) (g.C.Chip.state c.args.card_a.now) (g.D.Chip.state c.args.card_b.now)) (devices (g.M.Medium.state c.accept_anew.new.unit) (g.C.Chip.state c.accept_anew.new.card_a) (g.D.Chip.state c.accept_anew.new.card_b)) (wrote-unit 34 0 (g.M.Medium.state c.args.unit.now) (g.M.Medium.state c.mend.new.unit) (g.C.Chip.state c.args.card_a.now) (g.D.Chip.state c.args.card_b.now) c.mend.ensures.answers.most) c.accept_anew.ensures.goes.most) c.accept_anew-2.ensures.goes.most);
 }
 
 pub returns-then-is_first-clause-resumed : goal.returns-then-is_first-clause-resumed
@@ -1130,10 +1136,14 @@ returns-then-is_first-clause-promises g c = record {
       false (two g cards) (out2 g cards).breaks NoGap (refl, refl, refl) (left-itself o (dev2 g cards)) (λ bad. none-fails bad) (none-noted (two g cards).keeper.cabin.cards (two g cards).keeper.memory.registration (dev2 g cards)));
 }
 
-pub returns-then-is_first-clause-held : goal.returns-then-is_first-clause-held
-returns-then-is_first-clause-held g c = record {
-  held = c.accept_anew-2.ensures.held.held;
-  cause = cause_after c.in_ok-mend.ensures.goes.cause (cause_after c.in_ok-accept_anew.ensures.held.cause c.in_ok-accept_anew-2.ensures.held.cause);
+pub returns-then-is_first-clause-behind : goal.returns-then-is_first-clause-behind
+returns-then-is_first-clause-behind g c = record {
+  held =
+      record {
+        held = c.accept_anew-2.ensures.behind.held.held;
+        cause = cause_after c.in_ok-mend.ensures.answers.goes.cause (cause_after c.in_ok-accept_anew.ensures.behind.held.cause c.in_ok-accept_anew-2.ensures.behind.held.cause);
+      };
+  going = first_of (search rules, grind (arith, common_steps));
 }
 
 pub returns-then-is_first-clause-goes : goal.returns-then-is_first-clause-goes
@@ -1143,7 +1153,7 @@ returns-then-is_first-clause-goes g c = record {
   more = more-two g (goal.at.returns-then-is_first-clause-goes g c).After-accept_anew-2;
   most =
       wrote-more (34 + 24 + 24) 94 (0 + 1072 + 1072) 2152 (devices (g.M.Medium.state c.args.unit.now) (g.C.Chip.state c.args.card_a.now) (g.D.Chip.state c.args.card_b.now)) (devices (g.M.Medium.state c.accept_anew-2.new.unit) (g.C.Chip.state c.accept_anew-2.new.card_a) (g.D.Chip.state c.accept_anew-2.new.card_b)) (omega arith) (omega arith)
-      (wrote-then (34 + 24) 24 (0 + 1072) 1072 (devices (g.M.Medium.state c.args.unit.now) (g.C.Chip.state c.args.card_a.now) (g.D.Chip.state c.args.card_b.now)) (devices (g.M.Medium.state c.accept_anew.new.unit) (g.C.Chip.state c.accept_anew.new.card_a) (g.D.Chip.state c.accept_anew.new.card_b)) (devices (g.M.Medium.state c.accept_anew-2.new.unit) (g.C.Chip.state c.accept_anew-2.new.card_a) (g.D.Chip.state c.accept_anew-2.new.card_b)) (wrote-then 34 24 0 1072 (devices (g.M.Medium.state c.args.unit.now) (g.C.Chip.state c.args.card_a.now) (g.D.Chip.state c.args.card_b.now)) (devices (g.M.Medium.state c.mend.new.unit) (g.C.Chip.state c.args.card_a.now) (g.D.Chip.state c.args.card_b.now)) (devices (g.M.Medium.state c.accept_anew.new.unit) (g.C.Chip.state c.accept_anew.new.card_a) (g.D.Chip.state c.accept_anew.new.card_b)) (wrote-unit 34 0 (g.M.Medium.state c.args.unit.now) (g.M.Medium.state c.mend.new.unit) (g.C.Chip.state c.args.card_a.now) (g.D.Chip.state c.args.card_b.now) c.mend.ensures.most) c.accept_anew.ensures.goes.most) c.accept_anew-2.ensures.goes.most);
+      (wrote-then (34 + 24) 24 (0 + 1072) 1072 (devices (g.M.Medium.state c.args.unit.now) (g.C.Chip.state c.args.card_a.now) (g.D.Chip.state c.args.card_b.now)) (devices (g.M.Medium.state c.accept_anew.new.unit) (g.C.Chip.state c.accept_anew.new.card_a) (g.D.Chip.state c.accept_anew.new.card_b)) (devices (g.M.Medium.state c.accept_anew-2.new.unit) (g.C.Chip.state c.accept_anew-2.new.card_a) (g.D.Chip.state c.accept_anew-2.new.card_b)) (wrote-then 34 24 0 1072 (devices (g.M.Medium.state c.args.unit.now) (g.C.Chip.state c.args.card_a.now) (g.D.Chip.state c.args.card_b.now)) (devices (g.M.Medium.state c.mend.new.unit) (g.C.Chip.state c.args.card_a.now) (g.D.Chip.state c.args.card_b.now)) (devices (g.M.Medium.state c.accept_anew.new.unit) (g.C.Chip.state c.accept_anew.new.card_a) (g.D.Chip.state c.accept_anew.new.card_b)) (wrote-unit 34 0 (g.M.Medium.state c.args.unit.now) (g.M.Medium.state c.mend.new.unit) (g.C.Chip.state c.args.card_a.now) (g.D.Chip.state c.args.card_b.now) c.mend.ensures.answers.most) c.accept_anew.ensures.goes.most) c.accept_anew-2.ensures.goes.most);
 }
 
 pub returns-clause-resumed : goal.returns-clause-resumed
@@ -1218,10 +1228,14 @@ returns-clause-promises g c = record {
       (λ fails. (subst (λ (f : Bool). GoesOnOrFails f o done s (In 0) [] (new g c) (out3 g c) (dev3 g c) x.within.b) fails (goes g c p time)).within.moment.up_to.uncut) c.note_gap.ensures.leaves.card_events);
 }
 
-pub returns-clause-held : goal.returns-clause-held
-returns-clause-held g c = record {
-  held = c.note_gap.ensures.held.held;
-  cause = cause_after c.in_ok-mend.ensures.goes.cause (cause_after c.in_ok-accept_anew.ensures.held.cause (cause_after c.in_ok-accept_anew-2.ensures.held.cause c.note_gap.ensures.held.cause));
+pub returns-clause-behind : goal.returns-clause-behind
+returns-clause-behind g c = record {
+  held =
+      record {
+        held = c.note_gap.ensures.behind.held.held;
+        cause = cause_after c.in_ok-mend.ensures.answers.goes.cause (cause_after c.in_ok-accept_anew.ensures.behind.held.cause (cause_after c.in_ok-accept_anew-2.ensures.behind.held.cause c.note_gap.ensures.behind.held.cause));
+      };
+  going = first_of (search rules, grind (arith, common_steps));
 }
 
 pub returns-clause-goes : goal.returns-clause-goes
@@ -1235,5 +1249,5 @@ returns-clause-goes g c = record {
   most =
       wrote-more (34 + 24 + 24 + 12) 94 (0 + 1072 + 1072 + 8) 2152 (devices (g.M.Medium.state c.args.unit.now) (g.C.Chip.state c.args.card_a.now) (g.D.Chip.state c.args.card_b.now)) (devices (g.M.Medium.state c.note_gap.new.unit) (g.C.Chip.state c.note_gap.new.card_a) (g.D.Chip.state c.note_gap.new.card_b)) (omega arith) (omega arith)
       (wrote-then (34 + 24 + 24) 12 (0 + 1072 + 1072) 8 (devices (g.M.Medium.state c.args.unit.now) (g.C.Chip.state c.args.card_a.now) (g.D.Chip.state c.args.card_b.now)) (devices (g.M.Medium.state c.accept_anew-2.new.unit) (g.C.Chip.state c.accept_anew-2.new.card_a) (g.D.Chip.state c.accept_anew-2.new.card_b)) (devices (g.M.Medium.state c.note_gap.new.unit) (g.C.Chip.state c.note_gap.new.card_a) (g.D.Chip.state c.note_gap.new.card_b))
-      (wrote-then (34 + 24) 24 (0 + 1072) 1072 (devices (g.M.Medium.state c.args.unit.now) (g.C.Chip.state c.args.card_a.now) (g.D.Chip.state c.args.card_b.now)) (devices (g.M.Medium.state c.accept_anew.new.unit) (g.C.Chip.state c.accept_anew.new.card_a) (g.D.Chip.state c.accept_anew.new.card_b)) (devices (g.M.Medium.state c.accept_anew-2.new.unit) (g.C.Chip.state c.accept_anew-2.new.card_a) (g.D.Chip.state c.accept_anew-2.new.card_b)) (wrote-then 34 24 0 1072 (devices (g.M.Medium.state c.args.unit.now) (g.C.Chip.state c.args.card_a.now) (g.D.Chip.state c.args.card_b.now)) (devices (g.M.Medium.state c.mend.new.unit) (g.C.Chip.state c.args.card_a.now) (g.D.Chip.state c.args.card_b.now)) (devices (g.M.Medium.state c.accept_anew.new.unit) (g.C.Chip.state c.accept_anew.new.card_a) (g.D.Chip.state c.accept_anew.new.card_b)) (wrote-unit 34 0 (g.M.Medium.state c.args.unit.now) (g.M.Medium.state c.mend.new.unit) (g.C.Chip.state c.args.card_a.now) (g.D.Chip.state c.args.card_b.now) c.mend.ensures.most) c.accept_anew.ensures.goes.most) c.accept_anew-2.ensures.goes.most) c.note_gap.ensures.goes.most);
+      (wrote-then (34 + 24) 24 (0 + 1072) 1072 (devices (g.M.Medium.state c.args.unit.now) (g.C.Chip.state c.args.card_a.now) (g.D.Chip.state c.args.card_b.now)) (devices (g.M.Medium.state c.accept_anew.new.unit) (g.C.Chip.state c.accept_anew.new.card_a) (g.D.Chip.state c.accept_anew.new.card_b)) (devices (g.M.Medium.state c.accept_anew-2.new.unit) (g.C.Chip.state c.accept_anew-2.new.card_a) (g.D.Chip.state c.accept_anew-2.new.card_b)) (wrote-then 34 24 0 1072 (devices (g.M.Medium.state c.args.unit.now) (g.C.Chip.state c.args.card_a.now) (g.D.Chip.state c.args.card_b.now)) (devices (g.M.Medium.state c.mend.new.unit) (g.C.Chip.state c.args.card_a.now) (g.D.Chip.state c.args.card_b.now)) (devices (g.M.Medium.state c.accept_anew.new.unit) (g.C.Chip.state c.accept_anew.new.card_a) (g.D.Chip.state c.accept_anew.new.card_b)) (wrote-unit 34 0 (g.M.Medium.state c.args.unit.now) (g.M.Medium.state c.mend.new.unit) (g.C.Chip.state c.args.card_a.now) (g.D.Chip.state c.args.card_b.now) c.mend.ensures.answers.most) c.accept_anew.ensures.goes.most) c.accept_anew-2.ensures.goes.most) c.note_gap.ensures.goes.most);
 }

@@ -1,4 +1,5 @@
-use Rattle.std.proofs.Common.{◌≡◌, ◌∙◌, ℕ, ◌+◌, ◌-◌, true, false, List, ◌++◌, length, refl, ap, sym, subst, arith}
+use Rattle.std.proofs.lemmas.Grind.{common_steps}
+use Rattle.std.proofs.Common.{◌≡◌, ◌∙◌, ℕ, ◌+◌, ◌-◌, true, false, List, ◌++◌, length, refl, ap, sym, subst, arith, rules}
 use Rattle.std.proofs.lemmas.List.{append-nil}
 use Rattle.trace_model.specs.declared.Action.{Action}
 use Rattle.trace_model.specs.Trace.{TraceSecond, seconds_at, item_seconds}
@@ -43,7 +44,7 @@ returns-in-Act-clause-gone g c = record {
   late = tt;
   going = c.requires.going;
   next = let none = ap item_seconds c.in-Act.is in omega (arith, none);
-  unfound = c.requires.unfound;
+  unfound = c.requires.may.unfound;
   is_unit = c.requires.going.held.is_unit;
 }
 
@@ -56,20 +57,20 @@ returns-in-Act-clause-room g c = λ left offs insertions actions h some. absurd 
 -- ---- seconds without power
 
 pub off-requires-clause-small : goal.off-requires-clause-small
-off-requires-clause-small g c = let is = ap item_seconds c.in-Off.is in let small = c.requires.small in omega (arith, is, small)
+off-requires-clause-small g c = let is = ap item_seconds c.in-Off.is in let small = c.requires.may.small in omega (arith, is, small)
 
 pub off-requires-clause-room : goal.off-requires-clause-room
 off-requires-clause-room g c = λ lit.
     let k : ℕ = insertions_in c.args.due.from c.args.due.to c.args.due.items.now in
     let a : ℕ = c.args.due.to - c.args.due.from in
     cut-room c.args.run.now c.args.outcome.now c.in-Off.seconds 0 k a
-    (subst (λ (i : Item). HasRoom c.args.run.now c.args.outcome.now (item_seconds i) (off_count i) k a) c.in-Off.is c.requires.room) lit
+    (subst (λ (i : Item). HasRoom c.args.run.now c.args.outcome.now (item_seconds i) (off_count i) k a) c.in-Off.is c.requires.may.room) lit
 
 pub returns-in-Off-clause-gone : goal.returns-in-Off-clause-gone
 returns-in-Off-clause-gone g c =
     let run = c.args.run.now in
     let is = ap item_seconds c.in-Off.is in
-    let small = c.requires.small in
+    let small = c.requires.may.small in
     record {
       late = tt;
       going = subst (λ (r : Run). IsBetweenSeconds r (g.M.Medium.state c.args.unit.now) (g.C.Chip.card c.args.card_a.now) (g.D.Chip.card c.args.card_b.now) (g.C.Chip.state c.args.card_a.now) (g.D.Chip.state c.args.card_b.now)) (sym c.off.ensures.run)
@@ -78,7 +79,7 @@ returns-in-Off-clause-gone g c =
       unfound =
           let same = ap (λ (r : Run). r.unfound) c.off.ensures.run ∙ unfound-same c.in-Off.seconds run in
           let more = ap (λ (l : Listed Break). length l.items) c.off.ensures.breaks ∙ lines-length (off_cut (is_lit run.power) (run.next - 1) run.begun) c.args.outcome.now.breaks in
-          let was = c.requires.unfound in
+          let was = c.requires.may.unfound in
           omega (arith, same, more, was);
       is_unit = c.requires.going.held.is_unit;
     }
@@ -103,12 +104,12 @@ returns-in-Off-clause-room g c = λ left offs insertions actions h some.
 pub drive-requires-clause-some : goal.drive-requires-clause-some
 drive-requires-clause-some g c = (subst InRange c.in-Run.is c.requires.item).0
 
-pub drive-requires-clause-small : goal.drive-requires-clause-small
-drive-requires-clause-small g c = let is = ap item_seconds c.in-Run.is in let small = c.requires.small in omega (arith, is, small)
-
-pub drive-requires-clause-room : goal.drive-requires-clause-room
-drive-requires-clause-room g c =
-    subst (λ (i : Item). HasRoom c.args.run.now c.args.outcome.now (item_seconds i) (off_count i) (insertions_in c.args.due.from c.args.due.to c.args.due.items.now) (c.args.due.to - c.args.due.from)) c.in-Run.is c.requires.room
+pub drive-requires-clause-may : goal.drive-requires-clause-may
+drive-requires-clause-may g c = record {
+  small = let is = ap item_seconds c.in-Run.is in let small = c.requires.may.small in omega (arith, is, small);
+  room = subst (λ (i : Item). HasRoom c.args.run.now c.args.outcome.now (item_seconds i) (off_count i) (insertions_in c.args.due.from c.args.due.to c.args.due.items.now) (c.args.due.to - c.args.due.from)) c.in-Run.is c.requires.may.room;
+  unfound = first_of (search rules, grind (arith, common_steps));
+}
 
 pub returns-in-Run-clause-gone : goal.returns-in-Run-clause-gone
 returns-in-Run-clause-gone g c =
@@ -130,49 +131,53 @@ returns-in-Run-clause-room g c = λ left offs insertions actions h.
 
 -- ---- what is recorded, with its events and rings
 
-pub returns-in-Act-clause-ringed : goal.returns-in-Act-clause-ringed
-returns-in-Act-clause-ringed g c = λ many o done few r time.
-    let d : Devices = devices (g.M.Medium.state c.args.unit.now) (g.C.Chip.state c.args.card_a.now) (g.D.Chip.state c.args.card_b.now) in
-    let acts : List Action = actions_in (between c.args.due.from c.args.due.to c.args.due.items.now) in
-    subst (λ (i : Item). RunRinged o (done ++ seconds_at c.args.run.now.next acts i) c.args.run.now c.args.outcome.now d) (sym c.in-Act.is)
-    (subst (λ (ss : List TraceSecond). RunRinged o ss c.args.run.now c.args.outcome.now d) (sym (append-nil done)) r)
+pub returns-in-Act-clause-promises : goal.returns-in-Act-clause-promises
+returns-in-Act-clause-promises g c = record {
+  ringed =
+      λ many o done few r time.
+      let d : Devices = devices (g.M.Medium.state c.args.unit.now) (g.C.Chip.state c.args.card_a.now) (g.D.Chip.state c.args.card_b.now) in
+      let acts : List Action = actions_in (between c.args.due.from c.args.due.to c.args.due.items.now) in
+      subst (λ (i : Item). RunRinged o (done ++ seconds_at c.args.run.now.next acts i) c.args.run.now c.args.outcome.now d) (sym c.in-Act.is)
+      (subst (λ (ss : List TraceSecond). RunRinged o ss c.args.run.now c.args.outcome.now d) (sym (append-nil done)) r);
+  cards =
+      λ many o done few r time.
+      let d : Devices = devices (g.M.Medium.state c.args.unit.now) (g.C.Chip.state c.args.card_a.now) (g.D.Chip.state c.args.card_b.now) in
+      let acts : List Action = actions_in (between c.args.due.from c.args.due.to c.args.due.items.now) in
+      subst (λ (i : Item). RunCarded o (done ++ seconds_at c.args.run.now.next acts i) c.args.run.now c.args.outcome.now d) (sym c.in-Act.is)
+      (subst (λ (ss : List TraceSecond). RunCarded o ss c.args.run.now c.args.outcome.now d) (sym (append-nil done)) r);
+}
 
-pub returns-in-Off-clause-ringed : goal.returns-in-Off-clause-ringed
-returns-in-Off-clause-ringed g c = λ many o done few r time.
-    let d : Devices = devices (g.M.Medium.state c.args.unit.now) (g.C.Chip.state c.args.card_a.now) (g.D.Chip.state c.args.card_b.now) in
-    let acts : List Action = actions_in (between c.args.due.from c.args.due.to c.args.due.items.now) in
-    let out : Outcome = record c.args.outcome.now { breaks = c.off.new.breaks } in
-    subst (λ (i : Item). RunRinged o (done ++ seconds_at c.args.run.now.next acts i) c.off.new.self out d) (sym c.in-Off.is)
-    (off-ringed o done c.args.run.now c.args.outcome.now d r (λ lit. let h = c.requires.going.lit (ap is_lit lit) in (ungiven_of h.span, h.cabin)) c.in-Off.seconds (subst InRange c.in-Off.is c.requires.item).0 c.off.new.breaks c.off.ensures.breaks c.off.new.self c.off.ensures.run)
+pub returns-in-Off-clause-promises : goal.returns-in-Off-clause-promises
+returns-in-Off-clause-promises g c = record {
+  ringed =
+      λ many o done few r time.
+      let d : Devices = devices (g.M.Medium.state c.args.unit.now) (g.C.Chip.state c.args.card_a.now) (g.D.Chip.state c.args.card_b.now) in
+      let acts : List Action = actions_in (between c.args.due.from c.args.due.to c.args.due.items.now) in
+      let out : Outcome = record c.args.outcome.now { breaks = c.off.new.breaks } in
+      subst (λ (i : Item). RunRinged o (done ++ seconds_at c.args.run.now.next acts i) c.off.new.self out d) (sym c.in-Off.is)
+      (off-ringed o done c.args.run.now c.args.outcome.now d r (λ lit. let h = c.requires.going.lit (ap is_lit lit) in (ungiven_of h.span, h.cabin)) c.in-Off.seconds (subst InRange c.in-Off.is c.requires.item).0 c.off.new.breaks c.off.ensures.breaks c.off.new.self c.off.ensures.run);
+  cards =
+      λ many o done few r time.
+      let d : Devices = devices (g.M.Medium.state c.args.unit.now) (g.C.Chip.state c.args.card_a.now) (g.D.Chip.state c.args.card_b.now) in
+      let acts : List Action = actions_in (between c.args.due.from c.args.due.to c.args.due.items.now) in
+      let out : Outcome = record c.args.outcome.now { breaks = c.off.new.breaks } in
+      subst (λ (i : Item). RunCarded o (done ++ seconds_at c.args.run.now.next acts i) c.off.new.self out d) (sym c.in-Off.is)
+      (off-carded o done c.args.run.now c.args.outcome.now d r c.requires.going.low (λ lit. let h = c.requires.going.lit (ap is_lit lit) in (ungiven_of h.span, h.cabin)) c.in-Off.seconds (subst InRange c.in-Off.is c.requires.item).0 c.off.new.breaks c.off.ensures.breaks c.off.new.self c.off.ensures.run);
+}
 
-pub returns-in-Run-clause-ringed : goal.returns-in-Run-clause-ringed
-returns-in-Run-clause-ringed g c = λ many o done few r time.
-    let acts : List Action = actions_in (between c.args.due.from c.args.due.to c.args.due.items.now) in
-    subst (λ (i : Item). HasRunBy RunRinged c.drive.result o (done ++ seconds_at c.args.run.now.next acts i) c.drive.new.run c.drive.new.outcome (devices (g.M.Medium.state c.drive.new.unit) (g.C.Chip.state c.drive.new.card_a) (g.D.Chip.state c.drive.new.card_b))) (sym c.in-Run.is)
-    (c.drive.ensures.ringed many (omega (arith, few, many)) o done r time)
-
--- ---- and the events on the cards
-
-pub returns-in-Act-clause-cards : goal.returns-in-Act-clause-cards
-returns-in-Act-clause-cards g c = λ many o done few r time.
-    let d : Devices = devices (g.M.Medium.state c.args.unit.now) (g.C.Chip.state c.args.card_a.now) (g.D.Chip.state c.args.card_b.now) in
-    let acts : List Action = actions_in (between c.args.due.from c.args.due.to c.args.due.items.now) in
-    subst (λ (i : Item). RunCarded o (done ++ seconds_at c.args.run.now.next acts i) c.args.run.now c.args.outcome.now d) (sym c.in-Act.is)
-    (subst (λ (ss : List TraceSecond). RunCarded o ss c.args.run.now c.args.outcome.now d) (sym (append-nil done)) r)
-
-pub returns-in-Off-clause-cards : goal.returns-in-Off-clause-cards
-returns-in-Off-clause-cards g c = λ many o done few r time.
-    let d : Devices = devices (g.M.Medium.state c.args.unit.now) (g.C.Chip.state c.args.card_a.now) (g.D.Chip.state c.args.card_b.now) in
-    let acts : List Action = actions_in (between c.args.due.from c.args.due.to c.args.due.items.now) in
-    let out : Outcome = record c.args.outcome.now { breaks = c.off.new.breaks } in
-    subst (λ (i : Item). RunCarded o (done ++ seconds_at c.args.run.now.next acts i) c.off.new.self out d) (sym c.in-Off.is)
-    (off-carded o done c.args.run.now c.args.outcome.now d r c.requires.going.low (λ lit. let h = c.requires.going.lit (ap is_lit lit) in (ungiven_of h.span, h.cabin)) c.in-Off.seconds (subst InRange c.in-Off.is c.requires.item).0 c.off.new.breaks c.off.ensures.breaks c.off.new.self c.off.ensures.run)
-
-pub returns-in-Run-clause-cards : goal.returns-in-Run-clause-cards
-returns-in-Run-clause-cards g c = λ many o done few r time.
-    let acts : List Action = actions_in (between c.args.due.from c.args.due.to c.args.due.items.now) in
-    subst (λ (i : Item). HasRunBy RunCarded c.drive.result o (done ++ seconds_at c.args.run.now.next acts i) c.drive.new.run c.drive.new.outcome (devices (g.M.Medium.state c.drive.new.unit) (g.C.Chip.state c.drive.new.card_a) (g.D.Chip.state c.drive.new.card_b))) (sym c.in-Run.is)
-    (c.drive.ensures.cards many (omega (arith, few, many)) o done r time)
+pub returns-in-Run-clause-promises : goal.returns-in-Run-clause-promises
+returns-in-Run-clause-promises g c = record {
+  ringed =
+      λ many o done few r time.
+      let acts : List Action = actions_in (between c.args.due.from c.args.due.to c.args.due.items.now) in
+      subst (λ (i : Item). HasRunBy RunRinged c.drive.result o (done ++ seconds_at c.args.run.now.next acts i) c.drive.new.run c.drive.new.outcome (devices (g.M.Medium.state c.drive.new.unit) (g.C.Chip.state c.drive.new.card_a) (g.D.Chip.state c.drive.new.card_b))) (sym c.in-Run.is)
+      (c.drive.ensures.promises.ringed many (omega (arith, few, many)) o done r time);
+  cards =
+      λ many o done few r time.
+      let acts : List Action = actions_in (between c.args.due.from c.args.due.to c.args.due.items.now) in
+      subst (λ (i : Item). HasRunBy RunCarded c.drive.result o (done ++ seconds_at c.args.run.now.next acts i) c.drive.new.run c.drive.new.outcome (devices (g.M.Medium.state c.drive.new.unit) (g.C.Chip.state c.drive.new.card_a) (g.D.Chip.state c.drive.new.card_b))) (sym c.in-Run.is)
+      (c.drive.ensures.promises.cards many (omega (arith, few, many)) o done r time);
+}
 
 -- ---- its writes
 
@@ -194,10 +199,13 @@ returns-in-Off-clause-goes g c = record {
 
 pub returns-in-Run-clause-goes : goal.returns-in-Run-clause-goes
 returns-in-Run-clause-goes g c = record {
-  later = c.drive.ensures.later;
-  calm = c.drive.ensures.calm;
-  broke = c.drive.ensures.broke;
+  later = c.drive.ensures.goes.later;
+  calm = c.drive.ensures.goes.calm;
+  broke = c.drive.ensures.goes.broke;
   most =
       subst (λ (i : Item). WritesFor (item_seconds i) (first_waiting i c.args.due.from c.args.due.to - c.args.due.from) (devices (g.M.Medium.state c.args.unit.now) (g.C.Chip.state c.args.card_a.now) (g.D.Chip.state c.args.card_b.now)) (devices (g.M.Medium.state c.drive.new.unit) (g.C.Chip.state c.drive.new.card_a) (g.D.Chip.state c.drive.new.card_b))) (sym c.in-Run.is)
-      (writes-more c.in-Run.seconds c.in-Run.seconds (c.args.due.to - c.args.due.from) (c.args.due.to + 1 - c.args.due.from) (devices (g.M.Medium.state c.args.unit.now) (g.C.Chip.state c.args.card_a.now) (g.D.Chip.state c.args.card_b.now)) (devices (g.M.Medium.state c.drive.new.unit) (g.C.Chip.state c.drive.new.card_a) (g.D.Chip.state c.drive.new.card_b)) (omega arith) (omega arith) c.drive.ensures.most);
+      (writes-more c.in-Run.seconds c.in-Run.seconds (c.args.due.to - c.args.due.from) (c.args.due.to + 1 - c.args.due.from) (devices (g.M.Medium.state c.args.unit.now) (g.C.Chip.state c.args.card_a.now) (g.D.Chip.state c.args.card_b.now)) (devices (g.M.Medium.state c.drive.new.unit) (g.C.Chip.state c.drive.new.card_a) (g.D.Chip.state c.drive.new.card_b)) (omega arith) (omega arith) c.drive.ensures.goes.most);
 }
+
+pub drive-requires-clause-among : goal.drive-requires-clause-among
+drive-requires-clause-among g c = c.requires.among

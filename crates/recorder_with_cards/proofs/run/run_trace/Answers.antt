@@ -139,23 +139,24 @@ loop-i-init g c =
 pub go_on-requires-clause-item : goal.go_on-requires-clause-item
 go_on-requires-clause-item g c = each-at c.args.trace.now.items c.loop-i.i c.get-item.result.now c.get-item.ensures c.requires.well.each
 
-pub go_on-requires-clause-small : goal.go_on-requires-clause-small
-go_on-requires-clause-small g c =
-    let s = seconds-here c.args.trace.now.items c.loop-i.i c.get-item.result.now c.get-item.ensures in
-    let next = c.loop-i.invariant.next in
-    let last = c.requires.well.within.1 in
-    omega (arith, s, next, last)
-
-pub go_on-requires-clause-room : goal.go_on-requires-clause-room
-go_on-requires-clause-room g c =
-    let v = c.loop-i.invariant in
-    let items = c.args.trace.now.items in
-    let i : ℕ = c.loop-i.i in
-    let s = seconds-here items i c.get-item.result.now c.get-item.ensures in
-    let o = offs-here items i c.get-item.result.now c.get-item.ensures in
-    let k = insertions-left items c.loop-i.first i v.first in
-    room-less cuts_from c.loop-i.run c.loop-i.outcome (total_seconds (drop i items)) (item_seconds c.get-item.result.now) (offs (drop i items)) (off_count c.get-item.result.now) (insertions (drop c.loop-i.first items)) (insertions_in c.loop-i.first i items)
-    (length items - c.loop-i.first) (i - c.loop-i.first) (omega (arith, s)) (omega (arith, o)) (omega (arith, k)) (omega (arith, c.loop-i-test.true, c.len-i-end.ensures)) v.room
+pub go_on-requires-clause-may : goal.go_on-requires-clause-may
+go_on-requires-clause-may g c = record {
+  small =
+      let s = seconds-here c.args.trace.now.items c.loop-i.i c.get-item.result.now c.get-item.ensures in
+      let next = c.loop-i.invariant.next in
+      let last = c.requires.well.within.1 in
+      omega (arith, s, next, last);
+  room =
+      let v = c.loop-i.invariant in
+      let items = c.args.trace.now.items in
+      let i : ℕ = c.loop-i.i in
+      let s = seconds-here items i c.get-item.result.now c.get-item.ensures in
+      let o = offs-here items i c.get-item.result.now c.get-item.ensures in
+      let k = insertions-left items c.loop-i.first i v.first in
+      room-less cuts_from c.loop-i.run c.loop-i.outcome (total_seconds (drop i items)) (item_seconds c.get-item.result.now) (offs (drop i items)) (off_count c.get-item.result.now) (insertions (drop c.loop-i.first items)) (insertions_in c.loop-i.first i items)
+      (length items - c.loop-i.first) (i - c.loop-i.first) (omega (arith, s)) (omega (arith, o)) (omega (arith, k)) (omega (arith, c.loop-i-test.true, c.len-i-end.ensures)) v.room;
+  unfound = first_of (search rules, grind (arith, common_steps));
+}
 
 pub loop-i-preserved : goal.loop-i-preserved
 loop-i-preserved g c =
@@ -207,7 +208,7 @@ loop-i-preserved g c =
           let was = v.cards x a b h (after-time f.goes.later time) few in
           subst (λ (ss : List TraceSecond). RunCarded o ss c.go_on.new.run c.go_on.new.outcome now)
           (sym (seconds-more start items i c.loop-i.first item c.loop-i.run.next c.get-item.ensures here v.waits))
-          (f.cards many o (seconds_of start (take i items)) little was time);
+          (f.promises.cards many o (seconds_of start (take i items)) little was time);
     }
 
 -- ---- a unit that is read anew
@@ -259,16 +260,46 @@ returns-in_err-go_on-clause-fault g c = λ x a b h time few.
     let many = v.waits.count in
     let first = v.first in
     let low : c.loop-i.i < length items = omega (arith, c.loop-i-test.true, c.len-i-end.ensures) in
-    absurd (f.cards many (origin_of x a b c.args.trace.now.start (devices (g.U.Medium.state c.args.unit.now) (g.C.Chip.state c.args.card_a.now) (g.C.Chip.state c.args.card_b.now))) (seconds_of c.args.trace.now.start (take c.loop-i.i items)) (omega (arith, many, few, low, first)) (v.cards x a b h (after-time f.goes.later time) few) time)
+    absurd (f.promises.cards many (origin_of x a b c.args.trace.now.start (devices (g.U.Medium.state c.args.unit.now) (g.C.Chip.state c.args.card_a.now) (g.C.Chip.state c.args.card_b.now))) (seconds_of c.args.trace.now.start (take c.loop-i.i items)) (omega (arith, many, few, low, first)) (v.cards x a b h (after-time f.goes.later time) few) time)
 
-pub returns-clause-later : goal.returns-clause-later
-returns-clause-later g c = c.loop-i.invariant.later
+pub returns-clause-goes : goal.returns-clause-goes
+returns-clause-goes g c = record {
+  later = c.loop-i.invariant.later;
+  most =
+      let items = c.args.trace.now.items in
+      let all = total-parts items c.loop-i.i in
+      let first = c.loop-i.invariant.first in
+      let len = c.len-i-end.ensures in
+      writes-more (total_seconds (take c.loop-i.i items)) (total_seconds items) c.loop-i.first (length items) (devices (g.U.Medium.state c.args.unit.now) (g.C.Chip.state c.args.card_a.now) (g.C.Chip.state c.args.card_b.now)) (devices (g.U.Medium.state c.loop-i.unit) (g.C.Chip.state c.loop-i.card_a) (g.C.Chip.state c.loop-i.card_b)) (omega (arith, all)) (omega (arith, first, c.loop-i.auto.i-end, len)) c.loop-i.invariant.most;
+}
 
-pub returns-in_err-go_on-clause-later : goal.returns-in_err-go_on-clause-later
-returns-in_err-go_on-clause-later g c = after-then (devices (g.U.Medium.state c.args.unit.now) (g.C.Chip.state c.args.card_a.now) (g.C.Chip.state c.args.card_b.now)) (devices (g.U.Medium.state c.loop-i.unit) (g.C.Chip.state c.loop-i.card_a) (g.C.Chip.state c.loop-i.card_b)) (devices (g.U.Medium.state c.go_on.new.unit) (g.C.Chip.state c.go_on.new.card_a) (g.C.Chip.state c.go_on.new.card_b)) c.loop-i.invariant.later c.in_err-go_on.ensures.goes.later
+pub returns-in_err-go_on-clause-goes : goal.returns-in_err-go_on-clause-goes
+returns-in_err-go_on-clause-goes g c = record {
+  later = after-then (devices (g.U.Medium.state c.args.unit.now) (g.C.Chip.state c.args.card_a.now) (g.C.Chip.state c.args.card_b.now)) (devices (g.U.Medium.state c.loop-i.unit) (g.C.Chip.state c.loop-i.card_a) (g.C.Chip.state c.loop-i.card_b)) (devices (g.U.Medium.state c.go_on.new.unit) (g.C.Chip.state c.go_on.new.card_a) (g.C.Chip.state c.go_on.new.card_b)) c.loop-i.invariant.later c.in_err-go_on.ensures.goes.later;
+  most =
+      let items = c.args.trace.now.items in
+      let i : ℕ = c.loop-i.i in
+      let item = c.get-item.result.now in
+      let v = c.loop-i.invariant in
+      let s = seconds-here items i item c.get-item.ensures in
+      let all = total-parts items i in
+      let on = waiting-on item c.loop-i.first i v.first in
+      let most = waiting-most item c.loop-i.first i v.first in
+      let low : i < length items = omega (arith, c.loop-i-test.true, c.len-i-end.ensures) in
+      writes-more (total_seconds (take i items) + item_seconds item) (total_seconds items) (c.loop-i.first + (first_waiting item c.loop-i.first i - c.loop-i.first)) (length items) (devices (g.U.Medium.state c.args.unit.now) (g.C.Chip.state c.args.card_a.now) (g.C.Chip.state c.args.card_b.now)) (devices (g.U.Medium.state c.go_on.new.unit) (g.C.Chip.state c.go_on.new.card_a) (g.C.Chip.state c.go_on.new.card_b))
+      (omega (arith, all, s)) (omega (arith, on, most, low))
+      (writes-then (total_seconds (take i items)) (item_seconds item) c.loop-i.first (first_waiting item c.loop-i.first i - c.loop-i.first) (devices (g.U.Medium.state c.args.unit.now) (g.C.Chip.state c.args.card_a.now) (g.C.Chip.state c.args.card_b.now)) (devices (g.U.Medium.state c.loop-i.unit) (g.C.Chip.state c.loop-i.card_a) (g.C.Chip.state c.loop-i.card_b)) (devices (g.U.Medium.state c.go_on.new.unit) (g.C.Chip.state c.go_on.new.card_a) (g.C.Chip.state c.go_on.new.card_b)) v.most c.in_err-go_on.ensures.goes.most);
+}
 
-pub returns-in_err-opened-clause-later : goal.returns-in_err-opened-clause-later
-returns-in_err-opened-clause-later g c = record { unit = state-as-it-was (g.U.Medium.state c.args.unit.now) (g.U.Medium.state c.judge.new.unit) c.judge.ensures.same.unit; card_a = state-as-it-was (g.C.Chip.state c.args.card_a.now) (g.C.Chip.state c.judge.new.card_a) c.judge.ensures.same.card_a; card_b = state-as-it-was (g.C.Chip.state c.args.card_b.now) (g.C.Chip.state c.judge.new.card_b) c.judge.ensures.same.card_b }
+pub returns-in_err-opened-clause-goes : goal.returns-in_err-opened-clause-goes
+returns-in_err-opened-clause-goes g c = record {
+  later = record { unit = state-as-it-was (g.U.Medium.state c.args.unit.now) (g.U.Medium.state c.judge.new.unit) c.judge.ensures.same.unit; card_a = state-as-it-was (g.C.Chip.state c.args.card_a.now) (g.C.Chip.state c.judge.new.card_a) c.judge.ensures.same.card_a; card_b = state-as-it-was (g.C.Chip.state c.args.card_b.now) (g.C.Chip.state c.judge.new.card_b) c.judge.ensures.same.card_b };
+  most =
+      let u = c.judge.ensures.same.unit.clock in
+      let p = c.judge.ensures.same.card_a.clock in
+      let q = c.judge.ensures.same.card_b.clock in
+      record { unit = omega (arith, u); card_a = omega (arith, p); card_b = omega (arith, q) };
+}
 
 -- ---- how often the unit broke down
 
@@ -315,32 +346,8 @@ returns-clause-counted g c = λ x a b h time few.
 
 -- ---- its writes
 
-pub returns-clause-most : goal.returns-clause-most
-returns-clause-most g c =
-    let items = c.args.trace.now.items in
-    let all = total-parts items c.loop-i.i in
-    let first = c.loop-i.invariant.first in
-    let len = c.len-i-end.ensures in
-    writes-more (total_seconds (take c.loop-i.i items)) (total_seconds items) c.loop-i.first (length items) (devices (g.U.Medium.state c.args.unit.now) (g.C.Chip.state c.args.card_a.now) (g.C.Chip.state c.args.card_b.now)) (devices (g.U.Medium.state c.loop-i.unit) (g.C.Chip.state c.loop-i.card_a) (g.C.Chip.state c.loop-i.card_b)) (omega (arith, all)) (omega (arith, first, c.loop-i.auto.i-end, len)) c.loop-i.invariant.most
-
-pub returns-in_err-go_on-clause-most : goal.returns-in_err-go_on-clause-most
-returns-in_err-go_on-clause-most g c =
-    let items = c.args.trace.now.items in
-    let i : ℕ = c.loop-i.i in
-    let item = c.get-item.result.now in
-    let v = c.loop-i.invariant in
-    let s = seconds-here items i item c.get-item.ensures in
-    let all = total-parts items i in
-    let on = waiting-on item c.loop-i.first i v.first in
-    let most = waiting-most item c.loop-i.first i v.first in
-    let low : i < length items = omega (arith, c.loop-i-test.true, c.len-i-end.ensures) in
-    writes-more (total_seconds (take i items) + item_seconds item) (total_seconds items) (c.loop-i.first + (first_waiting item c.loop-i.first i - c.loop-i.first)) (length items) (devices (g.U.Medium.state c.args.unit.now) (g.C.Chip.state c.args.card_a.now) (g.C.Chip.state c.args.card_b.now)) (devices (g.U.Medium.state c.go_on.new.unit) (g.C.Chip.state c.go_on.new.card_a) (g.C.Chip.state c.go_on.new.card_b))
-    (omega (arith, all, s)) (omega (arith, on, most, low))
-    (writes-then (total_seconds (take i items)) (item_seconds item) c.loop-i.first (first_waiting item c.loop-i.first i - c.loop-i.first) (devices (g.U.Medium.state c.args.unit.now) (g.C.Chip.state c.args.card_a.now) (g.C.Chip.state c.args.card_b.now)) (devices (g.U.Medium.state c.loop-i.unit) (g.C.Chip.state c.loop-i.card_a) (g.C.Chip.state c.loop-i.card_b)) (devices (g.U.Medium.state c.go_on.new.unit) (g.C.Chip.state c.go_on.new.card_a) (g.C.Chip.state c.go_on.new.card_b)) v.most c.in_err-go_on.ensures.goes.most)
-
-pub returns-in_err-opened-clause-most : goal.returns-in_err-opened-clause-most
-returns-in_err-opened-clause-most g c =
-    let u = c.judge.ensures.same.unit.clock in
-    let p = c.judge.ensures.same.card_a.clock in
-    let q = c.judge.ensures.same.card_b.clock in
-    record { unit = omega (arith, u); card_a = omega (arith, p); card_b = omega (arith, q) }
+pub go_on-requires-clause-among : goal.go_on-requires-clause-among
+go_on-requires-clause-among g c = record {
+  first = first_of (search rules, grind (arith, common_steps));
+  last = first_of (search rules, grind (arith, common_steps));
+}

@@ -1,7 +1,8 @@
+use Rattle.std.proofs.lemmas.Grind.{common_steps}
 use Rattle.std.proofs.Common.{rules, ◌≡◌, ◌∙◌, ℕ, ◌+◌, ◌*◌, ◌/◌, ◌==◌, Bool, true, false, cond, Option, Some, None, refl, ap, sym, subst, arith}
 use Rattle.std.specs.Prelude.{is_err, List, [], ◌∷◌, ◌++◌, IfSome, not}
 use Rattle.tach_media.specs.Medium.{HasCause, State, IsCoherent, LeavesOnly}
-use Rattle.tach_media.proofs.Runs.{cause_after, no_reads}
+use Rattle.tach_media.proofs.Runs.{cause_after, no_reads, on_ok}
 use Rattle.event_model.specs.declared.entries.Span.{Span}
 use Rattle.event_model.specs.Spans.{gap_of}
 use Rattle.unit_notes.specs.declared.unit_event.UnitEvent.{UnitEvent}
@@ -54,17 +55,22 @@ use Rattle.run_acts.proofs.OneCard.{none-there}
 use Rattle.run_minutes.proofs.Writes.{wrote-none}
 use Rattle.run_acts.proofs.gap.note_gap.Goals as goal
 
-pub note_in-requires-clause-going : goal.note_in-requires-clause-going
-note_in-requires-clause-going g c =
-    let run = c.args.run.now in
-    let h = c.requires.acting.going in
-    let before = g.met.M.Medium.coherent c.args.unit.now in
-    let after = g.met.M.Medium.coherent c.note_event.new.unit in
-    let ready = noted-ready before after c.note_event.ensures.journal run.keeper h.ready.unit_ready c.in_ok-note_event.ensures.cause.works in
-    moved-going None None (run.next / 60) run run h refl refl refl (record { unit_ready = ready; card_a = h.ready.card_a; card_b = h.ready.card_b })
-    (λ card row. noted-row before after c.note_event.ensures.journal run.keeper h.ready.unit_ready run.keeper.cabin.cards card row) refl h.cabin (sessions-none run.keeper.cabin.cards) refl refl
-    (knows-left run.watch.newest (g.M.Medium.state c.args.unit.now) (g.M.Medium.state c.note_event.new.unit) before after h.ready.unit_ready.works
-    (event-leaves-speeds c.card_gap-event.result.kind (fault_bytes c.card_gap-event.result) (g.M.Medium.state c.args.unit.now) (g.M.Medium.state c.note_event.new.unit) before c.note_event.ensures.moments))
+pub note_in-requires-clause-power : goal.note_in-requires-clause-power
+note_in-requires-clause-power g c = record {
+  lit = first_of (search rules, grind (arith, common_steps));
+  low = first_of (search rules, grind (arith, common_steps));
+  held = first_of (search rules, grind (arith, common_steps));
+  going =
+      let run = c.args.run.now in
+      let h = c.requires.acting.going in
+      let before = g.met.M.Medium.coherent c.args.unit.now in
+      let after = g.met.M.Medium.coherent c.note_event.new.unit in
+      let ready = noted-ready before after c.note_event.ensures.journal run.keeper h.ready.unit_ready c.in_ok-note_event.ensures.cause.works in
+      moved-going None None (run.next / 60) run run h refl refl refl (record { unit_ready = ready; card_a = h.ready.card_a; card_b = h.ready.card_b })
+      (λ card row. noted-row before after c.note_event.ensures.journal run.keeper h.ready.unit_ready run.keeper.cabin.cards card row) refl h.cabin (sessions-none run.keeper.cabin.cards) refl refl
+      (knows-left run.watch.newest (g.M.Medium.state c.args.unit.now) (g.M.Medium.state c.note_event.new.unit) before after h.ready.unit_ready.works
+      (event-leaves-speeds c.card_gap-event.result.kind (fault_bytes c.card_gap-event.result) (g.M.Medium.state c.args.unit.now) (g.M.Medium.state c.note_event.new.unit) before c.note_event.ensures.moments));
+}
 
 -- a gap begins at no second 0
 gap-begins : (kept now : ℕ) (span : Span) → gap_of kept now ≡ Some span → span.begin ≡ 0 → ⊥
@@ -76,11 +82,14 @@ gap-begins kept now span is none = by (kept == 0) is
         let at : 60 * (kept + 1) ≡ span.begin = cc in
         omega (arith, at, none)
 
-pub note_in-requires-2-clause-begin : goal.note_in-requires-2-clause-begin
-note_in-requires-2-clause-begin g c = λ none.
-    let there : gap_of c.args.kept c.args.run.now.next ≡ Some c.in-Some.span = cc in
-    let at : c.card_gap-event.result.begin.0 ≡ c.in-Some.span.begin = ap (λ (e : UnitEvent). e.begin.0) c.card_gap-event.ensures in
-    gap-begins c.args.kept c.args.run.now.next c.in-Some.span there (sym at ∙ none)
+pub note_in-requires-2-clause-gap : goal.note_in-requires-2-clause-gap
+note_in-requires-2-clause-gap g c = record {
+  kind = first_of (search rules, grind (arith, common_steps));
+  begin = λ none.
+      let there : gap_of c.args.kept c.args.run.now.next ≡ Some c.in-Some.span = cc in
+      let at : c.card_gap-event.result.begin.0 ≡ c.in-Some.span.begin = ap (λ (e : UnitEvent). e.begin.0) c.card_gap-event.ensures in
+      gap-begins c.args.kept c.args.run.now.next c.in-Some.span there (sym at ∙ none);
+}
 
 -- ---- what is recorded
 
@@ -165,10 +174,14 @@ returns-in_default-clause-promises g c = record {
       note-ringed (gap_of c.args.kept run.next) false run run c.args.breaks.now c.args.breaks.now d d ((returns-in_default-clause-noted g c).reach) ((returns-in_default-clause-leaves g c).rings) ((returns-in_default-clause-leaves g c).beside) ((returns-in_default-clause-leaves g c).places);
 }
 
-pub returns-in_default-clause-held : goal.returns-in_default-clause-held
-returns-in_default-clause-held g c = record {
-  held = c.requires.acting.held;
-  cause = (no_reads (g.M.Medium.state c.args.unit.now) c.requires.acting.going.ready.unit_ready.works).cause;
+pub returns-in_default-clause-behind : goal.returns-in_default-clause-behind
+returns-in_default-clause-behind g c = record {
+  held =
+      record {
+        held = c.requires.acting.held;
+        cause = (no_reads (g.M.Medium.state c.args.unit.now) c.requires.acting.going.ready.unit_ready.works).cause;
+      };
+  going = first_of (search rules, grind (arith, common_steps));
 }
 
 pub returns-in_default-clause-goes : goal.returns-in_default-clause-goes
@@ -254,12 +267,16 @@ returns-in_err-note_event-clause-promises g c = record {
       note-ringed (gap_of c.args.kept run.next) (is_err c.from_residual.result) run run c.args.breaks.now c.args.breaks.now d e ((returns-in_err-note_event-clause-noted g c).reach) ((returns-in_err-note_event-clause-leaves g c).rings) ((returns-in_err-note_event-clause-leaves g c).beside) ((returns-in_err-note_event-clause-leaves g c).places);
 }
 
-pub returns-in_err-note_event-clause-held : goal.returns-in_err-note_event-clause-held
-returns-in_err-note_event-clause-held g c = record {
-  held = record { is_unit = unit-stays c.note_event.ensures.journal c.requires.acting.held.is_unit; odometer = c.requires.acting.held.odometer; minute = c.requires.acting.held.minute; card_a = c.requires.acting.held.card_a; card_b = c.requires.acting.held.card_b; stand = c.requires.acting.held.stand };
-  cause =
-      let failed : true ≡ is_err c.from_residual.result = search rules in
-      subst (λ (f : Bool). HasCause (g.M.Medium.state c.args.unit.now) (g.M.Medium.state c.note_event.new.unit) f) failed c.in_err-note_event.ensures.cause;
+pub returns-in_err-note_event-clause-behind : goal.returns-in_err-note_event-clause-behind
+returns-in_err-note_event-clause-behind g c = record {
+  held =
+      record {
+        held = record { is_unit = unit-stays c.note_event.ensures.journal c.requires.acting.held.is_unit; odometer = c.requires.acting.held.odometer; minute = c.requires.acting.held.minute; card_a = c.requires.acting.held.card_a; card_b = c.requires.acting.held.card_b; stand = c.requires.acting.held.stand };
+        cause =
+            let failed : true ≡ is_err c.from_residual.result = search rules in
+            subst (λ (f : Bool). HasCause (g.M.Medium.state c.args.unit.now) (g.M.Medium.state c.note_event.new.unit) f) failed c.in_err-note_event.ensures.cause;
+      };
+  going = first_of (search rules, grind (arith, common_steps));
 }
 
 pub returns-in_err-note_event-clause-goes : goal.returns-in_err-note_event-clause-goes
@@ -382,12 +399,18 @@ returns-in_err-note_in-clause-promises g c = record {
       ((returns-in_err-note_in-clause-noted g c).reach) ((returns-in_err-note_in-clause-leaves g c).rings) ((returns-in_err-note_in-clause-leaves g c).beside) ((returns-in_err-note_in-clause-leaves g c).places);
 }
 
-pub returns-in_err-note_in-clause-held : goal.returns-in_err-note_in-clause-held
-returns-in_err-note_in-clause-held g c = record {
-  held = c.note_in.ensures.held.held;
-  cause =
+pub returns-in_err-note_in-clause-behind : goal.returns-in_err-note_in-clause-behind
+returns-in_err-note_in-clause-behind g c = record {
+  held =
+      record {
+        held = c.note_in.ensures.behind.held.held;
+        cause =
+            let failed : true ≡ is_err c.from_residual-in_err-note_in.result = search rules in
+            subst (λ (f : Bool). HasCause (g.M.Medium.state c.args.unit.now) (g.M.Medium.state c.note_in.new.unit) f) failed (cause_after c.in_ok-note_event.ensures.cause c.in_err-note_in.ensures.behind.held.cause);
+      };
+  going = on_ok c.from_residual-in_err-note_in.result (λ well.
       let failed : true ≡ is_err c.from_residual-in_err-note_in.result = search rules in
-      subst (λ (f : Bool). HasCause (g.M.Medium.state c.args.unit.now) (g.M.Medium.state c.note_in.new.unit) f) failed (cause_after c.in_ok-note_event.ensures.cause c.in_err-note_in.ensures.held.cause);
+      absurd (let bad : true ≡ false = failed ∙ well in cc));
 }
 
 pub returns-in_err-note_in-clause-goes : goal.returns-in_err-note_in-clause-goes
@@ -558,10 +581,14 @@ returns-clause-promises g c = record {
       note-ringed (gap_of c.args.kept run.next) (is_err c.note_in-2.result) run c.note_in-2.new.run c.args.breaks.now c.note_in-2.new.breaks d e ((returns-clause-noted g c).reach) ((returns-clause-leaves g c).rings) ((returns-clause-leaves g c).beside) ((returns-clause-leaves g c).places);
 }
 
-pub returns-clause-held : goal.returns-clause-held
-returns-clause-held g c = record {
-  held = c.note_in-2.ensures.held.held;
-  cause = cause_after c.in_ok-note_event.ensures.cause (cause_after c.in_ok-note_in.ensures.held.cause c.note_in-2.ensures.held.cause);
+pub returns-clause-behind : goal.returns-clause-behind
+returns-clause-behind g c = record {
+  held =
+      record {
+        held = c.note_in-2.ensures.behind.held.held;
+        cause = cause_after c.in_ok-note_event.ensures.cause (cause_after c.in_ok-note_in.ensures.behind.held.cause c.note_in-2.ensures.behind.held.cause);
+      };
+  going = first_of (search rules, grind (arith, common_steps));
 }
 
 pub returns-clause-goes : goal.returns-clause-goes
@@ -578,4 +605,18 @@ returns-clause-goes g c = record {
         card_a = (let a = next.card_a in let b = last.card_a in omega (arith, a, b));
         card_b = (let a = next.card_b in let b = last.card_b in omega (arith, a, b));
       };
+}
+
+pub note_in-requires-2-clause-power : goal.note_in-requires-2-clause-power
+note_in-requires-2-clause-power g c = record {
+  lit = first_of (search rules, grind (arith, common_steps));
+  low = first_of (search rules, grind (arith, common_steps));
+  held = c.in_ok-note_in.ensures.behind.held.held;
+  going = c.in_ok-note_in.ensures.behind.going;
+}
+
+pub note_in-requires-clause-gap : goal.note_in-requires-clause-gap
+note_in-requires-clause-gap g c = record {
+  kind = first_of (search rules, grind (arith, common_steps));
+  begin = first_of (search rules, grind (arith, common_steps));
 }

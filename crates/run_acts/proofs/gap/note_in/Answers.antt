@@ -1,4 +1,5 @@
-use Rattle.std.proofs.Common.{arith, ◌≡◌, ◌∙◌, true, false, Option, Some, None, [], ◌∷◌, refl, ap, sym, subst, is_some}
+use Rattle.std.proofs.lemmas.Grind.{common_steps}
+use Rattle.std.proofs.Common.{arith, ◌≡◌, ◌∙◌, true, false, Option, Some, None, [], ◌∷◌, refl, ap, sym, subst, is_some, rules}
 use Rattle.activity_codec.specs.declared.values.Slot.{Slot}
 use Rattle.trace_model.specs.declared.Card.{Card}
 use Rattle.trace_model.specs.declared.Card.TheVariants.{A, B}
@@ -82,7 +83,7 @@ module _ (g : Over) (c : In-Some-number_in g) (k : OneCard c.in-Some.card (g.C.C
 
   recorded : IsNoteRecorded (In 0) (is_err k.result) c.args.run.now k.new c.args.breaks.now k.breaks first last
   recorded =
-      let lit = c.requires.going in
+      let lit = c.requires.power.going in
       subst (λ (m : Devices). IsNoteRecorded (In 0) (is_err k.result) c.args.run.now k.new c.args.breaks.now k.breaks m last) (sym (k.beside_it (g.M.Medium.state c.args.unit.now)))
       (noted-some k.which c.args.gap.slot (now_moment c.args.run.now) c.args.run.now c.args.breaks.now (g.M.Medium.state c.args.unit.now) k.unit (k.state k.before) (k.state k.after) k.beside
       (g.met.M.Medium.coherent c.args.unit.now) k.whole k.whole_after k.size some e.known.value seat refl refl lit.span lit.stands lit.next lit.cabin e.known.moments e.writes.journal
@@ -90,7 +91,7 @@ module _ (g : Over) (c : In-Some-number_in g) (k : OneCard c.in-Some.card (g.C.C
 
   leaves : NoteLeaves (is_err k.result) c.args.run.now c.args.breaks.now k.breaks first last
   leaves =
-      let lit = c.requires.going in
+      let lit = c.requires.power.going in
       subst (λ (m : Devices). NoteLeaves (is_err k.result) c.args.run.now c.args.breaks.now k.breaks m last) (sym (k.beside_it (g.M.Medium.state c.args.unit.now)))
       (λ o done s out w power. some-leaves k.which c.args.gap.slot (now_moment c.args.run.now) c.args.run.now c.args.breaks.now (g.M.Medium.state c.args.unit.now) k.unit (k.state k.before) (k.state k.after) k.beside
       (g.met.M.Medium.coherent c.args.unit.now) k.whole k.whole_after k.size some e.known.value seat refl refl lit.span lit.stands lit.next lit.cabin e.known.moments e.writes.journal
@@ -128,29 +129,38 @@ module _ (g : Over) (c : In-Some-number_in g) (k : OneCard c.in-Some.card (g.C.C
 
 module _ (g : Over) (c : After-note_on g) where
   abbrev there-a : In-Some-number_in g
-  there-a = (goal.at.returns-in-A-clause-held g c).In-Some-number_in
+  there-a = (goal.at.returns-in-A-clause-behind g c).In-Some-number_in
 
   abbrev side-a : OneCard there-a.in-Some.card (g.C.Chip.state c.args.card_a.now) (g.D.Chip.state c.args.card_b.now)
   side-a =
-      on_a g.C.Chip.state g.C.Chip.card g.met.C.Chip.coherent c.args.card_a.now c.note_on.new.card c.requires.held.card_a.size (g.D.Chip.state c.args.card_b.now) (g.M.Medium.state c.note_on.new.unit) (g.met.M.Medium.coherent c.note_on.new.unit) c.note_on.new.run c.note_on.new.breaks c.note_on.result
+      on_a g.C.Chip.state g.C.Chip.card g.met.C.Chip.coherent c.args.card_a.now c.note_on.new.card c.requires.power.held.card_a.size (g.D.Chip.state c.args.card_b.now) (g.M.Medium.state c.note_on.new.unit) (g.met.M.Medium.coherent c.note_on.new.unit) c.note_on.new.run c.note_on.new.breaks c.note_on.result
       there-a.in-Some.card c.in-A.is
 
 module _ (g : Over) (c : After-note_on-in-B g) where
   abbrev there-b : In-Some-number_in g
-  there-b = (goal.at.returns-in-B-clause-held g c).In-Some-number_in
+  there-b = (goal.at.returns-in-B-clause-behind g c).In-Some-number_in
 
   abbrev side-b : OneCard there-b.in-Some.card (g.C.Chip.state c.args.card_a.now) (g.D.Chip.state c.args.card_b.now)
   side-b =
-      on_b g.D.Chip.state g.D.Chip.card g.met.D.Chip.coherent c.args.card_b.now c.note_on-in-B.new.card c.requires.held.card_b.size (g.C.Chip.state c.args.card_a.now) (g.M.Medium.state c.note_on-in-B.new.unit) (g.met.M.Medium.coherent c.note_on-in-B.new.unit) c.note_on-in-B.new.run c.note_on-in-B.new.breaks c.note_on-in-B.result
+      on_b g.D.Chip.state g.D.Chip.card g.met.D.Chip.coherent c.args.card_b.now c.note_on-in-B.new.card c.requires.power.held.card_b.size (g.C.Chip.state c.args.card_a.now) (g.M.Medium.state c.note_on-in-B.new.unit) (g.met.M.Medium.coherent c.note_on-in-B.new.unit) c.note_on-in-B.new.run c.note_on-in-B.new.breaks c.note_on-in-B.result
       there-b.in-Some.card c.in-B.is
 
 -- ---- card a, and card b
 
-pub returns-in-A-clause-going : goal.returns-in-A-clause-going
-returns-in-A-clause-going g c =
-    let e = c.note_on.ensures in
-    on_ok c.note_on.result (λ well. going-noted A c.args.gap.slot (now_moment c.args.run.now) c.args.run.now c.note_on.new.run c.args.breaks.now c.note_on.new.breaks c.note_on.ensures.noted.0 c.note_on.ensures.noted.1 (g.M.Medium.state c.args.unit.now) (g.M.Medium.state c.note_on.new.unit) (g.C.Chip.state c.args.card_a.now) (g.C.Chip.state c.note_on.new.card) (g.D.Chip.state c.args.card_b.now) (g.C.Chip.card c.args.card_a.now) (g.C.Chip.card c.note_on.new.card) (g.D.Chip.card c.args.card_b.now) c.requires.going (ok_gives c.note_on.result e.behind.ready well) e.behind.card (λ card h. ok_gives c.note_on.result (e.behind.rows card h) well) e.stands
-    (knows-left c.args.run.now.watch.newest (g.M.Medium.state c.args.unit.now) (g.M.Medium.state c.note_on.new.unit) (g.met.M.Medium.coherent c.args.unit.now) (g.met.M.Medium.coherent c.note_on.new.unit) c.requires.going.ready.unit_ready.works e.writes.speeds))
+pub returns-in-A-clause-behind : goal.returns-in-A-clause-behind
+returns-in-A-clause-behind g c = record {
+  held =
+      record {
+        held =
+            let e = c.note_on.ensures in
+            held-noted A c.args.gap.slot (now_moment c.args.run.now) c.args.run.now c.note_on.new.run c.args.breaks.now c.note_on.new.breaks c.note_on.ensures.noted.0 c.note_on.ensures.noted.1 (g.M.Medium.state c.args.unit.now) (g.M.Medium.state c.note_on.new.unit) (g.C.Chip.state c.args.card_a.now) (g.C.Chip.state c.note_on.new.card) (g.D.Chip.state c.args.card_b.now) (g.C.Chip.card c.args.card_a.now) (g.C.Chip.card c.note_on.new.card) (g.D.Chip.card c.args.card_b.now) refl c.requires.power.held e.behind.unit e.behind.card e.behind.size e.stands;
+        cause = c.note_on.ensures.behind.cause;
+      };
+  going =
+      let e = c.note_on.ensures in
+      on_ok c.note_on.result (λ well. going-noted A c.args.gap.slot (now_moment c.args.run.now) c.args.run.now c.note_on.new.run c.args.breaks.now c.note_on.new.breaks c.note_on.ensures.noted.0 c.note_on.ensures.noted.1 (g.M.Medium.state c.args.unit.now) (g.M.Medium.state c.note_on.new.unit) (g.C.Chip.state c.args.card_a.now) (g.C.Chip.state c.note_on.new.card) (g.D.Chip.state c.args.card_b.now) (g.C.Chip.card c.args.card_a.now) (g.C.Chip.card c.note_on.new.card) (g.D.Chip.card c.args.card_b.now) c.requires.power.going (ok_gives c.note_on.result e.behind.ready well) e.behind.card (λ card h. ok_gives c.note_on.result (e.behind.rows card h) well) e.stands
+      (knows-left c.args.run.now.watch.newest (g.M.Medium.state c.args.unit.now) (g.M.Medium.state c.note_on.new.unit) (g.met.M.Medium.coherent c.args.unit.now) (g.met.M.Medium.coherent c.note_on.new.unit) c.requires.power.going.ready.unit_ready.works e.writes.speeds));
+}
 
 pub returns-in-A-clause-recorded : goal.returns-in-A-clause-recorded
 returns-in-A-clause-recorded g c = recorded g (there-a g c) (side-a g c) c.note_on.ensures
@@ -171,14 +181,6 @@ returns-in-A-clause-leaves g c = record {
   beside = leaves g (there-a g c) (side-a g c) c.note_on.ensures;
 }
 
-pub returns-in-A-clause-held : goal.returns-in-A-clause-held
-returns-in-A-clause-held g c = record {
-  held =
-      let e = c.note_on.ensures in
-      held-noted A c.args.gap.slot (now_moment c.args.run.now) c.args.run.now c.note_on.new.run c.args.breaks.now c.note_on.new.breaks c.note_on.ensures.noted.0 c.note_on.ensures.noted.1 (g.M.Medium.state c.args.unit.now) (g.M.Medium.state c.note_on.new.unit) (g.C.Chip.state c.args.card_a.now) (g.C.Chip.state c.note_on.new.card) (g.D.Chip.state c.args.card_b.now) (g.C.Chip.card c.args.card_a.now) (g.C.Chip.card c.note_on.new.card) (g.D.Chip.card c.args.card_b.now) refl c.requires.held e.behind.unit e.behind.card e.behind.size e.stands;
-  cause = c.note_on.ensures.behind.cause;
-}
-
 pub returns-in-A-clause-goes : goal.returns-in-A-clause-goes
 returns-in-A-clause-goes g c = record {
   later = later g (there-a g c) (side-a g c) c.note_on.ensures;
@@ -187,11 +189,20 @@ returns-in-A-clause-goes g c = record {
   most = record { unit = c.note_on.ensures.most.0; card_a = c.note_on.ensures.most.1; card_b = omega arith };
 }
 
-pub returns-in-B-clause-going : goal.returns-in-B-clause-going
-returns-in-B-clause-going g c =
-    let e = c.note_on-in-B.ensures in
-    on_ok c.note_on-in-B.result (λ well. going-noted B c.args.gap.slot (now_moment c.args.run.now) c.args.run.now c.note_on-in-B.new.run c.args.breaks.now c.note_on-in-B.new.breaks c.note_on-in-B.ensures.noted.0 c.note_on-in-B.ensures.noted.1 (g.M.Medium.state c.args.unit.now) (g.M.Medium.state c.note_on-in-B.new.unit) (g.D.Chip.state c.args.card_b.now) (g.D.Chip.state c.note_on-in-B.new.card) (g.C.Chip.state c.args.card_a.now) (g.D.Chip.card c.args.card_b.now) (g.D.Chip.card c.note_on-in-B.new.card) (g.C.Chip.card c.args.card_a.now) c.requires.going (ok_gives c.note_on-in-B.result e.behind.ready well) e.behind.card (λ card h. ok_gives c.note_on-in-B.result (e.behind.rows card h) well) e.stands
-    (knows-left c.args.run.now.watch.newest (g.M.Medium.state c.args.unit.now) (g.M.Medium.state c.note_on-in-B.new.unit) (g.met.M.Medium.coherent c.args.unit.now) (g.met.M.Medium.coherent c.note_on-in-B.new.unit) c.requires.going.ready.unit_ready.works e.writes.speeds))
+pub returns-in-B-clause-behind : goal.returns-in-B-clause-behind
+returns-in-B-clause-behind g c = record {
+  held =
+      record {
+        held =
+            let e = c.note_on-in-B.ensures in
+            held-noted B c.args.gap.slot (now_moment c.args.run.now) c.args.run.now c.note_on-in-B.new.run c.args.breaks.now c.note_on-in-B.new.breaks c.note_on-in-B.ensures.noted.0 c.note_on-in-B.ensures.noted.1 (g.M.Medium.state c.args.unit.now) (g.M.Medium.state c.note_on-in-B.new.unit) (g.D.Chip.state c.args.card_b.now) (g.D.Chip.state c.note_on-in-B.new.card) (g.C.Chip.state c.args.card_a.now) (g.D.Chip.card c.args.card_b.now) (g.D.Chip.card c.note_on-in-B.new.card) (g.C.Chip.card c.args.card_a.now) refl c.requires.power.held e.behind.unit e.behind.card e.behind.size e.stands;
+        cause = c.note_on-in-B.ensures.behind.cause;
+      };
+  going =
+      let e = c.note_on-in-B.ensures in
+      on_ok c.note_on-in-B.result (λ well. going-noted B c.args.gap.slot (now_moment c.args.run.now) c.args.run.now c.note_on-in-B.new.run c.args.breaks.now c.note_on-in-B.new.breaks c.note_on-in-B.ensures.noted.0 c.note_on-in-B.ensures.noted.1 (g.M.Medium.state c.args.unit.now) (g.M.Medium.state c.note_on-in-B.new.unit) (g.D.Chip.state c.args.card_b.now) (g.D.Chip.state c.note_on-in-B.new.card) (g.C.Chip.state c.args.card_a.now) (g.D.Chip.card c.args.card_b.now) (g.D.Chip.card c.note_on-in-B.new.card) (g.C.Chip.card c.args.card_a.now) c.requires.power.going (ok_gives c.note_on-in-B.result e.behind.ready well) e.behind.card (λ card h. ok_gives c.note_on-in-B.result (e.behind.rows card h) well) e.stands
+      (knows-left c.args.run.now.watch.newest (g.M.Medium.state c.args.unit.now) (g.M.Medium.state c.note_on-in-B.new.unit) (g.met.M.Medium.coherent c.args.unit.now) (g.met.M.Medium.coherent c.note_on-in-B.new.unit) c.requires.power.going.ready.unit_ready.works e.writes.speeds));
+}
 
 pub returns-in-B-clause-recorded : goal.returns-in-B-clause-recorded
 returns-in-B-clause-recorded g c = recorded g (there-b g c) (side-b g c) c.note_on-in-B.ensures
@@ -210,14 +221,6 @@ returns-in-B-clause-leaves g c = record {
   events = notes g (there-b g c) (side-b g c) c.note_on-in-B.ensures;
   rings = c.note_on-in-B.ensures.shows.rings;
   beside = leaves g (there-b g c) (side-b g c) c.note_on-in-B.ensures;
-}
-
-pub returns-in-B-clause-held : goal.returns-in-B-clause-held
-returns-in-B-clause-held g c = record {
-  held =
-      let e = c.note_on-in-B.ensures in
-      held-noted B c.args.gap.slot (now_moment c.args.run.now) c.args.run.now c.note_on-in-B.new.run c.args.breaks.now c.note_on-in-B.new.breaks c.note_on-in-B.ensures.noted.0 c.note_on-in-B.ensures.noted.1 (g.M.Medium.state c.args.unit.now) (g.M.Medium.state c.note_on-in-B.new.unit) (g.D.Chip.state c.args.card_b.now) (g.D.Chip.state c.note_on-in-B.new.card) (g.C.Chip.state c.args.card_a.now) (g.D.Chip.card c.args.card_b.now) (g.D.Chip.card c.note_on-in-B.new.card) (g.C.Chip.card c.args.card_a.now) refl c.requires.held e.behind.unit e.behind.card e.behind.size e.stands;
-  cause = c.note_on-in-B.ensures.behind.cause;
 }
 
 pub returns-in-B-clause-goes : goal.returns-in-B-clause-goes
@@ -273,10 +276,14 @@ returns-in_default-clause-leaves g c = record {
   beside = λ o done s out w power. (record { unit = λ x h. h; card = λ card x h. h }, λ bad. absurd (let wrong : false ≡ true = bad in cc));
 }
 
-pub returns-in_default-clause-held : goal.returns-in_default-clause-held
-returns-in_default-clause-held g c = record {
-  held = c.requires.held;
-  cause = (no_reads (g.M.Medium.state c.args.unit.now) c.requires.going.ready.unit_ready.works).cause;
+pub returns-in_default-clause-behind : goal.returns-in_default-clause-behind
+returns-in_default-clause-behind g c = record {
+  held =
+      record {
+        held = c.requires.power.held;
+        cause = (no_reads (g.M.Medium.state c.args.unit.now) c.requires.power.going.ready.unit_ready.works).cause;
+      };
+  going = first_of (search rules, grind (arith, common_steps));
 }
 
 pub returns-in_default-clause-goes : goal.returns-in_default-clause-goes
@@ -304,7 +311,7 @@ returns-in_default-number_in-clause-leaves g c = record {
       let event : CardEvent = card_entry c.args.gap.event run.keeper.memory.registration in
       let none : number_of_seat run.keeper.cabin.cards (seat_in run.keeper.cabin.slots.seats c.args.gap.slot) ≡ None = sym c.number_in.ensures ∙ none-there c.number_in.result c.in_default-number_in.not-Some in
       let d = devices (g.M.Medium.state c.args.unit.now) (g.C.Chip.state c.args.card_a.now) (g.D.Chip.state c.args.card_b.now) in
-      let ready = c.requires.going.ready in
+      let ready = c.requires.power.going.ready in
       λ card. bare-seat run.keeper.cabin.cards seat event ready.card_a.is_known ready.card_b.is_known none card (card_of d card);
   places =
       let d = devices (g.M.Medium.state c.args.unit.now) (g.C.Chip.state c.args.card_a.now) (g.D.Chip.state c.args.card_b.now) in
@@ -321,10 +328,14 @@ returns-in_default-number_in-clause-leaves g c = record {
   beside = λ o done s out w power. (record { unit = λ x h. h; card = λ card x h. h }, λ bad. absurd (let wrong : false ≡ true = bad in cc));
 }
 
-pub returns-in_default-number_in-clause-held : goal.returns-in_default-number_in-clause-held
-returns-in_default-number_in-clause-held g c = record {
-  held = c.requires.held;
-  cause = (no_reads (g.M.Medium.state c.args.unit.now) c.requires.going.ready.unit_ready.works).cause;
+pub returns-in_default-number_in-clause-behind : goal.returns-in_default-number_in-clause-behind
+returns-in_default-number_in-clause-behind g c = record {
+  held =
+      record {
+        held = c.requires.power.held;
+        cause = (no_reads (g.M.Medium.state c.args.unit.now) c.requires.power.going.ready.unit_ready.works).cause;
+      };
+  going = first_of (search rules, grind (arith, common_steps));
 }
 
 pub returns-in_default-number_in-clause-goes : goal.returns-in_default-number_in-clause-goes
@@ -334,3 +345,29 @@ returns-in_default-number_in-clause-goes g c = record {
   more = omega arith;
   most = wrote-none 4 4 (devices (g.M.Medium.state c.args.unit.now) (g.C.Chip.state c.args.card_a.now) (g.D.Chip.state c.args.card_b.now));
 }
+
+pub note_on-requires-clause-may : goal.note_on-requires-clause-may
+note_on-requires-clause-may g c = record {
+  ready = first_of (search rules, grind (arith, common_steps));
+  card = first_of (search rules, grind (arith, common_steps));
+  session = first_of (search rules, grind (arith, common_steps));
+  minute = first_of (search rules, grind (arith, common_steps));
+  second = first_of (search rules, grind (arith, common_steps));
+  room = first_of (search rules, grind (arith, common_steps));
+}
+
+pub note_on-requires-in-B-clause-may : goal.note_on-requires-in-B-clause-may
+note_on-requires-in-B-clause-may g c = record {
+  ready = first_of (search rules, grind (arith, common_steps));
+  card = first_of (search rules, grind (arith, common_steps));
+  session = first_of (search rules, grind (arith, common_steps));
+  minute = first_of (search rules, grind (arith, common_steps));
+  second = first_of (search rules, grind (arith, common_steps));
+  room = first_of (search rules, grind (arith, common_steps));
+}
+
+pub note_on-requires-clause-gap : goal.note_on-requires-clause-gap
+note_on-requires-clause-gap g c = c.requires.gap
+
+pub note_on-requires-in-B-clause-gap : goal.note_on-requires-in-B-clause-gap
+note_on-requires-in-B-clause-gap g c = c.requires.gap

@@ -41,21 +41,21 @@ use Rattle.run_acts.proofs.gap.note_on.Goals as goal
 pub note_event_on-requires-clause-port : goal.note_event_on-requires-clause-port
 note_event_on-requires-clause-port g c =
     let is : (known_of c.args.run.now.keeper.cabin.cards c.args.which).sizes ≡ Ok c.in-Ok.app = cc in
-    c.requires.card.port c.in-Ok.app is
+    c.requires.may.card.port c.in-Ok.app is
 
 -- ---- it has a session, and so sizes
 
 pub returns-in_default : goal.returns-in_default
 returns-in_default g c =
     let cards = c.args.run.now.keeper.cabin.cards in
-    let gone = no-session c.args.which cards (g.C.Chip.card c.args.card.now) (g.C.Chip.state c.args.card.now) c.requires.card (λ app is. c.in_default.not-Ok app (ap (λ (q : Known). q.sizes) c.of.ensures ∙ is)) in
-    absurd (not-both (session_of cards c.args.which) c.requires.session gone)
+    let gone = no-session c.args.which cards (g.C.Chip.card c.args.card.now) (g.C.Chip.state c.args.card.now) c.requires.may.card (λ app is. c.in_default.not-Ok app (ap (λ (q : Known). q.sizes) c.of.ensures ∙ is)) in
+    absurd (not-both (session_of cards c.args.which) c.requires.may.session gone)
 
 pub returns-in_default-take : goal.returns-in_default-take
 returns-in_default-take g c =
     let cards = c.args.run.now.keeper.cabin.cards in
     let gone : session_of cards c.args.which ≡ None = sym c.take.ensures.taken ∙ none-there c.take.result c.in_default-take.not-Some in
-    absurd (not-both (session_of cards c.args.which) c.requires.session gone)
+    absurd (not-both (session_of cards c.args.which) c.requires.may.session gone)
 
 -- ---- the call failed, and the card was torn out
 
@@ -67,7 +67,7 @@ module _ (g : Over) (c : After-tear g) where
   cabin-fell = ap (λ (k : Keeper). k.cabin) c.tear.ensures.torn.keeper ∙ torn-apart c.args.which c.moment-at.result.second c.args.run.now.keeper.cabin c.take.new.self c.take.ensures.left
 
   cause-bad : HasCause (g.C.Chip.state c.args.card.now) (g.C.Chip.state c.note_event_on.new.card) true
-  cause-bad = subst (λ (b : Bool). HasCause (g.C.Chip.state c.args.card.now) (g.C.Chip.state c.note_event_on.new.card) b) (sym c.is_err.ensures.value ∙ c.if-is_err.true) c.note_event_on.ensures.cause
+  cause-bad = subst (λ (b : Bool). HasCause (g.C.Chip.state c.args.card.now) (g.C.Chip.state c.note_event_on.new.card) b) (sym c.is_err.ensures.value ∙ c.if-is_err.true) c.note_event_on.ensures.card.cause
 
   noted-fell : IsNotedOn c.args.which c.args.gap.slot (now_moment c.args.run.now) c.args.run.now (record c.args.run.now { keeper = c.tear.new.self }) c.args.breaks.now c.tear.new.breaks true
   noted-fell = record {
@@ -89,7 +89,7 @@ module _ (g : Over) (c : After-set_session g) where
   went-well = sym c.is_err.ensures.value ∙ c.if-is_err.false
 
   cause-well : HasCause (g.C.Chip.state c.args.card.now) (g.C.Chip.state c.note_event_on.new.card) false
-  cause-well = subst (λ (b : Bool). HasCause (g.C.Chip.state c.args.card.now) (g.C.Chip.state c.note_event_on.new.card) b) went-well c.note_event_on.ensures.cause
+  cause-well = subst (λ (b : Bool). HasCause (g.C.Chip.state c.args.card.now) (g.C.Chip.state c.note_event_on.new.card) b) went-well c.note_event_on.ensures.card.cause
 
   noted-whole : IsNotedOn c.args.which c.args.gap.slot (now_moment c.args.run.now) c.args.run.now (with_cabin (record c.args.run.now.keeper.cabin { cards = c.set_session.new.self }) c.args.run.now) c.args.breaks.now c.args.breaks.now false
   noted-whole = record { run = ap (λ (q : Cards). with_cabin (record c.args.run.now.keeper.cabin { cards = q }) c.args.run.now) cards-back; told = no-lines c.args.breaks.now }
@@ -105,7 +105,7 @@ returns-then-is_err g c = record {
       let cause = cause-bad g c in (
         true,
         noted-fell g c,
-        fell-broken X Y (session-works c.args.which run.keeper.cabin.cards (g.C.Chip.card c.args.card.now) X c.requires.card c.requires.session) cause,
+        fell-broken X Y (session-works c.args.which run.keeper.cabin.cards (g.C.Chip.card c.args.card.now) X c.requires.may.card c.requires.may.session) cause,
         cause,
         λ _. refl,
       );
@@ -120,14 +120,14 @@ returns-then-is_err g c = record {
         let same = entry-is c.args.gap.event c.on_card-noted.result c.identity.result run.keeper.memory c.on_card-noted.ensures (ap (λ (i : Identity). i.registration) c.identity.ensures) in
         let cabin = cabin-fell g c in
         let gone : session_of c.tear.new.self.cabin.cards c.args.which ≡ None = ap (λ (b : Cabin). session_of b.cards c.args.which) cabin ∙ session-set c.args.which None cards in
-        let moments = subst (λ (v : CardEvent). LeavesOnly X Y (on.IsNotingEvent c.in-Ok.app v)) same c.note_event_on.ensures.moments in
+        let moments = subst (λ (v : CardEvent). LeavesOnly X Y (on.IsNotingEvent c.in-Ok.app v)) same c.note_event_on.ensures.note.moments in
         subst (λ (o : Option Accepted). NotesOn false (session_of cards c.args.which) o (event ∷ []) X Y) (sym gone)
-        (on-session c.args.which cards c.in-Ok.app (g.C.Chip.card c.args.card.now) X Y None (event ∷ []) c.requires.card sizes c.requires.session
-        (noted-cut c.in-Ok.app event (plain-gap event c.requires.kind) X Y (g.met.C.Chip.coherent c.args.card.now) moments));
+        (on-session c.args.which cards c.in-Ok.app (g.C.Chip.card c.args.card.now) X Y None (event ∷ []) c.requires.may.card sizes c.requires.may.session
+        (noted-cut c.in-Ok.app event (plain-gap event c.requires.gap.kind) X Y (g.met.C.Chip.coherent c.args.card.now) moments));
     places =
         let cards = c.args.run.now.keeper.cabin.cards in
         let sizes = sizes-fell g c in
-        event-leaves c.args.which cards c.in-Ok.app c.on_card-noted.result (g.C.Chip.card c.args.card.now) (g.C.Chip.state c.args.card.now) (g.C.Chip.state c.note_event_on.new.card) (g.met.C.Chip.coherent c.args.card.now) c.requires.card sizes c.requires.session c.note_event_on.ensures.moments;
+        event-leaves c.args.which cards c.in-Ok.app c.on_card-noted.result (g.C.Chip.card c.args.card.now) (g.C.Chip.state c.args.card.now) (g.C.Chip.state c.note_event_on.new.card) (g.met.C.Chip.coherent c.args.card.now) c.requires.may.card sizes c.requires.may.session c.note_event_on.ensures.note.moments;
     events =
         let run = c.args.run.now in
         let U = g.M.Medium.state c.args.unit.now in
@@ -140,7 +140,7 @@ returns-then-is_err g c = record {
           fell = true;
           noted = noted-fell g c;
           failing = λ _. refl;
-          notes = one-noted U V X X Y Y (g.met.M.Medium.coherent c.args.unit.now) (g.met.M.Medium.coherent c.tear.new.unit) c.requires.ready.is_unit (entry_of CARD_FAULT run.next run.next crew crew) (is_err c.tear.result)
+          notes = one-noted U V X X Y Y (g.met.M.Medium.coherent c.args.unit.now) (g.met.M.Medium.coherent c.tear.new.unit) c.requires.may.ready.is_unit (entry_of CARD_FAULT run.next run.next crew crew) (is_err c.tear.result)
               (λ well. subst (λ (n : ℕ). IfSome U.image (λ x. IfSome V.image (IsEventNoted CARD_FAULT (fault_of n crew) x))) second (ok_gives c.tear.result c.tear.ensures.leaves.noted well))
               (subst (λ (n : ℕ). LeavesOnly U V (IsNotingEvent CARD_FAULT (fault_of n crew))) second c.tear.ensures.leaves.moments) c.tear.ensures.behind.cause.works;
         };
@@ -156,7 +156,7 @@ returns-then-is_err g c = record {
     moments =
         let cards = c.args.run.now.keeper.cabin.cards in
         let is = sizes-fell g c in
-        noted-sizes c.args.which cards c.in-Ok.app (g.C.Chip.card c.args.card.now) (g.C.Chip.state c.args.card.now) (g.C.Chip.state c.note_event_on.new.card) c.requires.card is (weaken c.note_event_on.ensures.moments (λ x n told note. inl (c.on_card-noted.result, note)));
+        noted-sizes c.args.which cards c.in-Ok.app (g.C.Chip.card c.args.card.now) (g.C.Chip.state c.args.card.now) (g.C.Chip.state c.note_event_on.new.card) c.requires.may.card is (weaken c.note_event_on.ensures.note.moments (λ x n told note. inl (c.on_card-noted.result, note)));
     value = first_of (search rules, grind (arith, common_steps));
   };
   behind = record {
@@ -177,7 +177,7 @@ returns-then-is_err g c = record {
       let at = c.moment-at.ensures in
       let cabin = cabin-fell g c in
       subst (λ (b : Cabin). CabinIsSound from leaving b) (sym cabin)
-      (torn-stands run.keeper.cabin c.args.which c.moment-at.result.second from leaving (subst (λ (m : Moment). run.keeper.cabin.slots.minute ≤ m.second / 60) (sym at) c.requires.minute) h);
+      (torn-stands run.keeper.cabin c.args.which c.moment-at.result.second from leaving (subst (λ (m : Moment). run.keeper.cabin.slots.minute ≤ m.second / 60) (sym at) c.requires.may.minute) h);
   clock_card = first_of (search rules, grind (arith, common_steps));
   most = (c.tear.ensures.most, c.note_event_on.ensures.most);
 }
@@ -205,17 +205,17 @@ returns g c = record {
         let same = entry-is c.args.gap.event c.on_card-noted.result c.identity.result run.keeper.memory c.on_card-noted.ensures (ap (λ (i : Identity). i.registration) c.identity.ensures) in
         let cause = cause-well g c in
         let cards = cards-back g c in
-        let moments = subst (λ (v : CardEvent). LeavesOnly X Y (on.IsNotingEvent c.in-Ok.app v)) same c.note_event_on.ensures.moments in
-        let noted = subst (λ (v : CardEvent). IfSome X.image (λ x. IfSome Y.image (on.IsEventNoted c.in-Ok.app v x))) same (ok_gives c.note_event_on.result c.note_event_on.ensures.noted (went-well g c)) in
-        let works = session-works c.args.which before (g.C.Chip.card c.args.card.now) X c.requires.card c.requires.session in
+        let moments = subst (λ (v : CardEvent). LeavesOnly X Y (on.IsNotingEvent c.in-Ok.app v)) same c.note_event_on.ensures.note.moments in
+        let noted = subst (λ (v : CardEvent). IfSome X.image (λ x. IfSome Y.image (on.IsEventNoted c.in-Ok.app v x))) same (ok_gives c.note_event_on.result c.note_event_on.ensures.note.noted (went-well g c)) in
+        let works = session-works c.args.which before (g.C.Chip.card c.args.card.now) X c.requires.may.card c.requires.may.session in
         subst (λ (q : Cards). NotesOn false (session_of before c.args.which) (session_of q c.args.which) (event ∷ []) X Y) (sym cards)
-        (on-session c.args.which before c.in-Ok.app (g.C.Chip.card c.args.card.now) X Y (session_of before c.args.which) (event ∷ []) c.requires.card sizes c.requires.session
-        (subst (λ (b : Bool). NotesOnCard c.in-Ok.app (event ∷ []) (not b) X Y) (sym c.requires.session)
-        (noted-well c.in-Ok.app event (plain-gap event c.requires.kind) X Y (g.met.C.Chip.coherent c.args.card.now) (g.met.C.Chip.coherent c.note_event_on.new.card) works cause.works moments noted)));
+        (on-session c.args.which before c.in-Ok.app (g.C.Chip.card c.args.card.now) X Y (session_of before c.args.which) (event ∷ []) c.requires.may.card sizes c.requires.may.session
+        (subst (λ (b : Bool). NotesOnCard c.in-Ok.app (event ∷ []) (not b) X Y) (sym c.requires.may.session)
+        (noted-well c.in-Ok.app event (plain-gap event c.requires.gap.kind) X Y (g.met.C.Chip.coherent c.args.card.now) (g.met.C.Chip.coherent c.note_event_on.new.card) works cause.works moments noted)));
     places =
         let cards = c.args.run.now.keeper.cabin.cards in
         let sizes = sizes-back g c in
-        event-leaves c.args.which cards c.in-Ok.app c.on_card-noted.result (g.C.Chip.card c.args.card.now) (g.C.Chip.state c.args.card.now) (g.C.Chip.state c.note_event_on.new.card) (g.met.C.Chip.coherent c.args.card.now) c.requires.card sizes c.requires.session c.note_event_on.ensures.moments;
+        event-leaves c.args.which cards c.in-Ok.app c.on_card-noted.result (g.C.Chip.card c.args.card.now) (g.C.Chip.state c.args.card.now) (g.C.Chip.state c.note_event_on.new.card) (g.met.C.Chip.coherent c.args.card.now) c.requires.may.card sizes c.requires.may.session c.note_event_on.ensures.note.moments;
     events =
         let X = g.C.Chip.state c.args.card.now in
         let Y = g.C.Chip.state c.note_event_on.new.card in
@@ -236,7 +236,7 @@ returns g c = record {
     moments =
         let cards = c.args.run.now.keeper.cabin.cards in
         let is = sizes-back g c in
-        noted-sizes c.args.which cards c.in-Ok.app (g.C.Chip.card c.args.card.now) (g.C.Chip.state c.args.card.now) (g.C.Chip.state c.note_event_on.new.card) c.requires.card is (weaken c.note_event_on.ensures.moments (λ x n told note. inl (c.on_card-noted.result, note)));
+        noted-sizes c.args.which cards c.in-Ok.app (g.C.Chip.card c.args.card.now) (g.C.Chip.state c.args.card.now) (g.C.Chip.state c.note_event_on.new.card) c.requires.may.card is (weaken c.note_event_on.ensures.note.moments (λ x n told note. inl (c.on_card-noted.result, note)));
     value = first_of (search rules, grind (arith, common_steps));
   };
   behind = record {
@@ -255,7 +255,7 @@ returns g c = record {
         let is = sizes-back g c in
         let cards = cards-back g c in
         subst (λ (q : Cards). CardMayBeCalled (known_of q c.args.which) next Y) (sym cards)
-        (ready-again (known_of run.keeper.cabin.cards c.args.which) c.in-Ok.app (g.C.Chip.card c.args.card.now) next X Y c.requires.card is c.note_event_on.ensures.port cause.works);
+        (ready-again (known_of run.keeper.cabin.cards c.args.which) c.in-Ok.app (g.C.Chip.card c.args.card.now) next X Y c.requires.may.card is c.note_event_on.ensures.card.port cause.works);
     size = first_of (search rules, grind (arith, common_steps));
     cause = first_of (search rules, grind (arith, common_steps));
   };
@@ -265,4 +265,11 @@ returns g c = record {
       subst (λ (q : Cards). CabinIsSound from leaving (record run.keeper.cabin { cards = q })) (sym cards) h;
   clock_card = first_of (search rules, grind (arith, common_steps));
   most = (omega arith, c.note_event_on.ensures.most);
+}
+
+pub tear-requires-clause-may : goal.tear-requires-clause-may
+tear-requires-clause-may g c = record {
+  minute = first_of (search rules, grind (arith, common_steps));
+  second = first_of (search rules, grind (arith, common_steps));
+  room = first_of (search rules, grind (arith, common_steps));
 }

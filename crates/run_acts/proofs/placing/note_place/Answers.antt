@@ -1,3 +1,4 @@
+use Rattle.std.proofs.lemmas.Grind.{common_steps}
 use Rattle.std.proofs.Common.{rules, ◌≡◌, ◌∙◌, ℕ, Bool, true, false, Option, Some, None, is_some, length, refl, ap, sym, subst, arith, inl, inr, ◌^◌, ◌<◌, ◌+◌}
 use Rattle.trace_model.specs.declared.Card.TheVariants.{A, B}
 use Rattle.tach_media.proofs.Runs.{on_ok, ok_gives, cause_after, no_reads}
@@ -104,11 +105,25 @@ module _ (g : Over) (c : In_ok-note_place g) where
   later-noted = later-of-unit (g.M.Medium.state c.args.unit.now) (g.M.Medium.state c.note_place.new.unit) (g.C.Chip.state c.args.card_a.now) (g.D.Chip.state c.args.card_b.now) (state-by (g.M.Medium.state c.args.unit.now) (g.M.Medium.state c.note_place.new.unit) _ c.note_place.ensures.journal.later c.note_place.ensures.cause)
       (place-leaves (unit_place_bytes c.in-Some-number_in.number c.args.place.entry) (g.M.Medium.state c.args.unit.now) (g.M.Medium.state c.note_place.new.unit) (g.met.M.Medium.coherent c.args.unit.now) c.note_place.ensures.moments)
 
-pub note_place_in-requires-clause-ready : goal.note_place_in-requires-clause-ready
-note_place_in-requires-clause-ready g c = ready-then g (goal.at.note_place_in-requires-clause-ready g c).In_ok-note_place
+pub note_place_in-requires-clause-may : goal.note_place_in-requires-clause-may
+note_place_in-requires-clause-may g c = record {
+  ready = ready-then g (goal.at.note_place_in-requires-clause-may g c).In_ok-note_place;
+  card = first_of (search rules, grind (arith, common_steps));
+  session = first_of (search rules, grind (arith, common_steps));
+  minute = first_of (search rules, grind (arith, common_steps));
+  second = first_of (search rules, grind (arith, common_steps));
+  room = first_of (search rules, grind (arith, common_steps));
+}
 
-pub note_place_in-requires-in-B-clause-ready : goal.note_place_in-requires-in-B-clause-ready
-note_place_in-requires-in-B-clause-ready g c = ready-then g (goal.at.note_place_in-requires-in-B-clause-ready g c).In_ok-note_place
+pub note_place_in-requires-in-B-clause-may : goal.note_place_in-requires-in-B-clause-may
+note_place_in-requires-in-B-clause-may g c = record {
+  ready = ready-then g (goal.at.note_place_in-requires-in-B-clause-may g c).In_ok-note_place;
+  card = first_of (search rules, grind (arith, common_steps));
+  session = first_of (search rules, grind (arith, common_steps));
+  minute = first_of (search rules, grind (arith, common_steps));
+  second = first_of (search rules, grind (arith, common_steps));
+  room = first_of (search rules, grind (arith, common_steps));
+}
 
 -- ---- and on a card
 
@@ -281,7 +296,7 @@ module _ (g : Over) (c : In_ok-note_place g) (k : OneCard c.in-Some.card (g.C.Ch
 
 module _ (g : Over) (c : After-note_place_in g) where
   abbrev noted-first-a : In_ok-note_place g
-  noted-first-a = (goal.at.returns-in-A-clause-held g c).In_ok-note_place
+  noted-first-a = (goal.at.returns-in-A-clause-behind g c).In_ok-note_place
 
   abbrev side-a : OneCard noted-first-a.in-Some.card (g.C.Chip.state c.args.card_a.now) (g.D.Chip.state c.args.card_b.now)
   side-a =
@@ -290,7 +305,7 @@ module _ (g : Over) (c : After-note_place_in g) where
 
 module _ (g : Over) (c : After-note_place_in-in-B g) where
   abbrev noted-first-b : In_ok-note_place g
-  noted-first-b = (goal.at.returns-in-B-clause-held g c).In_ok-note_place
+  noted-first-b = (goal.at.returns-in-B-clause-behind g c).In_ok-note_place
 
   abbrev side-b : OneCard noted-first-b.in-Some.card (g.C.Chip.state c.args.card_a.now) (g.D.Chip.state c.args.card_b.now)
   side-b =
@@ -360,10 +375,14 @@ returns-in_default-clause-promises g c = record {
       (no-number cabin.cards (seat_in cabin.slots.seats c.args.place.slot) c.card.result c.card.ensures c.in_default.not-Some);
 }
 
-pub returns-in_default-clause-held : goal.returns-in_default-clause-held
-returns-in_default-clause-held g c = record {
-  held = c.requires.acting.held;
-  cause = (no_reads (g.M.Medium.state c.args.unit.now) c.requires.acting.going.ready.unit_ready.works).cause;
+pub returns-in_default-clause-behind : goal.returns-in_default-clause-behind
+returns-in_default-clause-behind g c = record {
+  held =
+      record {
+        held = c.requires.acting.held;
+        cause = (no_reads (g.M.Medium.state c.args.unit.now) c.requires.acting.going.ready.unit_ready.works).cause;
+      };
+  going = first_of (search rules, grind (arith, common_steps));
 }
 
 pub returns-in_default-clause-goes : goal.returns-in_default-clause-goes
@@ -431,10 +450,14 @@ returns-in_default-number_in-clause-promises g c = record {
       (sym c.number_in.ensures ∙ none-there c.number_in.result c.in_default-number_in.not-Some);
 }
 
-pub returns-in_default-number_in-clause-held : goal.returns-in_default-number_in-clause-held
-returns-in_default-number_in-clause-held g c = record {
-  held = c.requires.acting.held;
-  cause = (no_reads (g.M.Medium.state c.args.unit.now) c.requires.acting.going.ready.unit_ready.works).cause;
+pub returns-in_default-number_in-clause-behind : goal.returns-in_default-number_in-clause-behind
+returns-in_default-number_in-clause-behind g c = record {
+  held =
+      record {
+        held = c.requires.acting.held;
+        cause = (no_reads (g.M.Medium.state c.args.unit.now) c.requires.acting.going.ready.unit_ready.works).cause;
+      };
+  going = first_of (search rules, grind (arith, common_steps));
 }
 
 pub returns-in_default-number_in-clause-goes : goal.returns-in_default-number_in-clause-goes
@@ -564,12 +587,16 @@ returns-in_err-note_place-clause-promises g c = record {
       (record { unit = c.note_place.ensures.journal.keeps; card_a = λ t x le at. at; card_b = λ t x le at. at });
 }
 
-pub returns-in_err-note_place-clause-held : goal.returns-in_err-note_place-clause-held
-returns-in_err-note_place-clause-held g c = record {
-  held = record { is_unit = unit-stays c.note_place.ensures.journal c.requires.acting.held.is_unit; odometer = c.requires.acting.held.odometer; minute = c.requires.acting.held.minute; card_a = c.requires.acting.held.card_a; card_b = c.requires.acting.held.card_b; stand = c.requires.acting.held.stand };
-  cause =
-      let failed : true ≡ is_err c.from_residual.result = search rules in
-      subst (λ (f : Bool). HasCause (g.M.Medium.state c.args.unit.now) (g.M.Medium.state c.note_place.new.unit) f) failed c.in_err-note_place.ensures.cause;
+pub returns-in_err-note_place-clause-behind : goal.returns-in_err-note_place-clause-behind
+returns-in_err-note_place-clause-behind g c = record {
+  held =
+      record {
+        held = record { is_unit = unit-stays c.note_place.ensures.journal c.requires.acting.held.is_unit; odometer = c.requires.acting.held.odometer; minute = c.requires.acting.held.minute; card_a = c.requires.acting.held.card_a; card_b = c.requires.acting.held.card_b; stand = c.requires.acting.held.stand };
+        cause =
+            let failed : true ≡ is_err c.from_residual.result = search rules in
+            subst (λ (f : Bool). HasCause (g.M.Medium.state c.args.unit.now) (g.M.Medium.state c.note_place.new.unit) f) failed c.in_err-note_place.ensures.cause;
+      };
+  going = first_of (search rules, grind (arith, common_steps));
 }
 
 pub returns-in_err-note_place-clause-goes : goal.returns-in_err-note_place-clause-goes
@@ -584,11 +611,20 @@ returns-in_err-note_place-clause-goes g c = record {
 
 -- ---- card a, and card b
 
-pub returns-in-A-clause-going : goal.returns-in-A-clause-going
-returns-in-A-clause-going g c =
-    let e = c.note_place_in.ensures in
-    on_ok c.note_place_in.result (λ well. going-noted A c.args.place.slot c.args.place.at c.args.run.now c.note_place_in.new.run c.args.breaks.now c.note_place_in.new.breaks c.note_place_in.ensures.noted.0 c.note_place_in.ensures.noted.1 (g.M.Medium.state c.args.unit.now) (g.M.Medium.state c.note_place_in.new.unit) (g.C.Chip.state c.args.card_a.now) (g.C.Chip.state c.note_place_in.new.card) (g.D.Chip.state c.args.card_b.now) (g.C.Chip.card c.args.card_a.now) (g.C.Chip.card c.note_place_in.new.card) (g.D.Chip.card c.args.card_b.now) c.requires.acting.going (ok_gives c.note_place_in.result e.behind.ready well) e.behind.card (rows-then g (noted-first-a g c) (side-a g c) c.note_place_in.ensures well) e.stands
-    (knows-left c.args.run.now.watch.newest (g.M.Medium.state c.args.unit.now) (g.M.Medium.state c.note_place_in.new.unit) (g.met.M.Medium.coherent c.args.unit.now) (g.met.M.Medium.coherent c.note_place_in.new.unit) c.requires.acting.going.ready.unit_ready.works (later g (noted-first-a g c) (side-a g c) c.note_place_in.ensures).speeds))
+pub returns-in-A-clause-behind : goal.returns-in-A-clause-behind
+returns-in-A-clause-behind g c = record {
+  held =
+      record {
+        held =
+            let e = c.note_place_in.ensures in
+            held-noted A c.args.place.slot c.args.place.at c.args.run.now c.note_place_in.new.run c.args.breaks.now c.note_place_in.new.breaks c.note_place_in.ensures.noted.0 c.note_place_in.ensures.noted.1 (g.M.Medium.state c.args.unit.now) (g.M.Medium.state c.note_place_in.new.unit) (g.C.Chip.state c.args.card_a.now) (g.C.Chip.state c.note_place_in.new.card) (g.D.Chip.state c.args.card_b.now) (g.C.Chip.card c.args.card_a.now) (g.C.Chip.card c.note_place_in.new.card) (g.D.Chip.card c.args.card_b.now) c.requires.at c.requires.acting.held e.behind.unit e.behind.card e.behind.size e.stands;
+        cause = cause_after c.in_ok-note_place.ensures.cause c.note_place_in.ensures.behind.cause;
+      };
+  going =
+      let e = c.note_place_in.ensures in
+      on_ok c.note_place_in.result (λ well. going-noted A c.args.place.slot c.args.place.at c.args.run.now c.note_place_in.new.run c.args.breaks.now c.note_place_in.new.breaks c.note_place_in.ensures.noted.0 c.note_place_in.ensures.noted.1 (g.M.Medium.state c.args.unit.now) (g.M.Medium.state c.note_place_in.new.unit) (g.C.Chip.state c.args.card_a.now) (g.C.Chip.state c.note_place_in.new.card) (g.D.Chip.state c.args.card_b.now) (g.C.Chip.card c.args.card_a.now) (g.C.Chip.card c.note_place_in.new.card) (g.D.Chip.card c.args.card_b.now) c.requires.acting.going (ok_gives c.note_place_in.result e.behind.ready well) e.behind.card (rows-then g (noted-first-a g c) (side-a g c) c.note_place_in.ensures well) e.stands
+      (knows-left c.args.run.now.watch.newest (g.M.Medium.state c.args.unit.now) (g.M.Medium.state c.note_place_in.new.unit) (g.met.M.Medium.coherent c.args.unit.now) (g.met.M.Medium.coherent c.note_place_in.new.unit) c.requires.acting.going.ready.unit_ready.works (later g (noted-first-a g c) (side-a g c) c.note_place_in.ensures).speeds));
+}
 
 pub returns-in-A-clause-placed : goal.returns-in-A-clause-placed
 returns-in-A-clause-placed g c = record {
@@ -613,14 +649,6 @@ returns-in-A-clause-promises g c = record {
   cards = shown g (noted-first-a g c) (side-a g c) c.note_place_in.ensures;
 }
 
-pub returns-in-A-clause-held : goal.returns-in-A-clause-held
-returns-in-A-clause-held g c = record {
-  held =
-      let e = c.note_place_in.ensures in
-      held-noted A c.args.place.slot c.args.place.at c.args.run.now c.note_place_in.new.run c.args.breaks.now c.note_place_in.new.breaks c.note_place_in.ensures.noted.0 c.note_place_in.ensures.noted.1 (g.M.Medium.state c.args.unit.now) (g.M.Medium.state c.note_place_in.new.unit) (g.C.Chip.state c.args.card_a.now) (g.C.Chip.state c.note_place_in.new.card) (g.D.Chip.state c.args.card_b.now) (g.C.Chip.card c.args.card_a.now) (g.C.Chip.card c.note_place_in.new.card) (g.D.Chip.card c.args.card_b.now) c.requires.at c.requires.acting.held e.behind.unit e.behind.card e.behind.size e.stands;
-  cause = cause_after c.in_ok-note_place.ensures.cause c.note_place_in.ensures.behind.cause;
-}
-
 pub returns-in-A-clause-goes : goal.returns-in-A-clause-goes
 returns-in-A-clause-goes g c = record {
   later = later g (noted-first-a g c) (side-a g c) c.note_place_in.ensures;
@@ -636,11 +664,20 @@ returns-in-A-clause-goes g c = record {
       };
 }
 
-pub returns-in-B-clause-going : goal.returns-in-B-clause-going
-returns-in-B-clause-going g c =
-    let e = c.note_place_in-in-B.ensures in
-    on_ok c.note_place_in-in-B.result (λ well. going-noted B c.args.place.slot c.args.place.at c.args.run.now c.note_place_in-in-B.new.run c.args.breaks.now c.note_place_in-in-B.new.breaks c.note_place_in-in-B.ensures.noted.0 c.note_place_in-in-B.ensures.noted.1 (g.M.Medium.state c.args.unit.now) (g.M.Medium.state c.note_place_in-in-B.new.unit) (g.D.Chip.state c.args.card_b.now) (g.D.Chip.state c.note_place_in-in-B.new.card) (g.C.Chip.state c.args.card_a.now) (g.D.Chip.card c.args.card_b.now) (g.D.Chip.card c.note_place_in-in-B.new.card) (g.C.Chip.card c.args.card_a.now) c.requires.acting.going (ok_gives c.note_place_in-in-B.result e.behind.ready well) e.behind.card (rows-then g (noted-first-b g c) (side-b g c) c.note_place_in-in-B.ensures well) e.stands
-    (knows-left c.args.run.now.watch.newest (g.M.Medium.state c.args.unit.now) (g.M.Medium.state c.note_place_in-in-B.new.unit) (g.met.M.Medium.coherent c.args.unit.now) (g.met.M.Medium.coherent c.note_place_in-in-B.new.unit) c.requires.acting.going.ready.unit_ready.works (later g (noted-first-b g c) (side-b g c) c.note_place_in-in-B.ensures).speeds))
+pub returns-in-B-clause-behind : goal.returns-in-B-clause-behind
+returns-in-B-clause-behind g c = record {
+  held =
+      record {
+        held =
+            let e = c.note_place_in-in-B.ensures in
+            held-noted B c.args.place.slot c.args.place.at c.args.run.now c.note_place_in-in-B.new.run c.args.breaks.now c.note_place_in-in-B.new.breaks c.note_place_in-in-B.ensures.noted.0 c.note_place_in-in-B.ensures.noted.1 (g.M.Medium.state c.args.unit.now) (g.M.Medium.state c.note_place_in-in-B.new.unit) (g.D.Chip.state c.args.card_b.now) (g.D.Chip.state c.note_place_in-in-B.new.card) (g.C.Chip.state c.args.card_a.now) (g.D.Chip.card c.args.card_b.now) (g.D.Chip.card c.note_place_in-in-B.new.card) (g.C.Chip.card c.args.card_a.now) c.requires.at c.requires.acting.held e.behind.unit e.behind.card e.behind.size e.stands;
+        cause = cause_after c.in_ok-note_place.ensures.cause c.note_place_in-in-B.ensures.behind.cause;
+      };
+  going =
+      let e = c.note_place_in-in-B.ensures in
+      on_ok c.note_place_in-in-B.result (λ well. going-noted B c.args.place.slot c.args.place.at c.args.run.now c.note_place_in-in-B.new.run c.args.breaks.now c.note_place_in-in-B.new.breaks c.note_place_in-in-B.ensures.noted.0 c.note_place_in-in-B.ensures.noted.1 (g.M.Medium.state c.args.unit.now) (g.M.Medium.state c.note_place_in-in-B.new.unit) (g.D.Chip.state c.args.card_b.now) (g.D.Chip.state c.note_place_in-in-B.new.card) (g.C.Chip.state c.args.card_a.now) (g.D.Chip.card c.args.card_b.now) (g.D.Chip.card c.note_place_in-in-B.new.card) (g.C.Chip.card c.args.card_a.now) c.requires.acting.going (ok_gives c.note_place_in-in-B.result e.behind.ready well) e.behind.card (rows-then g (noted-first-b g c) (side-b g c) c.note_place_in-in-B.ensures well) e.stands
+      (knows-left c.args.run.now.watch.newest (g.M.Medium.state c.args.unit.now) (g.M.Medium.state c.note_place_in-in-B.new.unit) (g.met.M.Medium.coherent c.args.unit.now) (g.met.M.Medium.coherent c.note_place_in-in-B.new.unit) c.requires.acting.going.ready.unit_ready.works (later g (noted-first-b g c) (side-b g c) c.note_place_in-in-B.ensures).speeds));
+}
 
 pub returns-in-B-clause-placed : goal.returns-in-B-clause-placed
 returns-in-B-clause-placed g c = record {
@@ -663,14 +700,6 @@ returns-in-B-clause-promises g c = record {
   evented = λ late ending country region speed before is o done s now front rest are n allowed w events time. evented g (noted-first-b g c) (side-b g c) c.note_place_in-in-B.ensures late ending country region speed before is o done s now front rest are n allowed w events;
   ringed = ringed g (noted-first-b g c) (side-b g c) c.note_place_in-in-B.ensures;
   cards = shown g (noted-first-b g c) (side-b g c) c.note_place_in-in-B.ensures;
-}
-
-pub returns-in-B-clause-held : goal.returns-in-B-clause-held
-returns-in-B-clause-held g c = record {
-  held =
-      let e = c.note_place_in-in-B.ensures in
-      held-noted B c.args.place.slot c.args.place.at c.args.run.now c.note_place_in-in-B.new.run c.args.breaks.now c.note_place_in-in-B.new.breaks c.note_place_in-in-B.ensures.noted.0 c.note_place_in-in-B.ensures.noted.1 (g.M.Medium.state c.args.unit.now) (g.M.Medium.state c.note_place_in-in-B.new.unit) (g.D.Chip.state c.args.card_b.now) (g.D.Chip.state c.note_place_in-in-B.new.card) (g.C.Chip.state c.args.card_a.now) (g.D.Chip.card c.args.card_b.now) (g.D.Chip.card c.note_place_in-in-B.new.card) (g.C.Chip.card c.args.card_a.now) c.requires.at c.requires.acting.held e.behind.unit e.behind.card e.behind.size e.stands;
-  cause = cause_after c.in_ok-note_place.ensures.cause c.note_place_in-in-B.ensures.behind.cause;
 }
 
 pub returns-in-B-clause-goes : goal.returns-in-B-clause-goes

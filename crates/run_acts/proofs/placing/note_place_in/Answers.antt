@@ -37,21 +37,21 @@ use Rattle.run_acts.proofs.placing.note_place_in.Goals as goal
 pub note_place_on-requires-clause-port : goal.note_place_on-requires-clause-port
 note_place_on-requires-clause-port g c =
     let is : (known_of c.args.run.now.keeper.cabin.cards c.args.which).sizes ≡ Ok c.in-Ok.app = cc in
-    c.requires.card.port c.in-Ok.app is
+    c.requires.may.card.port c.in-Ok.app is
 
 -- ---- it has a session, and so sizes
 
 pub returns-in_default : goal.returns-in_default
 returns-in_default g c =
     let cards = c.args.run.now.keeper.cabin.cards in
-    let gone = no-session c.args.which cards (g.C.Chip.card c.args.card.now) (g.C.Chip.state c.args.card.now) c.requires.card (λ app is. c.in_default.not-Ok app (ap (λ (q : Known). q.sizes) c.of.ensures ∙ is)) in
-    absurd (not-both (session_of cards c.args.which) c.requires.session gone)
+    let gone = no-session c.args.which cards (g.C.Chip.card c.args.card.now) (g.C.Chip.state c.args.card.now) c.requires.may.card (λ app is. c.in_default.not-Ok app (ap (λ (q : Known). q.sizes) c.of.ensures ∙ is)) in
+    absurd (not-both (session_of cards c.args.which) c.requires.may.session gone)
 
 pub returns-in_default-take : goal.returns-in_default-take
 returns-in_default-take g c =
     let cards = c.args.run.now.keeper.cabin.cards in
     let gone : session_of cards c.args.which ≡ None = sym c.take.ensures.taken ∙ none-there c.take.result c.in_default-take.not-Some in
-    absurd (not-both (session_of cards c.args.which) c.requires.session gone)
+    absurd (not-both (session_of cards c.args.which) c.requires.may.session gone)
 
 -- ---- the call failed, and the card was torn out
 
@@ -63,7 +63,7 @@ module _ (g : Over) (c : After-tear g) where
   cabin-fell = ap (λ (k : Keeper). k.cabin) c.tear.ensures.torn.keeper ∙ torn-apart c.args.which c.args.place.at.second c.args.run.now.keeper.cabin c.take.new.self c.take.ensures.left
 
   cause-bad : HasCause (g.C.Chip.state c.args.card.now) (g.C.Chip.state c.note_place_on.new.card) true
-  cause-bad = subst (λ (b : Bool). HasCause (g.C.Chip.state c.args.card.now) (g.C.Chip.state c.note_place_on.new.card) b) (sym c.is_err.ensures.value ∙ c.if-is_err.true) c.note_place_on.ensures.cause
+  cause-bad = subst (λ (b : Bool). HasCause (g.C.Chip.state c.args.card.now) (g.C.Chip.state c.note_place_on.new.card) b) (sym c.is_err.ensures.value ∙ c.if-is_err.true) c.note_place_on.ensures.card.cause
 
   noted-fell : IsNotedOn c.args.which c.args.place.slot c.args.place.at c.args.run.now (record c.args.run.now { keeper = c.tear.new.self }) c.args.breaks.now c.tear.new.breaks true
   noted-fell = record { run = ap (λ (k : Keeper). record c.args.run.now { keeper = k }) (c.tear.ensures.torn.keeper ∙ ap (λ (b : Cabin). record c.args.run.now.keeper { cabin = b }) (torn-apart c.args.which c.args.place.at.second c.args.run.now.keeper.cabin c.take.new.self c.take.ensures.left)); told = c.tear.ensures.torn.told }
@@ -81,7 +81,7 @@ module _ (g : Over) (c : After-set_session g) where
   went-well = sym c.is_err.ensures.value ∙ c.if-is_err.false
 
   cause-well : HasCause (g.C.Chip.state c.args.card.now) (g.C.Chip.state c.note_place_on.new.card) false
-  cause-well = subst (λ (b : Bool). HasCause (g.C.Chip.state c.args.card.now) (g.C.Chip.state c.note_place_on.new.card) b) went-well c.note_place_on.ensures.cause
+  cause-well = subst (λ (b : Bool). HasCause (g.C.Chip.state c.args.card.now) (g.C.Chip.state c.note_place_on.new.card) b) went-well c.note_place_on.ensures.card.cause
 
   noted-whole : IsNotedOn c.args.which c.args.place.slot c.args.place.at c.args.run.now (with_cabin (record c.args.run.now.keeper.cabin { cards = c.set_session.new.self }) c.args.run.now) c.args.breaks.now c.args.breaks.now false
   noted-whole = record { run = ap (λ (q : Cards). with_cabin (record c.args.run.now.keeper.cabin { cards = q }) c.args.run.now) cards-back; told = no-lines c.args.breaks.now }
@@ -97,7 +97,7 @@ returns-then-is_err g c = record {
       let cause = cause-bad g c in (
         true,
         noted-fell g c,
-        fell-broken X Y (session-works c.args.which run.keeper.cabin.cards (g.C.Chip.card c.args.card.now) X c.requires.card c.requires.session) cause,
+        fell-broken X Y (session-works c.args.which run.keeper.cabin.cards (g.C.Chip.card c.args.card.now) X c.requires.may.card c.requires.may.session) cause,
         cause,
       );
   shows = record {
@@ -108,8 +108,8 @@ returns-then-is_err g c = record {
         let Y = g.C.Chip.state c.note_place_on.new.card in
         let sizes = sizes-fell g c in
         let after = session_of c.tear.new.self.cabin.cards c.args.which in
-        on-session c.args.which cards c.in-Ok.app (g.C.Chip.card c.args.card.now) X Y after [] c.requires.card sizes c.requires.session
-        (place-noted c.in-Ok.app c.args.place.entry (not (is_some after)) X Y (g.met.C.Chip.coherent c.args.card.now) c.note_place_on.ensures.moments);
+        on-session c.args.which cards c.in-Ok.app (g.C.Chip.card c.args.card.now) X Y after [] c.requires.may.card sizes c.requires.may.session
+        (place-noted c.in-Ok.app c.args.place.entry (not (is_some after)) X Y (g.met.C.Chip.coherent c.args.card.now) c.note_place_on.ensures.note.moments);
     on_card =
         let run = c.args.run.now in
         let cards = run.keeper.cabin.cards in
@@ -119,7 +119,7 @@ returns-then-is_err g c = record {
     places =
         let cards = c.args.run.now.keeper.cabin.cards in
         let sizes = sizes-fell g c in
-        may-take c.args.which cards c.in-Ok.app c.args.place.entry (g.C.Chip.card c.args.card.now) (g.C.Chip.state c.args.card.now) (g.C.Chip.state c.note_place_on.new.card) (g.met.C.Chip.coherent c.args.card.now) c.requires.card sizes c.note_place_on.ensures.moments;
+        may-take c.args.which cards c.in-Ok.app c.args.place.entry (g.C.Chip.card c.args.card.now) (g.C.Chip.state c.args.card.now) (g.C.Chip.state c.note_place_on.new.card) (g.met.C.Chip.coherent c.args.card.now) c.requires.may.card sizes c.note_place_on.ensures.note.moments;
     events =
         let U = g.M.Medium.state c.args.unit.now in
         let V = g.M.Medium.state c.tear.new.unit in
@@ -130,7 +130,7 @@ returns-then-is_err g c = record {
           fell = true;
           noted = noted-fell g c;
           failing = λ _. refl;
-          notes = one-noted U V X X Y Y (g.met.M.Medium.coherent c.args.unit.now) (g.met.M.Medium.coherent c.tear.new.unit) c.requires.ready.is_unit (entry_of CARD_FAULT c.args.place.at.second c.args.place.at.second crew crew) (is_err c.tear.result)
+          notes = one-noted U V X X Y Y (g.met.M.Medium.coherent c.args.unit.now) (g.met.M.Medium.coherent c.tear.new.unit) c.requires.may.ready.is_unit (entry_of CARD_FAULT c.args.place.at.second c.args.place.at.second crew crew) (is_err c.tear.result)
               (λ well. ok_gives c.tear.result c.tear.ensures.leaves.noted well) c.tear.ensures.leaves.moments c.tear.ensures.behind.cause.works;
         };
     rings =
@@ -145,7 +145,7 @@ returns-then-is_err g c = record {
     moments =
         let cards = c.args.run.now.keeper.cabin.cards in
         let is = sizes-fell g c in
-        noted-sizes c.args.which cards c.in-Ok.app (g.C.Chip.card c.args.card.now) (g.C.Chip.state c.args.card.now) (g.C.Chip.state c.note_place_on.new.card) c.requires.card is (weaken c.note_place_on.ensures.moments (λ x n told note. inr (c.args.place.entry, note)));
+        noted-sizes c.args.which cards c.in-Ok.app (g.C.Chip.card c.args.card.now) (g.C.Chip.state c.args.card.now) (g.C.Chip.state c.note_place_on.new.card) c.requires.may.card is (weaken c.note_place_on.ensures.note.moments (λ x n told note. inr (c.args.place.entry, note)));
     value = first_of (search rules, grind (arith, common_steps));
   };
   behind = record {
@@ -165,7 +165,7 @@ returns-then-is_err g c = record {
       let run = c.args.run.now in
       let cabin = cabin-fell g c in
       subst (λ (b : Cabin). CabinIsSound from leaving b) (sym cabin)
-      (torn-stands run.keeper.cabin c.args.which c.args.place.at.second from leaving c.requires.minute h);
+      (torn-stands run.keeper.cabin c.args.which c.args.place.at.second from leaving c.requires.may.minute h);
   clock_card = first_of (search rules, grind (arith, common_steps));
   most = (c.tear.ensures.most, c.note_place_on.ensures.most);
 }
@@ -190,8 +190,8 @@ returns g c = record {
         let sizes = sizes-back g c in
         let cards = cards-back g c in
         subst (λ (q : Cards). NotesOn false (session_of before c.args.which) (session_of q c.args.which) [] X Y) (sym cards)
-        (on-session c.args.which before c.in-Ok.app (g.C.Chip.card c.args.card.now) X Y (session_of before c.args.which) [] c.requires.card sizes c.requires.session
-        (place-noted c.in-Ok.app c.args.place.entry (not (is_some (session_of before c.args.which))) X Y (g.met.C.Chip.coherent c.args.card.now) c.note_place_on.ensures.moments));
+        (on-session c.args.which before c.in-Ok.app (g.C.Chip.card c.args.card.now) X Y (session_of before c.args.which) [] c.requires.may.card sizes c.requires.may.session
+        (place-noted c.in-Ok.app c.args.place.entry (not (is_some (session_of before c.args.which))) X Y (g.met.C.Chip.coherent c.args.card.now) c.note_place_on.ensures.note.moments));
     on_card =
         let run = c.args.run.now in
         let before = run.keeper.cabin.cards in
@@ -199,15 +199,15 @@ returns g c = record {
         let Y = g.C.Chip.state c.note_place_on.new.card in
         let sizes = sizes-back g c in
         let cause = cause-well g c in
-        let works = session-works c.args.which before (g.C.Chip.card c.args.card.now) X c.requires.card c.requires.session in
+        let works = session-works c.args.which before (g.C.Chip.card c.args.card.now) X c.requires.may.card c.requires.may.session in
         let cards = cards-back g c in
-        let has = place-well c.in-Ok.app c.args.place.entry X Y (g.met.C.Chip.coherent c.args.card.now) (g.met.C.Chip.coherent c.note_place_on.new.card) works cause.works c.note_place_on.ensures.moments (ok_gives c.note_place_on.result c.note_place_on.ensures.noted (went-well g c)) in
+        let has = place-well c.in-Ok.app c.args.place.entry X Y (g.met.C.Chip.coherent c.args.card.now) (g.met.C.Chip.coherent c.note_place_on.new.card) works cause.works c.note_place_on.ensures.note.moments (ok_gives c.note_place_on.result c.note_place_on.ensures.note.noted (went-well g c)) in
         subst (λ (q : Cards). PlaceOn (session_of before c.args.which) (session_of q c.args.which) false c.args.place.entry X Y) (sym cards)
-        (place-on c.args.place.entry X Y c.args.which before c.in-Ok.app (g.C.Chip.card c.args.card.now) (session_of before c.args.which) c.requires.card sizes has);
+        (place-on c.args.place.entry X Y c.args.which before c.in-Ok.app (g.C.Chip.card c.args.card.now) (session_of before c.args.which) c.requires.may.card sizes has);
     places =
         let cards = c.args.run.now.keeper.cabin.cards in
         let sizes = sizes-back g c in
-        may-take c.args.which cards c.in-Ok.app c.args.place.entry (g.C.Chip.card c.args.card.now) (g.C.Chip.state c.args.card.now) (g.C.Chip.state c.note_place_on.new.card) (g.met.C.Chip.coherent c.args.card.now) c.requires.card sizes c.note_place_on.ensures.moments;
+        may-take c.args.which cards c.in-Ok.app c.args.place.entry (g.C.Chip.card c.args.card.now) (g.C.Chip.state c.args.card.now) (g.C.Chip.state c.note_place_on.new.card) (g.met.C.Chip.coherent c.args.card.now) c.requires.may.card sizes c.note_place_on.ensures.note.moments;
     events =
         let X = g.C.Chip.state c.args.card.now in
         let Y = g.C.Chip.state c.note_place_on.new.card in
@@ -228,7 +228,7 @@ returns g c = record {
     moments =
         let cards = c.args.run.now.keeper.cabin.cards in
         let is = sizes-back g c in
-        noted-sizes c.args.which cards c.in-Ok.app (g.C.Chip.card c.args.card.now) (g.C.Chip.state c.args.card.now) (g.C.Chip.state c.note_place_on.new.card) c.requires.card is (weaken c.note_place_on.ensures.moments (λ x n told note. inr (c.args.place.entry, note)));
+        noted-sizes c.args.which cards c.in-Ok.app (g.C.Chip.card c.args.card.now) (g.C.Chip.state c.args.card.now) (g.C.Chip.state c.note_place_on.new.card) c.requires.may.card is (weaken c.note_place_on.ensures.note.moments (λ x n told note. inr (c.args.place.entry, note)));
     value = first_of (search rules, grind (arith, common_steps));
   };
   behind = record {
@@ -247,7 +247,7 @@ returns g c = record {
         let is = sizes-back g c in
         let cards = cards-back g c in
         subst (λ (q : Cards). CardMayBeCalled (known_of q c.args.which) next Y) (sym cards)
-        (ready-again (known_of run.keeper.cabin.cards c.args.which) c.in-Ok.app (g.C.Chip.card c.args.card.now) next X Y c.requires.card is c.note_place_on.ensures.port cause.works);
+        (ready-again (known_of run.keeper.cabin.cards c.args.which) c.in-Ok.app (g.C.Chip.card c.args.card.now) next X Y c.requires.may.card is c.note_place_on.ensures.card.port cause.works);
     size = first_of (search rules, grind (arith, common_steps));
     cause = first_of (search rules, grind (arith, common_steps));
   };
@@ -257,4 +257,11 @@ returns g c = record {
       subst (λ (q : Cards). CabinIsSound from leaving (record run.keeper.cabin { cards = q })) (sym cards) h;
   clock_card = first_of (search rules, grind (arith, common_steps));
   most = (omega arith, c.note_place_on.ensures.most);
+}
+
+pub tear-requires-clause-may : goal.tear-requires-clause-may
+tear-requires-clause-may g c = record {
+  minute = first_of (search rules, grind (arith, common_steps));
+  second = first_of (search rules, grind (arith, common_steps));
+  room = first_of (search rules, grind (arith, common_steps));
 }

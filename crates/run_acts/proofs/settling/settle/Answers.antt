@@ -1,4 +1,4 @@
-use Rattle.std.proofs.Common.{suc, ◌≡◌, ℕ, ◌*◌, ◌/◌, ◌≤◌, None, length, refl, ap, arith}
+use Rattle.std.proofs.Common.{suc, ◌≡◌, ℕ, ◌*◌, ◌/◌, ◌≤◌, None, length, refl, ap, arith, subst, sym}
 use Rattle.std.specs.Prelude.{is_err}
 use Rattle.tach_media.proofs.Runs.{on_ok}
 use Rattle.minute_model.specs.Span.{ungiven_of, settled}
@@ -34,28 +34,29 @@ use Rattle.run_acts.proofs.settling.settle.Given.{Over}
 use Rattle.run_acts.proofs.settling.settle.Goals.{After-as_slice, After-keep_all}
 use Rattle.run_minutes.proofs.Writes.{wrote-more}
 use Rattle.run_acts.proofs.settling.settle.Goals as goal
+use Rattle.run_acts.specs.Keepings.{KeepsSettled}
 
 -- ---- what is decided
 
 module _ (g : Over) (c : After-as_slice g) where
-  decided : Decides (ungiven_of c.requires.going.1.span) (ungiven_of (settled c.requires.going.1.span)) c.args.run.now.keeper.journal.kept c.settle-decided.result.items
-  decided = let h = c.requires.going in settled-decides h.0 (c.args.run.now.next / 60) c.args.run.now h.1 c.settle-decided.result.items c.requires.small (c.settle-decided.ensures.given h.1.span h.1.stands)
+  decided : Decides (ungiven_of c.requires.may.going.1.span) (ungiven_of (settled c.requires.may.going.1.span)) c.args.run.now.keeper.journal.kept c.settle-decided.result.items
+  decided = let h = c.requires.may.going in settled-decides h.0 (c.args.run.now.next / 60) c.args.run.now h.1 c.settle-decided.result.items c.requires.may.small (c.settle-decided.ensures.given h.1.span h.1.stands)
 
 pub keep_all-requires-clause-ready : goal.keep_all-requires-clause-ready
-keep_all-requires-clause-ready g c = c.requires.going.1.ready
+keep_all-requires-clause-ready g c = c.requires.may.going.1.ready
 
 pub keep_all-requires-clause-may : goal.keep_all-requires-clause-may
 keep_all-requires-clause-may g c =
-    let h = c.requires.going in
+    let h = c.requires.may.going in
     let d = decided g (goal.at.keep_all-requires-clause-may g c).After-as_slice in
     let is = settled-ungiven h.0 (c.args.run.now.next / 60) c.args.run.now h.1 in
     let count = d.count in
     let sum = owing-sum c.args.run.now.minutes h.1.span h.1.stands in
     let end = h.1.next in
     let at = c.requires.at in
-    let low = c.requires.low in
-    let early = c.requires.held.minute in
-    let room = c.requires.marks in
+    let low = c.requires.may.low in
+    let early = c.requires.may.held.minute in
+    let room = c.requires.room.marks in
     record {
       due = rw c.as_slice.ensures.value d.due;
       ended = rw c.as_slice.ensures.value (given-ended h.0 (c.args.run.now.next / 60) (ungiven_of (settled h.1.span)) c.args.run.now h.1 c.settle-decided.result.items d (omega (arith, is)));
@@ -64,11 +65,11 @@ keep_all-requires-clause-may g c =
       leaving = h.0;
       late = rw c.as_slice.ensures.value d.from;
       stands = h.1.cabin;
-      odometer = c.requires.held.odometer;
+      odometer = c.requires.may.held.odometer;
       minute = omega (arith, at, early);
       second = λ none. absurd (omega (arith, at, low, none));
       marks = rw c.as_slice.ensures.value (omega (arith, is, count, sum, end, room));
-      breaks = c.requires.breaks;
+      breaks = c.requires.room.breaks;
     }
 
 -- ---- what is kept
@@ -81,7 +82,7 @@ module _ (g : Over) (c : After-keep_all g) where
   last = devices (g.M.Medium.state c.keep_all.new.unit) (g.C.Chip.state c.keep_all.new.card_a) (g.D.Chip.state c.keep_all.new.card_b)
 
   went : DevicesGoOn (is_err c.keep_all.result) c.args.run.now.keeper.cabin.cards c.keep_all.new.self.cabin.cards first last
-  went = kept-devices c.keep_all.ensures.stands c.keep_all.ensures.goes (λ none. ap g.C.Chip.state (c.keep_all.ensures.bare.card_a none)) (λ none. ap g.D.Chip.state (c.keep_all.ensures.bare.card_b none))
+  went = kept-devices c.keep_all.ensures.stands c.keep_all.ensures.goes.keeping (λ none. ap g.C.Chip.state (c.keep_all.ensures.bare.card_a none)) (λ none. ap g.D.Chip.state (c.keep_all.ensures.bare.card_b none))
 
 pub returns-clause-settled : goal.returns-clause-settled
 returns-clause-settled g c = record {
@@ -90,12 +91,12 @@ returns-clause-settled g c = record {
   decided = c.settle-decided.result.items;
   given = c.settle-decided.ensures.given;
   kept = (rw c.as_slice.ensures.value at c.keep_all.ensures.kept).kept;
-  outcome = refl;
+  outcome = c.keep_all.ensures.only;
 }
 
 pub returns-clause-keeps : goal.returns-clause-keeps
 returns-clause-keeps g c =
-    let h = c.requires.going in
+    let h = c.requires.may.going in
     let k = c.keep_all.ensures in
     let old = c.args.run.now in
     let items = c.settle-decided.result.items in
@@ -104,42 +105,42 @@ returns-clause-keeps g c =
     let U = g.M.Medium.state c.args.unit.now in
     let V = g.M.Medium.state c.keep_all.new.unit in
     let new : Run = record old { minutes = c.settle-decided.new.self; keeper = c.keep_all.new.self } in
-    let after : Outcome = record c.args.outcome.now { marks = c.keep_all.new.marks; breaks = c.keep_all.new.breaks } in
+    let after : Outcome = record c.args.outcome.now { marks = c.keep_all.new.outcome.marks; breaks = c.keep_all.new.outcome.breaks } in
     let leaves = settling-leaves c.args.at (is_err c.keep_all.result) old new c.args.outcome.now after U V (items, given, b.reach, b.is, b.noted) in
-    let its = booked old c.args.outcome.now c.settle-decided.new.self c.keep_all.new.self c.keep_all.new.marks c.keep_all.new.breaks c.args.at (is_err c.keep_all.result) items (first g c) (last g c)
-    h.0 h.1 c.requires.small (c.settle-decided.ensures.settled h.1.span h.1.stands) (given h.1.span h.1.stands) k.goes.odometer b.reach b.is b.books (went g c) in
-    record {
+    let its = booked old c.args.outcome.now c.settle-decided.new.self c.keep_all.new.self c.keep_all.new.outcome.marks c.keep_all.new.outcome.breaks c.args.at (is_err c.keep_all.result) items (first g c) (last g c)
+    h.0 h.1 c.requires.may.small (c.settle-decided.ensures.settled h.1.span h.1.stands) (given h.1.span h.1.stands) k.goes.keeping.odometer b.reach b.is b.books (went g c) in
+    subst (λ (o : Outcome). KeepsSettled c.args.at (is_err c.keep_all.result) old new c.args.outcome.now o (first g c) (last g c)) (sym c.keep_all.ensures.only) (record {
       decided = items;
       given = given;
       reach = b.reach;
       is = b.is;
       books = b.books;
       noted = b.noted;
-      recorded = λ o done s n waits some here r time. settling-so old c.args.outcome.now c.settle-decided.new.self c.keep_all.new.self c.keep_all.new.marks c.keep_all.new.breaks c.args.at (is_err c.keep_all.result) items
+      recorded = λ o done s n waits some here r time. settling-so old c.args.outcome.now c.settle-decided.new.self c.keep_all.new.self c.keep_all.new.outcome.marks c.keep_all.new.outcome.breaks c.args.at (is_err c.keep_all.result) items
           (first g c) (last g c)
-          h.0 h.1 c.requires.small (c.settle-decided.ensures.settled h.1.span h.1.stands) (given h.1.span h.1.stands) k.goes.odometer b.reach b.is b.books
+          h.0 h.1 c.requires.may.small (c.settle-decided.ensures.settled h.1.span h.1.stands) (given h.1.span h.1.stands) k.goes.keeping.odometer b.reach b.is b.books
           (went g c)
           o done s n waits some here r time (leaves-more U V leaves);
-      evented = λ o done s n waits here r untold evented time. settling-events old c.args.outcome.now c.settle-decided.new.self c.keep_all.new.self c.keep_all.new.marks c.keep_all.new.breaks c.args.at (is_err c.keep_all.result) items
+      evented = λ o done s n waits here r untold evented time. settling-events old c.args.outcome.now c.settle-decided.new.self c.keep_all.new.self c.keep_all.new.outcome.marks c.keep_all.new.outcome.breaks c.args.at (is_err c.keep_all.result) items
           (first g c) (last g c)
-          h.0 h.1 c.requires.small (c.settle-decided.ensures.settled h.1.span h.1.stands) (given h.1.span h.1.stands) k.goes.odometer b.reach b.is b.books
+          h.0 h.1 c.requires.may.small (c.settle-decided.ensures.settled h.1.span h.1.stands) (given h.1.span h.1.stands) k.goes.keeping.odometer b.reach b.is b.books
           (went g c)
-          (g.met.M.Medium.coherent c.args.unit.now) c.requires.held.is_unit b.noted o done s n waits here r time untold evented;
+          (g.met.M.Medium.coherent c.args.unit.now) c.requires.may.held.is_unit b.noted o done s n waits here r time untold evented;
       cards = λ o done s n waits here r time. timed-still o r.origin (odometers_of old.keeper items) (first g c) (last g c) (its o done s (suc n) waits (omega arith) here r time).1;
       places = λ o done s n waits here r time spans t now.
           timed-stays o r.origin (odometers_of old.keeper items) (first g c) (last g c) (its o done s (suc n) waits (omega arith) here r time).1 (with_second spans old.keeper.odometer t)
           (values-read o done s (In (suc n)) waits None items (values_of (settled_run c.settle-decided.new.self old) c.args.outcome.now) (first g c) r.within spans old.keeper.odometer t now old.keeper refl);
-    }
+    })
 
 pub returns-clause-behind : goal.returns-clause-behind
 returns-clause-behind g c =
-    let h = c.requires.going in
+    let h = c.requires.may.going in
     let now = c.settle-decided.ensures.settled h.1.span h.1.stands in
     let is = owing-is c.settle-decided.new.self (settled h.1.span) now in
     let at = settled-ungiven h.0 (c.args.run.now.next / 60) c.args.run.now h.1 in
     let end = h.1.next in
     let t = told_of c.args.run.now c.args.outcome.now in
-    let u : KeepingState = record { keeper = c.keep_all.new.self; marks = c.keep_all.new.marks; breaks = c.keep_all.new.breaks } in
+    let u : KeepingState = record { keeper = c.keep_all.new.self; marks = c.keep_all.new.outcome.marks; breaks = c.keep_all.new.outcome.breaks } in
     record {
       none = omega (arith, is, at, end);
       bare = λ well slot free.
@@ -151,17 +152,17 @@ returns-clause-behind g c =
 
 pub returns-clause-held : goal.returns-clause-held
 returns-clause-held g c =
-    let h = c.requires.going in
+    let h = c.requires.may.going in
     let e = c.keep_all.ensures in
     let d = decided g (goal.at.returns-clause-held g c).After-as_slice in
     let later = settled-later h.0 (c.args.run.now.next / 60) c.args.run.now h.1 in
     let next : ℕ = ungiven_of (settled h.1.span) in
     record {
       is_unit = e.stands.unit;
-      odometer = let same = e.goes.odometer in let most = c.requires.held.odometer in omega (arith, same, most);
+      odometer = let same = e.goes.keeping.odometer in let most = c.requires.may.held.odometer in omega (arith, same, most);
       minute = let le = e.stands.minute in let at = c.requires.at in omega (arith, le, at);
-      card_a = record { port = e.stands.card_a.port; size = let same = e.goes.card_a.size in let size = c.requires.held.card_a.size in omega (arith, same, size) };
-      card_b = record { port = e.stands.card_b.port; size = let same = e.goes.card_b.size in let size = c.requires.held.card_b.size in omega (arith, same, size) };
+      card_a = record { port = e.stands.card_a.port; size = let same = e.goes.keeping.card_a.size in let size = c.requires.may.held.card_a.size in omega (arith, same, size) };
+      card_b = record { port = e.stands.card_b.port; size = let same = e.goes.keeping.card_b.size in let size = c.requires.may.held.card_b.size in omega (arith, same, size) };
       stand = (next, h.0, e.kept.stands (ungiven_of h.1.span) h.0 (rw c.as_slice.ensures.value d.from) h.1.cabin next later (rw c.as_slice.ensures.value d.last));
     }
 
@@ -173,14 +174,14 @@ returns-clause-going g c = λ leaving h.
     let old = c.args.run.now in
     let items = c.settle-decided.result.items in
     let new : Run = record old { minutes = c.settle-decided.new.self; keeper = c.keep_all.new.self } in
-    let d = settled-decides leaving (old.next / 60) old h items c.requires.small (c.settle-decided.ensures.given h.span h.stands) in
+    let d = settled-decides leaving (old.next / 60) old h items c.requires.may.small (c.settle-decided.ensures.given h.span h.stands) in
     kept-going leaving (old.next / 60) old new h (settled h.span) items d (c.settle-decided.ensures.settled h.span h.stands) h.next refl (settled-later leaving (old.next / 60) old h) (settled-most leaving (old.next / 60) old h)
-    (e.stands.ready well) (e.stands.rows well) e.goes.past (b.last well) b.stands e.goes.sessions refl h.watches h.limit
-    (knows-left old.watch.newest (g.M.Medium.state c.args.unit.now) (g.M.Medium.state c.keep_all.new.unit) (g.met.M.Medium.coherent c.args.unit.now) (g.met.M.Medium.coherent c.keep_all.new.unit) h.ready.unit_ready.works e.speeds h.newest))
+    (e.stands.ready well) (e.stands.rows well) e.goes.keeping.past (b.last well) b.stands e.goes.keeping.sessions refl h.watches h.limit
+    (knows-left old.watch.newest (g.M.Medium.state c.args.unit.now) (g.M.Medium.state c.keep_all.new.unit) (g.met.M.Medium.coherent c.args.unit.now) (g.met.M.Medium.coherent c.keep_all.new.unit) h.ready.unit_ready.works e.goes.speeds h.newest))
 
 pub returns-clause-takes : goal.returns-clause-takes
 returns-clause-takes g c =
-    let h = c.requires.going in
+    let h = c.requires.may.going in
     let e = c.keep_all.ensures in
     let old = c.args.run.now in
     let d = decided g (goal.at.returns-clause-takes g c).After-as_slice in
@@ -190,28 +191,28 @@ returns-clause-takes g c =
     let end = h.1.next in
     let now = c.settle-decided.ensures.settled h.1.span h.1.stands in
     let is = owing-is c.settle-decided.new.self (settled h.1.span) now in
-    let was : waiting old.power old.minutes.owing ≡ old.minutes.owing = ap (λ (p : Power). waiting p old.minutes.owing) c.requires.lit in
-    let then : waiting old.power c.settle-decided.new.self.owing ≡ c.settle-decided.new.self.owing = ap (λ (p : Power). waiting p c.settle-decided.new.self.owing) c.requires.lit in
+    let was : waiting old.power old.minutes.owing ≡ old.minutes.owing = ap (λ (p : Power). waiting p old.minutes.owing) c.requires.may.lit in
+    let then : waiting old.power c.settle-decided.new.self.owing ≡ c.settle-decided.new.self.owing = ap (λ (p : Power). waiting p c.settle-decided.new.self.owing) c.requires.may.lit in
     let few = e.kept.marks in
     let same : length c.as_slice.result.now ≡ length c.settle-decided.result.items = ap length c.as_slice.ensures.value in
-    let seats = seats-less old.keeper.cabin.slots.seats c.keep_all.new.self.cabin.slots.seats e.goes.seats in
-    let tears = e.goes.tears in
+    let seats = seats-less old.keeper.cabin.slots.seats c.keep_all.new.self.cabin.slots.seats e.goes.keeping.seats in
+    let tears = e.goes.keeping.tears in
     record {
-      rooms = (e.goes.all.mark_room, e.goes.all.break_room, refl, refl);
+      rooms = (e.goes.keeping.all.mark_room, e.goes.keeping.all.break_room, ap (λ (o : Outcome). o.finds.room) e.only, ap (λ (o : Outcome). o.refused.room) e.only);
       marks = omega (arith, few, same, at, count, sum, end, is, was, then);
       breaks = omega (arith, seats, tears);
-      finds = omega arith;
-      refused = omega arith;
+      finds = let finds = ap (λ (o : Outcome). length o.finds.items) e.only in omega (arith, finds);
+      refused = let refused = ap (λ (o : Outcome). length o.refused.items) e.only in omega (arith, refused);
     }
 
 -- ---- its writes
 
 pub returns-clause-goes : goal.returns-clause-goes
 returns-clause-goes g c = record {
-  keeping = c.keep_all.ensures.goes;
-  speeds = c.keep_all.ensures.speeds;
+  keeping = c.keep_all.ensures.goes.keeping;
+  speeds = c.keep_all.ensures.goes.speeds;
   most =
-      let h = c.requires.going in
+      let h = c.requires.may.going in
       let d = decided g (goal.at.returns-clause-goes g c).After-as_slice in
       let is = settled-ungiven h.0 (c.args.run.now.next / 60) c.args.run.now h.1 in
       let count = d.count in
@@ -220,5 +221,5 @@ returns-clause-goes g c = record {
       let some = (owing-few h.1.span c.args.run.now.minutes h.1.stands).0 in
       let few : length c.settle-decided.result.items ≤ 3 = omega (arith, is, count, sum, end, some) in
       wrote-more (26 * length c.settle-decided.result.items) 78 (98 * length c.settle-decided.result.items) 294 (first g (goal.at.returns-clause-goes g c).After-keep_all) (last g (goal.at.returns-clause-goes g c).After-keep_all)
-      (omega (arith, few)) (omega (arith, few)) (rw c.as_slice.ensures.value at c.keep_all.ensures.most);
+      (omega (arith, few)) (omega (arith, few)) (rw c.as_slice.ensures.value at c.keep_all.ensures.goes.most);
 }

@@ -47,7 +47,7 @@ turn-requires-clause-watches g c = c.requires.watch.watches
 -- the keeping of minutes leaves the blocks of detailed speed
 pub turn-requires-clause-newest : goal.turn-requires-clause-newest
 turn-requires-clause-newest g c =
-    knows-left c.args.run.now.watch.newest (g.M.Medium.state c.args.unit.now) (g.M.Medium.state c.keep_all.new.unit) (g.met.M.Medium.coherent c.args.unit.now) (g.met.M.Medium.coherent c.keep_all.new.unit) c.requires.ready.unit_ready.works c.in_ok-keep_all.ensures.speeds c.requires.watch.newest
+    knows-left c.args.run.now.watch.newest (g.M.Medium.state c.args.unit.now) (g.M.Medium.state c.keep_all.new.unit) (g.met.M.Medium.coherent c.args.unit.now) (g.met.M.Medium.coherent c.keep_all.new.unit) c.requires.ready.unit_ready.works c.in_ok-keep_all.ensures.goes.speeds c.requires.watch.newest
 
 pub turn-requires-clause-unit : goal.turn-requires-clause-unit
 turn-requires-clause-unit g c = c.in_ok-keep_all.ensures.stands.unit
@@ -64,7 +64,7 @@ returns-clause-kept g c =
     let failed : Bool = is_err c.turn.result in
     let old = c.args.run.now in
     let new : Run = record old { keeper = c.keep_all.new.self; watch = c.turn.new.self } in
-    let told : Outcome = record c.args.outcome.now { marks = c.keep_all.new.marks; breaks = c.keep_all.new.breaks } in
+    let told : Outcome = c.keep_all.new.outcome in
     let U = g.M.Medium.state c.args.unit.now in
     let V = g.M.Medium.state c.keep_all.new.unit in
     let W = g.M.Medium.state c.turn.new.unit in
@@ -74,7 +74,7 @@ returns-clause-kept g c =
     record {
       kept = record {
         only = refl;
-        outcome = refl;
+        outcome = c.keep_all.ensures.only;
         how = inr (k.kept, (w.ended, subst (λ (crew : Crew). IsFed old.watch c.turn.new.self old.next c.args.turned.stretch.n c.args.turned.stretch.speed crew w.ended) c.crew-crew.ensures w.fed));
       };
       reach = b.0;
@@ -82,7 +82,7 @@ returns-clause-kept g c =
       books = b.2;
       noted = keeping-then c.args.turned.decided.now c.args.turned.stretch.n c.args.turned.stretch.speed c.args.turned.at failed old new c.args.outcome.now told U V W k.reach k.is (g.met.M.Medium.coherent c.keep_all.new.unit) (g.met.M.Medium.coherent c.turn.new.unit) k.noted
           (subst (λ (crew : Crew). IsWatchedOn failed old.watch c.turn.new.self old.next c.args.turned.stretch.n c.args.turned.stretch.speed crew V W) c.crew-crew.ensures w) c.turn.ensures.cause.works;
-      block = brings-watched c.args.turned.stretch.n c.args.turned.stretch.speed failed old new _ U V W c.keep_all.ensures.speeds c.keep_all.ensures.goes.unit_tells c.turn.ensures.watched;
+      block = brings-watched c.args.turned.stretch.n c.args.turned.stretch.speed failed old new _ U V W c.keep_all.ensures.goes.speeds c.keep_all.ensures.goes.keeping.unit_tells c.turn.ensures.watched;
       last = λ well. k.last refl;
       marks = k.marks;
       stands = k.stands;
@@ -98,19 +98,19 @@ returns-in_err-keep_all-clause-kept g c =
     let old = c.args.run.now in
     let run : Run = record old { keeper = c.keep_all.new.self } in
     let out = c.args.outcome.now in
-    let told : Outcome = record out { marks = c.keep_all.new.marks; breaks = c.keep_all.new.breaks } in
+    let told : Outcome = c.keep_all.new.outcome in
     let U = g.M.Medium.state c.args.unit.now in
     let V = g.M.Medium.state c.keep_all.new.unit in
     let d = devices U (g.C.Chip.state c.args.card_a.now) (g.D.Chip.state c.args.card_b.now) in
     let e = devices V (g.C.Chip.state c.keep_all.new.card_a) (g.D.Chip.state c.keep_all.new.card_b) in
     let b = turn-cut c.args.turned.decided.now c.args.turned.at (told_of old out) (told_of run told) d e k.reach k.is k.books in
     subst (λ (f : Bool). KeepsTurn c.args.turned.decided.now c.args.turned.stretch.n c.args.turned.stretch.speed c.args.turned.at f old run out told d e) failed (record {
-      kept = record { only = refl; outcome = refl; how = inl (refl, k.kept, refl) };
+      kept = record { only = refl; outcome = c.keep_all.ensures.only; how = inl (refl, k.kept, refl) };
       reach = b.0;
       is = b.1;
       books = b.2;
       noted = keeping-cut c.args.turned.decided.now c.args.turned.stretch.n c.args.turned.stretch.speed c.args.turned.at old run out told U V k.reach k.is refl k.noted;
-      block = brings-kept c.args.turned.stretch.n c.args.turned.stretch.speed old run U V c.requires.watch.some c.requires.watch.within c.keep_all.ensures.speeds;
+      block = brings-kept c.args.turned.stretch.n c.args.turned.stretch.speed old run U V c.requires.watch.some c.requires.watch.within c.keep_all.ensures.goes.speeds;
       last = λ well. absurd (cc);
       marks = k.marks;
       stands = k.stands;
@@ -149,11 +149,11 @@ returns-clause-goes g c =
     let V = g.M.Medium.state c.keep_all.new.unit in
     let W = g.M.Medium.state c.turn.new.unit in
     let k = c.keep_all.new.self in
-    keeping_then c.keep_all.ensures.goes (goes_on_unit k k c.keep_all.new.marks c.keep_all.new.marks c.keep_all.new.breaks V W (g.C.Chip.state c.keep_all.new.card_a) (g.D.Chip.state c.keep_all.new.card_b) (g.C.Chip.card c.keep_all.new.card_a) (g.D.Chip.card c.keep_all.new.card_b)
+    keeping_then c.keep_all.ensures.goes.keeping (goes_on_unit k k c.keep_all.new.outcome.marks c.keep_all.new.outcome.marks c.keep_all.new.outcome.breaks V W (g.C.Chip.state c.keep_all.new.card_a) (g.D.Chip.state c.keep_all.new.card_b) (g.C.Chip.card c.keep_all.new.card_a) (g.D.Chip.card c.keep_all.new.card_b)
     refl refl c.turn.ensures.journal.keeps c.turn.ensures.journal.tells (state-by V W (is_err c.turn.result) c.turn.ensures.journal.later c.turn.ensures.cause))
 
 pub returns-in_err-keep_all-clause-goes : goal.returns-in_err-keep_all-clause-goes
-returns-in_err-keep_all-clause-goes g c = c.keep_all.ensures.goes
+returns-in_err-keep_all-clause-goes g c = c.keep_all.ensures.goes.keeping
 
 pub returns-clause-bare : goal.returns-clause-bare
 returns-clause-bare g c = c.keep_all.ensures.bare
@@ -165,14 +165,14 @@ returns-in_err-keep_all-clause-bare g c = c.keep_all.ensures.bare
 
 pub returns-clause-most : goal.returns-clause-most
 returns-clause-most g c = record {
-  unit = (let a = c.keep_all.ensures.most.unit in let b = c.turn.ensures.most in omega (arith, a, b));
-  card_a = c.keep_all.ensures.most.card_a;
-  card_b = c.keep_all.ensures.most.card_b;
+  unit = (let a = c.keep_all.ensures.goes.most.unit in let b = c.turn.ensures.most in omega (arith, a, b));
+  card_a = c.keep_all.ensures.goes.most.card_a;
+  card_b = c.keep_all.ensures.goes.most.card_b;
 }
 
 pub returns-in_err-keep_all-clause-most : goal.returns-in_err-keep_all-clause-most
 returns-in_err-keep_all-clause-most g c = record {
-  unit = (let a = c.keep_all.ensures.most.unit in omega (arith, a));
-  card_a = c.keep_all.ensures.most.card_a;
-  card_b = c.keep_all.ensures.most.card_b;
+  unit = (let a = c.keep_all.ensures.goes.most.unit in omega (arith, a));
+  card_a = c.keep_all.ensures.goes.most.card_a;
+  card_b = c.keep_all.ensures.goes.most.card_b;
 }

@@ -51,10 +51,10 @@ module _ (g : Over) (c : After-as_slice g) where
   lit = c.requires.going.lit (ap is_lit c.requires.lit)
 
   decided : Decides (ungiven_of lit.span) (ungiven_of (fed_many lit.span c.args.stretch.speed c.args.stretch.n)) c.args.run.now.keeper.journal.kept c.feed-decided.result.items
-  decided = turn-decides c.args.run.now lit c.args.stretch.speed c.args.stretch.n c.feed-decided.result.items c.requires.small (c.feed-decided.ensures.given lit.span lit.stands)
+  decided = turn-decides c.args.run.now lit c.args.stretch.speed c.args.stretch.n c.feed-decided.result.items c.requires.stretch.small (c.feed-decided.ensures.given lit.span lit.stands)
 
   most : ungiven_of (fed_many lit.span c.args.stretch.speed c.args.stretch.n) ≤ c.args.run.now.next / 60
-  most = turn-most c.args.run.now lit c.args.stretch.speed c.args.stretch.n c.requires.minute
+  most = turn-most c.args.run.now lit c.args.stretch.speed c.args.stretch.n c.requires.stretch.minute
 
 -- ---- what the keeping is given
 
@@ -76,7 +76,7 @@ keep_turn-kept-requires-clause-may g c =
     let breaks = c.requires.room.breaks in
     let early = c.requires.going.held.minute in
     let low = c.requires.going.low in
-    let some = c.requires.some in
+    let some = c.requires.stretch.some in
     let f = ap (λ (q : Power). cuts_within q run.next) c.requires.lit in
     let w = ap (λ (q : Power). waiting q run.minutes.owing) c.requires.lit in
     record {
@@ -98,11 +98,11 @@ pub keep_turn-kept-requires-clause-watch : goal.keep_turn-kept-requires-clause-w
 keep_turn-kept-requires-clause-watch g c =
     let l = c.requires.going.lit (ap is_lit c.requires.lit) in
     let low = c.requires.going.low in
-    let small = c.requires.small in
+    let small = c.requires.stretch.small in
     record {
-      some = c.requires.some;
+      some = c.requires.stretch.some;
       low = omega (arith, low);
-      within = c.requires.minute;
+      within = c.requires.stretch.minute;
       fits = omega (arith, small);
       limit = l.limit;
       watches = l.watches;
@@ -116,7 +116,7 @@ module _ (g : Over) (c : After-is_err g) where
   power = c.requires.going.lit (ap is_lit c.requires.lit)
 
   decides : Decides (ungiven_of power.span) (ungiven_of (fed_many power.span c.args.stretch.speed c.args.stretch.n)) c.args.run.now.keeper.journal.kept c.feed-decided.result.items
-  decides = turn-decides c.args.run.now power c.args.stretch.speed c.args.stretch.n c.feed-decided.result.items c.requires.small (c.feed-decided.ensures.given power.span power.stands)
+  decides = turn-decides c.args.run.now power c.args.stretch.speed c.args.stretch.n c.feed-decided.result.items c.requires.stretch.small (c.feed-decided.ensures.given power.span power.stands)
 
   -- the run as it was kept
   abbrev kept_run : Run
@@ -133,12 +133,12 @@ module _ (g : Over) (c : After-is_err g) where
   stand-somehow = (turned-held c.args.run.now c.requires.going power c.args.stretch.speed c.args.stretch.n c.feed-decided.result.items c.feed-decided.new.minutes c.keep_turn-kept.new.run.keeper c.keep_turn-kept.new.run.watch decides c.keep_turn-kept.ensures.stands.unit c.keep_turn-kept.ensures.goes.odometer c.keep_turn-kept.ensures.stands.minute c.keep_turn-kept.ensures.stands.card_a c.keep_turn-kept.ensures.stands.card_b c.keep_turn-kept.ensures.goes.card_a.size c.keep_turn-kept.ensures.goes.card_b.size stands).stand
 
   going-cut : IsGoingThen (cut_run (c.args.run.now.next + c.args.stretch.n - 1) kept_run)
-  going-cut = turned-cut c.args.run.now c.requires.going power c.args.stretch.speed c.args.stretch.n c.feed-decided.result.items c.feed-decided.new.minutes c.keep_turn-kept.new.run.keeper c.keep_turn-kept.new.run.watch decides c.keep_turn-kept.ensures.stands.unit c.keep_turn-kept.ensures.goes.odometer c.keep_turn-kept.ensures.stands.minute c.keep_turn-kept.ensures.stands.card_a c.keep_turn-kept.ensures.stands.card_b c.keep_turn-kept.ensures.goes.card_a.size c.keep_turn-kept.ensures.goes.card_b.size stands c.args.stretch.begun c.requires.some c.requires.minute c.requires.small
+  going-cut = turned-cut c.args.run.now c.requires.going power c.args.stretch.speed c.args.stretch.n c.feed-decided.result.items c.feed-decided.new.minutes c.keep_turn-kept.new.run.keeper c.keep_turn-kept.new.run.watch decides c.keep_turn-kept.ensures.stands.unit c.keep_turn-kept.ensures.goes.odometer c.keep_turn-kept.ensures.stands.minute c.keep_turn-kept.ensures.stands.card_a c.keep_turn-kept.ensures.stands.card_b c.keep_turn-kept.ensures.goes.card_a.size c.keep_turn-kept.ensures.goes.card_b.size stands c.args.stretch.begun c.requires.stretch.some c.requires.stretch.minute c.requires.stretch.small
 
   going-on : is_err c.keep_turn-kept.result ≡ false → IsGoingThen kept_run
   going-on well =
       let e = c.keep_turn-kept.ensures in
-      turned-lit c.args.run.now c.requires.going power c.args.stretch.speed c.args.stretch.n c.feed-decided.result.items c.feed-decided.new.minutes c.keep_turn-kept.new.run.keeper c.keep_turn-kept.new.run.watch decides c.keep_turn-kept.ensures.stands.unit c.keep_turn-kept.ensures.goes.odometer c.keep_turn-kept.ensures.stands.minute c.keep_turn-kept.ensures.stands.card_a c.keep_turn-kept.ensures.stands.card_b c.keep_turn-kept.ensures.goes.card_a.size c.keep_turn-kept.ensures.goes.card_b.size stands c.args.stretch.begun c.requires.lit c.requires.some c.requires.minute c.requires.small (c.feed-decided.ensures.fed power.span power.stands) (e.stands.ready well)
+      turned-lit c.args.run.now c.requires.going power c.args.stretch.speed c.args.stretch.n c.feed-decided.result.items c.feed-decided.new.minutes c.keep_turn-kept.new.run.keeper c.keep_turn-kept.new.run.watch decides c.keep_turn-kept.ensures.stands.unit c.keep_turn-kept.ensures.goes.odometer c.keep_turn-kept.ensures.stands.minute c.keep_turn-kept.ensures.stands.card_a c.keep_turn-kept.ensures.stands.card_b c.keep_turn-kept.ensures.goes.card_a.size c.keep_turn-kept.ensures.goes.card_b.size stands c.args.stretch.begun c.requires.lit c.requires.stretch.some c.requires.stretch.minute c.requires.stretch.small (c.feed-decided.ensures.fed power.span power.stands) (e.stands.ready well)
       (e.stands.rows well) e.goes.past (e.kept.last well ∙ ap (kept_after c.args.run.now.keeper.journal.kept) c.as_slice.ensures.value) e.goes.sessions (e.kept.watches well) (e.kept.limit well) (e.kept.newest well)
 
   -- what it took of the room
@@ -210,7 +210,7 @@ module _ (g : Over) (c : After-is_err g) where
 
     evented : EventsLitTurn c.args.stretch.n c.args.stretch.speed c.args.stretch.begun c.args.run.now new c.args.outcome.now after first_devices last_devices
     evented =
-        turn-events c.args.stretch.n c.args.stretch.speed c.args.stretch.begun c.args.run.now new c.args.outcome.now after first_devices last_devices power c.requires.going.low c.requires.lit c.requires.some c.requires.minute c.requires.small booked
+        turn-events c.args.stretch.n c.args.stretch.speed c.args.stretch.begun c.args.run.now new c.args.outcome.now after first_devices last_devices power c.requires.going.low c.requires.lit c.requires.stretch.some c.requires.stretch.minute c.requires.stretch.small booked
         (g.met.M.Medium.coherent c.args.unit.now) c.requires.going.held.is_unit noted.1 c.keep_turn-kept.ensures.goes.memory
 
 -- ---- it was broken off
@@ -254,8 +254,8 @@ returns-then-is_err-clause-room g c =
     let lost = spends-lost n (length c.feed-decided.result.items) (run.next + n - 1) c.args.stretch.begun run kt.new.run c.cut.new.self c.args.outcome.now kt.new.outcome (told-cut g c) c.cut.ensures.run (is-cut g c) (stand-somehow g p) (spends g p kt.new.run refl) in
     let next : (passed n c.args.stretch.begun c.cut.new.self).next ≡ run.next + n = ap (λ (r : Run). r.next + n) (c.cut.ensures.run ∙ ap (cut_run (run.next + n - 1)) kt.ensures.kept.kept.only) in
     let dark : c.cut.new.self.power ≡ Lost = ap (λ (r : Run). r.power) c.cut.ensures.run in
-    room-lost run (passed n c.args.stretch.begun c.cut.new.self) c.args.outcome.now (told-cut g c) n (length c.feed-decided.result.items) next c.requires.some c.requires.minute (ungiven_of lit.span) (ungiven_of (fed_many lit.span c.args.stretch.speed n)) c.requires.lit dark lost
-    (waits g p) (turn-most run lit c.args.stretch.speed n c.requires.minute) (decides g p).count
+    room-lost run (passed n c.args.stretch.begun c.cut.new.self) c.args.outcome.now (told-cut g c) n (length c.feed-decided.result.items) next c.requires.stretch.some c.requires.stretch.minute (ungiven_of lit.span) (ungiven_of (fed_many lit.span c.args.stretch.speed n)) c.requires.lit dark lost
+    (waits g p) (turn-most run lit c.args.stretch.speed n c.requires.stretch.minute) (decides g p).count
 
 -- ---- it goes on
 
@@ -275,7 +275,7 @@ returns-else-is_err-clause-room g c =
     let next : (passed n c.args.stretch.begun kt.new.run).next ≡ run.next + n = ap (λ (r : Run). r.next + n) kt.ensures.kept.kept.only in
     let still : kt.new.run.power ≡ Lit = ap (λ (r : Run). r.power) kt.ensures.kept.kept.only ∙ c.requires.lit in
     let minutes : kt.new.run.minutes ≡ c.feed-decided.new.minutes = ap (λ (r : Run). r.minutes) kt.ensures.kept.kept.only in
-    room-lit run (passed n c.args.stretch.begun kt.new.run) c.args.outcome.now kt.new.outcome n (length c.feed-decided.result.items) next c.requires.some c.requires.minute (ungiven_of lit.span) later c.requires.lit still (spends g p (passed n c.args.stretch.begun kt.new.run) refl) (waits g p)
+    room-lit run (passed n c.args.stretch.begun kt.new.run) c.args.outcome.now kt.new.outcome n (length c.feed-decided.result.items) next c.requires.stretch.some c.requires.stretch.minute (ungiven_of lit.span) later c.requires.lit still (spends g p (passed n c.args.stretch.begun kt.new.run) refl) (waits g p)
     (ap (λ (m : Minutes). later + m.owing) minutes ∙ owing-sum c.feed-decided.new.minutes (fed_many lit.span c.args.stretch.speed n) (c.feed-decided.ensures.fed lit.span lit.stands) ∙ ap (λ (m : ℕ). m / 60) (turn-end run lit c.args.stretch.speed n ∙ sym next)) (decides g p).count
 
 -- ---- where no tear of a failed call is told no card has broken down
@@ -324,7 +324,7 @@ module _ (g : Over) (c : After-is_err g) where
   few-decided =
       let l = power g c in
       let count = (decides g c).count in
-      let least = turn-most c.args.run.now l c.args.stretch.speed c.args.stretch.n c.requires.minute in
+      let least = turn-most c.args.run.now l c.args.stretch.speed c.args.stretch.n c.requires.stretch.minute in
       let sum = owing-sum c.args.run.now.minutes l.span l.stands in
       let next = l.next in
       let some = (owing-few l.span c.args.run.now.minutes l.stands).0 in

@@ -41,13 +41,13 @@ pub returns-then-not-is_lit-clause-going : goal.returns-then-not-is_lit-clause-g
 returns-then-not-is_lit-clause-going g c =
     let dark : is_lit c.args.run.now.power ≡ false = sym c.is_lit.ensures ∙ c.if-not-is_lit.true in
     subst (λ (r : Run). IsBetweenSeconds r (g.M.Medium.state c.args.unit.now) (g.C.Chip.card c.args.card_a.now) (g.D.Chip.card c.args.card_b.now) (g.C.Chip.state c.args.card_a.now) (g.D.Chip.state c.args.card_b.now)) (sym c.pass.ensures)
-    (passed-at c.args.run.now c.args.stretch.n c.args.stretch.begun dark c.requires.small c.requires.some c.requires.going)
+    (passed-at c.args.run.now c.args.stretch.n c.args.stretch.begun dark c.requires.stretch.small c.requires.stretch.some c.requires.going)
 
 pub returns-then-not-is_lit-clause-room : goal.returns-then-not-is_lit-clause-room
 returns-then-not-is_lit-clause-room g c = λ left offs insertions actions h.
     let dark : is_lit c.args.run.now.power ≡ false = sym c.is_lit.ensures ∙ c.if-not-is_lit.true in
     subst (λ (r : Run). HasRoom r c.args.outcome.now left offs insertions actions) (sym c.pass.ensures)
-    (room-dark c.args.run.now (passed c.args.stretch.n c.args.stretch.begun c.args.run.now) c.args.outcome.now c.args.outcome.now c.args.stretch.n 0 refl c.requires.some c.requires.minute dark refl refl left offs insertions actions h)
+    (room-dark c.args.run.now (passed c.args.stretch.n c.args.stretch.begun c.args.run.now) c.args.outcome.now c.args.outcome.now c.args.stretch.n 0 refl c.requires.stretch.some c.requires.stretch.minute dark refl refl left offs insertions actions h)
 
 -- ---- with power
 
@@ -72,12 +72,12 @@ returns-then-not-is_lit-clause-evented g c = λ o done s now actions behind with
     let dark : is_lit run.power ≡ false = sym c.is_lit.ensures ∙ c.if-not-is_lit.true in
     let r : CutEvented o done s run before d = subst (λ (b : Bool). InSecondEventedBy b o done s c.args.stretch.begun run before d) dark within in
     let seconds = done ++ s ∷ driven (c.args.stretch.n - 1) (s.number + 1) c.args.stretch.speed [] in
-    let rec : RunRecorded o seconds (passed c.args.stretch.n c.args.stretch.begun run) before d = turn-dark c.args.stretch.n c.args.stretch.speed c.args.stretch.begun run before d c.requires.some c.requires.minute o done s now actions (λ more. (behind (omega (arith, more))).0) r.cut in
+    let rec : RunRecorded o seconds (passed c.args.stretch.n c.args.stretch.begun run) before d = turn-dark c.args.stretch.n c.args.stretch.speed c.args.stretch.begun run before d c.requires.stretch.some c.requires.stretch.minute o done s now actions (λ more. (behind (omega (arith, more))).0) r.cut in
     subst (λ (x : Run). RunEvented o seconds x before d) (sym c.pass.ensures)
     (record {
       recorded = rec;
       evented = at-supply o seconds (log_of before) run.unfound (run.next + c.args.stretch.n) run.power IsLost rec.supply d (subst (λ (p : Power). Supplies p IsLost) (sym r.cut.lost) tt) rec.powers
-          (dark-events d c.args.stretch.n c.args.stretch.speed c.args.stretch.begun run before c.requires.some c.requires.minute o done s now actions (λ more. (behind more).0) r);
+          (dark-events d c.args.stretch.n c.args.stretch.speed c.args.stretch.begun run before c.requires.stretch.some c.requires.stretch.minute o done s now actions (λ more. (behind more).0) r);
       limit = r.limit;
       watched = λ on. absurd (let bad : Lost ≡ Lit = sym r.cut.lost ∙ on in cc);
     })
@@ -94,7 +94,7 @@ returns-clause-evented g c = λ o done s now actions behind within time.
     let seconds = done ++ s ∷ driven (c.args.stretch.n - 1) (s.number + 1) c.args.stretch.speed [] in
     let after = c.lit_turn.new.outcome in
     let turned : Run = passed c.args.stretch.n c.args.stretch.begun c.lit_turn.new.run in
-    let rec : RunRecorded o seconds turned after e = turn-lit c.args.stretch.n c.args.stretch.speed c.args.stretch.begun run c.lit_turn.new.run before after d e (c.requires.going.lit lit) r.within.lit c.requires.some c.requires.minute c.requires.small c.lit_turn.ensures.leaves.booked
+    let rec : RunRecorded o seconds turned after e = turn-lit c.args.stretch.n c.args.stretch.speed c.args.stretch.begun run c.lit_turn.new.run before after d e (c.requires.going.lit lit) r.within.lit c.requires.stretch.some c.requires.stretch.minute c.requires.stretch.small c.lit_turn.ensures.leaves.booked
     o done s now actions (λ more. (behind (omega (arith, more))).0) there time
     (leaves-more (g.M.Medium.state c.args.unit.now) (g.M.Medium.state c.lit_turn.new.unit) (turn-leaves c.args.stretch.n c.args.stretch.speed c.args.stretch.begun run c.lit_turn.new.run before c.lit_turn.new.outcome (g.M.Medium.state c.args.unit.now) (g.M.Medium.state c.lit_turn.new.unit) (g.met.M.Medium.coherent c.args.unit.now) c.requires.going.held.is_unit c.lit_turn.ensures.leaves.noted)) in
     let t = c.lit_turn.ensures.leaves.evented o done s now actions behind r time in
@@ -146,7 +146,7 @@ returns-then-not-is_lit-clause-promises g c = record {
       let dark : is_lit run.power ≡ false = sym c.is_lit.ensures ∙ c.if-not-is_lit.true in
       let r : RunCut o done s run before d = subst (λ (b : Bool). InSecondBy b o done s c.args.stretch.begun run before d) dark within in
       subst (λ (x : Run). RunRecorded o (done ++ s ∷ driven (c.args.stretch.n - 1) (s.number + 1) c.args.stretch.speed []) x before d) (sym c.pass.ensures)
-      (turn-dark c.args.stretch.n c.args.stretch.speed c.args.stretch.begun run before d c.requires.some c.requires.minute o done s now actions (λ more. none (omega (arith, more))) r);
+      (turn-dark c.args.stretch.n c.args.stretch.speed c.args.stretch.begun run before d c.requires.stretch.some c.requires.stretch.minute o done s now actions (λ more. none (omega (arith, more))) r);
   ringed =
       λ o done s now actions behind within time.
       let run = c.args.run.now in
@@ -157,7 +157,7 @@ returns-then-not-is_lit-clause-promises g c = record {
       let seconds : List TraceSecond = done ++ s ∷ driven (c.args.stretch.n - 1) (s.number + 1) c.args.stretch.speed [] in
       let events : RunEvented o seconds c.pass.new.self before d = returns-then-not-is_lit-clause-evented g c o done s now actions behind (subst (λ (b : Bool). InSecondEventedBy b o done s c.args.stretch.begun run before d) (sym dark) r.evented) time in
       let rings : TurnedRings o seconds c.pass.new.self before d = subst (λ (x : Run). TurnedRings o seconds x before d) (sym c.pass.ensures)
-      (dark-ringed c.args.stretch.n c.args.stretch.speed c.args.stretch.begun run before d c.requires.some c.requires.minute o done s now r.evented.cut r.spans r.counted r.ringed r.stored) in
+      (dark-ringed c.args.stretch.n c.args.stretch.speed c.args.stretch.begun run before d c.requires.stretch.some c.requires.stretch.minute o done s now r.evented.cut r.spans r.counted r.ringed r.stored) in
       ringed-of o seconds c.pass.new.self before d events rings;
   cards =
       λ o done s now actions none there time.
@@ -166,7 +166,7 @@ returns-then-not-is_lit-clause-promises g c = record {
       let d : Devices = devices (g.M.Medium.state c.args.unit.now) (g.C.Chip.state c.args.card_a.now) (g.D.Chip.state c.args.card_b.now) in
       let dark : is_lit run.power ≡ false = sym c.is_lit.ensures ∙ c.if-not-is_lit.true in
       let r : CardsAtBy false o done s c.args.stretch.begun run before d = subst (λ (b : Bool). CardsAtBy b o done s c.args.stretch.begun run before d) dark there in
-      dark-cards c.args.stretch.n c.args.stretch.speed run before d c.requires.some c.requires.minute o done s now r.0 r.1;
+      dark-cards c.args.stretch.n c.args.stretch.speed run before d c.requires.stretch.some c.requires.stretch.minute o done s now r.0 r.1;
   speeds =
       λ o done s now actions none there time.
       let run = c.args.run.now in
@@ -175,7 +175,7 @@ returns-then-not-is_lit-clause-promises g c = record {
       let dark : is_lit run.power ≡ false = sym c.is_lit.ensures ∙ c.if-not-is_lit.true in
       let r : SpeedsInBy false o done s c.args.stretch.begun run before d = subst (λ (b : Bool). SpeedsInBy b o done s c.args.stretch.begun run before d) dark there in
       subst (λ (x : Run). SpeedsBehind o (done ++ s ∷ driven (c.args.stretch.n - 1) (s.number + 1) c.args.stretch.speed []) x before d) (sym c.pass.ensures)
-      (dark-speeds c.args.stretch.n c.args.stretch.speed c.args.stretch.begun run before d c.requires.some c.requires.minute o done s now r.0 r.1);
+      (dark-speeds c.args.stretch.n c.args.stretch.speed c.args.stretch.begun run before d c.requires.stretch.some c.requires.stretch.minute o done s now r.0 r.1);
 }
 
 pub returns-then-not-is_lit-clause-goes : goal.returns-then-not-is_lit-clause-goes
@@ -216,7 +216,7 @@ returns-clause-promises g c = record {
       let r : RunWithin o done s (In c.args.stretch.begun) [] [] run before d = subst (λ (b : Bool). InSecondBy b o done s c.args.stretch.begun run before d) lit within in
       let there : RunWithin o done s (In (length s.actions)) [] [] run before d = subst (λ (k : ℕ). RunWithin o done s (In k) [] [] run before d) (sym actions) r in
       subst (λ (x : Run). RunRecorded o (done ++ s ∷ driven (c.args.stretch.n - 1) (s.number + 1) c.args.stretch.speed []) x c.lit_turn.new.outcome e) (sym c.pass-2.ensures)
-      (turn-lit c.args.stretch.n c.args.stretch.speed c.args.stretch.begun run c.lit_turn.new.run before c.lit_turn.new.outcome d e (c.requires.going.lit lit) r.lit c.requires.some c.requires.minute c.requires.small c.lit_turn.ensures.leaves.booked
+      (turn-lit c.args.stretch.n c.args.stretch.speed c.args.stretch.begun run c.lit_turn.new.run before c.lit_turn.new.outcome d e (c.requires.going.lit lit) r.lit c.requires.stretch.some c.requires.stretch.minute c.requires.stretch.small c.lit_turn.ensures.leaves.booked
       o done s now actions (λ more. none (omega (arith, more))) there time
       (leaves-more (g.M.Medium.state c.args.unit.now) (g.M.Medium.state c.lit_turn.new.unit) (turn-leaves c.args.stretch.n c.args.stretch.speed c.args.stretch.begun run c.lit_turn.new.run before c.lit_turn.new.outcome (g.M.Medium.state c.args.unit.now) (g.M.Medium.state c.lit_turn.new.unit) (g.met.M.Medium.coherent c.args.unit.now) c.requires.going.held.is_unit c.lit_turn.ensures.leaves.noted)));
   ringed =
@@ -237,7 +237,7 @@ returns-clause-promises g c = record {
       let within_all : RingsWithin o done s r.evented.within.within.b.run.log s.actions run (log_of before) r.spans r.told d =
       subst (λ (acts : List Action). RingsWithin o done s r.evented.within.within.b.run.log acts run (log_of before) r.spans r.told d) (whole-front r.front r.rest s.actions r.are r.number) r.rings in
       let rings : TurnedRings o seconds c.pass-2.new.self after e = subst (λ (x : Run). TurnedRings o seconds x after e) (sym c.pass-2.ensures)
-      (seconds-ringed c.args.stretch.n c.args.stretch.speed c.args.stretch.begun run c.lit_turn.new.run before after d e (c.requires.going.lit lit) r.evented.within.lit c.requires.some c.requires.minute c.requires.small c.lit_turn.ensures.leaves.booked leaves
+      (seconds-ringed c.args.stretch.n c.args.stretch.speed c.args.stretch.begun run c.lit_turn.new.run before after d e (c.requires.going.lit lit) r.evented.within.lit c.requires.stretch.some c.requires.stretch.minute c.requires.stretch.small c.lit_turn.ensures.leaves.booked leaves
       o done s now actions (λ more. (behind (omega (arith, more))).0) r.evented.within time r.spans r.told within_all r.stored) in
       ringed-of o seconds c.pass-2.new.self after e events rings;
   cards =
@@ -251,7 +251,7 @@ returns-clause-promises g c = record {
       let at : CardsAtBy true o done s c.args.stretch.begun run before d = subst (λ (b : Bool). CardsAtBy b o done s c.args.stretch.begun run before d) lit there in
       let r : CardsAtBy true o done s (length s.actions) run before d = subst (λ (k : ℕ). CardsAtBy true o done s k run before d) (sym actions) at in
       let low : 0 < run.next = let first = c.requires.going.low in omega (arith, first) in
-      seconds-shown c.args.stretch.n c.args.stretch.speed c.args.stretch.begun run c.lit_turn.new.run before after d e (c.requires.going.lit lit) r.0.lit c.requires.some c.requires.minute c.requires.small low c.lit_turn.ensures.leaves.booked
+      seconds-shown c.args.stretch.n c.args.stretch.speed c.args.stretch.begun run c.lit_turn.new.run before after d e (c.requires.going.lit lit) r.0.lit c.requires.stretch.some c.requires.stretch.minute c.requires.stretch.small low c.lit_turn.ensures.leaves.booked
       o done s now actions (λ more. none (omega (arith, more))) r.0 time r.1;
   speeds =
       λ o done s now actions none there time.
@@ -264,7 +264,7 @@ returns-clause-promises g c = record {
       let at : SpeedsInBy true o done s c.args.stretch.begun run before d = subst (λ (b : Bool). SpeedsInBy b o done s c.args.stretch.begun run before d) lit there in
       let r : SpeedsInBy true o done s (length s.actions) run before d = subst (λ (k : ℕ). SpeedsInBy true o done s k run before d) (sym actions) at in
       subst (λ (x : Run). SpeedsBehind o (done ++ s ∷ driven (c.args.stretch.n - 1) (s.number + 1) c.args.stretch.speed []) x after e) (sym c.pass-2.ensures)
-      (seconds-speeds c.args.stretch.n c.args.stretch.speed c.args.stretch.begun run c.lit_turn.new.run before after d e (c.requires.going.lit lit) r.0.lit c.requires.some c.requires.minute c.requires.small c.lit_turn.ensures.leaves.booked c.lit_turn.ensures.leaves.block
+      (seconds-speeds c.args.stretch.n c.args.stretch.speed c.args.stretch.begun run c.lit_turn.new.run before after d e (c.requires.going.lit lit) r.0.lit c.requires.stretch.some c.requires.stretch.minute c.requires.stretch.small c.lit_turn.ensures.leaves.booked c.lit_turn.ensures.leaves.block
       o done s now actions (λ more. none (omega (arith, more))) r.0 time r.1 r.2);
 }
 
@@ -276,3 +276,6 @@ returns-clause-goes g c = record {
   broke = c.lit_turn.ensures.goes.broke;
   most = c.lit_turn.ensures.goes.most;
 }
+
+pub lit_turn-requires-clause-stretch : goal.lit_turn-requires-clause-stretch
+lit_turn-requires-clause-stretch g c = c.requires.stretch

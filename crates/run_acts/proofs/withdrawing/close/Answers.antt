@@ -66,7 +66,7 @@ module _ (g : Over) (c : In_default-sizes g) where
   unsized =
       let cards = c.args.run.now.keeper.cabin.cards in
       let some : session_of cards c.args.which ≡ Some c.in-Some.accepted = sym c.in-Some.ensures.session in
-      let gone = no-session c.args.which cards (g.C.Chip.card c.args.card.now) (g.C.Chip.state c.args.card.now) c.requires.card (λ app is. c.in_default-sizes.not-Ok app (ap (λ (q : Known). q.sizes) c.of.ensures ∙ is)) in
+      let gone = no-session c.args.which cards (g.C.Chip.card c.args.card.now) (g.C.Chip.state c.args.card.now) c.requires.may.card (λ app is. c.in_default-sizes.not-Ok app (ap (λ (q : Known). q.sizes) c.of.ensures ∙ is)) in
       let bad : Some c.in-Some.accepted ≡ None = sym some ∙ gone in
       cc
 
@@ -191,9 +191,9 @@ returns-in-Ok-leave-clause-closes g c = record {
       let some : session_of run.keeper.cabin.cards c.args.which ≡ Some c.in-Some.accepted = sym c.in-Some.ensures.session in (
         Closed,
         closed-well g c,
-        fewer_broken none (call_broken false (none_broken X) c.in-Ok-leave.ensures.cause),
+        fewer_broken none (call_broken false (none_broken X) c.in-Ok-leave.ensures.card.cause),
         λ is. subst (λ (o : Option Accepted). ClosesOnCard c.args.withdrawal.slot run.minutes o X Y) (sym some)
-            (act, c.selected-selected.ensures, closed-alone c.in-Some.accepted.session act X Y (g.met.C.Chip.coherent c.leave.new.card) c.in-Ok-leave.ensures.cause.works c.leave.ensures.moments.tells c.in-Ok-leave.ensures.closed),
+            (act, c.selected-selected.ensures, closed-alone c.in-Some.accepted.session act X Y (g.met.C.Chip.coherent c.leave.new.card) c.in-Ok-leave.ensures.card.cause.works c.leave.ensures.closes.moments.tells c.in-Ok-leave.ensures.closes.closed),
       );
   shows = record {
     events =
@@ -220,13 +220,13 @@ returns-in-Ok-leave-clause-closes g c = record {
         };
     left =
         subst (λ (o : Option Accepted). IfSome o (λ s. (act : Activity) × LeavesOnly (g.C.Chip.state c.args.card.now) (g.C.Chip.state c.leave.new.card) (λ x n. IsSession s.session x → IsCardClosing s.session act x n))) c.in-Some.ensures.session
-        (activity_of c.selected-selected.result, c.leave.ensures.moments);
+        (activity_of c.selected-selected.result, c.leave.ensures.closes.moments);
     shut =
         let run = c.args.run.now in
         let X = g.C.Chip.state c.args.card.now in
         let Y = g.C.Chip.state c.leave.new.card in
         let some : session_of run.keeper.cabin.cards c.args.which ≡ Some c.in-Some.accepted = sym c.in-Some.ensures.session in
-        let works : X.works ≡ true = subst (λ (o : Option Accepted). IfSome o (λ a. X.works ≡ true)) (sym (session-known run.keeper.cabin.cards c.args.which) ∙ some) c.requires.card.works in
+        let works : X.works ≡ true = subst (λ (o : Option Accepted). IfSome o (λ a. X.works ≡ true)) (sym (session-known run.keeper.cabin.cards c.args.which) ∙ some) c.requires.may.card.works in
         let act : Activity = activity_of c.selected-selected.result in
         record {
           closing = Closed;
@@ -234,7 +234,7 @@ returns-in-Ok-leave-clause-closes g c = record {
           act = act;
           selected = c.selected-selected.ensures;
           closes = subst (λ (o : Option Accepted). ClosesCard Closed o act X Y) (sym some)
-              (closes-well c.in-Some.accepted act X Y (λ x n. IsSession c.in-Some.accepted.session x → IsCardClosing c.in-Some.accepted.session act x n) (g.met.C.Chip.coherent c.args.card.now) (g.met.C.Chip.coherent c.leave.new.card) works c.in-Ok-leave.ensures.cause.works c.leave.ensures.moments c.in-Ok-leave.ensures.closed);
+              (closes-well c.in-Some.accepted act X Y (λ x n. IsSession c.in-Some.accepted.session x → IsCardClosing c.in-Some.accepted.session act x n) (g.met.C.Chip.coherent c.args.card.now) (g.met.C.Chip.coherent c.leave.new.card) works c.in-Ok-leave.ensures.card.cause.works c.leave.ensures.closes.moments c.in-Ok-leave.ensures.closes.closed);
         };
   };
   writes = record {
@@ -264,8 +264,8 @@ returns-in-Ok-leave-clause-closes g c = record {
   stands = λ from h. c.close.ensures.stands from h;
   most = let one = c.note_withdrawal.ensures.most in (omega (arith, one), c.leave.ensures.most);
   goes = record {
-    later = state-by (g.C.Chip.state c.args.card.now) (g.C.Chip.state c.leave.new.card) (is_err c.leave.result) c.leave.ensures.moments.later c.leave.ensures.cause;
-    calm = card-rests refl (c.in-Ok-leave.ensures.cause.unbroken refl);
+    later = state-by (g.C.Chip.state c.args.card.now) (g.C.Chip.state c.leave.new.card) (is_err c.leave.result) c.leave.ensures.closes.moments.later c.leave.ensures.card.cause;
+    calm = card-rests refl (c.in-Ok-leave.ensures.card.cause.unbroken refl);
   };
 }
 
@@ -277,11 +277,11 @@ returns-in-Err-clause-closes g c = record {
       let which = c.args.which in
       let X = g.C.Chip.state c.args.card.now in
       let some : session_of run.keeper.cabin.cards which ≡ Some c.in-Some.accepted = sym c.in-Some.ensures.session in
-      let works : X.works ≡ true = subst (λ (o : Option Accepted). IfSome o (λ a. X.works ≡ true)) (sym (session-known run.keeper.cabin.cards which) ∙ some) c.requires.card.works in
+      let works : X.works ≡ true = subst (λ (o : Option Accepted). IfSome o (λ a. X.works ≡ true)) (sym (session-known run.keeper.cabin.cards which) ∙ some) c.requires.may.card.works in
       let one : 1 ≤ 0 + broken_by X.works true = rw works (omega arith) in (
         Fell,
         closed-fell g c,
-        fewer_broken one (call_broken true (none_broken X) c.in-Err.ensures.cause),
+        fewer_broken one (call_broken true (none_broken X) c.in-Err.ensures.card.cause),
         λ is. absurd (cc),
       );
   shows = record {
@@ -307,7 +307,7 @@ returns-in-Err-clause-closes g c = record {
         };
     left =
         subst (λ (o : Option Accepted). IfSome o (λ s. (act : Activity) × LeavesOnly (g.C.Chip.state c.args.card.now) (g.C.Chip.state c.leave.new.card) (λ x n. IsSession s.session x → IsCardClosing s.session act x n))) c.in-Some.ensures.session
-        (activity_of c.selected-selected.result, c.leave.ensures.moments);
+        (activity_of c.selected-selected.result, c.leave.ensures.closes.moments);
     shut =
         record {
           closing = Fell;
@@ -337,14 +337,21 @@ returns-in-Err-clause-closes g c = record {
         let after : c.tear.new.self.cabin.cards ≡ with_session which None (with_session which None cards) =
         ap (λ (k : Keeper). k.cabin.cards) c.tear.ensures.torn.keeper ∙ ap (λ (b : Cabin). with_session which None b.cards) c.close.ensures.kept in
         subst (λ (q : Cards). CardMayBeCalled (known_of q which) chip X) (sym after)
-        (twice-ready which cards (λ app is. let same : c.in-Ok.app ≡ app = cc in subst (λ (a : Application). IsPort a None chip X) same c.leave.ensures.port));
+        (twice-ready which cards (λ app is. let same : c.in-Ok.app ≡ app = cc in subst (λ (a : Application). IsPort a None chip X) same c.leave.ensures.card.port));
     size = first_of (search rules, grind (arith, common_steps));
     cause = first_of (search rules, grind (arith, common_steps));
   };
   stands = λ from h. c.tear.ensures.stands from None (c.close.ensures.stands from h);
   most = (c.tear.ensures.most, c.leave.ensures.most);
   goes = record {
-    later = state-by (g.C.Chip.state c.args.card.now) (g.C.Chip.state c.leave.new.card) (is_err c.leave.result) c.leave.ensures.moments.later c.leave.ensures.cause;
-    calm = card-fell c.args.withdrawal.slot c.args.withdrawal.at (ap (λ (l : Listed Break). l.items) c.tear.ensures.torn.told) c.leave.ensures.cause.breakdowns c.leave.ensures.cause.once;
+    later = state-by (g.C.Chip.state c.args.card.now) (g.C.Chip.state c.leave.new.card) (is_err c.leave.result) c.leave.ensures.closes.moments.later c.leave.ensures.card.cause;
+    calm = card-fell c.args.withdrawal.slot c.args.withdrawal.at (ap (λ (l : Listed Break). l.items) c.tear.ensures.torn.told) c.leave.ensures.card.cause.breakdowns c.leave.ensures.card.cause.once;
   };
+}
+
+pub tear-requires-clause-may : goal.tear-requires-clause-may
+tear-requires-clause-may g c = record {
+  minute = first_of (search rules, grind (arith, common_steps));
+  second = first_of (search rules, grind (arith, common_steps));
+  room = first_of (search rules, grind (arith, common_steps));
 }

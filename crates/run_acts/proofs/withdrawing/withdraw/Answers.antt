@@ -1,3 +1,4 @@
+use Rattle.std.proofs.lemmas.Grind.{common_steps}
 use Rattle.std.proofs.Common.{rules, ◌≡◌, ◌∙◌, inl, inr, ℕ, ◌+◌, ◌/◌, ◌≤◌, Bool, true, false, not, Option, Some, None, is_some, List, ◌++◌, All, length, refl, ap, sym, subst, arith, ◌^◌, ◌<◌}
 use Rattle.std.specs.Prelude.{is_err, suc, [], ◌∷◌, IfSome}
 use Rattle.trace_model.specs.declared.Card.{Card}
@@ -106,22 +107,25 @@ module _ {U A0 B0 : State} {chip_a chip_b : CardState} where
       subst (λ (b : Cabin). RunHasPower (Some card) (run.next / 60) (with_cabin b run) U chip_a chip_b A0 B0) (sym is)
       (left-going slot card second run (run.next / 60) lit (λ from h. subst (λ (b : Cabin). CabinIsSound from (Some card) b) is (stands from h)))
 
-pub settle-requires-clause-held : goal.settle-requires-clause-held
-settle-requires-clause-held g c =
-    let run = c.args.run.now in
-    let card = c.in-Some.card in
-    let second : ℕ = c.args.withdrawal.at.second in
-    let here = c.requires.at in
-    let there : card_in (seat_in run.keeper.cabin.slots.seats c.args.withdrawal.slot) ≡ Some card = cc in
-    let u = ungiven_of c.requires.acting.going.span in
-    let stands = subst (λ (b : Cabin). CabinIsSound u (Some card) b) c.leave.ensures.kept (c.leave.ensures.stands u card there c.requires.acting.going.cabin) in
-    subst (λ (b : Cabin). CanBeCut (run.next / 60) (with_cabin b run) (g.M.Medium.state c.args.unit.now) (g.C.Chip.card c.args.card_a.now) (g.D.Chip.card c.args.card_b.now) (g.C.Chip.state c.args.card_a.now) (g.D.Chip.state c.args.card_b.now)) (sym c.leave.ensures.kept)
-    (left-held c.args.withdrawal.slot card second run (run.next / 60) c.requires.acting.held (omega (arith, here)) u stands)
-
-pub settle-requires-clause-going : goal.settle-requires-clause-going
-settle-requires-clause-going g c =
-    let there : card_in (seat_in c.args.run.now.keeper.cabin.slots.seats c.args.withdrawal.slot) ≡ Some c.in-Some.card = cc in
-    (Some c.in-Some.card, left-lit c.args.withdrawal.slot c.in-Some.card c.args.withdrawal.at.second c.args.run.now c.leave.new.self c.requires.acting.going c.leave.ensures.kept (λ from h. c.leave.ensures.stands from c.in-Some.card there h))
+pub settle-requires-clause-may : goal.settle-requires-clause-may
+settle-requires-clause-may g c = record {
+  lit = c.requires.acting.lit;
+  low = c.requires.acting.low;
+  small = c.requires.acting.small;
+  held =
+      let run = c.args.run.now in
+      let card = c.in-Some.card in
+      let second : ℕ = c.args.withdrawal.at.second in
+      let here = c.requires.at in
+      let there : card_in (seat_in run.keeper.cabin.slots.seats c.args.withdrawal.slot) ≡ Some card = cc in
+      let u = ungiven_of c.requires.acting.going.span in
+      let stands = subst (λ (b : Cabin). CabinIsSound u (Some card) b) c.leave.ensures.kept (c.leave.ensures.stands u card there c.requires.acting.going.cabin) in
+      subst (λ (b : Cabin). CanBeCut (run.next / 60) (with_cabin b run) (g.M.Medium.state c.args.unit.now) (g.C.Chip.card c.args.card_a.now) (g.D.Chip.card c.args.card_b.now) (g.C.Chip.state c.args.card_a.now) (g.D.Chip.state c.args.card_b.now)) (sym c.leave.ensures.kept)
+      (left-held c.args.withdrawal.slot card second run (run.next / 60) c.requires.acting.held (omega (arith, here)) u stands);
+  going =
+      let there : card_in (seat_in c.args.run.now.keeper.cabin.slots.seats c.args.withdrawal.slot) ≡ Some c.in-Some.card = cc in
+      (Some c.in-Some.card, left-lit c.args.withdrawal.slot c.in-Some.card c.args.withdrawal.at.second c.args.run.now c.leave.new.self c.requires.acting.going c.leave.ensures.kept (λ from h. c.leave.ensures.stands from c.in-Some.card there h));
+}
 
 -- ---- the minutes before are kept
 
@@ -171,26 +175,28 @@ returns-in_err-settle-clause-takes g c =
 pub close-requires-clause-ready : goal.close-requires-clause-ready
 close-requires-clause-ready g c = (going-with g (goal.at.close-requires-clause-ready g c).In_ok-settle A c.in-A.is).ready.unit_ready
 
-pub close-requires-clause-card : goal.close-requires-clause-card
-close-requires-clause-card g c = (going-with g (goal.at.close-requires-clause-card g c).In_ok-settle A c.in-A.is).ready.card_a
-
-pub close-requires-clause-entry : goal.close-requires-clause-entry
-close-requires-clause-entry g c = (going-with g (goal.at.close-requires-clause-entry g c).In_ok-settle A c.in-A.is).entries A
-
-pub close-requires-clause-room : goal.close-requires-clause-room
-close-requires-clause-room g c = room-left g (goal.at.close-requires-clause-room g c).In_ok-settle A
+pub close-requires-clause-may : goal.close-requires-clause-may
+close-requires-clause-may g c = record {
+  card = (going-with g (goal.at.close-requires-clause-may g c).In_ok-settle A c.in-A.is).ready.card_a;
+  entry = (going-with g (goal.at.close-requires-clause-may g c).In_ok-settle A c.in-A.is).entries A;
+  odometer = first_of (search rules, grind (arith, common_steps));
+  minute = first_of (search rules, grind (arith, common_steps));
+  second = first_of (search rules, grind (arith, common_steps));
+  room = room-left g (goal.at.close-requires-clause-may g c).In_ok-settle A;
+}
 
 pub close-requires-in-B-clause-ready : goal.close-requires-in-B-clause-ready
 close-requires-in-B-clause-ready g c = (going-with g (goal.at.close-requires-in-B-clause-ready g c).In_ok-settle B c.in-B.is).ready.unit_ready
 
-pub close-requires-in-B-clause-card : goal.close-requires-in-B-clause-card
-close-requires-in-B-clause-card g c = (going-with g (goal.at.close-requires-in-B-clause-card g c).In_ok-settle B c.in-B.is).ready.card_b
-
-pub close-requires-in-B-clause-entry : goal.close-requires-in-B-clause-entry
-close-requires-in-B-clause-entry g c = (going-with g (goal.at.close-requires-in-B-clause-entry g c).In_ok-settle B c.in-B.is).entries B
-
-pub close-requires-in-B-clause-room : goal.close-requires-in-B-clause-room
-close-requires-in-B-clause-room g c = room-left g (goal.at.close-requires-in-B-clause-room g c).In_ok-settle B
+pub close-requires-in-B-clause-may : goal.close-requires-in-B-clause-may
+close-requires-in-B-clause-may g c = record {
+  card = (going-with g (goal.at.close-requires-in-B-clause-may g c).In_ok-settle B c.in-B.is).ready.card_b;
+  entry = (going-with g (goal.at.close-requires-in-B-clause-may g c).In_ok-settle B c.in-B.is).entries B;
+  odometer = first_of (search rules, grind (arith, common_steps));
+  minute = first_of (search rules, grind (arith, common_steps));
+  second = first_of (search rules, grind (arith, common_steps));
+  room = room-left g (goal.at.close-requires-in-B-clause-may g c).In_ok-settle B;
+}
 
 -- ---- and its session is closed
 
@@ -461,7 +467,7 @@ module _ (g : Over) (c : In_ok-settle g) (k : OneCard c.in-Some.card (g.C.Chip.s
 
 module _ (g : Over) (c : After-close g) where
   abbrev kept-a : In_ok-settle g
-  kept-a = (goal.at.returns-in-A-clause-held g c).In_ok-settle
+  kept-a = (goal.at.returns-in-A-clause-behind g c).In_ok-settle
 
   abbrev side-a : OneCard kept-a.in-Some.card (g.C.Chip.state c.settle.new.card_a) (g.D.Chip.state c.settle.new.card_b)
   side-a =
@@ -470,7 +476,7 @@ module _ (g : Over) (c : After-close g) where
 
 module _ (g : Over) (c : After-close-in-B g) where
   abbrev kept-b : In_ok-settle g
-  kept-b = (goal.at.returns-in-B-clause-held g c).In_ok-settle
+  kept-b = (goal.at.returns-in-B-clause-behind g c).In_ok-settle
 
   abbrev side-b : OneCard kept-b.in-Some.card (g.C.Chip.state c.settle.new.card_a) (g.D.Chip.state c.settle.new.card_b)
   side-b =
@@ -522,10 +528,14 @@ returns-in_default-clause-promises g c = record {
       absurd (withdraws-one c.args.run.now.keeper.cabin.slots.seats c.args.withdrawal.slot speed allowed (none-in g c));
 }
 
-pub returns-in_default-clause-held : goal.returns-in_default-clause-held
-returns-in_default-clause-held g c = record {
-  held = c.requires.acting.held;
-  cause = (no_reads (g.M.Medium.state c.args.unit.now) c.requires.acting.going.ready.unit_ready.works).cause;
+pub returns-in_default-clause-behind : goal.returns-in_default-clause-behind
+returns-in_default-clause-behind g c = record {
+  held =
+      record {
+        held = c.requires.acting.held;
+        cause = (no_reads (g.M.Medium.state c.args.unit.now) c.requires.acting.going.ready.unit_ready.works).cause;
+      };
+  going = first_of (search rules, grind (arith, common_steps));
 }
 
 pub returns-in_default-clause-goes : goal.returns-in_default-clause-goes
@@ -648,10 +658,14 @@ returns-in_err-settle-clause-promises g c = record {
   cards = λ late speed o done s now front rest are n allowed vehicle w cards time. cut-cards g c late speed o done s now front rest are n allowed w time cards;
 }
 
-pub returns-in_err-settle-clause-held : goal.returns-in_err-settle-clause-held
-returns-in_err-settle-clause-held g c = record {
-  held = c.settle.ensures.held;
-  cause = subst (λ (b : Bool). HasCause (g.M.Medium.state c.args.unit.now) (g.M.Medium.state c.settle.new.unit) b) (failed g c) c.in_err-settle.ensures.behind.cause;
+pub returns-in_err-settle-clause-behind : goal.returns-in_err-settle-clause-behind
+returns-in_err-settle-clause-behind g c = record {
+  held =
+      record {
+        held = c.settle.ensures.held;
+        cause = subst (λ (b : Bool). HasCause (g.M.Medium.state c.args.unit.now) (g.M.Medium.state c.settle.new.unit) b) (failed g c) c.in_err-settle.ensures.behind.cause;
+      };
+  going = on_ok c.from_residual.result (λ well. absurd (let bad : true ≡ false = (failed g c) ∙ well in cc));
 }
 
 pub returns-in_err-settle-clause-goes : goal.returns-in_err-settle-clause-goes
@@ -664,15 +678,27 @@ returns-in_err-settle-clause-goes g c = record {
 
 -- ---- card a, and card b
 
-pub returns-in-A-clause-going : goal.returns-in-A-clause-going
-returns-in-A-clause-going g c =
-    let e = c.close.ensures.closes in
-    let going = going-with g (kept-a g c) A c.in-A.is in
-    on_ok c.close.result (λ well.
-    going-closed A c.args.withdrawal.slot c.args.withdrawal.at c.settle.new.run c.close.new.run c.settle.new.outcome.breaks c.close.new.breaks e.closed.0 e.closed.1 (g.M.Medium.state c.settle.new.unit) (g.M.Medium.state c.close.new.unit) (g.C.Chip.state c.settle.new.card_a) (g.C.Chip.state c.close.new.card) (g.D.Chip.state c.settle.new.card_b)
-    (g.C.Chip.card c.settle.new.card_a) (g.C.Chip.card c.close.new.card) (g.D.Chip.card c.settle.new.card_b)
-    going (ok_gives c.close.result e.behind.ready well) e.behind.card (λ card h. ok_gives c.close.result (e.behind.rows card h) well) (e.stands (ungiven_of going.span) going.cabin)
-    (knows-left c.settle.new.run.watch.newest (g.M.Medium.state c.settle.new.unit) (g.M.Medium.state c.close.new.unit) (g.met.M.Medium.coherent c.settle.new.unit) (g.met.M.Medium.coherent c.close.new.unit) going.ready.unit_ready.works e.writes.speeds))
+pub returns-in-A-clause-behind : goal.returns-in-A-clause-behind
+returns-in-A-clause-behind g c = record {
+  held =
+      record {
+        held =
+            let e = c.close.ensures.closes in
+            let going = going-with g (kept-a g c) A c.in-A.is in
+            held-closed A c.args.withdrawal.slot c.args.withdrawal.at c.settle.new.run c.close.new.run c.settle.new.outcome.breaks c.close.new.breaks e.closed.0 e.closed.1 (g.M.Medium.state c.settle.new.unit) (g.M.Medium.state c.close.new.unit) (g.C.Chip.state c.settle.new.card_a) (g.C.Chip.state c.close.new.card) (g.D.Chip.state c.settle.new.card_b)
+            (g.C.Chip.card c.settle.new.card_a) (g.C.Chip.card c.close.new.card) (g.D.Chip.card c.settle.new.card_b)
+            (at-then g (kept-a g c)) c.settle.ensures.held e.behind.unit e.behind.card e.behind.size (ungiven_of going.span, None, e.stands (ungiven_of going.span) going.cabin);
+        cause = cause_after c.in_ok-settle.ensures.behind.cause c.close.ensures.closes.behind.cause;
+      };
+  going =
+      let e = c.close.ensures.closes in
+      let going = going-with g (kept-a g c) A c.in-A.is in
+      on_ok c.close.result (λ well.
+      going-closed A c.args.withdrawal.slot c.args.withdrawal.at c.settle.new.run c.close.new.run c.settle.new.outcome.breaks c.close.new.breaks e.closed.0 e.closed.1 (g.M.Medium.state c.settle.new.unit) (g.M.Medium.state c.close.new.unit) (g.C.Chip.state c.settle.new.card_a) (g.C.Chip.state c.close.new.card) (g.D.Chip.state c.settle.new.card_b)
+      (g.C.Chip.card c.settle.new.card_a) (g.C.Chip.card c.close.new.card) (g.D.Chip.card c.settle.new.card_b)
+      going (ok_gives c.close.result e.behind.ready well) e.behind.card (λ card h. ok_gives c.close.result (e.behind.rows card h) well) (e.stands (ungiven_of going.span) going.cabin)
+      (knows-left c.settle.new.run.watch.newest (g.M.Medium.state c.settle.new.unit) (g.M.Medium.state c.close.new.unit) (g.met.M.Medium.coherent c.settle.new.unit) (g.met.M.Medium.coherent c.close.new.unit) going.ready.unit_ready.works e.writes.speeds));
+}
 
 pub returns-in-A-clause-takes : goal.returns-in-A-clause-takes
 returns-in-A-clause-takes g c = takes g (kept-a g c) (side-a g c) c.close.ensures.closes c.close.ensures.bare
@@ -700,17 +726,6 @@ returns-in-A-clause-promises g c = record {
   cards = λ late speed o done s now front rest are n allowed vehicle w cards time. cards_ g (kept-a g c) (side-a g c) c.close.ensures.closes c.close.ensures.bare late speed o done s now front rest are n allowed w time cards;
 }
 
-pub returns-in-A-clause-held : goal.returns-in-A-clause-held
-returns-in-A-clause-held g c = record {
-  held =
-      let e = c.close.ensures.closes in
-      let going = going-with g (kept-a g c) A c.in-A.is in
-      held-closed A c.args.withdrawal.slot c.args.withdrawal.at c.settle.new.run c.close.new.run c.settle.new.outcome.breaks c.close.new.breaks e.closed.0 e.closed.1 (g.M.Medium.state c.settle.new.unit) (g.M.Medium.state c.close.new.unit) (g.C.Chip.state c.settle.new.card_a) (g.C.Chip.state c.close.new.card) (g.D.Chip.state c.settle.new.card_b)
-      (g.C.Chip.card c.settle.new.card_a) (g.C.Chip.card c.close.new.card) (g.D.Chip.card c.settle.new.card_b)
-      (at-then g (kept-a g c)) c.settle.ensures.held e.behind.unit e.behind.card e.behind.size (ungiven_of going.span, None, e.stands (ungiven_of going.span) going.cabin);
-  cause = cause_after c.in_ok-settle.ensures.behind.cause c.close.ensures.closes.behind.cause;
-}
-
 pub returns-in-A-clause-goes : goal.returns-in-A-clause-goes
 returns-in-A-clause-goes g c = record {
   later = later g (kept-a g c) (side-a g c) c.close.ensures.closes c.close.ensures.bare;
@@ -726,15 +741,27 @@ returns-in-A-clause-goes g c = record {
       };
 }
 
-pub returns-in-B-clause-going : goal.returns-in-B-clause-going
-returns-in-B-clause-going g c =
-    let e = c.close-in-B.ensures.closes in
-    let going = going-with g (kept-b g c) B c.in-B.is in
-    on_ok c.close-in-B.result (λ well.
-    going-closed B c.args.withdrawal.slot c.args.withdrawal.at c.settle.new.run c.close-in-B.new.run c.settle.new.outcome.breaks c.close-in-B.new.breaks e.closed.0 e.closed.1 (g.M.Medium.state c.settle.new.unit) (g.M.Medium.state c.close-in-B.new.unit) (g.D.Chip.state c.settle.new.card_b) (g.D.Chip.state c.close-in-B.new.card) (g.C.Chip.state c.settle.new.card_a)
-    (g.D.Chip.card c.settle.new.card_b) (g.D.Chip.card c.close-in-B.new.card) (g.C.Chip.card c.settle.new.card_a)
-    going (ok_gives c.close-in-B.result e.behind.ready well) e.behind.card (λ card h. ok_gives c.close-in-B.result (e.behind.rows card h) well) (e.stands (ungiven_of going.span) going.cabin)
-    (knows-left c.settle.new.run.watch.newest (g.M.Medium.state c.settle.new.unit) (g.M.Medium.state c.close-in-B.new.unit) (g.met.M.Medium.coherent c.settle.new.unit) (g.met.M.Medium.coherent c.close-in-B.new.unit) going.ready.unit_ready.works e.writes.speeds))
+pub returns-in-B-clause-behind : goal.returns-in-B-clause-behind
+returns-in-B-clause-behind g c = record {
+  held =
+      record {
+        held =
+            let e = c.close-in-B.ensures.closes in
+            let going = going-with g (kept-b g c) B c.in-B.is in
+            held-closed B c.args.withdrawal.slot c.args.withdrawal.at c.settle.new.run c.close-in-B.new.run c.settle.new.outcome.breaks c.close-in-B.new.breaks e.closed.0 e.closed.1 (g.M.Medium.state c.settle.new.unit) (g.M.Medium.state c.close-in-B.new.unit) (g.D.Chip.state c.settle.new.card_b) (g.D.Chip.state c.close-in-B.new.card) (g.C.Chip.state c.settle.new.card_a)
+            (g.D.Chip.card c.settle.new.card_b) (g.D.Chip.card c.close-in-B.new.card) (g.C.Chip.card c.settle.new.card_a)
+            (at-then g (kept-b g c)) c.settle.ensures.held e.behind.unit e.behind.card e.behind.size (ungiven_of going.span, None, e.stands (ungiven_of going.span) going.cabin);
+        cause = cause_after c.in_ok-settle.ensures.behind.cause c.close-in-B.ensures.closes.behind.cause;
+      };
+  going =
+      let e = c.close-in-B.ensures.closes in
+      let going = going-with g (kept-b g c) B c.in-B.is in
+      on_ok c.close-in-B.result (λ well.
+      going-closed B c.args.withdrawal.slot c.args.withdrawal.at c.settle.new.run c.close-in-B.new.run c.settle.new.outcome.breaks c.close-in-B.new.breaks e.closed.0 e.closed.1 (g.M.Medium.state c.settle.new.unit) (g.M.Medium.state c.close-in-B.new.unit) (g.D.Chip.state c.settle.new.card_b) (g.D.Chip.state c.close-in-B.new.card) (g.C.Chip.state c.settle.new.card_a)
+      (g.D.Chip.card c.settle.new.card_b) (g.D.Chip.card c.close-in-B.new.card) (g.C.Chip.card c.settle.new.card_a)
+      going (ok_gives c.close-in-B.result e.behind.ready well) e.behind.card (λ card h. ok_gives c.close-in-B.result (e.behind.rows card h) well) (e.stands (ungiven_of going.span) going.cabin)
+      (knows-left c.settle.new.run.watch.newest (g.M.Medium.state c.settle.new.unit) (g.M.Medium.state c.close-in-B.new.unit) (g.met.M.Medium.coherent c.settle.new.unit) (g.met.M.Medium.coherent c.close-in-B.new.unit) going.ready.unit_ready.works e.writes.speeds));
+}
 
 pub returns-in-B-clause-takes : goal.returns-in-B-clause-takes
 returns-in-B-clause-takes g c = takes g (kept-b g c) (side-b g c) c.close-in-B.ensures.closes c.close-in-B.ensures.bare
@@ -762,17 +789,6 @@ returns-in-B-clause-promises g c = record {
   cards = λ late speed o done s now front rest are n allowed vehicle w cards time. cards_ g (kept-b g c) (side-b g c) c.close-in-B.ensures.closes c.close-in-B.ensures.bare late speed o done s now front rest are n allowed w time cards;
 }
 
-pub returns-in-B-clause-held : goal.returns-in-B-clause-held
-returns-in-B-clause-held g c = record {
-  held =
-      let e = c.close-in-B.ensures.closes in
-      let going = going-with g (kept-b g c) B c.in-B.is in
-      held-closed B c.args.withdrawal.slot c.args.withdrawal.at c.settle.new.run c.close-in-B.new.run c.settle.new.outcome.breaks c.close-in-B.new.breaks e.closed.0 e.closed.1 (g.M.Medium.state c.settle.new.unit) (g.M.Medium.state c.close-in-B.new.unit) (g.D.Chip.state c.settle.new.card_b) (g.D.Chip.state c.close-in-B.new.card) (g.C.Chip.state c.settle.new.card_a)
-      (g.D.Chip.card c.settle.new.card_b) (g.D.Chip.card c.close-in-B.new.card) (g.C.Chip.card c.settle.new.card_a)
-      (at-then g (kept-b g c)) c.settle.ensures.held e.behind.unit e.behind.card e.behind.size (ungiven_of going.span, None, e.stands (ungiven_of going.span) going.cabin);
-  cause = cause_after c.in_ok-settle.ensures.behind.cause c.close-in-B.ensures.closes.behind.cause;
-}
-
 pub returns-in-B-clause-goes : goal.returns-in-B-clause-goes
 returns-in-B-clause-goes g c = record {
   later = later g (kept-b g c) (side-b g c) c.close-in-B.ensures.closes c.close-in-B.ensures.bare;
@@ -786,4 +802,10 @@ returns-in-B-clause-goes g c = record {
         card_b = (let a = first.card_b in let b = next.1 in omega (arith, a, b));
         card_a = (let a = first.card_a in omega (arith, a));
       };
+}
+
+pub settle-requires-clause-room : goal.settle-requires-clause-room
+settle-requires-clause-room g c = record {
+  marks = c.requires.marks;
+  breaks = first_of (search rules, grind (arith, common_steps));
 }

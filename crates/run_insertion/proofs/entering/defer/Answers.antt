@@ -6,7 +6,7 @@ use Rattle.run_insertion.proofs.entering.defer.Goals as goal
 
 pub returns-clause-notes : goal.returns-clause-notes
 returns-clause-notes g c =
-    one-note IsOnUnit IsComing (event_of TIME_OVERLAP c.args.entering.at.second c.args.stored c.args.keeper.now.cabin) (λ well. ok_gives c.note_overlap.result c.note_overlap.ensures.noted well) c.note_overlap.ensures.moments
+    one-note IsOnUnit IsComing (event_of TIME_OVERLAP c.args.entering.at.second c.args.stored c.args.keeper.now.cabin) (λ well. ok_gives c.note_overlap.result c.note_overlap.ensures.note.noted well) c.note_overlap.ensures.note.moments
 
-pub returns-clause-most : goal.returns-clause-most
-returns-clause-most g c = c.note_overlap.ensures.most
+pub returns-clause-stands : goal.returns-clause-stands
+returns-clause-stands g c = c.note_overlap.ensures.stands

@@ -6,7 +6,7 @@ use Rattle.run_insertion.proofs.entering.refuse.Goals as goal
 
 pub returns-clause-notes : goal.returns-clause-notes
 returns-clause-notes g c =
-    one-note IsOnUnit IsComing (event_of CARD_NOT_VALID c.args.entering.at.second c.args.entering.at.second c.args.keeper.now.cabin) (λ well. ok_gives c.note_not_valid.result c.note_not_valid.ensures.noted well) c.note_not_valid.ensures.moments
+    one-note IsOnUnit IsComing (event_of CARD_NOT_VALID c.args.entering.at.second c.args.entering.at.second c.args.keeper.now.cabin) (λ well. ok_gives c.note_not_valid.result c.note_not_valid.ensures.note.noted well) c.note_not_valid.ensures.note.moments
 
-pub returns-clause-most : goal.returns-clause-most
-returns-clause-most g c = c.note_not_valid.ensures.most
+pub returns-clause-stands : goal.returns-clause-stands
+returns-clause-stands g c = c.note_not_valid.ensures.stands

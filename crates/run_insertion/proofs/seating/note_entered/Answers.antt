@@ -51,7 +51,7 @@ returns-clause-noted g c =
     let U = g.M.Medium.state c.args.unit.now in
     let X = g.C.Chip.state c.args.card.now in
     let Z = g.D.Chip.state c.args.others.now in
-    let next = unclosed-noted c.args.seated.unclosed e.at.second c.crew-crew.result k.cabin c.note_unclosed.result c.crew-crew.ensures c.note_unclosed.ensures.noted c.note_unclosed.ensures.moments in
+    let next = unclosed-noted c.args.seated.unclosed e.at.second c.crew-crew.result k.cabin c.note_unclosed.result c.crew-crew.ensures c.note_unclosed.ensures.note.noted c.note_unclosed.ensures.note.moments in
     elim c.if-entering-gt0.branch [
       | then-entering-gt0+in_ok-note_moving w ↦ let m = w.in_ok-note_moving.ensures.noted in
           rw (w.keeper-is, w.breaks-is, w.card-is) (
@@ -59,14 +59,14 @@ returns-clause-noted g c =
             entered-unclosed c.args.seated.app c.args.seated.unclosed e k w.note_moving.new.keeper c.args.breaks.now w.note_moving.new.breaks U (g.M.Medium.state w.note_moving.new.unit) X (g.C.Chip.state w.note_moving.new.card)
                 m.0 w.if-entering-gt0.true (is_err c.note_unclosed.result) (g.M.Medium.state c.note_unclosed.new.unit) c.if-session-eq0.false m.1 (rw w.unit-is at next),
             unclosed-carried c.args.seated.app e k w.note_moving.new.keeper m.0 U (g.M.Medium.state w.note_moving.new.unit) (g.M.Medium.state c.note_unclosed.new.unit) X (g.C.Chip.state w.note_moving.new.card) Z (is_err c.note_unclosed.result) m.1.keeper
-                (g.met.M.Medium.coherent w.note_moving.new.unit) m.2 (rw w.unit-is at c.note_unclosed.ensures.journal) (rw w.unit-is at c.note_unclosed.ensures.cause),
+                (g.met.M.Medium.coherent w.note_moving.new.unit) m.2 (rw w.unit-is at c.note_unclosed.ensures.stands.journal) (rw w.unit-is at c.note_unclosed.ensures.stands.cause),
           )
       | else-entering-gt0 w ↦ rw (w.keeper-is, w.breaks-is, w.card-is) (
         false,
         rests-unclosed c.args.seated.app c.args.seated.unclosed e k c.args.breaks.now U (g.M.Medium.state c.note_unclosed.new.unit) X w.if-entering-gt0.false (is_err c.note_unclosed.result)
             c.if-session-eq0.false (rw w.unit-is at next),
         λ f wc a may. noted-carried e.which f wc k.cabin.cards U (g.M.Medium.state c.note_unclosed.new.unit) X Z (is_err c.note_unclosed.result) may.found (g.met.M.Medium.coherent c.args.unit.now) may.powered
-            (rw w.unit-is at c.note_unclosed.ensures.journal) (rw w.unit-is at c.note_unclosed.ensures.cause),
+            (rw w.unit-is at c.note_unclosed.ensures.stands.journal) (rw w.unit-is at c.note_unclosed.ensures.stands.cause),
       )
     ]
 
@@ -96,8 +96,11 @@ returns-in_err-note_moving-clause-behind g c = record {
 
 pub returns-in_err-note_moving-clause-goes : goal.returns-in_err-note_moving-clause-goes
 returns-in_err-note_moving-clause-goes g c = record {
-  later = c.in_err-note_moving.ensures.goes.later;
-  calm = c.in_err-note_moving.ensures.goes.calm;
+  card = record {
+    later = c.in_err-note_moving.ensures.goes.card.later;
+    calm = c.in_err-note_moving.ensures.goes.card.calm;
+  };
+  most = let one = c.in_err-note_moving.ensures.goes.most.0 in (omega (arith, one), c.in_err-note_moving.ensures.goes.most.1);
 }
 
 pub returns-then-session-eq0-clause-behind : goal.returns-then-session-eq0-clause-behind
@@ -113,7 +116,7 @@ returns-then-session-eq0-clause-behind g c = record {
   card =
       elim c.if-entering-gt0.branch [
         | then-entering-gt0+in_ok-note_moving w ↦ rw (w.keeper-is, w.card-is) w.in_ok-note_moving.ensures.behind.card
-        | else-entering-gt0 w ↦ rw (w.keeper-is, w.card-is) c.requires.card
+        | else-entering-gt0 w ↦ rw (w.keeper-is, w.card-is) c.requires.card.card
       ];
   size =
       elim c.if-entering-gt0.branch [
@@ -124,15 +127,22 @@ returns-then-session-eq0-clause-behind g c = record {
 
 pub returns-then-session-eq0-clause-goes : goal.returns-then-session-eq0-clause-goes
 returns-then-session-eq0-clause-goes g c = record {
-  later =
+  card = record {
+    later =
+        elim c.if-entering-gt0.branch [
+          | then-entering-gt0+in_ok-note_moving w ↦ rw w.card-is w.in_ok-note_moving.ensures.goes.card.later
+          | else-entering-gt0 w ↦ rw w.card-is (state-same (g.C.Chip.state c.args.card.now))
+        ];
+    calm =
+        elim c.if-entering-gt0.branch [
+          | then-entering-gt0+in_ok-note_moving w ↦ rw (w.breaks-is, w.card-is) w.in_ok-note_moving.ensures.goes.card.calm
+          | else-entering-gt0 w ↦ rw (w.breaks-is, w.card-is) (card-beside (g.C.Chip.state c.args.card.now) (omega arith))
+        ];
+  };
+  most =
       elim c.if-entering-gt0.branch [
-        | then-entering-gt0+in_ok-note_moving w ↦ rw w.card-is w.in_ok-note_moving.ensures.goes.later
-        | else-entering-gt0 w ↦ rw w.card-is (state-same (g.C.Chip.state c.args.card.now))
-      ];
-  calm =
-      elim c.if-entering-gt0.branch [
-        | then-entering-gt0+in_ok-note_moving w ↦ rw (w.breaks-is, w.card-is) w.in_ok-note_moving.ensures.goes.calm
-        | else-entering-gt0 w ↦ rw (w.breaks-is, w.card-is) (card-beside (g.C.Chip.state c.args.card.now) (omega arith))
+        | then-entering-gt0+in_ok-note_moving w ↦ let one = w.in_ok-note_moving.ensures.goes.most.0 in rw (w.unit-is, w.card-is) (omega (arith, one), w.in_ok-note_moving.ensures.goes.most.1)
+        | else-entering-gt0 w ↦ rw (w.unit-is, w.card-is) (omega arith, omega arith)
       ];
 }
 
@@ -149,44 +159,40 @@ returns-clause-behind g c = record {
   card =
       elim c.if-entering-gt0.branch [
         | then-entering-gt0+in_ok-note_moving w ↦ rw (w.keeper-is, w.card-is) w.in_ok-note_moving.ensures.behind.card
-        | else-entering-gt0 w ↦ rw (w.keeper-is, w.card-is) c.requires.card
+        | else-entering-gt0 w ↦ rw (w.keeper-is, w.card-is) c.requires.card.card
       ];
   size = first_of (search rules, grind (arith, common_steps));
 }
 
 pub returns-clause-goes : goal.returns-clause-goes
 returns-clause-goes g c = record {
-  later =
+  card = record {
+    later =
+        elim c.if-entering-gt0.branch [
+          | then-entering-gt0+in_ok-note_moving w ↦ rw w.card-is w.in_ok-note_moving.ensures.goes.card.later
+          | else-entering-gt0 w ↦ rw w.card-is (state-same (g.C.Chip.state c.args.card.now))
+        ];
+    calm =
+        elim c.if-entering-gt0.branch [
+          | then-entering-gt0+in_ok-note_moving w ↦ rw (w.breaks-is, w.card-is) w.in_ok-note_moving.ensures.goes.card.calm
+          | else-entering-gt0 w ↦ rw (w.breaks-is, w.card-is) (card-beside (g.C.Chip.state c.args.card.now) (omega arith))
+        ];
+  };
+  most =
+      let next = c.note_unclosed.ensures.stands.most in
       elim c.if-entering-gt0.branch [
-        | then-entering-gt0+in_ok-note_moving w ↦ rw w.card-is w.in_ok-note_moving.ensures.goes.later
-        | else-entering-gt0 w ↦ rw w.card-is (state-same (g.C.Chip.state c.args.card.now))
-      ];
-  calm =
-      elim c.if-entering-gt0.branch [
-        | then-entering-gt0+in_ok-note_moving w ↦ rw (w.breaks-is, w.card-is) w.in_ok-note_moving.ensures.goes.calm
-        | else-entering-gt0 w ↦ rw (w.breaks-is, w.card-is) (card-beside (g.C.Chip.state c.args.card.now) (omega arith))
+        | then-entering-gt0+in_ok-note_moving w ↦ let one = w.in_ok-note_moving.ensures.goes.most.0 in
+            let last = (rw w.unit-is at next) in
+            rw w.card-is (omega (arith, one, last), w.in_ok-note_moving.ensures.goes.most.1)
+        | else-entering-gt0 w ↦ let last = (rw w.unit-is at next) in
+            rw w.card-is (omega (arith, last), omega arith)
       ];
 }
 
 -- ---- its writes
 
-pub returns-in_err-note_moving-clause-most : goal.returns-in_err-note_moving-clause-most
-returns-in_err-note_moving-clause-most g c = let one = c.in_err-note_moving.ensures.most.0 in (omega (arith, one), c.in_err-note_moving.ensures.most.1)
+pub note_moving-requires-clause-may : goal.note_moving-requires-clause-may
+note_moving-requires-clause-may g c = c.requires.may
 
-pub returns-then-session-eq0-clause-most : goal.returns-then-session-eq0-clause-most
-returns-then-session-eq0-clause-most g c =
-    elim c.if-entering-gt0.branch [
-      | then-entering-gt0+in_ok-note_moving w ↦ let one = w.in_ok-note_moving.ensures.most.0 in rw (w.unit-is, w.card-is) (omega (arith, one), w.in_ok-note_moving.ensures.most.1)
-      | else-entering-gt0 w ↦ rw (w.unit-is, w.card-is) (omega arith, omega arith)
-    ]
-
-pub returns-clause-most : goal.returns-clause-most
-returns-clause-most g c =
-    let next = c.note_unclosed.ensures.most in
-    elim c.if-entering-gt0.branch [
-      | then-entering-gt0+in_ok-note_moving w ↦ let one = w.in_ok-note_moving.ensures.most.0 in
-          let last = (rw w.unit-is at next) in
-          rw w.card-is (omega (arith, one, last), w.in_ok-note_moving.ensures.most.1)
-      | else-entering-gt0 w ↦ let last = (rw w.unit-is at next) in
-          rw w.card-is (omega (arith, last), omega arith)
-    ]
+pub note_moving-requires-clause-card : goal.note_moving-requires-clause-card
+note_moving-requires-clause-card g c = c.requires.card

@@ -51,12 +51,15 @@ returns-in_err-entry-clause-seated g c =
     )
 
 pub begin-requires-clause-row : goal.begin-requires-clause-row
-begin-requires-clause-row g c =
-    let number = card_number_bytes c.args.seating.look.number in
-    let told = option_map (λ (s : FullCardNumber). card_number_bytes s) (known_of c.args.keeper.now.cabin.cards (other c.args.seating.entering.which)).number in
-    let spared : told ≡ option_map (λ (s : FullCardNumber). card_number_bytes s) c.of.result.now.number = first_of (search rules, cc) in
-    subst (λ (o : Option (List ℕ)). IfSome (g.M.Medium.state c.note_insertion.new.unit).image (IsRowFor c.args.seating.row number o)) spared
-    (row-for-noted (g.met.M.Medium.coherent c.args.unit.now) (g.met.M.Medium.coherent c.note_insertion.new.unit) c.requires.ready.works c.note_insertion.ensures.journal c.args.seating.row number told c.requires.row)
+begin-requires-clause-row g c = record {
+  low = first_of (search rules, grind (arith, common_steps));
+  row =
+      let number = card_number_bytes c.args.seating.look.number in
+      let told = option_map (λ (s : FullCardNumber). card_number_bytes s) (known_of c.args.keeper.now.cabin.cards (other c.args.seating.entering.which)).number in
+      let spared : told ≡ option_map (λ (s : FullCardNumber). card_number_bytes s) c.of.result.now.number = first_of (search rules, cc) in
+      subst (λ (o : Option (List ℕ)). IfSome (g.M.Medium.state c.note_insertion.new.unit).image (IsRowFor c.args.seating.row number o)) spared
+      (row-for-noted (g.met.M.Medium.coherent c.args.unit.now) (g.met.M.Medium.coherent c.note_insertion.new.unit) c.requires.ready.works c.note_insertion.ensures.journal c.args.seating.row number told c.requires.row.row);
+}
 
 pub returns-clause-booked : goal.returns-clause-booked
 returns-clause-booked g c = λ f w m.
@@ -69,7 +72,7 @@ returns-clause-booked g c = λ f w m.
     let Z = g.D.Chip.state c.args.others.now in
     let failed = is_err c.begin.result in
     let booked = seat-carried f w k e c.args.seating.look c.args.seating.session c.args.seating.row c.in_ok-entry.entry c.args.noted.now U V W X Z m (g.met.M.Medium.coherent c.args.unit.now) (g.met.M.Medium.coherent c.note_insertion.new.unit) c.note_insertion.ensures.journal c.in_ok-entry.ensures.cause
-    _ (search rules) failed c.begin.ensures.goes.cause c.begin.ensures.goes.tells c.begin.ensures.rules.holds c.begin.ensures.rules.mine c.begin.ensures.rules.others k.journal.kept in
+    _ (search rules) failed c.begin.ensures.answers.goes.cause c.begin.ensures.answers.goes.tells c.begin.ensures.rules.holds c.begin.ensures.rules.mine c.begin.ensures.rules.others k.journal.kept in
     let kept : c.accept.new.self ≡ seated c.args.seating.look c.args.seating.session c.args.seating.row c.in_ok-entry.entry c.args.noted.now e k.cabin = search rules in
     subst (λ (b : Cabin). IsCarriedOn failed f (carried_row failed c.args.seating.session e k.journal.kept w) b.cards (arranged e.which W X Z)) (sym kept) booked
 
@@ -97,7 +100,7 @@ returns-clause-behind g c = record {
       let V = g.M.Medium.state c.begin.new.unit in
       on_ok c.begin.result (λ well.
       subst (λ (b : Cabin). HasItsRow b.cards V card) (sym c.accept.ensures.kept)
-      (rows-seated c.args.seating.entering.slot c.args.seating.entering.which card c.args.seating.look.number c.args.seating.row _ c.args.keeper.now.cabin M V c.requires.low
+      (rows-seated c.args.seating.entering.slot c.args.seating.entering.which card c.args.seating.look.number c.args.seating.row _ c.args.keeper.now.cabin M V c.requires.row.low
       (ok_gives c.begin.result c.begin.ensures.stands.row well)
       (λ r n told had. ok_gives c.begin.result (c.begin.ensures.stands.spares r n (search (rules, told)) had) well)
       (has-row cards cards U M card refl refl (row-noted (g.met.M.Medium.coherent c.args.unit.now) (g.met.M.Medium.coherent c.note_insertion.new.unit) c.requires.ready.works c.note_insertion.ensures.journal) h)));
@@ -105,7 +108,7 @@ returns-clause-behind g c = record {
       let V = g.M.Medium.state c.begin.new.unit in
       on_ok c.begin.result (λ well.
       subst (λ (b : Cabin). HasItsRow b.cards V c.args.seating.entering.which) (sym c.accept.ensures.kept)
-      (row-seated c.args.seating.entering.slot c.args.seating.entering.which c.args.seating.look.number c.args.seating.row _ c.args.keeper.now.cabin V c.requires.low (ok_gives c.begin.result c.begin.ensures.stands.row well)));
+      (row-seated c.args.seating.entering.slot c.args.seating.entering.which c.args.seating.look.number c.args.seating.row _ c.args.keeper.now.cabin V c.requires.row.low (ok_gives c.begin.result c.begin.ensures.stands.row well)));
   -- its session was opened in this second's minute, and holds no entry by hand yet
   stands = λ from le late s. c.accept.ensures.stands from le (rw c.new.ensures (late, omega arith, inl refl)) s;
   cause = first_of (search rules, grind (arith, common_steps));
@@ -126,4 +129,4 @@ pub returns-in_err-entry-clause-most : goal.returns-in_err-entry-clause-most
 returns-in_err-entry-clause-most g c = let one = c.in_err-entry.ensures.most in omega (arith, one)
 
 pub returns-clause-most : goal.returns-clause-most
-returns-clause-most g c = let one = c.in_ok-entry.ensures.most in let last = c.begin.ensures.most in omega (arith, one, last)
+returns-clause-most g c = let one = c.in_ok-entry.ensures.most in let last = c.begin.ensures.answers.most in omega (arith, one, last)

@@ -36,7 +36,7 @@ returns-in_err-seat-clause-ended g c =
       t.1,
       λ f w m. (
         taken-row entered X.clock e k.journal.kept f w c.seat.new.keeper.cabin.cards (arranged e.which V X Z) s.0 (c.in_err-seat.ensures.booked f w m),
-        seat-found entered.look entered.session entered.row e true k c.seat.new.keeper c.args.noted.now c.seat.new.noted U.image s.0 s.1.by f m.named m.found,
+        seat-found entered.look entered.session entered.row e true k c.seat.new.keeper c.args.noted.now c.seat.new.noted U.image s.0 s.1.by f m.valid m.named m.found,
         beside-none f e.which X,
       ),
     )
@@ -66,28 +66,50 @@ returns-clause-ended g c =
 -- ---- what is ready behind it
 
 pub note_entered-requires-clause-card : goal.note_entered-requires-clause-card
-note_entered-requires-clause-card g c =
-    let s = c.in_ok-seat.ensures.seated in
-    seated-ready c.args.found.entered.look c.args.found.entered.session c.args.found.entered.row c.args.found.entering false c.args.keeper.now c.seat.new.keeper c.args.noted.now c.seat.new.noted (g.M.Medium.state c.args.unit.now).image s.0 c.args.found.app (g.C.Chip.card c.args.card.now) (g.C.Chip.state c.args.card.now) s.1.by c.requires.come.bare c.requires.card.sizes c.requires.session c.requires.card.port c.requires.card.works
+note_entered-requires-clause-card g c = record {
+  card =
+      let s = c.in_ok-seat.ensures.seated in
+      seated-ready c.args.found.entered.look c.args.found.entered.session c.args.found.entered.row c.args.found.entering false c.args.keeper.now c.seat.new.keeper c.args.noted.now c.seat.new.noted (g.M.Medium.state c.args.unit.now).image s.0 c.args.found.app (g.C.Chip.card c.args.card.now) (g.C.Chip.state c.args.card.now) s.1.by c.requires.come.bare c.requires.card.sizes c.requires.session c.requires.card.port c.requires.card.works;
+  works = first_of (search rules, grind (arith, common_steps));
+  sizes = first_of (search rules, grind (arith, common_steps));
+}
 
-pub returns-clause-row : goal.returns-clause-row
-returns-clause-row g c = if-any _ (c.note_entered.ensures.behind.rows c.args.found.entering.which c.in_ok-seat.ensures.behind.row)
+pub returns-clause-behind : goal.returns-clause-behind
+returns-clause-behind g c = record {
+  entered = record {
+    ready = c.note_entered.ensures.behind.ready;
+    rows = first_of (search rules, grind (arith, common_steps));
+    stands =
+        λ from le s.
+        let t = c.in_ok-seat.ensures.seated in
+        let same = seated-minute c.args.found.entered.look c.args.found.entered.session c.args.found.entered.row c.args.found.entering false c.args.keeper.now c.seat.new.keeper c.args.noted.now c.seat.new.noted (g.M.Medium.state c.args.unit.now).image t.0 t.1.by in
+        let early : c.args.keeper.now.cabin.slots.minute ≤ from = let minute = c.requires.come.minute in omega (arith, minute, le) in
+        c.note_entered.ensures.behind.stands from (subst (λ (m : ℕ). m ≤ from) (sym same) early) (c.in_ok-seat.ensures.behind.stands from early le s);
+    cause = first_of (search rules, grind (arith, common_steps));
+    card = c.note_entered.ensures.behind.card;
+    size = c.note_entered.ensures.behind.size;
+  };
+  row = if-any _ (c.note_entered.ensures.behind.rows c.args.found.entering.which c.in_ok-seat.ensures.behind.row);
+}
 
 -- ---- where no tear of a failed call is told no card has broken down
 
 pub returns-in_err-seat-clause-behind : goal.returns-in_err-seat-clause-behind
 returns-in_err-seat-clause-behind g c = record {
-  ready = first_of (search rules, grind (arith, common_steps));
-  rows = first_of (search rules, grind (arith, common_steps));
-  stands =
-      λ from le s.
-      let early : c.args.keeper.now.cabin.slots.minute ≤ from = let minute = c.requires.come.minute in omega (arith, minute, le) in
-      c.seat.ensures.behind.stands from early le s;
-  cause = first_of (search rules, grind (arith, common_steps));
-  card =
-      let s = c.in_err-seat.ensures.seated in
-      seated-ready c.args.found.entered.look c.args.found.entered.session c.args.found.entered.row c.args.found.entering true c.args.keeper.now c.seat.new.keeper c.args.noted.now c.seat.new.noted (g.M.Medium.state c.args.unit.now).image s.0 c.args.found.app (g.C.Chip.card c.args.card.now) (g.C.Chip.state c.args.card.now) s.1.by c.requires.come.bare c.requires.card.sizes c.requires.session c.requires.card.port c.requires.card.works;
-  size = first_of (search rules, grind (arith, common_steps));
+  entered = record {
+    ready = first_of (search rules, grind (arith, common_steps));
+    rows = first_of (search rules, grind (arith, common_steps));
+    stands =
+        λ from le s.
+        let early : c.args.keeper.now.cabin.slots.minute ≤ from = let minute = c.requires.come.minute in omega (arith, minute, le) in
+        c.seat.ensures.behind.stands from early le s;
+    cause = first_of (search rules, grind (arith, common_steps));
+    card =
+        let s = c.in_err-seat.ensures.seated in
+        seated-ready c.args.found.entered.look c.args.found.entered.session c.args.found.entered.row c.args.found.entering true c.args.keeper.now c.seat.new.keeper c.args.noted.now c.seat.new.noted (g.M.Medium.state c.args.unit.now).image s.0 c.args.found.app (g.C.Chip.card c.args.card.now) (g.C.Chip.state c.args.card.now) s.1.by c.requires.come.bare c.requires.card.sizes c.requires.session c.requires.card.port c.requires.card.works;
+    size = first_of (search rules, grind (arith, common_steps));
+  };
+  row = first_of (search rules, grind (arith, common_steps));
 }
 
 pub returns-in_err-seat-clause-judged : goal.returns-in_err-seat-clause-judged
@@ -99,23 +121,11 @@ returns-in_err-seat-clause-judged g c = record {
 
 pub returns-in_err-seat-clause-goes : goal.returns-in_err-seat-clause-goes
 returns-in_err-seat-clause-goes g c = record {
-  later = state-same (g.C.Chip.state c.args.card.now);
-  calm = card-beside (g.C.Chip.state c.args.card.now) (omega arith);
-}
-
-pub returns-clause-behind : goal.returns-clause-behind
-returns-clause-behind g c = record {
-  ready = c.note_entered.ensures.behind.ready;
-  rows = first_of (search rules, grind (arith, common_steps));
-  stands =
-      λ from le s.
-      let t = c.in_ok-seat.ensures.seated in
-      let same = seated-minute c.args.found.entered.look c.args.found.entered.session c.args.found.entered.row c.args.found.entering false c.args.keeper.now c.seat.new.keeper c.args.noted.now c.seat.new.noted (g.M.Medium.state c.args.unit.now).image t.0 t.1.by in
-      let early : c.args.keeper.now.cabin.slots.minute ≤ from = let minute = c.requires.come.minute in omega (arith, minute, le) in
-      c.note_entered.ensures.behind.stands from (subst (λ (m : ℕ). m ≤ from) (sym same) early) (c.in_ok-seat.ensures.behind.stands from early le s);
-  cause = first_of (search rules, grind (arith, common_steps));
-  card = c.note_entered.ensures.behind.card;
-  size = c.note_entered.ensures.behind.size;
+  card = record {
+    later = state-same (g.C.Chip.state c.args.card.now);
+    calm = card-beside (g.C.Chip.state c.args.card.now) (omega arith);
+  };
+  most = let one = c.in_err-seat.ensures.most in (omega (arith, one), omega arith);
 }
 
 pub returns-clause-judged : goal.returns-clause-judged
@@ -127,14 +137,30 @@ returns-clause-judged g c = record {
 
 pub returns-clause-goes : goal.returns-clause-goes
 returns-clause-goes g c = record {
-  later = c.note_entered.ensures.goes.later;
-  calm = c.note_entered.ensures.goes.calm;
+  card = record {
+    later = c.note_entered.ensures.goes.card.later;
+    calm = c.note_entered.ensures.goes.card.calm;
+  };
+  most = let one = c.in_ok-seat.ensures.most in let last = c.note_entered.ensures.goes.most.0 in (omega (arith, one, last), c.note_entered.ensures.goes.most.1);
 }
 
 -- ---- its writes
 
-pub returns-in_err-seat-clause-most : goal.returns-in_err-seat-clause-most
-returns-in_err-seat-clause-most g c = let one = c.in_err-seat.ensures.most in (omega (arith, one), omega arith)
+pub seat-requires-clause-may : goal.seat-requires-clause-may
+seat-requires-clause-may g c = record {
+  seat = first_of (search rules, grind (arith, common_steps));
+  elsewhere = first_of (search rules, grind (arith, common_steps));
+  sizes = first_of (search rules, grind (arith, common_steps));
+  second = first_of (search rules, grind (arith, common_steps));
+  fits = first_of (search rules, grind (arith, common_steps));
+}
 
-pub returns-clause-most : goal.returns-clause-most
-returns-clause-most g c = let one = c.in_ok-seat.ensures.most in let last = c.note_entered.ensures.most.0 in (omega (arith, one, last), c.note_entered.ensures.most.1)
+pub seat-requires-clause-row : goal.seat-requires-clause-row
+seat-requires-clause-row g c = c.requires.row
+
+pub note_entered-requires-clause-may : goal.note_entered-requires-clause-may
+note_entered-requires-clause-may g c = record {
+  minute = first_of (search rules, grind (arith, common_steps));
+  second = first_of (search rules, grind (arith, common_steps));
+  room = first_of (search rules, grind (arith, common_steps));
+}

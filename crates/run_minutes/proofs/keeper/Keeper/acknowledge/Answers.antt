@@ -31,7 +31,7 @@ returns-in_err-owe_to-clause-booked g c = λ says.
     let X = g.C.Chip.state c.args.card_a.now in
     let Y = g.D.Chip.state c.args.card_b.now in
     subst (λ (b : Bool). BooksOwed c.args.said.present c.args.said.minute b (told_with c.args.self.now c.args.marks.now) (told_with c.owe_to.new.self c.args.marks.now) (devices U X Y) (devices U1 X Y)) failed
-    (cut-first c.args.said.minute c.args.said.present says c.requires.apart (told_with c.args.self.now c.args.marks.now) (told_with c.owe_to.new.self c.args.marks.now) U U1 X Y
+    (cut-first c.args.said.minute c.args.said.present says c.requires.may.apart (told_with c.args.self.now c.args.marks.now) (told_with c.owe_to.new.self c.args.marks.now) U U1 X Y
     (put-at c.args.said.present.driver c.kept_in-driver.result.entry (entry_in c.args.said.minute Driver) true c.args.self.now.cabin.cards c.args.self.now.cabin.cards U U1 X Y (ap (λ (k : Kept). k.entry) c.kept_in-driver.ensures) refl c.in_err-owe_to.ensures.booked) c.in_err-owe_to.ensures.travelled)
 
 pub returns-in_err-owe_to-2-clause-booked : goal.returns-in_err-owe_to-2-clause-booked
@@ -43,7 +43,7 @@ returns-in_err-owe_to-2-clause-booked g c = λ says.
     let X = g.C.Chip.state c.args.card_a.now in
     let Y = g.D.Chip.state c.args.card_b.now in
     subst (λ (b : Bool). BooksOwed c.args.said.present c.args.said.minute b (told_with c.args.self.now c.args.marks.now) (told_with c.owe_to-2.new.self c.args.marks.now) (devices U X Y) (devices U2 X Y)) failed
-    (cut-second c.args.said.minute c.args.said.present says c.requires.apart (told_with c.args.self.now c.args.marks.now) (told_with c.owe_to-2.new.self c.args.marks.now) U U1 X Y
+    (cut-second c.args.said.minute c.args.said.present says c.requires.may.apart (told_with c.args.self.now c.args.marks.now) (told_with c.owe_to-2.new.self c.args.marks.now) U U1 X Y
     (put-at c.args.said.present.driver c.kept_in-driver.result.entry (entry_in c.args.said.minute Driver) false c.args.self.now.cabin.cards c.args.self.now.cabin.cards U U1 X Y (ap (λ (k : Kept). k.entry) c.kept_in-driver.ensures) refl c.in_ok-owe_to.ensures.booked) c.in_ok-owe_to.ensures.travelled U2
     (put-at c.args.said.present.codriver c.kept_in-codriver.result.entry (entry_in c.args.said.minute CoDriver) true c.owe_to.new.self.cabin.cards c.args.self.now.cabin.cards U1 U2 X Y (ap (λ (k : Kept). k.entry) c.kept_in-codriver.ensures)
     (ap (λ (k : Keeper). k.cabin.cards) {y = c.args.self.now} c.in_ok-owe_to.ensures.same) c.in_err-owe_to-2.ensures.booked) c.in_err-owe_to-2.ensures.travelled)
@@ -61,11 +61,11 @@ returns-in_err-commit-clause-booked g c = λ says.
     let Y = g.D.Chip.state c.args.card_b.now in
     let e = c.in_err-commit.ensures in
     subst (λ (b : Bool). BooksOwed c.args.said.present c.args.said.minute b (told_with c.args.self.now c.args.marks.now) (told_with (record c.owe_to-2.new.self { journal = c.commit.new.journal }) c.args.marks.now) (devices U X Y) (devices V X Y)) failed
-    (kept-or-cut c.args.said.minute c.args.said.present says c.requires.apart (told_with c.args.self.now c.args.marks.now) (told_with (record c.owe_to-2.new.self { journal = c.commit.new.journal }) c.args.marks.now) U U1 X Y
+    (kept-or-cut c.args.said.minute c.args.said.present says c.requires.may.apart (told_with c.args.self.now c.args.marks.now) (told_with (record c.owe_to-2.new.self { journal = c.commit.new.journal }) c.args.marks.now) U U1 X Y
     (put-at c.args.said.present.driver c.kept_in-driver.result.entry (entry_in c.args.said.minute Driver) false c.args.self.now.cabin.cards c.args.self.now.cabin.cards U U1 X Y (ap (λ (k : Kept). k.entry) c.kept_in-driver.ensures) refl c.in_ok-owe_to.ensures.booked) c.in_ok-owe_to.ensures.travelled U2
     (put-at c.args.said.present.codriver c.kept_in-codriver.result.entry (entry_in c.args.said.minute CoDriver) false c.owe_to.new.self.cabin.cards c.args.self.now.cabin.cards U1 U2 X Y (ap (λ (k : Kept). k.entry) c.kept_in-codriver.ensures)
     (ap (λ (k : Keeper). k.cabin.cards) {y = c.args.self.now} c.in_ok-owe_to.ensures.same) c.in_ok-owe_to-2.ensures.booked) c.in_ok-owe_to-2.ensures.travelled V true
-    (g.met.M.Medium.coherent c.owe_to-2.new.unit) (g.met.C.Chip.coherent c.args.card_a.now) (g.met.D.Chip.coherent c.args.card_b.now) e.goes.tells e.goes.cause e.rules.holds e.rules.first e.rules.second e.leaves.views e.leaves.travelled
+    (g.met.M.Medium.coherent c.owe_to-2.new.unit) (g.met.C.Chip.coherent c.args.card_a.now) (g.met.D.Chip.coherent c.args.card_b.now) e.answers.goes.tells e.answers.goes.cause e.rules.holds e.rules.first e.rules.second e.leaves.views e.leaves.travelled
     (ap (λ (k : Keeper). k.cabin.cards) (c.in_ok-owe_to-2.ensures.same ∙ c.in_ok-owe_to.ensures.same)))
 
 -- ---- or it has it
@@ -79,41 +79,53 @@ returns-clause-booked g c = λ says.
     let X = g.C.Chip.state c.args.card_a.now in
     let Y = g.D.Chip.state c.args.card_b.now in
     let e = c.in_ok-commit.ensures in
-    kept-or-cut c.args.said.minute c.args.said.present says c.requires.apart (told_with c.args.self.now c.args.marks.now) (told_with (record c.owe_to-2.new.self { journal = c.commit.new.journal }) c.add.new.self) U U1 X Y
+    kept-or-cut c.args.said.minute c.args.said.present says c.requires.may.apart (told_with c.args.self.now c.args.marks.now) (told_with (record c.owe_to-2.new.self { journal = c.commit.new.journal }) c.add.new.self) U U1 X Y
     (put-at c.args.said.present.driver c.kept_in-driver.result.entry (entry_in c.args.said.minute Driver) false c.args.self.now.cabin.cards c.args.self.now.cabin.cards U U1 X Y (ap (λ (k : Kept). k.entry) c.kept_in-driver.ensures) refl c.in_ok-owe_to.ensures.booked) c.in_ok-owe_to.ensures.travelled U2
     (put-at c.args.said.present.codriver c.kept_in-codriver.result.entry (entry_in c.args.said.minute CoDriver) false c.owe_to.new.self.cabin.cards c.args.self.now.cabin.cards U1 U2 X Y (ap (λ (k : Kept). k.entry) c.kept_in-codriver.ensures)
     (ap (λ (k : Keeper). k.cabin.cards) {y = c.args.self.now} c.in_ok-owe_to.ensures.same) c.in_ok-owe_to-2.ensures.booked) c.in_ok-owe_to-2.ensures.travelled V false
-    (g.met.M.Medium.coherent c.owe_to-2.new.unit) (g.met.C.Chip.coherent c.args.card_a.now) (g.met.D.Chip.coherent c.args.card_b.now) e.goes.tells e.goes.cause e.rules.holds e.rules.first e.rules.second e.leaves.views e.leaves.travelled
+    (g.met.M.Medium.coherent c.owe_to-2.new.unit) (g.met.C.Chip.coherent c.args.card_a.now) (g.met.D.Chip.coherent c.args.card_b.now) e.answers.goes.tells e.answers.goes.cause e.rules.holds e.rules.first e.rules.second e.leaves.views e.leaves.travelled
     (ap (λ (k : Keeper). k.cabin.cards) (c.in_ok-owe_to-2.ensures.same ∙ c.in_ok-owe_to.ensures.same))
 
 -- ---- the unit goes on
 
 pub returns-in_err-owe_to-clause-goes : goal.returns-in_err-owe_to-clause-goes
-returns-in_err-owe_to-clause-goes g c =
-    let failed : true ≡ is_err c.from_residual.result = search rules in
-    unit-by failed c.in_err-owe_to.ensures.goes
+returns-in_err-owe_to-clause-goes g c = record {
+  all =
+      let failed : true ≡ is_err c.from_residual.result = search rules in
+      unit-by failed c.in_err-owe_to.ensures.goes.all;
+  most = let one = c.in_err-owe_to.ensures.goes.most in omega (arith, one);
+}
 
 pub returns-in_err-owe_to-2-clause-goes : goal.returns-in_err-owe_to-2-clause-goes
-returns-in_err-owe_to-2-clause-goes g c =
-    let failed : true ≡ is_err c.from_residual-in_err-owe_to-2.result = search rules in
-    unit-by failed (unit-then c.in_ok-owe_to.ensures.goes c.in_err-owe_to-2.ensures.goes)
+returns-in_err-owe_to-2-clause-goes g c = record {
+  all =
+      let failed : true ≡ is_err c.from_residual-in_err-owe_to-2.result = search rules in
+      unit-by failed (unit-then c.in_ok-owe_to.ensures.goes.all c.in_err-owe_to-2.ensures.goes.all);
+  most = let one = c.in_ok-owe_to.ensures.goes.most in let two = c.in_err-owe_to-2.ensures.goes.most in omega (arith, one, two);
+}
 
 pub returns-in_err-commit-clause-goes : goal.returns-in_err-commit-clause-goes
-returns-in_err-commit-clause-goes g c =
-    let failed : true ≡ is_err c.from_residual-in_err-commit.result = search rules in
-    let km = kept_minute c.args.said.minute in
-    let n = c.args.said.minute.odometer.0 in
-    unit-by failed (unit-then c.in_ok-owe_to.ensures.goes (unit-then c.in_ok-owe_to-2.ensures.goes
-    (unit-moments true (g.M.Medium.state c.owe_to-2.new.unit) (g.M.Medium.state c.commit.new.unit) (IsKeeping km n) (g.met.M.Medium.coherent c.owe_to-2.new.unit) (g.met.M.Medium.coherent c.commit.new.unit) c.in_err-commit.ensures.leaves.moments
-    (keeping-speeds km n) (λ x y h. keeping-nothing km n x y h) c.in_err-commit.ensures.goes.cause)))
+returns-in_err-commit-clause-goes g c = record {
+  all =
+      let failed : true ≡ is_err c.from_residual-in_err-commit.result = search rules in
+      let km = kept_minute c.args.said.minute in
+      let n = c.args.said.minute.odometer.0 in
+      unit-by failed (unit-then c.in_ok-owe_to.ensures.goes.all (unit-then c.in_ok-owe_to-2.ensures.goes.all
+      (unit-moments true (g.M.Medium.state c.owe_to-2.new.unit) (g.M.Medium.state c.commit.new.unit) (IsKeeping km n) (g.met.M.Medium.coherent c.owe_to-2.new.unit) (g.met.M.Medium.coherent c.commit.new.unit) c.in_err-commit.ensures.leaves.moments
+      (keeping-speeds km n) (λ x y h. keeping-nothing km n x y h) c.in_err-commit.ensures.answers.goes.cause)));
+  most = let one = c.in_ok-owe_to.ensures.goes.most in let two = c.in_ok-owe_to-2.ensures.goes.most in let last = c.in_err-commit.ensures.answers.most in omega (arith, one, two, last);
+}
 
 pub returns-clause-goes : goal.returns-clause-goes
-returns-clause-goes g c =
-    let km = kept_minute c.args.said.minute in
-    let n = c.args.said.minute.odometer.0 in
-    unit-then c.in_ok-owe_to.ensures.goes (unit-then c.in_ok-owe_to-2.ensures.goes
-    (unit-moments false (g.M.Medium.state c.owe_to-2.new.unit) (g.M.Medium.state c.commit.new.unit) (IsKeeping km n) (g.met.M.Medium.coherent c.owe_to-2.new.unit) (g.met.M.Medium.coherent c.commit.new.unit) c.in_ok-commit.ensures.leaves.moments
-    (keeping-speeds km n) (λ x y h. keeping-nothing km n x y h) c.in_ok-commit.ensures.goes.cause))
+returns-clause-goes g c = record {
+  all =
+      let km = kept_minute c.args.said.minute in
+      let n = c.args.said.minute.odometer.0 in
+      unit-then c.in_ok-owe_to.ensures.goes.all (unit-then c.in_ok-owe_to-2.ensures.goes.all
+      (unit-moments false (g.M.Medium.state c.owe_to-2.new.unit) (g.M.Medium.state c.commit.new.unit) (IsKeeping km n) (g.met.M.Medium.coherent c.owe_to-2.new.unit) (g.met.M.Medium.coherent c.commit.new.unit) c.in_ok-commit.ensures.leaves.moments
+      (keeping-speeds km n) (λ x y h. keeping-nothing km n x y h) c.in_ok-commit.ensures.answers.goes.cause));
+  most = let one = c.in_ok-owe_to.ensures.goes.most in let two = c.in_ok-owe_to-2.ensures.goes.most in let last = c.in_ok-commit.ensures.answers.most in omega (arith, one, two, last);
+}
 
 -- ---- how it stands
 
@@ -128,10 +140,10 @@ commit-requires-clause-ready g c = record {
 
 pub commit-requires-clause-may : goal.commit-requires-clause-may
 commit-requires-clause-may g c = record {
-  low = c.requires.low;
-  later = let same : c.owe_to-2.new.self.journal.kept ≡ c.args.self.now.journal.kept = ap (λ (k : Keeper). k.journal.kept) (c.in_ok-owe_to-2.ensures.same ∙ c.in_ok-owe_to.ensures.same) in let later = c.requires.later in omega (arith, same, later);
-  small = let small = c.requires.small in first_of (omega (arith, small), search rules, grind (arith, common_steps));
-  odometer = c.requires.odometer;
+  low = c.requires.may.low;
+  later = let same : c.owe_to-2.new.self.journal.kept ≡ c.args.self.now.journal.kept = ap (λ (k : Keeper). k.journal.kept) (c.in_ok-owe_to-2.ensures.same ∙ c.in_ok-owe_to.ensures.same) in let later = c.requires.may.later in omega (arith, same, later);
+  small = let small = c.requires.may.small in first_of (omega (arith, small), search rules, grind (arith, common_steps));
+  odometer = c.requires.may.odometer;
 }
 
 pub returns-in_err-owe_to-clause-stands : goal.returns-in_err-owe_to-clause-stands
@@ -152,18 +164,38 @@ returns-in_err-commit-clause-stands g c =
 pub returns-clause-stands : goal.returns-clause-stands
 returns-clause-stands g c =
     unit-stands-then c.in_ok-owe_to.ensures.stands (unit-stands-then c.in_ok-owe_to-2.ensures.stands
-    (journal-stands c.owe_to-2.new.self c.commit.new.journal (g.M.Medium.state c.owe_to-2.new.unit) (g.M.Medium.state c.commit.new.unit) false c.commit.ensures.stands.unit c.in_ok-commit.ensures.goes.cause (λ well. c.in_ok-commit.ensures.stands.agrees) (λ well. c.in_ok-commit.ensures.stands.rows)))
+    (journal-stands c.owe_to-2.new.self c.commit.new.journal (g.M.Medium.state c.owe_to-2.new.unit) (g.M.Medium.state c.commit.new.unit) false c.commit.ensures.stands.unit c.in_ok-commit.ensures.answers.goes.cause (λ well. c.in_ok-commit.ensures.stands.agrees) (λ well. c.in_ok-commit.ensures.stands.rows)))
 
 -- ---- its writes
 
-pub returns-in_err-owe_to-clause-most : goal.returns-in_err-owe_to-clause-most
-returns-in_err-owe_to-clause-most g c = let one = c.in_err-owe_to.ensures.most in omega (arith, one)
+pub returns-in_err-owe_to-clause-kept : goal.returns-in_err-owe_to-clause-kept
+returns-in_err-owe_to-clause-kept g c = record {
+  keeper = first_of (search rules, grind (arith, common_steps));
+  notes = first_of (search rules, grind (arith, common_steps));
+  marked = first_of (search rules, grind (arith, common_steps));
+  same = first_of (search rules, grind (arith, common_steps));
+}
 
-pub returns-in_err-owe_to-2-clause-most : goal.returns-in_err-owe_to-2-clause-most
-returns-in_err-owe_to-2-clause-most g c = let one = c.in_ok-owe_to.ensures.most in let two = c.in_err-owe_to-2.ensures.most in omega (arith, one, two)
+pub returns-in_err-owe_to-2-clause-kept : goal.returns-in_err-owe_to-2-clause-kept
+returns-in_err-owe_to-2-clause-kept g c = record {
+  keeper = first_of (search rules, grind (arith, common_steps));
+  notes = first_of (search rules, grind (arith, common_steps));
+  marked = first_of (search rules, grind (arith, common_steps));
+  same = first_of (search rules, grind (arith, common_steps));
+}
 
-pub returns-in_err-commit-clause-most : goal.returns-in_err-commit-clause-most
-returns-in_err-commit-clause-most g c = let one = c.in_ok-owe_to.ensures.most in let two = c.in_ok-owe_to-2.ensures.most in let last = c.in_err-commit.ensures.most in omega (arith, one, two, last)
+pub returns-in_err-commit-clause-kept : goal.returns-in_err-commit-clause-kept
+returns-in_err-commit-clause-kept g c = record {
+  keeper = first_of (search rules, grind (arith, common_steps));
+  notes = first_of (search rules, grind (arith, common_steps));
+  marked = first_of (search rules, grind (arith, common_steps));
+  same = first_of (search rules, grind (arith, common_steps));
+}
 
-pub returns-clause-most : goal.returns-clause-most
-returns-clause-most g c = let one = c.in_ok-owe_to.ensures.most in let two = c.in_ok-owe_to-2.ensures.most in let last = c.in_ok-commit.ensures.most in omega (arith, one, two, last)
+pub returns-clause-kept : goal.returns-clause-kept
+returns-clause-kept g c = record {
+  keeper = first_of (search rules, grind (arith, common_steps));
+  notes = first_of (search rules, grind (arith, common_steps));
+  marked = first_of (search rules, grind (arith, common_steps));
+  same = first_of (search rules, grind (arith, common_steps));
+}

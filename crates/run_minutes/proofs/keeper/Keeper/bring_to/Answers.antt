@@ -27,10 +27,10 @@ use Rattle.run_minutes.proofs.keeper.Keeper.bring_to.Goals as goal
 
 pub keep_on_card-requires-clause-may : goal.keep_on_card-requires-clause-may
 keep_on_card-requires-clause-may g c = record {
-  later = (subst (λ (o : Option Accepted). IfSome o (MayKeepAt c.args.keep.kept.entry.minute)) (sym c.in-Some.ensures.taken) c.requires.behind).lie;
-  first = c.requires.first;
-  last = c.requires.last;
-  fits = c.requires.fits;
+  later = (subst (λ (o : Option Accepted). IfSome o (MayKeepAt c.args.keep.kept.entry.minute)) (sym c.in-Some.ensures.taken) c.requires.may.behind).lie;
+  first = c.requires.may.first;
+  last = c.requires.may.last;
+  fits = c.requires.may.fits;
 }
 
 -- ---- it has no session
@@ -75,7 +75,7 @@ returns-then-is_err-clause-brought g c =
           (is_err c.tear.result) c.in-Some.accepted c.tear.new.breaks (sym c.in-Some.ensures.taken) cause keeper c.tear.ensures.torn.told (λ well. ok_gives c.tear.result c.tear.ensures.leaves.noted well),
       c.tear.ensures.leaves.moments,
       booked-fell c.args.keep.which c.args.keep.kept k.cabin.cards (g.M.Medium.state c.args.unit.now) (g.C.Chip.state c.args.card.now) c.tear.new.self.cabin.cards (g.C.Chip.state c.keep_on_card.new.card) (g.C.Chip.card c.args.card.now) c.in-Some.accepted
-          (g.met.M.Medium.coherent c.args.unit.now) (g.met.C.Chip.coherent c.args.card.now) (g.met.C.Chip.coherent c.keep_on_card.new.card) (sym c.in-Some.ensures.taken) c.requires.card c.requires.behind c.keep_on_card.ensures.keeps.moments
+          (g.met.M.Medium.coherent c.args.unit.now) (g.met.C.Chip.coherent c.args.card.now) (g.met.C.Chip.coherent c.keep_on_card.new.card) (sym c.in-Some.ensures.taken) c.requires.card c.requires.may.behind c.keep_on_card.ensures.keeps.keeps.moments
           (ap (λ (q : Keeper). session_of q.cabin.cards c.args.keep.which) keeper ∙ session-set c.args.keep.which None k.cabin.cards),
     )
 
@@ -86,7 +86,7 @@ returns-then-is_err-clause-stands g c = λ from leaving le h.
     ap (λ (q : Keeper). q.cabin) c.tear.ensures.torn.keeper ∙ ap (λ (cards : Cards). torn_out c.args.keep.which c.args.keep.at.second (record { slots = k.cabin.slots; cards = cards })) c.take.ensures.left
     ∙ ap (λ (cards : Cards). record { slots = left_from (slot_with k.cabin.slots.seats c.args.keep.which) c.args.keep.at.second k.cabin.slots; cards = cards }) (session-twice c.args.keep.which None None k.cabin.cards) in
     subst (λ (b : Cabin). CabinIsSound (c.args.keep.kept.entry.minute + 1) leaving b) (sym cabin)
-    (torn-stands k.cabin c.args.keep.which c.args.keep.at.second (c.args.keep.kept.entry.minute + 1) leaving c.requires.minute (stands-later from (c.args.keep.kept.entry.minute + 1) le leaving k.cabin h))
+    (torn-stands k.cabin c.args.keep.which c.args.keep.at.second (c.args.keep.kept.entry.minute + 1) leaving c.requires.may.minute (stands-later from (c.args.keep.kept.entry.minute + 1) le leaving k.cabin h))
 
 -- ---- the card has its entry
 
@@ -97,20 +97,20 @@ returns-clause-brought g c =
     let cause = subst (λ (b : Bool). HasCause (g.C.Chip.state c.args.card.now) (g.C.Chip.state c.keep_on_card.new.card) b) well c.keep_on_card.ensures.card.cause in
     let after : Accepted = record { session = c.keep_on_card.new.session; held = c.keep_on_card.new.held; entry = c.in-Some.accepted.entry; noted = c.in-Some.accepted.noted } in
     let cards = c.set_session.ensures ∙ ap (λ (q : Cards). with_session c.args.keep.which (Some after) q) c.take.ensures.left ∙ session-twice c.args.keep.which None (Some after) k.cabin.cards in
-    let held = ok_gives c.keep_on_card.result c.keep_on_card.ensures.session.held well in
-    let last = ok_gives c.keep_on_card.result c.keep_on_card.ensures.session.last well in (
+    let held = ok_gives c.keep_on_card.result c.keep_on_card.ensures.keeps.session.held well in
+    let last = ok_gives c.keep_on_card.result c.keep_on_card.ensures.keeps.session.last well in (
       Has after c.clock.result,
       has-brought c.args.keep.which c.args.keep.kept c.args.keep.at k (record k { cabin = record { slots = k.cabin.slots; cards = c.set_session.new.self } }) c.args.marks.now c.args.breaks.now
           (g.M.Medium.state c.args.unit.now) (g.M.Medium.state c.args.unit.now) (g.C.Chip.state c.args.card.now) (g.C.Chip.state c.keep_on_card.new.card)
           c.in-Some.accepted after c.clock.result c.add.new.self (sym c.in-Some.ensures.taken)
-          (record { application = c.keep_on_card.ensures.session.same.0; registration = c.keep_on_card.ensures.session.same.1; minute = last.0; odometer = last.1; held = held; entry = refl; noted = refl })
+          (record { application = c.keep_on_card.ensures.keeps.session.same.0; registration = c.keep_on_card.ensures.keeps.session.same.1; minute = last.0; odometer = last.1; held = held; entry = refl; noted = refl })
           c.clock.ensures cause (ap (λ (q : Cards). record k { cabin = record { slots = k.cabin.slots; cards = q } }) cards)
           (c.add.ensures ∙ ap (λ (d : Device). with_lines (record { device = d; minute = c.args.keep.kept.entry.minute; clock = c.clock.result } ∷ []) c.args.marks.now) c.device_of.ensures),
       starts (g.M.Medium.state c.args.unit.now) (IsNotingFault (Has after c.clock.result) c.args.keep.at.second (crew_of (record { slots = k.cabin.slots; cards = c.set_session.new.self }))),
       booked-has c.args.keep.which c.args.keep.kept k.cabin.cards (g.M.Medium.state c.args.unit.now) (g.C.Chip.state c.args.card.now) c.set_session.new.self (g.C.Chip.state c.keep_on_card.new.card) (g.C.Chip.card c.args.card.now) c.in-Some.accepted
-          (g.met.M.Medium.coherent c.args.unit.now) (g.met.C.Chip.coherent c.args.card.now) (g.met.C.Chip.coherent c.keep_on_card.new.card) (sym c.in-Some.ensures.taken) c.requires.card c.requires.behind c.keep_on_card.ensures.keeps.moments
-          after c.clock.result (ap (λ (q : Cards). session_of q c.args.keep.which) cards ∙ session-set c.args.keep.which (Some after) k.cabin.cards) cause.works c.keep_on_card.ensures.session.same.0 last.0 c.keep_on_card.ensures.session.same.1 last.1 held
-          (ok_gives c.keep_on_card.result c.keep_on_card.ensures.keeps.is well) (ok_gives c.keep_on_card.result c.keep_on_card.ensures.card.settled well) c.clock.ensures,
+          (g.met.M.Medium.coherent c.args.unit.now) (g.met.C.Chip.coherent c.args.card.now) (g.met.C.Chip.coherent c.keep_on_card.new.card) (sym c.in-Some.ensures.taken) c.requires.card c.requires.may.behind c.keep_on_card.ensures.keeps.keeps.moments
+          after c.clock.result (ap (λ (q : Cards). session_of q c.args.keep.which) cards ∙ session-set c.args.keep.which (Some after) k.cabin.cards) cause.works c.keep_on_card.ensures.keeps.session.same.0 last.0 c.keep_on_card.ensures.keeps.session.same.1 last.1 held
+          (ok_gives c.keep_on_card.result c.keep_on_card.ensures.keeps.keeps.is well) (ok_gives c.keep_on_card.result c.keep_on_card.ensures.card.settled well) c.keep_on_card.ensures.most c.clock.ensures,
     )
 
 pub returns-clause-stands : goal.returns-clause-stands
@@ -120,10 +120,10 @@ returns-clause-stands g c = λ from leaving le h.
     let well : is_err c.keep_on_card.result ≡ false = sym c.is_err.ensures.value ∙ c.if-is_err.false in
     let after : Accepted = record { session = c.keep_on_card.new.session; held = c.keep_on_card.new.held; entry = c.in-Some.accepted.entry; noted = c.in-Some.accepted.noted } in
     let cards = c.set_session.ensures ∙ ap (λ (q : Cards). with_session c.args.keep.which (Some after) q) c.take.ensures.left ∙ session-twice c.args.keep.which None (Some after) k.cabin.cards in
-    let last = ok_gives c.keep_on_card.result c.keep_on_card.ensures.session.last well in
+    let last = ok_gives c.keep_on_card.result c.keep_on_card.ensures.keeps.session.last well in
     let now : after.session.minute ≡ m = last.0 in
     subst (λ (q : Cards). CabinIsSound (m + 1) leaving (record { slots = k.cabin.slots; cards = q })) (sym cards)
-    (kept-stands from m c.args.keep.which c.in-Some.accepted after k.cabin leaving le (sym c.in-Some.ensures.taken) c.keep_on_card.ensures.session.same.0 (omega (arith, now)) (begun_holds (m + 1) m c.in-Some.accepted.held after (ok_gives c.keep_on_card.result c.keep_on_card.ensures.session.held well)) h)
+    (kept-stands from m c.args.keep.which c.in-Some.accepted after k.cabin leaving le (sym c.in-Some.ensures.taken) c.keep_on_card.ensures.keeps.session.same.0 (omega (arith, now)) (begun_holds (m + 1) m c.in-Some.accepted.held after (ok_gives c.keep_on_card.result c.keep_on_card.ensures.keeps.session.held well)) h)
 
 -- ---- a card without a session is as it was
 
@@ -199,7 +199,7 @@ returns-then-is_err-clause-goes g c = record {
   keeps = first_of (search rules, grind (arith, common_steps));
   tells = first_of (search rules, grind (arith, common_steps));
   broken = let torn = c.tear.ensures.torn.keeper in first_of (search rules, grind (arith, common_steps));
-  later = state-by (g.C.Chip.state c.args.card.now) (g.C.Chip.state c.keep_on_card.new.card) (is_err c.keep_on_card.result) c.keep_on_card.ensures.keeps.moments.later c.keep_on_card.ensures.card.cause;
+  later = state-by (g.C.Chip.state c.args.card.now) (g.C.Chip.state c.keep_on_card.new.card) (is_err c.keep_on_card.result) c.keep_on_card.ensures.keeps.keeps.moments.later c.keep_on_card.ensures.card.cause;
 }
 
 pub returns-clause-behind : goal.returns-clause-behind
@@ -222,7 +222,7 @@ returns-clause-goes g c = record {
   keeps = first_of (search rules, grind (arith, common_steps));
   tells = first_of (search rules, grind (arith, common_steps));
   broken = first_of (search rules, grind (arith, common_steps));
-  later = state-by (g.C.Chip.state c.args.card.now) (g.C.Chip.state c.keep_on_card.new.card) (is_err c.keep_on_card.result) c.keep_on_card.ensures.keeps.moments.later c.keep_on_card.ensures.card.cause;
+  later = state-by (g.C.Chip.state c.args.card.now) (g.C.Chip.state c.keep_on_card.new.card) (is_err c.keep_on_card.result) c.keep_on_card.ensures.keeps.keeps.moments.later c.keep_on_card.ensures.card.cause;
 }
 
 -- ---- its writes
@@ -235,10 +235,17 @@ returns-in_default-take-clause-most g c = (omega arith, omega arith)
 
 pub returns-then-is_err-clause-most : goal.returns-then-is_err-clause-most
 returns-then-is_err-clause-most g c =
-    let few = hands-few c.in-Some.accepted c.args.keep.kept.entry.minute (subst (λ (o : Option Accepted). IfSome o (MayKeepAt c.args.keep.kept.entry.minute)) (sym c.in-Some.ensures.taken) c.requires.behind) in
+    let few = hands-few c.in-Some.accepted c.args.keep.kept.entry.minute (subst (λ (o : Option Accepted). IfSome o (MayKeepAt c.args.keep.kept.entry.minute)) (sym c.in-Some.ensures.taken) c.requires.may.behind) in
     (c.tear.ensures.most, omega (arith, few, c.keep_on_card.ensures.most))
 
 pub returns-clause-most : goal.returns-clause-most
 returns-clause-most g c =
-    let few = hands-few c.in-Some.accepted c.args.keep.kept.entry.minute (subst (λ (o : Option Accepted). IfSome o (MayKeepAt c.args.keep.kept.entry.minute)) (sym c.in-Some.ensures.taken) c.requires.behind) in
+    let few = hands-few c.in-Some.accepted c.args.keep.kept.entry.minute (subst (λ (o : Option Accepted). IfSome o (MayKeepAt c.args.keep.kept.entry.minute)) (sym c.in-Some.ensures.taken) c.requires.may.behind) in
     (omega arith, omega (arith, few, c.keep_on_card.ensures.most))
+
+pub tear-requires-clause-may : goal.tear-requires-clause-may
+tear-requires-clause-may g c = record {
+  minute = first_of (search rules, grind (arith, common_steps));
+  second = first_of (search rules, grind (arith, common_steps));
+  room = first_of (search rules, grind (arith, common_steps));
+}

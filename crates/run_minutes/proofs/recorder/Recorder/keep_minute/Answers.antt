@@ -4,7 +4,11 @@ pub returns-clause-stands : goal.returns-clause-stands
 returns-clause-stands g c = c.keep_minute.ensures.stands
 
 pub returns-clause-goes : goal.returns-clause-goes
-returns-clause-goes g c = c.keep_minute.ensures.goes
+returns-clause-goes g c = record {
+  keeping = c.keep_minute.ensures.goes.keeping;
+  most = c.keep_minute.ensures.goes.most;
+  speeds = c.keep_minute.ensures.goes.speeds;
+}
 
 pub returns-clause-kept : goal.returns-clause-kept
 returns-clause-kept g c = c.keep_minute.ensures.kept
@@ -12,8 +16,5 @@ returns-clause-kept g c = c.keep_minute.ensures.kept
 pub returns-clause-calls : goal.returns-clause-calls
 returns-clause-calls g c = c.keep_minute.ensures.calls
 
-pub returns-clause-speeds : goal.returns-clause-speeds
-returns-clause-speeds g c = c.keep_minute.ensures.speeds
-
-pub returns-clause-most : goal.returns-clause-most
-returns-clause-most g c = c.keep_minute.ensures.most
+pub returns-clause-only : goal.returns-clause-only
+returns-clause-only g c = c.keep_minute.ensures.only
