@@ -1,5 +1,5 @@
 -- What a run of a trace without a card's line notes: no insertion and no place, and events of nobody.
-use Rattle.std.proofs.Common.{◌≡◌, ◌∙◌, inl, inr, ℕ, ◌+◌, Bool, true, false, cond, not, ◌&&◌, Option, Some, None, is_some, List, [], ◌∷◌, ◌++◌, length, map, refl, ap, sym, subst, arith, append-nil, length-append}
+use Rattle.std.proofs.Common.{◌≡◌, ◌∙◌, inl, inr, ℕ, ◌+◌, ◌≤◌, Bool, true, false, cond, not, ◌&&◌, Option, Some, None, is_some, List, [], ◌∷◌, ◌++◌, length, map, refl, ap, sym, subst, arith, append-nil, length-append}
 use Rattle.std.specs.Prelude.{◌==◌, nat_eq, flat_map, option_to_list}
 use Rattle.std.specs.List.{AllByRecursion}
 use Rattle.trace_model.specs.declared.Card.{Card}
@@ -96,7 +96,9 @@ shows-old {N} r is_sure Is notes x y none h dense =
     none-gone : (gone : List (List ℕ)) → ring_list r x ≡ gone ++ ring_list r y → AreNoFewer r is_sure [] x y → gone ≡ []
     none-gone [] was few = refl
     none-gone (e ∷ gone) was few =
-        absurd (let long : length (ring_list r x) ≡ length (e ∷ gone) + length (ring_list r y) = ap (λ (l : List (List ℕ)). length l) was ∙ length-append (e ∷ gone) (ring_list r y) in omega (arith, long, few))
+        absurd (let long : length (ring_list r x) ≡ length (e ∷ gone) + length (ring_list r y) = ap (λ (l : List (List ℕ)). length l) was ∙ length-append (e ∷ gone) (ring_list r y) in
+        let many : length (ring_list r x) ≤ length (ring_list r y) + 0 = few.many in
+        omega (arith, long, many))
 
 -- EVENTS OF NOBODY
 abbrev IsNobodys : Event → Type 0

@@ -17,6 +17,7 @@ use Rattle.run_promise.specs.Between.{devices}
 use Rattle.recorder_with_cards.specs.Words.{HaveTime}
 use Rattle.run_opening.specs.declared.fault.RunFault.TheVariants as run
 use Rattle.recorder_with_cards.specs.Ends.{MayRecord}
+use Rattle.run_opening.specs.Opening.{IsAsItWas}
 use Rattle.run_outcome.specs.declared.outcome.Outcome.{Outcome}
 use Rattle.unit_download.specs.declared.fault.DownloadFault.{DownloadFault}
 use Rattle.unit_download.specs.declared.fault.DownloadFault.TheVariants as download
@@ -166,13 +167,13 @@ demo-time seed old new few long =
     }
 
 -- THERE WAS NO MEMORY, before a device was used
-pub demo-memory : (seed : ℕ) (old new : Outside) (outcome : Outcome) → new.sink.held ≡ old.sink.held → IsEmpty outcome → WritesAnew (total_seconds (demo_items seed)) (length (demo_items seed)) (devices_of old) (devices_of new) → EndsDemo seed old new outcome Memory
-demo-memory seed old new outcome sink empty few = record {
+pub demo-memory : (seed : ℕ) (old new : Outside) (outcome : Outcome) → new.sink.held ≡ old.sink.held → IsEmpty outcome → IsAsItWas old.card_b.memory new.card_b.memory → WritesAnew (total_seconds (demo_items seed)) (length (demo_items seed)) (devices_of old) (devices_of new) → EndsDemo seed old new outcome Memory
+demo-memory seed old new outcome sink empty same few = record {
   ends = tt;
   writes = few;
   time = λ long. demo-time seed (devices_of old) (devices_of new) (few) long;
   run = λ b starts is. absurd is;
-  put_down = λ b starts. inr empty;
+  put_down = λ b starts. inr (empty, same);
   printed = λ is. absurd (cc);
   front = λ is. absurd (cc);
   nothing = λ undone fine. subst (λ (held : Option (List ℕ)). Keeps old.sink.held held) (sym sink) (keeps-same old.sink.held);
@@ -181,7 +182,7 @@ demo-memory seed old new outcome sink empty few = record {
 }
 
 -- THE DEVICES WERE NOT MADE NEW, or the trace was kept from being recorded
-pub demo-refused : (seed : ℕ) (old new : Outside) (outcome : Outcome) (fault : AnewFault) → new.sink.held ≡ old.sink.held → ((b : List ℕ) → StartAnew b old new → IsEmpty outcome)
+pub demo-refused : (seed : ℕ) (old new : Outside) (outcome : Outcome) (fault : AnewFault) → new.sink.held ≡ old.sink.held → ((b : List ℕ) → StartAnew b old new → IsEmpty outcome × IsAsItWas old.card_b.memory new.card_b.memory)
     → IsFailed fault (devices_of old) (devices_of new) → ((b : List ℕ) → StartAnew b old new → MayRecord (unit_image VEHICLE) (card_image CARD) b FIRST_SECOND → IsFailure fault) → WritesAnew (total_seconds (demo_items seed)) (length (demo_items seed)) (devices_of old) (devices_of new) → EndsDemo seed old new outcome (refusal_anew fault)
 demo-refused seed old new outcome fault sink empty failed only few = record {
   ends = anew-ends fault;

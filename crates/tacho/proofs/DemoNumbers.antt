@@ -10,7 +10,7 @@ use Rattle.log_model.specs.Causes.{HasCauses, device_of}
 use Rattle.message_model.specs.Records.{insertion_ring}
 use Rattle.note_model.specs.Noted.{insertions_of}
 use Rattle.note_model.specs.Rings.{RingShows, IsInsertion, is_sure_insertion}
-use Rattle.safety_model.specs.Recording.{Recording, history_of, lost_of, told_of}
+use Rattle.safety_model.specs.Recording.{Recording, history_of, lost_of, told_of, card_image}
 use Rattle.safety_model.specs.Unit.{UnitSafe, issued_bytes}
 use Rattle.unit_rule.specs.OtherRows.{KeepsRows}
 use Rattle.safety_model.specs.Cards.{CardSafe}
@@ -28,7 +28,7 @@ use Rattle.recorder_with_cards.specs.KeptAfter.{TellsKept}
 use Rattle.recorder_with_cards.specs.LastKept.{TellsLast}
 use Rattle.recorder_with_cards.specs.CardEvents.{ShowsItsEvents}
 use Rattle.recorder_with_cards.specs.Stays.{NothingFailedOn}
-use Rattle.recorder_with_cards.specs.Words.{accepted_on, AreUses}
+use Rattle.recorder_with_cards.specs.Words.{vehicle_of, accepted_on, met_seconds, ShowsOn, AreUses}
 
 module _ (x a b : List ℕ) (start : ℕ) (items : List Item) (out : Outcome) (p q now : Devices) (unit : p.unit.clock ≡ q.unit.clock) (cards : (c : Card) → (card_of p c).clock ≡ (card_of q c).clock) (broken : (device : Device) → breakdowns_of p device ≡ breakdowns_of q device) where
   abbrev r : Recording
@@ -75,7 +75,7 @@ module _ (x a b : List ℕ) (start : ℕ) (items : List Item) (out : Outcome) (p
         are = subst (λ (n : ℕ). AreUses ((card_of now c).left_since n) s.uses (accepted_on c (seen_of r.log r.trace))) (cards c) s.are;
         exact = s.exact;
         left = λ on. s.left (none-failed c on);
-        shows = s.shows;
+        shows = subst (λ (n : ℕ). ShowsOn c (vehicle_of r.unit) ((card_of now c).left_since n) s.uses (card_image r c) r.log (met_seconds r.log r.trace) (card_of now c)) (cards c) s.shows;
       }
 
   -- the unit's part of the theorem, with the last-kept minutes

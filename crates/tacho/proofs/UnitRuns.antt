@@ -16,7 +16,7 @@ use Rattle.safety_model.specs.Recording.{Recording, start_of}
 use Rattle.run_opening.specs.declared.fault.RunFault.{RunFault}
 use Rattle.run_opening.specs.declared.fault.RunFault.TheVariants as run
 use Rattle.run_opening.specs.Units.{IsUnitRefused}
-use Rattle.recorder_with_cards.specs.Words.{log_of, IsFoundLater}
+use Rattle.recorder_with_cards.specs.Words.{log_of, IsFoundLater, IsLater}
 use Rattle.log_model.specs.Causes.{cuts, tears}
 use Rattle.recorder_with_cards.specs.Ends.{recording_of}
 use Rattle.recorder_with_cards.proofs.WholeOdometer.{whole-odometer, day-whole}
@@ -30,7 +30,7 @@ use Rattle.tacho.specs.Program.{HasCauses}
 use Rattle.tacho.specs.Outcomes.{IsEmpty, IsRun, IsRefusal, SourceTells, refusal_of_run}
 use Rattle.tacho.specs.UnitRecorded.{breakdowns_in, IsSound, HaveCounts, Starts, IsRecorded, IsAllThere, IsCaused, EndsOnUnit}
 use Rattle.tacho.proofs.Recordings.{none-bad, run-refusal, refused-no-run}
-use Rattle.tacho.proofs.Unbroken.{none-failed, unbroken-log}
+use Rattle.tacho.proofs.Unbroken.{none-failed, unbroken-log, cut-none}
 
 -- the image that a unit tells behind reads alone is the one that it started with
 pub told-still : (x y : List ℕ) (old new : State) → IsCoherent old → IsCoherent new → StartsAs x old → LeavesOnly old new Unchanged → new.image ≡ Some y → y ≡ x
@@ -71,11 +71,11 @@ module _ (old new : Outside) (outcome : Outcome) (start : ℕ) (items : List Ite
   time-by : new.unit.clock ≤ old.unit.clock + (187 * total_seconds items + 102 * length items) → (s : ℕ) (is : List Item) → SourceTells old s is → old.unit.clock < 2 ^ 63 → new.unit.clock < last_count
   time-by writes s is told long = omega (arith, writes, long, short, few)
 
-  pub unit-refused : (fault : RunFault) → IsUnitFault old.unit new.unit fault → HasBroken old.unit new.unit (length (cuts true (log_of outcome))) → new.unit.clock ≤ old.unit.clock + (187 * total_seconds items + 102 * length items)
+  pub unit-refused : (fault : RunFault) → IsUnitFault old.unit new.unit fault → IsLater old.unit new.unit → HasBroken old.unit new.unit (length (cuts true (log_of outcome))) → new.unit.clock ≤ old.unit.clock + (187 * total_seconds items + 102 * length items)
       → (IsUnitRefused start old.unit new.unit fault × LeavesOnly old.unit new.unit Unchanged × IsEmpty outcome) ⊎ IsFoundLater fault
       → ((x : List ℕ) → StartsAs x old.unit → new.unit.clock < last_count → IsUnitRefused start old.unit new.unit fault × LeavesOnly old.unit new.unit Unchanged × IsEmpty outcome)
       → EndsOnUnit old new outcome (refusal_of_run fault)
-  unit-refused (run.MediumFault device) of_unit broke writes when refused = record {
+  unit-refused (run.MediumFault device) of_unit later broke writes when refused = record {
     for_unit = only-lines;
     only = λ d is. let e : device ≡ d = cc in sym e ∙ of_unit.0;
     run = λ s is x told starts no. absurd no;
@@ -86,16 +86,18 @@ module _ (old new : Outside) (outcome : Outcome) (start : ℕ) (items : List Ite
     records = λ s is x told starts sound decodes late. absurd (sound.unit of_unit.1);
     finds_bad_unit = λ s is x place told starts sound bad. absurd (sound.unit of_unit.1);
     finds_clock_back = λ s is x told starts sound decodes back. absurd (sound.unit of_unit.1);
+    later = later;
     broke = broke;
     writes = writes-by writes;
     time = time-by writes;
     calm = λ no. absurd no;
     told = λ no. absurd no;
     early = λ s is told ref. record { by = (run.MediumFault device); is = refl; when = on-read (run.MediumFault device) when s is told };
+    uncut = cut-none old.unit new.unit (log_of outcome) later.unbroken broke;
     unbroken = λ s is x told starts sound counts. unbroken-log (log_of outcome) (refused x starts.alone starts.clock).2.breaks;
     whole = λ s is x told starts sound counts no. absurd no;
   }
-  unit-refused (run.BadUnit place) of_unit broke writes when refused =
+  unit-refused (run.BadUnit place) of_unit later broke writes when refused =
       let bad : (x : List ℕ) → Starts x old.unit new.unit → first_bad_place x ≡ Some place = λ x starts.
       let r = refused x starts.alone starts.clock in still x old.unit new.unit (λ y. first_bad_place y ≡ Some place) whole whole_new starts.alone r.1 r.0 in
       record {
@@ -109,16 +111,18 @@ module _ (old new : Outside) (outcome : Outcome) (start : ℕ) (items : List Ite
         records = λ s is x told starts sound decodes late. absurd (none-bad x place decodes (bad x starts));
         finds_bad_unit = λ s is x p told starts sound found. let e : Some place ≡ Some p = sym (bad x starts) ∙ found in let f : place ≡ p = cc in ap BadUnit f;
         finds_clock_back = λ s is x told starts sound decodes back. absurd (none-bad x place decodes (bad x starts));
+        later = later;
         broke = broke;
         writes = writes-by writes;
         time = time-by writes;
         calm = λ no. absurd no;
         told = λ no. absurd no;
         early = λ s is told ref. record { by = (run.BadUnit place); is = refl; when = on-read (run.BadUnit place) when s is told };
+        uncut = cut-none old.unit new.unit (log_of outcome) later.unbroken broke;
         unbroken = λ s is x told starts sound counts. unbroken-log (log_of outcome) (refused x starts.alone starts.clock).2.breaks;
         whole = λ s is x told starts sound counts no. absurd no;
       }
-  unit-refused (run.ClockBack kept second) of_unit broke writes when refused =
+  unit-refused (run.ClockBack kept second) of_unit later broke writes when refused =
       let found : (x : List ℕ) → Starts x old.unit new.unit → Decodes x × (last_kept x ≡ kept) = λ x starts.
       let r = refused x starts.alone starts.clock in still x old.unit new.unit (λ y. Decodes y × (last_kept y ≡ kept)) whole whole_new starts.alone r.1 r.0.2 in
       let at : (x : List ℕ) → Starts x old.unit new.unit → (second ≡ start) × (start / 60 ≤ kept) = λ x starts.
@@ -144,16 +148,18 @@ module _ (old new : Outside) (outcome : Outcome) (start : ℕ) (items : List Ite
             let same = (is_read told.text s is told.told told.trace).0 in
             let kept_is = (found x starts).1 in let w = (at x starts).0 in
             ap (λ (k : ℕ). ClockBack k second) (sym kept_is) ∙ ap (ClockBack (last_kept x)) (w ∙ same);
+        later = later;
         broke = broke;
         writes = writes-by writes;
         time = time-by writes;
         calm = λ no. absurd no;
         told = λ no. absurd no;
         early = λ s is told ref. record { by = (run.ClockBack kept second); is = refl; when = on-read (run.ClockBack kept second) when s is told };
+        uncut = cut-none old.unit new.unit (log_of outcome) later.unbroken broke;
         unbroken = λ s is x told starts sound counts. unbroken-log (log_of outcome) (refused x starts.alone starts.clock).2.breaks;
         whole = λ s is x told starts sound counts no. absurd no;
       }
-  unit-refused (run.SameCard number) of_unit broke writes when refused = absurd of_unit
+  unit-refused (run.SameCard number) of_unit later broke writes when refused = absurd of_unit
 
 -- the cause of a refusal that names a device
 unit-cause : (old new : Outside) (fault : RunFault) → IsUnitFault old.unit new.unit fault → (device : Device) → refusal_of_run fault ≡ MediumFault device → Rose (memory_of device old).faults (memory_of device new).faults
@@ -199,9 +205,9 @@ pub unit-run : (old new : Outside) (outcome : Outcome) (start : ℕ) (items : Li
     → ((x : List ℕ) → StartsAs x old.unit → new.unit.clock < last_count → IsRecorded x start items old.unit.clock outcome new.unit)
     → ((x : List ℕ) → StartsAs x old.unit → new.unit.clock < last_count → IsCaused old new start items outcome)
     → ((x : List ℕ) → StartsAs x old.unit → Decodes x × (last_kept x < start / 60))
-    → HasBroken old.unit new.unit (length (cuts true (log_of outcome))) → new.unit.clock ≤ old.unit.clock + (187 * total_seconds items + 102 * length items) → (cuts true (log_of outcome) ≡ [] → new.unit.breakdowns ≡ old.unit.breakdowns) → HasBrokenAtMost old.unit new.unit (length (cuts true (log_of outcome))) → Rose old.unit.faults new.unit.faults ⊎ (new.unit.breakdowns ≡ old.unit.breakdowns) → new.card_a.memory ≡ old.card_a.memory → new.card_b.memory ≡ old.card_b.memory
+    → HasBroken old.unit new.unit (length (cuts true (log_of outcome))) → new.unit.clock ≤ old.unit.clock + (187 * total_seconds items + 102 * length items) → (cuts true (log_of outcome) ≡ [] → new.unit.breakdowns ≡ old.unit.breakdowns) → HasBrokenAtMost old.unit new.unit (length (cuts true (log_of outcome))) → IsLater old.unit new.unit → new.card_a.memory ≡ old.card_a.memory → new.card_b.memory ≡ old.card_b.memory
     → (fault : Fault) → IsRun fault → (fault ≡ WriteFault → Rose old.sink.faults new.sink.faults) → EndsOnUnit old new outcome fault
-unit-run old new outcome start items for_unit is_read short few recorded caused begun broke writes calm told unit_unbroken same_a same_b fault ran rose = record {
+unit-run old new outcome start items for_unit is_read short few recorded caused begun broke writes calm told later same_a same_b fault ran rose = record {
   for_unit = λ s is told. subst IsForUnit (is_read told.text s is told.told told.trace).1 for_unit;
   only = λ device is. absurd (subst IsRun is ran);
   run = λ s is x told starts done. of_trace s is x (is_read told.text s is told.told told.trace) (recorded x starts.alone starts.clock);
@@ -212,12 +218,14 @@ unit-run old new outcome start items for_unit is_read short few recorded caused 
   records = λ s is x told starts sound decodes late. run-done old new fault ran rose sound.sink;
   finds_bad_unit = λ s is x place told starts sound bad. absurd (none-bad x place (begun x starts.alone).0 bad);
   finds_clock_back = λ s is x told starts sound decodes back. absurd (not_back s x (is_read told.text s is told.told told.trace).0 (begun x starts.alone).1 back);
+  later = later;
   broke = broke;
   writes = λ s is told. subst (λ (l : List Item). new.unit.clock ≤ old.unit.clock + (187 * total_seconds l + 102 * length l)) (is_read told.text s is told.told told.trace).1 writes;
   time = λ s is told long. omega (arith, writes, long, short, few);
   calm = λ done. calm;
   told = λ done. told;
   early = λ s is told ref. absurd (refused-no-run fault ref ran);
+  uncut = cut-none old.unit new.unit (log_of outcome) later.unbroken broke;
   unbroken = λ s is x told starts sound counts. unbroken_as x starts sound counts;
   whole = λ s is x told starts sound counts done cards. there s is x (of_trace s is x (is_read told.text s is told.told told.trace) (recorded x starts.alone starts.clock)) (unbroken_as x starts sound counts).0 cards;
 }
@@ -237,7 +245,7 @@ unit-run old new outcome start items for_unit is_read short few recorded caused 
         )
 
     none_broke : IsSound old new → (device : Device) → breakdowns_in new device ≡ breakdowns_in old device
-    none_broke sound OfUnit = ⊎_elim (λ failed. absurd (sound.unit failed)) (λ same. same) unit_unbroken
+    none_broke sound OfUnit = ⊎_elim (λ failed. absurd (sound.unit failed)) (λ same. same) later.unbroken
     none_broke sound CardA = ap (λ (s : State). s.breakdowns) same_a
     none_broke sound CardB = ap (λ (s : State). s.breakdowns) same_b
 

@@ -34,7 +34,7 @@ use Rattle.run_events.specs.Shown.{ShowsSince}
 use Rattle.run_opening.specs.declared.fault.RunFault.{RunFault}
 use Rattle.run_opening.specs.declared.fault.RunFault.TheVariants.{MediumFault, BadUnit, ClockBack, SameCard}
 use Rattle.run_opening.specs.Units.{IsUnitRefused}
-use Rattle.recorder_with_cards.specs.Words.{log_of, largest_number, IsFoundLater}
+use Rattle.recorder_with_cards.specs.Words.{log_of, largest_number, IsFoundLater, IsLater}
 use Rattle.run_speeds.specs.Speeds.{HasSpeedRing, HasSpeeds}
 use Rattle.run_speeds.specs.Spans.{blocks_by, is_sure_block}
 use Rattle.run_outcome.specs.declared.outcome.Outcome.{Outcome}
@@ -133,7 +133,7 @@ pub record IsAlone (cards : Start) (x : List ℕ) (start : ℕ) (items : List It
   -- the rings of insertions and places show what they showed
   pub insertions : (y : List ℕ) → unit.may_leave y → ShowsOld insertion_ring x y
   pub places : (y : List ℕ) → unit.may_leave y → ShowsOld unit_place_ring x y
-  -- where its ring was dense, each image that a stop may leave carries the blocks of detailed speed of the run
+  -- each image that a stop may leave carries the blocks of detailed speed of the run
   pub speeds : HasSpeedRing x → HasSpeeds (is_sure_block (log_of o)) x clock
       (blocks_by (log_of o) (seconds_of start items)) unit
   -- what was found kept after its cuts was so
@@ -168,12 +168,12 @@ IsRefusedAlone start before after old new
 
 -- BREAKDOWNS OF THE UNIT ARE TOLD: each cut that a failed call made is one more; and where none has cut the power of a
 -- run that is recorded, it has not broken down, nor where no call on it failed; and it has not more often than those
--- cuts
+-- cuts. No clock and no count of it has fallen.
 pub record TellsUnitBreakdowns (result : Result (Unit {0}) RunFault) (after : Outcome) (U V : State) : Type 0 where
   pub broke : HasBroken U V (length (cuts true (log_of after)))
   pub calm : OnOk result (cuts true (log_of after) ≡ [] → V.breakdowns ≡ U.breakdowns)
   pub told : OnOk result (HasBrokenAtMost U V (length (cuts true (log_of after))))
-  pub unbroken : Rose U.faults V.faults ⊎ (V.breakdowns ≡ U.breakdowns)
+  pub later : IsLater U V
 
 -- A REFUSAL IS TOLD: it is the unit's, and came in the opening, as the unit was, or of a unit that was read anew at a
 -- power-on; over a unit that began with one image and whose clock does not run out it came in the opening

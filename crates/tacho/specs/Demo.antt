@@ -7,6 +7,7 @@ use Rattle.tach_media.specs.Streams.{AppendsFront}
 use Rattle.run_model.specs.declared.Device.TheVariants.{Unit as OfUnit}
 use Rattle.recorder_with_cards.specs.Words.{HaveTime}
 use Rattle.recorder_with_cards.specs.Ends.{MayRecord}
+use Rattle.run_opening.specs.Opening.{IsAsItWas}
 use Rattle.run_outcome.specs.declared.outcome.Outcome.{Outcome}
 use Rattle.unit_download.specs.declared.fault.DownloadFault.{DownloadFault}
 use Rattle.unit_download.specs.declared.fault.DownloadFault.TheVariants as download
@@ -79,9 +80,10 @@ pub record EndsDemo (seed : ℕ) (old new : Outside) (outcome : Outcome) (fault 
   pub ends : IsDemoEnd fault
   -- THE RUN, where all is done but for what is printed: the crash-safety theorem of a new unit, a new card, and card b.
   pub run : (card_b : List ℕ) → StartAnew card_b old new → IsRun fault → IsDemonstrated seed card_b old new outcome
-  -- And however it ends, it was recorded so, or nothing is put down.
+  -- And however it ends, it was recorded so, or nothing is put down, and card b is as it was.
   pub put_down : (card_b : List ℕ) → StartAnew card_b old new
-      → IsDemonstrated seed card_b old new outcome ⊎ IsEmpty outcome
+      → IsDemonstrated seed card_b old new outcome
+      ⊎ (IsEmpty outcome × IsAsItWas old.card_b.memory new.card_b.memory)
   -- Whatever fails, so many writes began at most on each device.
   pub writes : WritesAnew (total_seconds (demo_items seed)) (length (demo_items seed)) (devices_of old) (devices_of new)
   -- So a clock comes to its end in no demonstration that it began in its lower half.

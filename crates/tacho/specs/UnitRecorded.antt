@@ -11,7 +11,7 @@ use Rattle.recorder_with_cards.specs.Ends.{recording_of}
 use Rattle.run_promise.specs.Whole.{NothingFailed}
 use Rattle.run_opening.specs.Units.{IsUnitRefused}
 use Rattle.run_opening.specs.declared.fault.RunFault.{RunFault}
-use Rattle.recorder_with_cards.specs.Words.{log_of, IsFoundLater}
+use Rattle.recorder_with_cards.specs.Words.{log_of, IsFoundLater, IsLater}
 use Rattle.run_outcome.specs.declared.outcome.Outcome.{Outcome}
 use Rattle.trace_model.specs.declared.Item.{Item}
 use Rattle.trace_model.specs.Trace.{seconds_of, total_seconds}
@@ -117,12 +117,17 @@ pub record EndsOnUnit (old new : Outside) (outcome : Outcome) (fault : Fault) : 
   -- was read anew at a power-on.
   pub early : (start : ℕ) (items : List Item) → SourceTells old start items → IsRefusal fault
       → IsNotRecorded start old.unit new.unit outcome fault
+  -- Whatever the unit tells, no clock and no count of it has fallen, and it broke down only where a call on it failed.
+  pub later : IsLater old.unit new.unit
   -- Each cut that a failed call made is a breakdown of the unit more.
   pub broke : HasBroken old.unit new.unit (length (cuts true (log_of outcome)))
   -- And where the trace was recorded and no failed call has cut the power, the unit has not broken down.
   pub calm : IsRun fault → cuts true (log_of outcome) ≡ [] → new.unit.breakdowns ≡ old.unit.breakdowns
   -- Nor has it broken down then more often than failed calls have cut the power.
   pub told : IsRun fault → HasBrokenAtMost old.unit new.unit (length (cuts true (log_of outcome)))
+  -- Where no call on the unit failed, none has cut the power, whatever it tells and whatever the streams did.
+  pub uncut : (Rose old.unit.faults new.unit.faults → ⊥) → old.unit.breakdowns < last_count
+      → cuts true (log_of outcome) ≡ []
   -- Where nothing failed, no call has cut the power.
   pub unbroken : (start : ℕ) (items : List Item) (x : List ℕ) → SourceTells old start items → Starts x old.unit new.unit
       → IsSound old new → HaveCounts old

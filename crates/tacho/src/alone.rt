@@ -72,7 +72,8 @@ pub fn record_alone<U: Medium>(
     ensures most { (U.state unit.new).clock ≤ (U.state unit.old).clock
         + (187 * total_seconds trace.now.items + 102 * length trace.now.items) }
     // Each cut that a failed call made is a breakdown of the unit more; and where none has cut the power of a run that
-    // is recorded, it has not broken down, nor where no call on it failed. Nor has it more often than those cuts.
+    // is recorded, it has not broken down, nor where no call on it failed. Nor has it more often than those cuts. No
+    // clock and no count of it falls.
     ensures breakdowns { TellsUnitBreakdowns result outcome.new (U.state unit.old) (U.state unit.new) }
     // A run that is recorded began on a unit that decodes, in a later minute than its last-kept one; and what keeps one
     // from being recorded is the unit, in the opening, as it was, or read anew at a power-on.

@@ -6,6 +6,7 @@ ghost use Rattle.trace_model.specs.Trace.{total_seconds};
 ghost use Rattle.trace_text.specs.Trace.{IsWellFormed};
 ghost use Rattle.run_outcome.specs.Room.{IsReserved};
 ghost use Rattle.run_promise.specs.Between.{devices};
+ghost use Rattle.run_opening.specs.Opening.{IsAsItWas};
 ghost use Rattle.recorder_with_cards.specs.Words.{HaveTime, largest_number};
 ghost use Rattle.recorder_with_cards.specs.Ends.{MayRecord};
 ghost use Rattle.tacho.specs.Anew.{unit_image, MayBeAnew, EndsAnew, WritesAnew, IsFailed, IsFailure};
@@ -54,11 +55,12 @@ pub fn run_anew<U: Medium, C: Chip>(
         → OnOk result (EndsAnew (unit_image vehicle.now) image.now b trace.now.start trace.now.items outcome.new
         (devices (U.state unit.old) (C.state card_a.old) (C.state card_b.old))
         (devices (U.state unit.new) (C.state card_a.new) (C.state card_b.new))) }
-    // Where it was not recorded nothing is put down.
+    // Where it was not recorded nothing is put down, and card b is as it was.
     ensures nothing { (b : List ℕ) → MayBeAnew b (devices (U.state unit.old) (C.state card_a.old) (C.state card_b.old))
         → HaveTime (devices (U.state unit.new) (C.state card_a.new) (C.state card_b.new))
         → length trace.now.items ≤ largest_number
-        → IfErr result (λ fault. outcome.new ≡ outcome.old) }
+        → IfErr result (λ fault. (outcome.new ≡ outcome.old)
+        × IsAsItWas (C.state card_b.old) (C.state card_b.new)) }
     // Where a run may begin with the new images and card b's, only a failed call keeps it from being recorded.
     ensures kept { (b : List ℕ) → MayBeAnew b (devices (U.state unit.old) (C.state card_a.old) (C.state card_b.old))
         → HaveTime (devices (U.state unit.new) (C.state card_a.new) (C.state card_b.new))

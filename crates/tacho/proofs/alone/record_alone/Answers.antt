@@ -39,7 +39,7 @@ returns-clause-breakdowns g c = record {
   broke = c.run_trace.ensures.breakdowns.broke;
   calm = c.run_trace.ensures.breakdowns.calm;
   told = on_ok_weaker c.run_trace.result (λ told. told.unit) c.run_trace.ensures.breakdowns.told;
-  unbroken = c.run_trace.ensures.later.unit.unbroken;
+  later = c.run_trace.ensures.goes.later.unit;
 }
 
 pub returns-clause-refusal : goal.returns-clause-refusal
@@ -59,4 +59,4 @@ returns-clause-refusal g c = record {
 }
 
 pub returns-clause-most : goal.returns-clause-most
-returns-clause-most g c = c.run_trace.ensures.most.unit
+returns-clause-most g c = c.run_trace.ensures.goes.most.unit

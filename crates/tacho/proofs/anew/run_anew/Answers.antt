@@ -3,6 +3,7 @@ use Rattle.std.specs.Prelude.{is_err, ◌<◌}
 use Rattle.tach_media.specs.Medium.{HasCause}
 use Rattle.tach_media.proofs.Runs.{ok_gives}
 use Rattle.run_promise.specs.Between.{devices}
+use Rattle.run_opening.proofs.AsItWas.{as-it-is}
 use Rattle.tacho.specs.Anew.{unit_image}
 use Rattle.tacho.proofs.DemoDevices.{begins-new, ends-anew, time-before, kept-failed, only-failed}
 use Rattle.tacho.proofs.anew.run_anew.Goals as goal
@@ -17,12 +18,20 @@ returns-in-Err-clause-nothing g c = λ b may time few.
     let formed : is_err c.format_unit.result ≡ false = sym c.is_err.ensures.value ∙ c.if-is_err.false in
     let issued : is_err c.issue.result ≡ false = sym c.is_err-2.ensures.value ∙ c.if-is_err-2.false in
     let e = c.in-Err.ensures in
-    let then_ = time-before (devices V Y Z) (devices (g.U.Medium.state c.run_trace.new.unit) (g.C.Chip.state c.run_trace.new.card_a) (g.C.Chip.state c.run_trace.new.card_b)) e.later time in
+    let then_ = time-before (devices V Y Z) (devices (g.U.Medium.state c.run_trace.new.unit) (g.C.Chip.state c.run_trace.new.card_a) (g.C.Chip.state c.run_trace.new.card_b)) e.goes.later time in
     let begins = begins-new (unit_image c.args.vehicle.now) c.args.image.now b U V X Y Z (g.met.C.Chip.coherent c.args.card_a.now) (c.requires.image ∙ sym c.requires.size_a) c.requires.behind_a
     may
     (ok_gives c.format_unit.result c.format_unit.ensures.formatted formed) (ok_gives c.format_unit.result c.format_unit.ensures.settled formed then_.unit)
     (ok_gives c.issue.result c.issue.ensures.written issued) (ok_gives c.issue.result c.issue.ensures.settled issued then_.card_a) in
-    (e.fault (unit_image c.args.vehicle.now) c.args.image.now b begins time few).1
+    let kept = e.fault (unit_image c.args.vehicle.now) c.args.image.now b begins time few in
+    (kept.1, kept.0.same_b)
+
+-- where it was not made new no call was made on card b
+pub returns-then-is_err-clause-nothing : goal.returns-then-is_err-clause-nothing
+returns-then-is_err-clause-nothing g c = λ b may time few. (refl, as-it-is (g.C.Chip.state c.args.card_b.now))
+
+pub returns-then-is_err-2-clause-nothing : goal.returns-then-is_err-2-clause-nothing
+returns-then-is_err-2-clause-nothing g c = λ b may time few. (refl, as-it-is (g.C.Chip.state c.args.card_b.now))
 
 pub returns-in-Err-clause-kept : goal.returns-in-Err-clause-kept
 returns-in-Err-clause-kept g c = λ b may time few may_record.
@@ -34,7 +43,7 @@ returns-in-Err-clause-kept g c = λ b may time few may_record.
     let formed : is_err c.format_unit.result ≡ false = sym c.is_err.ensures.value ∙ c.if-is_err.false in
     let issued : is_err c.issue.result ≡ false = sym c.is_err-2.ensures.value ∙ c.if-is_err-2.false in
     let e = c.in-Err.ensures in
-    let then_ = time-before (devices V Y Z) (devices (g.U.Medium.state c.run_trace.new.unit) (g.C.Chip.state c.run_trace.new.card_a) (g.C.Chip.state c.run_trace.new.card_b)) e.later time in
+    let then_ = time-before (devices V Y Z) (devices (g.U.Medium.state c.run_trace.new.unit) (g.C.Chip.state c.run_trace.new.card_a) (g.C.Chip.state c.run_trace.new.card_b)) e.goes.later time in
     let begins = begins-new (unit_image c.args.vehicle.now) c.args.image.now b U V X Y Z (g.met.C.Chip.coherent c.args.card_a.now) (c.requires.image ∙ sym c.requires.size_a) c.requires.behind_a
     may
     (ok_gives c.format_unit.result c.format_unit.ensures.formatted formed) (ok_gives c.format_unit.result c.format_unit.ensures.settled formed then_.unit)
@@ -59,22 +68,22 @@ returns-clause-recorded g c = λ b may time few.
     let unit_cause = subst (λ (q : Bool). HasCause U V q) formed c.format_unit.ensures.cause in
     let card_cause = subst (λ (q : Bool). HasCause X Y q) issued c.issue.ensures.cause in
     let e = c.in_default.ensures in
-    let then_ = time-before (devices V Y Z) (devices (g.U.Medium.state c.run_trace.new.unit) (g.C.Chip.state c.run_trace.new.card_a) (g.C.Chip.state c.run_trace.new.card_b)) e.later time in
+    let then_ = time-before (devices V Y Z) (devices (g.U.Medium.state c.run_trace.new.unit) (g.C.Chip.state c.run_trace.new.card_a) (g.C.Chip.state c.run_trace.new.card_b)) e.goes.later time in
     let begins = begins-new (unit_image c.args.vehicle.now) c.args.image.now b U V X Y Z (g.met.C.Chip.coherent c.args.card_a.now) (c.requires.image ∙ sym c.requires.size_a) c.requires.behind_a
     may
     (ok_gives c.format_unit.result c.format_unit.ensures.formatted formed) (ok_gives c.format_unit.result c.format_unit.ensures.settled formed then_.unit)
     (ok_gives c.issue.result c.issue.ensures.written issued) (ok_gives c.issue.result c.issue.ensures.settled issued then_.card_a) in
     ends-anew (unit_image c.args.vehicle.now) c.args.image.now b c.args.trace.now.start c.args.trace.now.items c.run_trace.new.outcome U V X Y Z (devices (g.U.Medium.state c.run_trace.new.unit) (g.C.Chip.state c.run_trace.new.card_a) (g.C.Chip.state c.run_trace.new.card_b))
-    c.format_unit.ensures.moments.later c.issue.ensures.moments.later (unit_cause.unbroken refl) (card_cause.unbroken refl) e.later.unit.clock e.later.card_a.clock c.format_unit.ensures.most (let few = c.issue.ensures.few in let long = c.requires.image in omega (arith, few, long)) e.most
+    c.format_unit.ensures.moments.later c.issue.ensures.moments.later (unit_cause.unbroken refl) (card_cause.unbroken refl) e.goes.later.unit.clock e.goes.later.card_a.clock c.format_unit.ensures.most (let few = c.issue.ensures.few in let long = c.requires.image in omega (arith, few, long)) e.goes.most
     (e.recorded (unit_image c.args.vehicle.now) c.args.image.now b begins time few)
 
 -- ---- how often the unit has failed
 
 pub returns-in-Err-clause-faults : goal.returns-in-Err-clause-faults
-returns-in-Err-clause-faults g c = let made = c.format_unit.ensures.cause.faults in let run = c.in-Err.ensures.later.unit.faults in omega (arith, made, run)
+returns-in-Err-clause-faults g c = let made = c.format_unit.ensures.cause.faults in let run = c.in-Err.ensures.goes.later.unit.faults in omega (arith, made, run)
 
 pub returns-clause-faults : goal.returns-clause-faults
-returns-clause-faults g c = let made = c.format_unit.ensures.cause.faults in let run = c.in_default.ensures.later.unit.faults in omega (arith, made, run)
+returns-clause-faults g c = let made = c.format_unit.ensures.cause.faults in let run = c.in_default.ensures.goes.later.unit.faults in omega (arith, made, run)
 
 -- ---- how many writes began
 
@@ -93,7 +102,7 @@ returns-in-Err-clause-most g c =
     let made = c.format_unit.ensures.most in
     let few = c.issue.ensures.few in
     let long = c.requires.image in
-    let run = c.in-Err.ensures.most in
+    let run = c.in-Err.ensures.goes.most in
     record { unit = (let most = run.unit in omega (arith, made, most)); card_a = (let most = run.card_a in omega (arith, few, long, most)); card_b = run.card_b }
 
 pub returns-clause-most : goal.returns-clause-most
@@ -101,5 +110,5 @@ returns-clause-most g c =
     let made = c.format_unit.ensures.most in
     let few = c.issue.ensures.few in
     let long = c.requires.image in
-    let run = c.in_default.ensures.most in
+    let run = c.in_default.ensures.goes.most in
     record { unit = (let most = run.unit in omega (arith, made, most)); card_a = (let most = run.card_a in omega (arith, few, long, most)); card_b = run.card_b }

@@ -1,5 +1,6 @@
 use Rattle.std.proofs.Common.{◌≡◌, ◌∙◌, ap, refl, sym, subst, arith}
 use Rattle.std.specs.Prelude.{Err, IfErr}
+use Rattle.run_opening.proofs.AsItWas.{as-it-is}
 use Rattle.tacho.specs.declared.end.Fault.TheVariants.{WriteFault}
 use Rattle.tacho.specs.Outcomes.{IsEmpty}
 use Rattle.tacho.proofs.Formats.{largest-size}
@@ -15,7 +16,9 @@ returns-in-Err-clause-ends g c =
     let e = c.in-Err.ensures in
     rw c.refusal_anew.ensures
     (demo-refused c.args.seed _ _ c.run_anew.new.outcome c.in-Err.fault refl
-    (λ b starts. subst IsEmpty (sym (e.nothing b starts.may starts.clocks (rw c.in-Ok.ensures.items (items-few c.args.seed)))) (reserved-empty c.in-Ok.trace.items c.in-Ok-reserve.reserved c.in-Ok-reserve.ensures))
+    (λ b starts.
+        let kept = e.nothing b starts.may starts.clocks (rw c.in-Ok.ensures.items (items-few c.args.seed)) in
+        (subst IsEmpty (sym kept.0) (reserved-empty c.in-Ok.trace.items c.in-Ok-reserve.reserved c.in-Ok-reserve.ensures), kept.1))
     e.failed
     (λ b starts may. e.kept b starts.may starts.clocks (rw c.in-Ok.ensures.items (items-few c.args.seed)) (rw (c.as_slice.ensures.value ∙ c.in-Ok-blank_card.ensures.image, c.in-Ok.ensures.start) may))
     (writes-demo c.args.seed c.in-Ok.trace.items _ _ c.in-Ok.ensures.items e.most))
@@ -56,16 +59,16 @@ returns-clause-ends g c =
 -- ---- there was no memory
 
 pub returns-in_default-clause-ends : goal.returns-in_default-clause-ends
-returns-in_default-clause-ends g c = demo-memory c.args.seed _ _ c.args.outcome.now refl c.requires.empty (record { unit = omega arith; card_a = omega arith; card_b = omega arith })
+returns-in_default-clause-ends g c = demo-memory c.args.seed _ _ c.args.outcome.now refl c.requires.empty (as-it-is (g.C.Chip.state c.args.card_b.now)) (record { unit = omega arith; card_a = omega arith; card_b = omega arith })
 
 pub returns-in_default-reserve-clause-ends : goal.returns-in_default-reserve-clause-ends
-returns-in_default-reserve-clause-ends g c = demo-memory c.args.seed _ _ c.args.outcome.now refl c.requires.empty (record { unit = omega arith; card_a = omega arith; card_b = omega arith })
+returns-in_default-reserve-clause-ends g c = demo-memory c.args.seed _ _ c.args.outcome.now refl c.requires.empty (as-it-is (g.C.Chip.state c.args.card_b.now)) (record { unit = omega arith; card_a = omega arith; card_b = omega arith })
 
 pub returns-in_default-blank_card-clause-ends : goal.returns-in_default-blank_card-clause-ends
-returns-in_default-blank_card-clause-ends g c = demo-memory c.args.seed _ _ c.args.outcome.now refl c.requires.empty (record { unit = omega arith; card_a = omega arith; card_b = omega arith })
+returns-in_default-blank_card-clause-ends g c = demo-memory c.args.seed _ _ c.args.outcome.now refl c.requires.empty (as-it-is (g.C.Chip.state c.args.card_b.now)) (record { unit = omega arith; card_a = omega arith; card_b = omega arith })
 
 pub returns-then-is_err-clause-ends : goal.returns-then-is_err-clause-ends
-returns-then-is_err-clause-ends g c = demo-memory c.args.seed _ _ c.args.outcome.now refl c.requires.empty (record { unit = omega arith; card_a = omega arith; card_b = omega arith })
+returns-then-is_err-clause-ends g c = demo-memory c.args.seed _ _ c.args.outcome.now refl c.requires.empty (as-it-is (g.C.Chip.state c.args.card_b.now)) (record { unit = omega arith; card_a = omega arith; card_b = omega arith })
 
 pub returns-in_default-with_capacity-clause-ends : goal.returns-in_default-with_capacity-clause-ends
-returns-in_default-with_capacity-clause-ends g c = demo-memory c.args.seed _ _ c.args.outcome.now refl c.requires.empty (record { unit = omega arith; card_a = omega arith; card_b = omega arith })
+returns-in_default-with_capacity-clause-ends g c = demo-memory c.args.seed _ _ c.args.outcome.now refl c.requires.empty (as-it-is (g.C.Chip.state c.args.card_b.now)) (record { unit = omega arith; card_a = omega arith; card_b = omega arith })
