@@ -2,10 +2,10 @@
 use Rattle.std.proofs.Common.{◌≡◌, ◌∙◌, ℕ, true, false, List, [], ◌∷◌, ◌++◌, length, refl, ap, sym, arith, append_assoc, append-nil}
 use Rattle.std.specs.Prelude.{◌==◌, codes}
 use Rattle.std.proofs.lemmas.Bool.Decides.{nat_tests}
-use Rattle.tacho_types.specs.Calendar.{IsDateText}
+use Rattle.calendar_days.specs.Calendar.{IsDateText}
 use Rattle.view_model.specs.declared.Line.{Line}
 use Rattle.view_model.specs.Lines.{day_of_minute}
-use Rattle.view_model.specs.Text.{line_text}
+use Rattle.view_text.specs.Text.{line_text}
 use Rattle.card_match.specs.declared.difference.Difference.{Difference}
 use Rattle.card_match.specs.declared.verdict.Counts.{Counts}
 use Rattle.card_match.specs.Text.{count_line, difference_words, AreRunsText, AreAllText}

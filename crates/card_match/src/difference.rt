@@ -1,7 +1,7 @@
 //! How an entry of a card file differs from the unit file.
 ghost use Rattle.std.specs.Prelude.{◌≡◌, ◌++◌, OnOk, Bool, true, List, ℕ};
 ghost use Rattle.activity_codec.specs.Activity.{same_slot, same_activity};
-ghost use Rattle.view_model.specs.Text.{crew_word};
+ghost use Rattle.view_text.specs.Text.{crew_word};
 ghost use Rattle.card_match.specs.Differences.{instead_in, same_instead};
 ghost use Rattle.card_match.specs.Text.{crewed, card_has, unit_has};
 

@@ -2,9 +2,9 @@
 ghost use Rattle.std.specs.Prelude.{◌≡◌, ◌++◌, ◌<◌, List, ℕ, codes, IfOk, OnOk};
 ghost use Rattle.std.specs.List.{AllByRecursion};
 ghost use Rattle.activity_codec.specs.Names.{slot_name};
-ghost use Rattle.tacho_types.specs.Calendar.{IsDateText};
+ghost use Rattle.calendar_days.specs.Calendar.{IsDateText};
 ghost use Rattle.view_model.specs.Lines.{day_of_minute};
-ghost use Rattle.view_model.specs.Text.{clock_text, line_text};
+ghost use Rattle.view_text.specs.Text.{clock_text, line_text};
 ghost use Rattle.card_match.specs.Text.{IsDated, IsMatchText, count_line, place_words, AreDatedRuns, difference_words};
 ghost use Rattle.card_match.specs.Text.{AreRunsText, IsDifferencesText};
 
@@ -13,7 +13,8 @@ use crate::verdict::{Counts, Differences, Matched};
 use activity_codec::Slot;
 use itoa::Buffer;
 use std::alloc::{AllocError, Global};
-use tacho_types::{DAYS, day_text};
+use calendar_days::day_text;
+use tacho_types::DAYS;
 use view_model::Line;
 use view_text::Shown;
 

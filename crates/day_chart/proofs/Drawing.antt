@@ -1,6 +1,6 @@
 -- A picture that is drawn so far: what stands in front of its bands, and the bands of the days so far.
 use Rattle.std.proofs.Common.{◌≡◌, ◌∙◌, ℕ, ◌+◌, ◌-◌, List, [], ◌∷◌, ◌++◌, length, drop, refl, ap, sym, subst, append_assoc, append-nil, length-drop}
-use Rattle.tacho_types.specs.Calendar.{IsDateText}
+use Rattle.calendar_days.specs.Calendar.{IsDateText}
 use Rattle.view_model.specs.declared.Viewed.{Viewed}
 use Rattle.view_model.specs.declared.Line.{Line}
 use Rattle.file_view.specs.Histories.{minutes_on}

@@ -1,6 +1,6 @@
 //! The picture of the days of a unit, and of a card.
 ghost use Rattle.std.specs.Prelude.{◌≡◌, ◌++◌, IfOk, OnOk, ℕ, List, length};
-ghost use Rattle.tacho_types.specs.Calendar.{IsDateText};
+ghost use Rattle.calendar_days.specs.Calendar.{IsDateText};
 ghost use Rattle.view_model.specs.Lines.{same_unit, same_card};
 ghost use Rattle.file_view.specs.Histories.{AreLines, minutes_on};
 ghost use Rattle.slot_bars.specs.DayLines.{AreDayLines, IsOneDay};
@@ -13,7 +13,7 @@ use crate::mark::{Mark, write_marks};
 use activity_codec::Slot;
 use slot_bars::{Gap, card_bars, day_number, first_day, unit_bars};
 use std::alloc::{AllocError, Global};
-use tacho_types::day_text;
+use calendar_days::day_text;
 use view_model::{CardShown, Line, UnitShown};
 
 /// The picture of a unit, by the lines of its view, with these marks; its text are the totals.

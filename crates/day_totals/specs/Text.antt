@@ -4,7 +4,7 @@ use Rattle.activity_codec.specs.declared.values.Slot.TheVariants.{Driver, CoDriv
 use Rattle.view_model.specs.declared.UnitShown.{UnitShown}
 use Rattle.view_model.specs.declared.CardShown.{CardShown}
 use Rattle.view_model.specs.declared.Viewed.{Viewed}
-use Rattle.view_model.specs.Text.{two_digits}
+use Rattle.view_text.specs.Text.{two_digits}
 use Rattle.slot_bars.specs.declared.seen.Gap.{Gap}
 use Rattle.slot_bars.specs.declared.seen.Seen.{Seen}
 use Rattle.slot_bars.specs.Seeing.{slot_seen, card_seen}

@@ -4,7 +4,7 @@ ghost use Rattle.file_view.specs.Histories.{AreLines, minutes_on};
 ghost use Rattle.view_model.specs.Lines.{same_unit, same_card};
 ghost use Rattle.slot_bars.specs.DayLines.{IsOneDay};
 ghost use Rattle.slot_bars.specs.DaysOf.{day_of};
-ghost use Rattle.tacho_types.specs.Calendar.{IsDateText};
+ghost use Rattle.calendar_days.specs.Calendar.{IsDateText};
 ghost use Rattle.day_totals.specs.Text.{IsUnitTotals, IsCardTotals, unit_day_text, card_day_text};
 
 use crate::figures::{Distance, distance_on};
@@ -12,7 +12,7 @@ use crate::line::write_totals;
 use activity_codec::Slot;
 use slot_bars::{Gap, card_bars, day_number, first_day, unit_bars};
 use std::alloc::{AllocError, Global};
-use tacho_types::day_text;
+use calendar_days::day_text;
 use view_model::{CardShown, Line, UnitShown};
 
 /// The totals of a unit, by the lines of its view: two lines a day.

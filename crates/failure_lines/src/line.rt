@@ -9,7 +9,7 @@ use activity_codec::Slot;
 use arrayvec::ArrayVec;
 use itoa::Buffer;
 use log_model::Break;
-use tacho_types::day_text;
+use calendar_days::day_text;
 
 /// The most bytes of a line.
 pub const MOST: usize = 60;

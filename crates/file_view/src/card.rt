@@ -13,7 +13,7 @@ ghost use Rattle.card_days.specs.Heads.{heads_of};
 ghost use Rattle.card_retention.specs.Entries.{day_entries, entries_up_to};
 ghost use Rattle.card_retention.specs.Retains.{Rise};
 ghost use Rattle.view_model.specs.Lines.{lines_of, same_card, day_of_minute};
-ghost use Rattle.view_model.specs.Text.{IsCardView};
+ghost use Rattle.view_text.specs.Text.{IsCardView};
 ghost use Rattle.view_text.specs.Entries.{entry_shown};
 ghost use Rattle.file_view.specs.CardFiles.{last_entries, mark_of, are_vehicles, IsBadCardFile};
 ghost use Rattle.file_view.specs.Faults.{IfBadFile};

@@ -8,7 +8,7 @@ ghost use Rattle.message_model.specs.Showing.{day_minutes, told_day};
 ghost use Rattle.unit_model.specs.Days.{UnitMinute};
 ghost use Rattle.unit_messages.specs.Reading.{BeginsWith, request_of};
 ghost use Rattle.view_model.specs.Lines.{lines_of, same_unit};
-ghost use Rattle.view_model.specs.Text.{IsUnitView};
+ghost use Rattle.view_text.specs.Text.{IsUnitView};
 ghost use Rattle.file_view.specs.Deciding.{Decides};
 ghost use Rattle.file_view.specs.Faults.{IfBadFile};
 ghost use Rattle.file_view.specs.Histories.{AreLines, minutes_on, minute_told, minute_shown};

@@ -9,7 +9,7 @@ use Rattle.jiff_core.specs.Calendar.{days_from_civil}
 use Rattle.jiff_core.proofs.SignedLemmas.{signed_arith}
 use Rattle.jiff_core.proofs.CalendarLemmas.{days_in_month_bounds, days_from_civil-day_count, day_count-epoch}
 use Rattle.card_layout.specs.Fields.{IsBytes}
-use Rattle.tacho_types.specs.Calendar.{IsDateText}
+use Rattle.calendar_days.specs.Calendar.{IsDateText}
 use Rattle.json_fields.specs.Dates.{CivilDay, next_day, date_of, date_text, two_digits, clock_text, time_text}
 use Rattle.json_fields.proofs.Cutting.{by_test}
 

@@ -5,7 +5,7 @@ ghost use Rattle.json.specs.Token.{Token};
 ghost use Rattle.json.specs.Print.{print, print_from, ends_value};
 ghost use Rattle.json.specs.Tree.{json_tokens};
 ghost use Rattle.json_fields.specs.declared.fields.Field.{Field};
-ghost use Rattle.tacho_types.specs.Calendar.{IsDateText};
+ghost use Rattle.calendar_days.specs.Calendar.{IsDateText};
 ghost use Rattle.json_fields.specs.Dates.{date_of, date_text};
 ghost use Rattle.json_fields.specs.Shown.{record_shown, records_shown, width_of_record, AreFields};
 

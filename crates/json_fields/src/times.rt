@@ -3,7 +3,7 @@ ghost use Rattle.std.specs.Prelude.{◌≡◌, ◌++◌, ◌<◌, ◌/◌, ◌%�
 ghost use Rattle.json_fields.specs.Dates.{clock_text, date_of, date_text, time_text};
 
 use std::alloc::{AllocError, Global};
-use tacho_types::day_text;
+use calendar_days::day_text;
 
 /// Seconds of a day.
 const DAY_SECONDS: u32 = 86400;

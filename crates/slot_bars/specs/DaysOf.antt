@@ -1,6 +1,6 @@
 -- The days of minutes (profile).
 use Rattle.std.specs.Prelude.{ℕ, ◌+◌, ◌==◌, ◌&&◌, nat_lt, Bool, false, ◌≡◌, ◌++◌, if◌then◌else◌, List, [], ◌∷◌}
-use Rattle.tacho_types.specs.Calendar.{IsDateText}
+use Rattle.calendar_days.specs.Calendar.{IsDateText}
 use Rattle.view_model.specs.declared.Viewed.{Viewed}
 use Rattle.view_model.specs.Lines.{day_of_minute}
 

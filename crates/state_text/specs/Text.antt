@@ -1,9 +1,9 @@
 -- The text of lines (profile).
 use Rattle.std.specs.Prelude.{◌≡◌, ℕ, ◌/◌, ◌%◌, List, [], ◌∷◌, ◌++◌, drop, slice_index, codes, decimal}
-use Rattle.tacho_types.specs.Calendar.{IsDateText}
+use Rattle.calendar_days.specs.Calendar.{IsDateText}
 use Rattle.tacho_types.specs.declared.card_number.FullCardNumber.{FullCardNumber}
 use Rattle.tacho_types.specs.declared.texts.Registration.{Registration}
-use Rattle.view_model.specs.Text.{two_digits, clock_text}
+use Rattle.view_text.specs.Text.{two_digits, clock_text}
 use Rattle.state_text.specs.declared.line.Line.{Line}
 use Rattle.state_text.specs.declared.line.OwedTo.{OwedTo}
 use Rattle.state_text.specs.declared.line.Value.{Value}

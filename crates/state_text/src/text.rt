@@ -10,7 +10,8 @@ use crate::line::{Line, OwedTo, Value, day_of, device_name, name_text, rule_name
 use crate::shown::{write_shown, write_two_hex};
 use itoa::Buffer;
 use std::alloc::{AllocError, Global};
-use tacho_types::{FullCardNumber, Name36, Registration, day_text};
+use calendar_days::day_text;
+use tacho_types::{FullCardNumber, Name36, Registration};
 
 /// The text of lines, one after the other.
 pub fn lines_text(alloc: Global, lines: &[Line]) -> Result<Vec<u8>, AllocError>

@@ -10,7 +10,7 @@ use Rattle.view_model.specs.declared.UnitShown.{UnitShown}
 use Rattle.view_model.specs.declared.Viewed.{Viewed}
 use Rattle.view_model.specs.declared.Line.{Line}
 use Rattle.view_model.specs.Lines.{lines_of, same_unit}
-use Rattle.view_model.specs.Text.{IsUnitView}
+use Rattle.view_text.specs.Text.{IsUnitView}
 use Rattle.trace_text.specs.declared.lines_trace.Form.TheVariants.{Minutes}
 use Rattle.trace_model.specs.declared.Item.{Item}
 use Rattle.run_model.specs.Span.{trace_span}

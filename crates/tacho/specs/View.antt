@@ -3,7 +3,7 @@ use Rattle.std.specs.Prelude.{◌≡◌, ℕ, Bool, false, ◌==◌, MatchBool, 
 use Rattle.activity_codec.specs.declared.entries.Entry.{Entry}
 use Rattle.activity_codec.specs.declared.entries.Manual.{Manual}
 use Rattle.unit_model.specs.Days.{UnitMinute}
-use Rattle.view_model.specs.Text.{IsUnitView, IsCardView}
+use Rattle.view_text.specs.Text.{IsUnitView, IsCardView}
 use Rattle.view_text.specs.Entries.{entry_shown}
 use Rattle.view_text.specs.ByHand.{IsByHandView}
 use Rattle.file_view.specs.declared.fault.ViewFault.{ViewFault}

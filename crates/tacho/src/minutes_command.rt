@@ -4,7 +4,7 @@ ghost use Rattle.std.specs.Prelude.{◌≡◌, ◌≢◌, ◌≤◌, ◌⊎◌, 
 ghost use Rattle.std.specs.Io.KnownBytes.{Appends, IsAtEnd};
 ghost use Rattle.tach_media.specs.Medium.{Rose};
 ghost use Rattle.tach_media.specs.Streams.{AppendsFront};
-ghost use Rattle.view_model.specs.Text.{IsUnitView};
+ghost use Rattle.view_text.specs.Text.{IsUnitView};
 ghost use Rattle.trace_text.specs.declared.lines_trace.Form.TheVariants.{Minutes as FormOfMinutes};
 ghost use Rattle.trace_model.specs.declared.Item.{Item};
 ghost use Rattle.trace_text.specs.Line.{IsKnown};

@@ -9,7 +9,7 @@ mod numbers;
 mod places;
 mod texts;
 
-pub use calendar::{DAYS, day_text};
+pub use calendar::DAYS;
 pub use card_number::{FullCardNumber, Nation, read_card_number, write_card_number};
 pub use decimal::{BadValue, Bcd2, read_bcd2, write_bcd2};
 pub use numbers::{

@@ -1,6 +1,6 @@
 -- The text of detailed speed (profile).
 use Rattle.std.specs.Prelude.{◌≡◌, ℕ, ◌/◌, ◌%◌, Option, List, [], ◌∷◌, ◌++◌, length, drop, codes, decimal}
-use Rattle.tacho_types.specs.Calendar.{IsDateText}
+use Rattle.calendar_days.specs.Calendar.{IsDateText}
 use Rattle.message_model.specs.Messages.{Message, IsUnitFile}
 use Rattle.file_view.specs.Showing.{before_last}
 use Rattle.day_totals.specs.Text.{duration_text}

@@ -12,7 +12,7 @@ use day_totals::write_duration;
 use file_view::ViewFault;
 use itoa::Buffer;
 use std::alloc::{AllocError, Global};
-use tacho_types::day_text;
+use calendar_days::day_text;
 use unit_marks::messages_at;
 
 /// The detailed speed of a unit file, a line a minute: of all its blocks, or of the last so many.

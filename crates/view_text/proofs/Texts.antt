@@ -8,7 +8,7 @@ use Rattle.view_model.specs.declared.Viewed.{Viewed}
 use Rattle.view_model.specs.declared.CardShown.{CardShown}
 use Rattle.view_model.specs.declared.Line.{Line}
 use Rattle.view_model.specs.Lines.{day_of_minute, goes_on, with_minute, lines_of}
-use Rattle.view_model.specs.Text.{IsTextOf, line_text}
+use Rattle.view_text.specs.Text.{IsTextOf, line_text}
 use Rattle.view_text.specs.Adding.{AddsLine}
 use Rattle.view_text.specs.Entries.{entry_shown}
 

@@ -2,8 +2,8 @@
 use Rattle.std.specs.Prelude.{◌≡◌, ℕ, List, ◌++◌}
 use Rattle.view_model.specs.declared.Line.{Line}
 use Rattle.view_model.specs.Lines.{day_of_minute}
-use Rattle.view_model.specs.Text.{line_text}
-use Rattle.tacho_types.specs.Calendar.{IsDateText}
+use Rattle.view_text.specs.Text.{line_text}
+use Rattle.calendar_days.specs.Calendar.{IsDateText}
 
 -- the date of a day at the end
 abbrev pub AddsDay : (old new : List ℕ) → (day : ℕ) → Type 0

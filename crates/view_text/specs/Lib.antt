@@ -1,3 +1,4 @@
+pub mod Text
 pub mod Exact
 pub mod Growing
 pub mod Adding

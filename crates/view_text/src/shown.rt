@@ -2,7 +2,7 @@
 ghost use Rattle.std.specs.Prelude.{◌≡◌, ◌++◌, OnOk, Bool, true, List, ℕ};
 ghost use Rattle.activity_codec.specs.Activity.{same_slot, same_activity};
 ghost use Rattle.view_model.specs.Lines.{same_state, same_bool};
-ghost use Rattle.view_model.specs.Text.{crew_word, state_words};
+ghost use Rattle.view_text.specs.Text.{crew_word, state_words};
 
 use activity_codec::{Activity, Slot};
 use std::alloc::AllocError;
@@ -30,7 +30,7 @@ pub trait Shown: Copy {
 
 impl Shown for UnitShown {
     ghost use Rattle.view_model.specs.Lines.{same_unit};
-    ghost use Rattle.view_model.specs.Text.{unit_words};
+    ghost use Rattle.view_text.specs.Text.{unit_words};
     ghost use Rattle.view_text.specs.Exact.{unit_exact};
 
     ghost same = { same_unit };
@@ -58,7 +58,7 @@ impl Shown for UnitShown {
 
 impl Shown for CardShown {
     ghost use Rattle.view_model.specs.Lines.{same_card};
-    ghost use Rattle.view_model.specs.Text.{card_words};
+    ghost use Rattle.view_text.specs.Text.{card_words};
     ghost use Rattle.view_text.specs.Exact.{card_exact};
 
     ghost same = { same_card };

@@ -2,14 +2,15 @@
 ghost use Rattle.std.specs.Prelude.{◌≡◌, ◌++◌, ◌<◌, IfOk, OnOk, codes};
 ghost use Rattle.std.specs.List.{AllByRecursion};
 ghost use Rattle.view_model.specs.Lines.{day_of_minute};
-ghost use Rattle.view_model.specs.Text.{IsTextOf, clock_text};
-ghost use Rattle.tacho_types.specs.Calendar.{IsDateText};
+ghost use Rattle.view_text.specs.Text.{IsTextOf, clock_text};
+ghost use Rattle.calendar_days.specs.Calendar.{IsDateText};
 ghost use Rattle.view_text.specs.Adding.{AddsDay, AddsLine};
 
 use crate::shown::Shown;
 use arrayvec::ArrayVec;
 use std::alloc::{AllocError, Global};
-use tacho_types::{DAYS, day_text};
+use calendar_days::day_text;
+use tacho_types::DAYS;
 use view_model::Line;
 
 /// The text of lines, one after another. The date of a day is made once for lines that follow one another on it.

@@ -2,7 +2,7 @@
 ghost use Rattle.std.specs.Prelude.{◌≡◌, ◌<◌, IfOk, map};
 ghost use Rattle.std.specs.List.{AllByRecursion};
 ghost use Rattle.view_model.specs.Lines.{lines_of, day_of_minute, same_unit, same_card};
-ghost use Rattle.view_model.specs.Text.{IsUnitView, IsCardView};
+ghost use Rattle.view_text.specs.Text.{IsUnitView, IsCardView};
 ghost use Rattle.view_text.specs.Entries.{entry_shown};
 
 use crate::lines::add_minute;

@@ -1,7 +1,7 @@
 use Rattle.std.proofs.Common.{◌≡◌, ◌∙◌, ℕ, ◌+◌, ◌*◌, List, ◌++◌, map, ap, subst}
 use Rattle.std.specs.Prelude.{codes}
 use Rattle.activity_codec.specs.declared.values.Slot.TheVariants.{Driver, CoDriver}
-use Rattle.tacho_types.specs.Calendar.{IsDateText}
+use Rattle.calendar_days.specs.Calendar.{IsDateText}
 use Rattle.view_model.specs.declared.Viewed.{Viewed}
 use Rattle.file_view.specs.Histories.{minutes_on}
 use Rattle.slot_bars.specs.declared.seen.Seen.{Seen}

@@ -1,5 +1,5 @@
 use Rattle.std.proofs.Common.{ℕ, map, subst, append_assoc}
-use Rattle.tacho_types.specs.Calendar.{IsDateText}
+use Rattle.calendar_days.specs.Calendar.{IsDateText}
 use Rattle.file_view.specs.Histories.{minutes_on}
 use Rattle.slot_bars.specs.Seeing.{card_seen}
 use Rattle.day_totals.proofs.Counting.{bars_stand, bars_few}

@@ -1,6 +1,6 @@
 use Rattle.std.proofs.Common.{ℕ, map, subst, append_assoc}
 use Rattle.activity_codec.specs.declared.values.Slot.TheVariants.{Driver, CoDriver}
-use Rattle.tacho_types.specs.Calendar.{IsDateText}
+use Rattle.calendar_days.specs.Calendar.{IsDateText}
 use Rattle.file_view.specs.Histories.{minutes_on}
 use Rattle.slot_bars.specs.Seeing.{slot_seen}
 use Rattle.day_totals.proofs.Counting.{bars_stand, bars_few}

@@ -3,7 +3,7 @@ use Rattle.activity_codec.specs.declared.entries.Entry.{Entry}
 use Rattle.view_model.specs.declared.CardShown.{CardShown}
 use Rattle.view_model.specs.declared.Line.{Line}
 use Rattle.view_model.specs.Lines.{lines_of, same_card}
-use Rattle.view_model.specs.Text.{IsCardView, IsTextOf, card_words}
+use Rattle.view_text.specs.Text.{IsCardView, IsTextOf, card_words}
 use Rattle.view_text.specs.Entries.{entry_shown}
 use Rattle.file_view.specs.Histories.{minutes_on}
 use Rattle.file_view.proofs.Lines.{all_low, told_entries}

@@ -3,7 +3,7 @@ use Rattle.unit_model.specs.Days.{UnitMinute}
 use Rattle.view_model.specs.declared.UnitShown.{UnitShown}
 use Rattle.view_model.specs.declared.Line.{Line}
 use Rattle.view_model.specs.Lines.{lines_of, same_unit}
-use Rattle.view_model.specs.Text.{IsUnitView, IsTextOf, unit_words}
+use Rattle.view_text.specs.Text.{IsUnitView, IsTextOf, unit_words}
 use Rattle.file_view.specs.Histories.{minutes_on, minute_shown}
 use Rattle.file_view.proofs.Lines.{all_low, told_shown}
 use Rattle.file_view.proofs.unit.unit_text.Goals as goal

@@ -1,6 +1,6 @@
 use Rattle.std.proofs.Common.{ℕ, subst}
 use Rattle.std.specs.Prelude.{codes}
-use Rattle.tacho_types.specs.Calendar.{IsDateText}
+use Rattle.calendar_days.specs.Calendar.{IsDateText}
 use Rattle.run_model.specs.Names.{device_name}
 use Rattle.state_text.specs.Lines.{name_text}
 use Rattle.state_text.specs.Text.{value_text}

@@ -1,4 +1,4 @@
-use Rattle.view_model.specs.Text.{IsUnitView}
+use Rattle.view_text.specs.Text.{IsUnitView}
 use Rattle.tacho.proofs.Below.{lines-of-trace}
 use Rattle.tacho.proofs.minutes_command.text_of.Goals as goal
 

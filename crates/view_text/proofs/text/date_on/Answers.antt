@@ -1,6 +1,6 @@
 -- Of the same day the date stays.
 use Rattle.std.proofs.Common.{ℕ, sym, subst}
-use Rattle.tacho_types.specs.Calendar.{IsDateText}
+use Rattle.calendar_days.specs.Calendar.{IsDateText}
 use Rattle.view_text.proofs.text.date_on.Goals as goal
 
 pub returns-then-day-before : goal.returns-then-day-before

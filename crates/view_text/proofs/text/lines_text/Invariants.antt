@@ -1,6 +1,6 @@
 use Rattle.std.proofs.Common.{take}
-use Rattle.tacho_types.specs.Calendar.{IsDateText}
-use Rattle.view_model.specs.Text.{IsTextOf}
+use Rattle.calendar_days.specs.Calendar.{IsDateText}
+use Rattle.view_text.specs.Text.{IsTextOf}
 use Rattle.view_text.proofs.text.lines_text.Given as goal
 
 -- the lines so far, and the date of the last one's day

@@ -1,6 +1,6 @@
 use Rattle.std.specs.Prelude.{map}
 use Rattle.view_model.specs.Lines.{same_card}
-use Rattle.view_model.specs.Text.{IsCardView}
+use Rattle.view_text.specs.Text.{IsCardView}
 use Rattle.view_text.specs.Entries.{entry_shown}
 use Rattle.tacho_types.specs.declared.calendar.TheConstants.{DAYS}
 use Rattle.view_text.proofs.Texts.{lines-below, entries-below}

@@ -1,5 +1,5 @@
 use Rattle.view_model.specs.Lines.{same_unit}
-use Rattle.view_model.specs.Text.{IsUnitView}
+use Rattle.view_text.specs.Text.{IsUnitView}
 use Rattle.tacho_types.specs.declared.calendar.TheConstants.{DAYS}
 use Rattle.view_text.proofs.Texts.{lines-below}
 use Rattle.view_text.proofs.views.unit_text.Goals as goal

@@ -1,7 +1,7 @@
 use Rattle.std.proofs.Common.{◌≡◌, ◌∙◌, ℕ, ◌+◌, ◌/◌, ◌%◌, pos, [], ◌∷◌, refl}
 use Rattle.jiff.specs.Words.{date_text}
 use Rattle.jiff.specs.Types.{Date}
-use Rattle.tacho_types.proofs.calendar.day_text.Goals as goal
+use Rattle.calendar_days.proofs.day_text.Goals as goal
 
 -- the digits of a date
 text_is : (date : Date) (year month day : ℕ) → pos year ≡ date.year → month ≡ date.month → day ≡ date.day

@@ -5,7 +5,7 @@ use Rattle.jiff.specs.Types.{Date}
 use Rattle.jiff.proofs.Family.{epoch_day-lt}
 use Rattle.jiff.proofs.SpanFacts.{signed_arith, date_add-days, can_add-days}
 use Rattle.jiff.proofs.OnLiterals.{jiff_on_literals}
-use Rattle.tacho_types.proofs.calendar.civil_date.Goals as goal
+use Rattle.calendar_days.proofs.civil_date.Goals as goal
 
 epoch : (d : Date) → d.year ≡ pos 1970 → d.month ≡ 1 → d.day ≡ 1 → epoch_day d ≡ pos 0
 unfolding jiff_on_literals
