@@ -3,17 +3,17 @@ use Rattle.std.proofs.Common.{◌≡◌, ◌∙◌, inl, inr, ⊎_elim, ℕ, ◌
 use Rattle.std.specs.Prelude.{◌⊎◌, nat_eq}
 use Rattle.std.proofs.lemmas.Bool.{eq-eqb}
 use Rattle.activity_codec.specs.declared.entries.Manual.{Manual}
-use Rattle.card_layout.specs.declared.files.Application.{Application}
-use Rattle.card_layout.specs.Application.{IsApplication}
-use Rattle.card_model.specs.Days.{Day, AreDays, total}
-use Rattle.card_model.specs.Changes.{date_of}
-use Rattle.card_model.specs.Image.{newest_pointer}
-use Rattle.card_retention.specs.Expected.{is_newest}
-use Rattle.card_retention.specs.Shown.{sizes}
-use Rattle.card_days.specs.declared.head.Tail.{Tail}
-use Rattle.card_days.specs.Held.{Held, tail_in}
-use Rattle.card_days.proofs.Tails.{told_some}
-use Rattle.card_image.specs.Fields.{card_days, end_mark}
+use Rattle.tach_media.specs.card_layout.declared.files.Application.{Application}
+use Rattle.tach_media.specs.card_layout.Application.{IsApplication}
+use Rattle.card_session.specs.card_model.Days.{Day, AreDays, total}
+use Rattle.card_session.specs.card_model.Changes.{date_of}
+use Rattle.card_session.specs.card_model.Image.{newest_pointer}
+use Rattle.card_session.specs.card_retention.Expected.{is_newest}
+use Rattle.card_session.specs.card_retention.Shown.{sizes}
+use Rattle.card_session.specs.card_days.declared.head.Tail.{Tail}
+use Rattle.card_session.specs.card_days.Held.{Held, tail_in}
+use Rattle.card_session.proofs.card_days.Tails.{told_some}
+use Rattle.hand_model.specs.card_image.Fields.{card_days, end_mark}
 use Rattle.hand_model.specs.Holding.{LieBetween, AreOfDay}
 use Rattle.hand_model.proofs.OfDay.{spans}
 use Rattle.card_session.specs.Telling.{is_newest_day}

@@ -3,15 +3,15 @@ use Rattle.std.proofs.Common.{◌≡◌, inl, inr, ⊎_elim, ℕ, suc, ◌+◌, 
 use Rattle.std.specs.Prelude.{◌⊎◌, ◌&&◌, nat_lt}
 use Rattle.activity_codec.specs.declared.values.Activity.TheVariants.{Rest}
 use Rattle.activity_codec.specs.declared.entries.Entry.{Entry}
-use Rattle.tacho_types.specs.declared.texts.Registration.{Registration}
-use Rattle.card_layout.specs.declared.files.Application.{Application}
-use Rattle.card_layout.specs.Application.{IsApplication}
-use Rattle.card_model.specs.Days.{Day, AreDays}
-use Rattle.card_model.specs.Changes.{Remain, trimmed}
-use Rattle.card_model.proofs.Trims.{are_trimmed}
-use Rattle.card_retention.specs.Expected.{Counted, is_newest}
-use Rattle.card_retention.specs.Shown.{Bound, Rests, Lives, sizes, is_open}
-use Rattle.card_image.specs.Fields.{card_days, end_mark}
+use Rattle.card_session.specs.tacho_types.declared.texts.Registration.{Registration}
+use Rattle.tach_media.specs.card_layout.declared.files.Application.{Application}
+use Rattle.tach_media.specs.card_layout.Application.{IsApplication}
+use Rattle.card_session.specs.card_model.Days.{Day, AreDays}
+use Rattle.card_session.specs.card_model.Changes.{Remain, trimmed}
+use Rattle.card_session.proofs.card_model.Trims.{are_trimmed}
+use Rattle.card_session.specs.card_retention.Expected.{Counted, is_newest}
+use Rattle.card_session.specs.card_retention.Shown.{Bound, Rests, Lives, sizes, is_open}
+use Rattle.hand_model.specs.card_image.Fields.{card_days, end_mark}
 use Rattle.activity_codec.specs.declared.entries.Manual.{Manual}
 use Rattle.hand_model.specs.Manual.{manual_word}
 use Rattle.hand_model.specs.Counted.{with_by_hand}

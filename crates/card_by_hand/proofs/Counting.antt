@@ -4,16 +4,16 @@ use Rattle.std.specs.Prelude.{nat_eq, nat_lt, ◌&&◌}
 use Rattle.std.proofs.lemmas.Bool.Decides.{nat_tests}
 use Rattle.activity_codec.specs.declared.entries.Entry.{Entry}
 use Rattle.activity_codec.specs.Words.{word_minute, word_absent}
-use Rattle.card_model.specs.Days.{Day, AreDays, last_word}
-use Rattle.card_model.specs.Changes.{OnNewest, fitting, with_newest, with_word, cut, new_day, date_of, trimmed}
-use Rattle.card_model.proofs.Retention.{remain_fitting}
-use Rattle.card_model.proofs.Trims.{Behind, cut_date, trimmed_word, trimmed_day}
-use Rattle.card_retention.specs.Expected.{WordDay, Counted, more, is_newest, is_closed, closes, expected_days, first_words}
-use Rattle.card_retention.specs.Shown.{Bound, Shows, Left, Grows, Rising, Filled, AllBefore, sizes, size_day, is_open, owing, Rests, EndsAbsent, Sound, Sound.Flat, Sound.Tail, Lives}
-use Rattle.card_retention.proofs.Growing.{shows_word, shows_day, shows_again, shows_left, left_of, left_newest, more_grows, grows_longer, sizes_word, sizes_append}
-use Rattle.card_retention.proofs.Entering.{rising_more, before_more, before_later, before_newest, before_append, before_left, newest_shown, shows_before, rising_sizes, fits_sizes, date_newest, closes_is, on_append, last_append}
-use Rattle.card_retention.proofs.Stops.{open_left, are_left, absent_shut, sound_left}
-use Rattle.card_retention.proofs.Stub.{trimmed_stub}
+use Rattle.card_session.specs.card_model.Days.{Day, AreDays, last_word}
+use Rattle.card_session.specs.card_model.Changes.{OnNewest, fitting, with_newest, with_word, cut, new_day, date_of, trimmed}
+use Rattle.card_session.proofs.card_model.Retention.{remain_fitting}
+use Rattle.card_session.proofs.card_model.Trims.{Behind, cut_date, trimmed_word, trimmed_day}
+use Rattle.card_session.specs.card_retention.Expected.{WordDay, Counted, more, is_newest, is_closed, closes, expected_days, first_words}
+use Rattle.card_session.specs.card_retention.Shown.{Bound, Shows, Left, Grows, Rising, Filled, AllBefore, sizes, size_day, is_open, owing, Rests, EndsAbsent, Sound, Sound.Flat, Sound.Tail, Lives}
+use Rattle.card_session.proofs.card_retention.Growing.{shows_word, shows_day, shows_again, shows_left, left_of, left_newest, more_grows, grows_longer, sizes_word, sizes_append}
+use Rattle.card_session.proofs.card_retention.Entering.{rising_more, before_more, before_later, before_newest, before_append, before_left, newest_shown, shows_before, rising_sizes, fits_sizes, date_newest, closes_is, on_append, last_append}
+use Rattle.card_session.proofs.card_retention.Stops.{open_left, are_left, absent_shut, sound_left}
+use Rattle.card_session.proofs.card_retention.Stub.{trimmed_stub}
 use Rattle.card_session.specs.Books.{bare_word, with_change}
 use Rattle.card_session.specs.ByHand.{words_from, with_day_from, with_word_at}
 use Rattle.card_session.proofs.OnMark.{cut_first, shut_first}

@@ -4,18 +4,18 @@ use Rattle.std.specs.Prelude.{◌⊎◌, ◌&&◌, not, nat_eq}
 use Rattle.activity_codec.specs.Words.{word_absent}
 use Rattle.activity_codec.specs.declared.entries.Entry.{Entry}
 use Rattle.activity_codec.specs.declared.entries.Manual.{Manual}
-use Rattle.card_layout.specs.declared.files.Application.{Application}
-use Rattle.card_layout.specs.Application.{IsApplication}
-use Rattle.card_layout.specs.Files.{image_size_of}
-use Rattle.card_model.specs.Days.{Day, AreDays, last_word}
-use Rattle.card_model.specs.Changes.{trimmed, date_of}
-use Rattle.card_days.specs.declared.head.DayHead.{DayHead}
-use Rattle.card_days.specs.Held.{IsNewestHead}
-use Rattle.card_retention.specs.Expected.{Counted, is_newest, with_entry}
-use Rattle.card_retention.specs.Shown.{Bound, AllUpTo, is_open, sizes}
-use Rattle.card_image.specs.View.{card_view}
-use Rattle.card_image.specs.Fields.{file_bytes, card_days, card_number, end_mark, session_time}
-use Rattle.card_image.specs.Judging.{IsValid}
+use Rattle.tach_media.specs.card_layout.declared.files.Application.{Application}
+use Rattle.tach_media.specs.card_layout.Application.{IsApplication}
+use Rattle.tach_media.specs.card_layout.Files.{image_size_of}
+use Rattle.card_session.specs.card_model.Days.{Day, AreDays, last_word}
+use Rattle.card_session.specs.card_model.Changes.{trimmed, date_of}
+use Rattle.card_session.specs.card_days.declared.head.DayHead.{DayHead}
+use Rattle.card_session.specs.card_days.Held.{IsNewestHead}
+use Rattle.card_session.specs.card_retention.Expected.{Counted, is_newest, with_entry}
+use Rattle.card_session.specs.card_retention.Shown.{Bound, AllUpTo, is_open, sizes}
+use Rattle.hand_model.specs.card_image.View.{card_view}
+use Rattle.hand_model.specs.card_image.Fields.{file_bytes, card_days, card_number, end_mark, session_time}
+use Rattle.hand_model.specs.card_image.Judging.{IsValid}
 use Rattle.hand_model.specs.Counted.{with_by_hand}
 use Rattle.hand_model.specs.Holding.{LieBetween}
 use Rattle.hand_model.proofs.OfDay.{spans}

@@ -7,24 +7,24 @@ use Rattle.std.proofs.lemmas.Bool.Decides.{nat_tests}
 use Rattle.activity_codec.specs.Words.{word_minute}
 use Rattle.activity_codec.specs.declared.entries.Entry.{Entry}
 use Rattle.activity_codec.specs.declared.entries.Manual.{Manual}
-use Rattle.tacho_types.specs.declared.texts.Registration.{Registration}
-use Rattle.card_layout.specs.declared.files.Application.{Application}
-use Rattle.card_layout.specs.Application.{IsApplication}
-use Rattle.card_layout.specs.Files.{image_size_of}
-use Rattle.card_model.specs.Days.{Day, AreDays, IsDay, len_of}
-use Rattle.card_model.specs.Changes.{Remain, fitting, with_newest, with_word, with_km, with_early, early, cut, new_day, date_of, trimmed}
-use Rattle.card_model.proofs.Retention.{remain_all, remain_then, remain_fitting}
-use Rattle.card_model.proofs.Trims.{Behind, trimmed_word, with_last}
-use Rattle.card_retention.specs.Expected.{WordDay, is_newest}
-use Rattle.card_retention.specs.Entries.{latest, told_by, newest_word, day_entries}
-use Rattle.card_retention.specs.Retains.{entries_in, begun_on}
-use Rattle.card_retention.specs.Shown.{AllUpTo, AllBefore, sizes, size_day, is_open}
-use Rattle.card_retention.proofs.Growing.{sizes_append}
-use Rattle.card_retention.proofs.Listing.{Lists, lists_left}
-use Rattle.card_retention.proofs.ListTrims.{cut_entries}
-use Rattle.card_retention.proofs.Stops.{are_left}
-use Rattle.card_image.specs.Fields.{card_days, end_mark, session_time}
-use Rattle.card_image.specs.Judging.{IsValid}
+use Rattle.card_session.specs.tacho_types.declared.texts.Registration.{Registration}
+use Rattle.tach_media.specs.card_layout.declared.files.Application.{Application}
+use Rattle.tach_media.specs.card_layout.Application.{IsApplication}
+use Rattle.tach_media.specs.card_layout.Files.{image_size_of}
+use Rattle.card_session.specs.card_model.Days.{Day, AreDays, IsDay, len_of}
+use Rattle.card_session.specs.card_model.Changes.{Remain, fitting, with_newest, with_word, with_km, with_early, early, cut, new_day, date_of, trimmed}
+use Rattle.card_session.proofs.card_model.Retention.{remain_all, remain_then, remain_fitting}
+use Rattle.card_session.proofs.card_model.Trims.{Behind, trimmed_word, with_last}
+use Rattle.card_session.specs.card_retention.Expected.{WordDay, is_newest}
+use Rattle.card_session.specs.card_retention.Entries.{latest, told_by, newest_word, day_entries}
+use Rattle.card_session.specs.card_retention.Retains.{entries_in, begun_on}
+use Rattle.card_session.specs.card_retention.Shown.{AllUpTo, AllBefore, sizes, size_day, is_open}
+use Rattle.card_session.proofs.card_retention.Growing.{sizes_append}
+use Rattle.card_session.proofs.card_retention.Listing.{Lists, lists_left}
+use Rattle.card_session.proofs.card_retention.ListTrims.{cut_entries}
+use Rattle.card_session.proofs.card_retention.Stops.{are_left}
+use Rattle.hand_model.specs.card_image.Fields.{card_days, end_mark, session_time}
+use Rattle.hand_model.specs.card_image.Judging.{IsValid}
 use Rattle.hand_model.specs.Manual.{manual_word}
 use Rattle.hand_model.proofs.OfDay.{spans}
 use Rattle.hand_model.proofs.Words.{minute_is}

@@ -14,3 +14,8 @@ pub mod Written
 pub mod Told
 pub mod Fresh
 pub mod Telling
+pub use Rattle.hand_model.proofs.card_image as card_image
+pub use Rattle.card_session.proofs.card_model as card_model
+pub use Rattle.card_session.proofs.card_retention as card_retention
+pub use Rattle.card_session.proofs as card_session
+pub use Rattle.hand_model.proofs as hand_model

@@ -1,15 +1,15 @@
 -- The newest minute and the stored time of a card at each moment of an entry by hand.
 use Rattle.std.proofs.Common.{◌≡◌, ⊎_elim, ℕ, suc, ◌<◌, max, Bool, false, cond, List, [], ◌∷◌, refl, sym, ◌∙◌, ap, subst, arith, inr, ◌/◌}
 use Rattle.std.specs.Prelude.{nat_eq}
-use Rattle.card_layout.specs.declared.files.Application.{Application}
-use Rattle.card_layout.specs.Application.{IsApplication}
-use Rattle.card_model.specs.Days.{Day, AreDays}
-use Rattle.card_model.specs.Changes.{Remain, trimmed}
-use Rattle.card_model.proofs.Trims.{trimmed_word, trimmed_day, trimmed_cases}
-use Rattle.card_retention.specs.Shown.{is_open, sizes}
-use Rattle.card_retention.specs.Entries.{newest_minute, newest_word}
-use Rattle.card_image.specs.Fields.{card_days, end_mark, last_use, session_time}
-use Rattle.card_image.specs.View.{card_view}
+use Rattle.tach_media.specs.card_layout.declared.files.Application.{Application}
+use Rattle.tach_media.specs.card_layout.Application.{IsApplication}
+use Rattle.card_session.specs.card_model.Days.{Day, AreDays}
+use Rattle.card_session.specs.card_model.Changes.{Remain, trimmed}
+use Rattle.card_session.proofs.card_model.Trims.{trimmed_word, trimmed_day, trimmed_cases}
+use Rattle.card_session.specs.card_retention.Shown.{is_open, sizes}
+use Rattle.card_session.specs.card_retention.Entries.{newest_minute, newest_word}
+use Rattle.hand_model.specs.card_image.Fields.{card_days, end_mark, last_use, session_time}
+use Rattle.hand_model.specs.card_image.View.{card_view}
 use Rattle.activity_codec.specs.declared.entries.Manual.{Manual}
 use Rattle.card_session.specs.Vehicles.{Vehicles, last_use_in}
 use Rattle.card_session.specs.Books.{mark_of, Book, with_entry}
@@ -26,8 +26,8 @@ use Rattle.card_session.proofs.Surviving.{Survives, keep_survives, newest_gapped
 use Rattle.card_by_hand.specs.Clear.{BeginsLater}
 use Rattle.card_by_hand.proofs.Staying.{survives, mark_stays}
 use Rattle.activity_codec.specs.declared.entries.Entry.{Entry}
-use Rattle.tacho_types.specs.declared.texts.Registration.{Registration}
-use Rattle.card_retention.specs.Expected.{is_newest}
+use Rattle.card_session.specs.tacho_types.declared.texts.Registration.{Registration}
+use Rattle.card_session.specs.card_retention.Expected.{is_newest}
 use Rattle.card_session.specs.Moments.{IsBeforeMark, IsKeepMoment}
 use Rattle.card_session.specs.Parts.{IsBeforeGapOf}
 use Rattle.card_session.proofs.Preparing.{used_at}

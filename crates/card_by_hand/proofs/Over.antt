@@ -3,14 +3,14 @@ use Rattle.std.proofs.Common.{◌≡◌, inl, inr, ⊎_elim, ℕ, ◌+◌, ◌-�
 use Rattle.std.specs.Prelude.{◌⊎◌}
 use Rattle.activity_codec.specs.declared.entries.Entry.{Entry}
 use Rattle.activity_codec.specs.Words.{word_minute}
-use Rattle.card_model.specs.Days.{Day, AreDays, total, len_of}
-use Rattle.card_model.specs.Changes.{Remain, OnNewest, date_of, with_newest, with_word, fitting, new_day, trimmed}
-use Rattle.card_model.proofs.Retention.{remain_all, remain_then, remain_some, remain_fitting}
-use Rattle.card_model.proofs.Trims.{Behind, trimmed_word, trimmed_day}
-use Rattle.card_retention.specs.Expected.{Counted, is_newest}
-use Rattle.card_retention.specs.Shown.{Bound, Rests, Lives, sizes}
-use Rattle.card_retention.proofs.Entering.{date_newest}
-use Rattle.card_retention.proofs.Stops.{stopped, base_left, base_days, are_left}
+use Rattle.card_session.specs.card_model.Days.{Day, AreDays, total, len_of}
+use Rattle.card_session.specs.card_model.Changes.{Remain, OnNewest, date_of, with_newest, with_word, fitting, new_day, trimmed}
+use Rattle.card_session.proofs.card_model.Retention.{remain_all, remain_then, remain_some, remain_fitting}
+use Rattle.card_session.proofs.card_model.Trims.{Behind, trimmed_word, trimmed_day}
+use Rattle.card_session.specs.card_retention.Expected.{Counted, is_newest}
+use Rattle.card_session.specs.card_retention.Shown.{Bound, Rests, Lives, sizes}
+use Rattle.card_session.proofs.card_retention.Entering.{date_newest}
+use Rattle.card_session.proofs.card_retention.Stops.{stopped, base_left, base_days, are_left}
 use Rattle.card_session.specs.Books.{entry_word, day_words, with_change, tells_state, entered_days, with_new_day}
 use Rattle.card_session.specs.Moments.{IsBeforeWords}
 use Rattle.card_session.specs.ByHand.{words_from, with_day_from, with_word_at, word_len}

@@ -3,8 +3,8 @@ use Rattle.std.proofs.Common.{◌≡◌, false, List, [], ◌∷◌, refl}
 use Rattle.activity_codec.specs.declared.values.Activity.TheVariants.{Rest, Work}
 use Rattle.activity_codec.specs.declared.values.Slot.TheVariants.{Driver}
 use Rattle.activity_codec.specs.declared.entries.Entry.{Entry}
-use Rattle.card_model.specs.Days.{Day, len_of}
-use Rattle.card_model.specs.Changes.{trimmed}
+use Rattle.card_session.specs.card_model.Days.{Day, len_of}
+use Rattle.card_session.specs.card_model.Changes.{trimmed}
 use Rattle.card_session.specs.Books.{gap_closed, entered_days}
 use Rattle.card_session.specs.ByHand.{with_word_at}
 use Rattle.activity_codec.specs.declared.entries.Manual.{Manual}

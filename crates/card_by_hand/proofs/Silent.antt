@@ -5,14 +5,14 @@ use Rattle.activity_codec.proofs.ByTest.{by_test}
 use Rattle.activity_codec.specs.Words.{word_minute, word_absent}
 use Rattle.activity_codec.specs.declared.entries.Entry.{Entry}
 use Rattle.activity_codec.specs.declared.entries.Manual.{Manual}
-use Rattle.card_layout.specs.declared.files.Application.{Application}
-use Rattle.card_model.specs.Days.{Day}
-use Rattle.card_model.specs.Changes.{Remain, fitting, with_newest, with_word, new_day, date_of}
-use Rattle.card_model.proofs.Retention.{remain_fitting}
-use Rattle.card_retention.specs.Expected.{is_newest}
-use Rattle.card_retention.specs.Shown.{sizes}
-use Rattle.card_retention.specs.Entries.{latest, told_by}
-use Rattle.card_image.specs.Fields.{card_days, end_mark}
+use Rattle.tach_media.specs.card_layout.declared.files.Application.{Application}
+use Rattle.card_session.specs.card_model.Days.{Day}
+use Rattle.card_session.specs.card_model.Changes.{Remain, fitting, with_newest, with_word, new_day, date_of}
+use Rattle.card_session.proofs.card_model.Retention.{remain_fitting}
+use Rattle.card_session.specs.card_retention.Expected.{is_newest}
+use Rattle.card_session.specs.card_retention.Shown.{sizes}
+use Rattle.card_session.specs.card_retention.Entries.{latest, told_by}
+use Rattle.hand_model.specs.card_image.Fields.{card_days, end_mark}
 use Rattle.hand_model.specs.Manual.{manual_word}
 use Rattle.hand_model.proofs.Words.{absent_is}
 use Rattle.card_session.specs.Books.{bare_word, with_change}

@@ -4,20 +4,20 @@ use Rattle.std.specs.Prelude.{◌⊎◌, nat_eq}
 use Rattle.std.proofs.lemmas.Bool.Decides.{nat_tests}
 use Rattle.activity_codec.specs.declared.entries.Entry.{Entry}
 use Rattle.activity_codec.specs.Words.{word_minute}
-use Rattle.card_layout.specs.declared.files.Application.{Application}
-use Rattle.card_layout.specs.Application.{IsApplication}
-use Rattle.card_layout.specs.Files.{image_size_of}
-use Rattle.card_model.specs.Days.{Day, AreDays}
-use Rattle.card_model.specs.Changes.{Remain, OnNewest, fitting, new_day, date_of, trimmed}
-use Rattle.card_model.proofs.Retention.{remain_fitting, remain_some}
-use Rattle.card_model.proofs.Trims.{Behind}
-use Rattle.card_retention.specs.Expected.{is_newest}
-use Rattle.card_retention.specs.Shown.{sizes, AllUpTo}
-use Rattle.card_retention.proofs.Entering.{date_newest}
-use Rattle.card_retention.proofs.Listing.{Lists}
-use Rattle.card_retention.proofs.Stops.{are_left}
-use Rattle.card_image.specs.Fields.{card_days, end_mark, session_time}
-use Rattle.card_image.specs.Judging.{IsValid}
+use Rattle.tach_media.specs.card_layout.declared.files.Application.{Application}
+use Rattle.tach_media.specs.card_layout.Application.{IsApplication}
+use Rattle.tach_media.specs.card_layout.Files.{image_size_of}
+use Rattle.card_session.specs.card_model.Days.{Day, AreDays}
+use Rattle.card_session.specs.card_model.Changes.{Remain, OnNewest, fitting, new_day, date_of, trimmed}
+use Rattle.card_session.proofs.card_model.Retention.{remain_fitting, remain_some}
+use Rattle.card_session.proofs.card_model.Trims.{Behind}
+use Rattle.card_session.specs.card_retention.Expected.{is_newest}
+use Rattle.card_session.specs.card_retention.Shown.{sizes, AllUpTo}
+use Rattle.card_session.proofs.card_retention.Entering.{date_newest}
+use Rattle.card_session.proofs.card_retention.Listing.{Lists}
+use Rattle.card_session.proofs.card_retention.Stops.{are_left}
+use Rattle.hand_model.specs.card_image.Fields.{card_days, end_mark, session_time}
+use Rattle.hand_model.specs.card_image.Judging.{IsValid}
 use Rattle.activity_codec.specs.declared.entries.Manual.{Manual}
 use Rattle.hand_model.specs.Manual.{manual_word}
 use Rattle.hand_model.proofs.Words.{minute_is}

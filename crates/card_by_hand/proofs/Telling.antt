@@ -3,13 +3,13 @@ use Rattle.std.proofs.Common.{◌≡◌, ◌∙◌, inl, inr, ⊎_elim, ℕ, ◌
 use Rattle.std.specs.Prelude.{◌⊎◌}
 use Rattle.activity_codec.specs.declared.entries.Entry.{Entry}
 use Rattle.activity_codec.specs.declared.entries.Manual.{Manual}
-use Rattle.card_layout.specs.declared.files.Application.{Application}
-use Rattle.card_layout.specs.Application.{IsApplication}
-use Rattle.card_model.specs.Days.{Day, AreDays}
-use Rattle.card_model.specs.Changes.{Remain}
-use Rattle.card_retention.specs.Expected.{is_newest}
-use Rattle.card_retention.specs.Shown.{sizes}
-use Rattle.card_image.specs.Fields.{card_days, end_mark}
+use Rattle.tach_media.specs.card_layout.declared.files.Application.{Application}
+use Rattle.tach_media.specs.card_layout.Application.{IsApplication}
+use Rattle.card_session.specs.card_model.Days.{Day, AreDays}
+use Rattle.card_session.specs.card_model.Changes.{Remain}
+use Rattle.card_session.specs.card_retention.Expected.{is_newest}
+use Rattle.card_session.specs.card_retention.Shown.{sizes}
+use Rattle.hand_model.specs.card_image.Fields.{card_days, end_mark}
 use Rattle.hand_model.specs.Manual.{manual_word}
 use Rattle.hand_model.specs.ByHand.{TellsHands, HandsBefore}
 use Rattle.hand_model.proofs.OfDay.{spans}

@@ -7,16 +7,16 @@ use Rattle.activity_codec.specs.Words.{word_minute}
 use Rattle.activity_codec.specs.declared.entries.Entry.{Entry}
 use Rattle.activity_codec.specs.declared.entries.Manual.{Manual}
 use Rattle.activity_codec.specs.declared.values.Activity.TheVariants.{Rest}
-use Rattle.tacho_types.specs.declared.texts.Registration.{Registration}
-use Rattle.card_model.specs.Days.{Day, AreDays}
-use Rattle.card_model.specs.Changes.{Remain, OnNewest, fitting, with_newest, with_word, new_day, date_of}
-use Rattle.card_model.proofs.Retention.{remain_fitting, remain_some}
-use Rattle.card_retention.specs.Expected.{WordDay, is_newest}
-use Rattle.card_retention.specs.Shown.{sizes, is_open}
-use Rattle.card_retention.specs.Retains.{is_day}
-use Rattle.card_retention.specs.ByHand.{hands_in}
-use Rattle.card_retention.proofs.Entering.{date_newest}
-use Rattle.card_retention.proofs.Listing.{days_word}
+use Rattle.card_session.specs.tacho_types.declared.texts.Registration.{Registration}
+use Rattle.card_session.specs.card_model.Days.{Day, AreDays}
+use Rattle.card_session.specs.card_model.Changes.{Remain, OnNewest, fitting, with_newest, with_word, new_day, date_of}
+use Rattle.card_session.proofs.card_model.Retention.{remain_fitting, remain_some}
+use Rattle.card_session.specs.card_retention.Expected.{WordDay, is_newest}
+use Rattle.card_session.specs.card_retention.Shown.{sizes, is_open}
+use Rattle.card_session.specs.card_retention.Retains.{is_day}
+use Rattle.card_session.specs.card_retention.ByHand.{hands_in}
+use Rattle.card_session.proofs.card_retention.Entering.{date_newest}
+use Rattle.card_session.proofs.card_retention.Listing.{days_word}
 use Rattle.hand_model.specs.Manual.{manual_word, is_by_hand, tells_by_hand}
 use Rattle.hand_model.specs.ByHand.{words_by_hand, by_hand_up_to, TellsHands, HandsBefore}
 use Rattle.hand_model.proofs.Lists.{one_more, up_to_append}

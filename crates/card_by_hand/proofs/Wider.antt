@@ -4,10 +4,10 @@ use Rattle.std.specs.Prelude.{nat_eq}
 use Rattle.std.proofs.lemmas.Bool.{eqb-true}
 use Rattle.std.proofs.lemmas.Bool.Decides.{nat_tests}
 use Rattle.activity_codec.specs.declared.entries.Entry.{Entry}
-use Rattle.card_retention.specs.Expected.{WordDay, Counted, size_all, more, is_newest, closes, is_closed, first_words, goes_on, adds, with_entry}
-use Rattle.card_retention.specs.Shown.{Covers, IsFull, AllBefore, AllFrom}
-use Rattle.card_retention.specs.Retains.{CardRetains, is_day}
-use Rattle.card_retention.proofs.Entering.{newest_more}
+use Rattle.card_session.specs.card_retention.Expected.{WordDay, Counted, size_all, more, is_newest, closes, is_closed, first_words, goes_on, adds, with_entry}
+use Rattle.card_session.specs.card_retention.Shown.{Covers, IsFull, AllBefore, AllFrom}
+use Rattle.card_session.specs.card_retention.Retains.{CardRetains, is_day}
+use Rattle.card_session.proofs.card_retention.Entering.{newest_more}
 use Rattle.activity_codec.specs.declared.entries.Manual.{Manual}
 use Rattle.hand_model.specs.Counted.{with_by_hand, on_day, and_by_hand}
 use Rattle.card_by_hand.specs.Wider.{Wider, with_hands, AreOnDay}

@@ -6,9 +6,9 @@ use Rattle.std.proofs.lemmas.List.{append-nil}
 use Rattle.activity_codec.specs.declared.entries.Entry.{Entry}
 use Rattle.activity_codec.specs.declared.entries.Manual.{Manual}
 use Rattle.activity_codec.specs.Activity.{same_slot, same_activity}
-use Rattle.card_retention.specs.Expected.{WordDay, Counted, more, is_newest, is_closed, closes, goes_on, adds, same_bool, first_words, with_entry, counted, expected_days}
-use Rattle.card_retention.proofs.Entering.{newest_more}
-use Rattle.card_retention.specs.ByHand.{on_day, and_by_hand, with_by_hand}
+use Rattle.card_session.specs.card_retention.Expected.{WordDay, Counted, more, is_newest, is_closed, closes, goes_on, adds, same_bool, first_words, with_entry, counted, expected_days}
+use Rattle.card_session.proofs.card_retention.Entering.{newest_more}
+use Rattle.card_session.specs.card_retention.ByHand.{on_day, and_by_hand, with_by_hand}
 use Rattle.hand_model.specs.Written.{Written, Written.Minute, Written.ByHand, Rises, GoesOnIn, IsPartOf, entries_of, hands_of, counted_by}
 use Rattle.card_by_hand.specs.Wider.{Wider, with_hands, AreOnDay}
 use Rattle.card_by_hand.proofs.Wider.{wider_then as wider_chain, counted_wider, entry_wider, expected_wider}

@@ -2,11 +2,11 @@
 use Rattle.std.specs.Prelude.{◌≡◌, ◌⊎◌, ℕ, ◌/◌, ◌<◌, ◌≤◌, false, List, [], ◌∷◌}
 use Rattle.activity_codec.specs.declared.entries.Entry.{Entry}
 use Rattle.activity_codec.specs.declared.entries.Manual.{Manual}
-use Rattle.card_layout.specs.declared.files.Application.{Application}
-use Rattle.card_layout.specs.Application.{IsApplication}
-use Rattle.card_retention.specs.Expected.{is_newest}
-use Rattle.card_retention.specs.Shown.{sizes as sizes_of, is_open}
-use Rattle.card_image.specs.Fields.{card_days, end_mark}
+use Rattle.tach_media.specs.card_layout.declared.files.Application.{Application}
+use Rattle.tach_media.specs.card_layout.Application.{IsApplication}
+use Rattle.card_session.specs.card_retention.Expected.{is_newest}
+use Rattle.card_session.specs.card_retention.Shown.{sizes as sizes_of, is_open}
+use Rattle.hand_model.specs.card_image.Fields.{card_days, end_mark}
 use Rattle.hand_model.specs.Holding.{LieBetween, AreOfDay}
 use Rattle.hand_model.specs.ByHand.{HandsBefore}
 use Rattle.card_session.specs.Sessions.{Session, IsSession}

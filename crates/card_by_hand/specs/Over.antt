@@ -1,8 +1,8 @@
 -- Days of a card over those of before: what a session's first keep has written behind the end mark, and a repair cuts
 -- again.
 use Rattle.std.specs.Prelude.{◌≡◌, ◌⊎◌, ℕ, ◌+◌, ◌-◌, ◌%◌, ◌<◌, ◌≤◌, List, [], ◌∷◌, ◌++◌}
-use Rattle.card_model.specs.Days.{Day, AreDays, len_of}
-use Rattle.card_model.specs.Changes.{Remain, OnNewest, date_of, cut, with_newest, with_word}
+use Rattle.card_session.specs.card_model.Days.{Day, AreDays, len_of}
+use Rattle.card_session.specs.card_model.Changes.{Remain, OnNewest, date_of, cut, with_newest, with_word}
 use Rattle.activity_codec.specs.Words.{word_minute}
 use Rattle.card_session.specs.Books.{bare_word}
 

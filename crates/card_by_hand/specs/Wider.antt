@@ -1,6 +1,6 @@
 -- Expected days with more words, and what entries by hand make of them.
 use Rattle.std.specs.Prelude.{◌≡◌, ℕ, ◌/◌, ◌<◌, ◌≤◌, List, [], ◌∷◌}
-use Rattle.card_retention.specs.Expected.{WordDay, Counted}
+use Rattle.card_session.specs.card_retention.Expected.{WordDay, Counted}
 use Rattle.activity_codec.specs.declared.entries.Manual.{Manual}
 use Rattle.hand_model.specs.Counted.{with_by_hand}
 

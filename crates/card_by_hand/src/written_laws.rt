@@ -1,11 +1,11 @@
 ghost use Rattle.std.specs.Prelude.{◌≡◌, ℕ, ◌+◌, ◌/◌, ◌<◌, ◌≤◌, IfSome, List, [], ◌∷◌, ◌++◌, length};
 ghost use Rattle.activity_codec.specs.declared.entries.Entry.{Entry};
 ghost use Rattle.activity_codec.specs.declared.entries.Manual.{Manual};
-ghost use Rattle.card_retention.specs.Expected.{WordDay, Counted, counted, expected_days};
-ghost use Rattle.card_retention.specs.Retains.{entries_in, begun_on};
-ghost use Rattle.card_retention.specs.Shown.{AllUpTo};
-ghost use Rattle.card_retention.specs.ByHand.{and_by_hand};
-ghost use Rattle.card_image.specs.Fields.{card_days, end_mark};
+ghost use Rattle.card_session.specs.card_retention.Expected.{WordDay, Counted, counted, expected_days};
+ghost use Rattle.card_session.specs.card_retention.Retains.{entries_in, begun_on};
+ghost use Rattle.card_session.specs.card_retention.Shown.{AllUpTo};
+ghost use Rattle.card_session.specs.card_retention.ByHand.{and_by_hand};
+ghost use Rattle.hand_model.specs.card_image.Fields.{card_days, end_mark};
 ghost use Rattle.hand_model.specs.ByHand.{TellsHands};
 ghost use Rattle.hand_model.specs.Written.{Written, Rises, IsUpTo, IsPartOf, entries_of, hands_of, written_by};
 ghost use Rattle.hand_model.specs.Written.{counted_by};

@@ -30,3 +30,4 @@ pub mod Starting
 pub mod Tails
 pub mod Told
 pub mod Trimming
+pub use Rattle.card_model.proofs as card_model

@@ -6,3 +6,4 @@ pub mod Held
 pub mod Plans
 pub mod Loading
 pub mod Rears
+pub use Rattle.card_model.specs as card_model

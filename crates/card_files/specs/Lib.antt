@@ -5,3 +5,6 @@ pub mod Events
 pub mod CurrentUses
 pub mod Rings
 pub mod Noting
+pub use Rattle.card_layout.specs as card_layout
+pub use Rattle.gated_ring.specs as gated_ring
+pub use Rattle.tach_media.specs as tach_media

@@ -1,22 +1,22 @@
 -- What writes leave of what a card shows: a write beside its parts, one of its vehicle entries alone, one of its session alone.
 use Rattle.std.proofs.Common.{◌≡◌, inl, inr, ℕ, ◌+◌, ◌/◌, ◌<◌, cond, Option, Some, None, option_map, List, [], ◌∷◌, ◌++◌, refl, sym, ◌∙◌, ap, subst, arith}
 use Rattle.std.specs.Prelude.{nat_lt}
-use Rattle.card_layout.specs.Images.{big_number}
-use Rattle.tach_media.proofs.Images.{part_before, part_after, part_in}
-use Rattle.card_layout.specs.declared.files.Application.{Application}
-use Rattle.card_layout.specs.Application.{IsApplication, first_bad_field, place_of_field}
-use Rattle.card_layout.specs.Files.{place_of, size_of, files_of}
-use Rattle.tach_media.specs.Medium.{bytes_at, SameOutside}
+use Rattle.card_files.specs.card_layout.Images.{big_number}
+use Rattle.card_files.proofs.tach_media.Images.{part_before, part_after, part_in}
+use Rattle.card_files.specs.card_layout.declared.files.Application.{Application}
+use Rattle.card_files.specs.card_layout.Application.{IsApplication, first_bad_field, place_of_field}
+use Rattle.card_files.specs.card_layout.Files.{place_of, size_of, files_of}
+use Rattle.card_files.specs.tach_media.Medium.{bytes_at, SameOutside}
 use Rattle.card_files.specs.Vehicles.{vehicle_of}
 use Rattle.card_files.specs.CurrentUses.{current_use_of}
-use Rattle.card_model.specs.Days.{Day}
-use Rattle.card_model.specs.Image.{oldest_pointer}
-use Rattle.card_model.specs.Checks.{first_failing, first_bad}
+use Rattle.card_retention.specs.card_model.Days.{Day}
+use Rattle.card_retention.specs.card_model.Image.{oldest_pointer}
+use Rattle.card_retention.specs.card_model.Checks.{first_failing, first_bad}
 use Rattle.card_image.proofs.DaysBeside.{oldest_elsewhere, days_elsewhere, bad_elsewhere}
-use Rattle.gated_ring.specs.Ring.{IsShape, PointsInside, indices, entry_at, size_of as ring_size, IsLast}
-use Rattle.gated_ring.proofs.Orders.{Each}
-use Rattle.gated_ring.proofs.Listing.{indices_below}
-use Rattle.gated_ring.proofs.Elsewhere.{indices_elsewhere, entry_elsewhere, pointer_elsewhere}
+use Rattle.card_files.specs.gated_ring.Ring.{IsShape, PointsInside, indices, entry_at, size_of as ring_size, IsLast}
+use Rattle.card_files.proofs.gated_ring.Orders.{Each}
+use Rattle.card_files.proofs.gated_ring.Listing.{indices_below}
+use Rattle.card_files.proofs.gated_ring.Elsewhere.{indices_elsewhere, entry_elsewhere, pointer_elsewhere}
 use Rattle.card_image.specs.Fields.{file, file_bytes, day_string, vehicle_ring, place_ring, last_of, vehicle_at, newest_vehicle, last_use_of, last_use, end_mark, current_use, session_time, card_days, card_number}
 use Rattle.card_image.specs.View.{view_of, card_view}
 use Rattle.card_image.specs.Judging.{FileCheck, file_check, first_bad_of, pointer_bad, word_checks, first_bad_file}

@@ -1,12 +1,12 @@
 -- Images with the same file of days hold the same days, and are judged alike.
 use Rattle.std.proofs.Common.{◌≡◌, ℕ, ◌+◌, ◌-◌, ◌%◌, ◌≤◌, Bool, true, false, List, [], ◌∷◌, sym, ◌∙◌, ap, arith}
 use Rattle.std.specs.Prelude.{nat_eq, ◌&&◌}
-use Rattle.tach_media.specs.Medium.{bytes_at}
-use Rattle.tach_media.proofs.Images.{part_in}
-use Rattle.card_model.specs.Bytes.{number}
-use Rattle.card_model.specs.Image.{StringShape, turned, oldest_pointer, newest_pointer, string_of, circle_of}
-use Rattle.card_model.specs.Walk.{days_in, days_of}
-use Rattle.card_model.specs.Checks.{Check, check, first_failing, is_pointer, day_checks, distance_of, is_empty, checks_of, first_bad}
+use Rattle.card_files.specs.tach_media.Medium.{bytes_at}
+use Rattle.card_files.proofs.tach_media.Images.{part_in}
+use Rattle.card_retention.specs.card_model.Bytes.{number}
+use Rattle.card_retention.specs.card_model.Image.{StringShape, turned, oldest_pointer, newest_pointer, string_of, circle_of}
+use Rattle.card_retention.specs.card_model.Walk.{days_in, days_of}
+use Rattle.card_retention.specs.card_model.Checks.{Check, check, first_failing, is_pointer, day_checks, distance_of, is_empty, checks_of, first_bad}
 
 -- the checks of a string, by what they are made of
 abbrev checks_in : StringShape → (empty : Bool) → (oldest newest : ℕ) → List ℕ → List Check

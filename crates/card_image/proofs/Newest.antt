@@ -3,13 +3,13 @@ use Rattle.std.proofs.Common.{◌≡◌, ℕ, suc, ◌+◌, ◌/◌, ◌%◌, �
 use Rattle.std.specs.Prelude.{nat_eq}
 use Rattle.std.proofs.lemmas.Bool.Decides.{nat_tests}
 use Rattle.std.proofs.Math.Nat.{max-eq_left}
-use Rattle.activity_codec.specs.declared.entries.Entry.{Entry}
-use Rattle.activity_codec.specs.Words.{word_minute}
-use Rattle.card_layout.specs.declared.files.Application.{Application}
-use Rattle.card_model.specs.Days.{Day, AreDays, last_word}
-use Rattle.card_model.specs.Changes.{OnNewest, date_of, trimmed}
-use Rattle.card_model.proofs.Ascending.{words_below}
-use Rattle.card_model.proofs.Trims.{are_trimmed, trimmed_twice}
+use Rattle.card_retention.specs.activity_codec.declared.entries.Entry.{Entry}
+use Rattle.card_retention.specs.activity_codec.Words.{word_minute}
+use Rattle.card_files.specs.card_layout.declared.files.Application.{Application}
+use Rattle.card_retention.specs.card_model.Days.{Day, AreDays, last_word}
+use Rattle.card_retention.specs.card_model.Changes.{OnNewest, date_of, trimmed}
+use Rattle.card_retention.proofs.card_model.Ascending.{words_below}
+use Rattle.card_retention.proofs.card_model.Trims.{are_trimmed, trimmed_twice}
 use Rattle.card_retention.specs.Entries.{entries_up_to, last_entry, newest_word, closed_at, newest_minute}
 use Rattle.card_retention.specs.Shown.{AllBefore, sizes}
 use Rattle.card_retention.proofs.Starting.{sizes_low}

@@ -1,14 +1,14 @@
 -- Worked rows of a card: what it shows, and where it is not valid.
 use Rattle.std.proofs.Common.{◌≡◌, ◌+◌, ◌*◌, ℕ, List, [], ◌∷◌, Some, None, length, map, refl, replicate}
-use Rattle.card_model.specs.Days.{Day}
-use Rattle.card_model.specs.Checks.{first_failing}
+use Rattle.card_retention.specs.card_model.Days.{Day}
+use Rattle.card_retention.specs.card_model.Checks.{first_failing}
 use Rattle.card_retention.specs.Entries.{day_entries}
 use Rattle.card_image.specs.Fields.{file}
 use Rattle.card_image.specs.View.{CardView, view_of}
 use Rattle.card_image.specs.CardFile.{entry_bytes, entries_of}
 use Rattle.card_image.specs.Judging.{word_checks, first_bad_file}
-use Rattle.card_layout.specs.Application.{first_bad_field}
-use Rattle.card_layout.specs.Files.{files_of}
+use Rattle.card_files.specs.card_layout.Application.{first_bad_field}
+use Rattle.card_files.specs.card_layout.Files.{files_of}
 
 -- 2010-03-01, with these words
 abbrev day : List ℕ → Day

@@ -1,9 +1,9 @@
 -- The parts of a card's image that tell what it shows, how it is judged and its number, and writes beside them.
 use Rattle.std.specs.Prelude.{◌≡◌, ◌⊎◌, ℕ, ◌+◌, ◌≤◌, List}
-use Rattle.card_layout.specs.declared.files.Application.{Application}
-use Rattle.card_layout.specs.Files.{place_of, size_of}
-use Rattle.tach_media.specs.Medium.{bytes_at}
-use Rattle.gated_ring.specs.Ring.{size_of as ring_size}
+use Rattle.card_files.specs.card_layout.declared.files.Application.{Application}
+use Rattle.card_files.specs.card_layout.Files.{place_of, size_of}
+use Rattle.card_files.specs.tach_media.Medium.{bytes_at}
+use Rattle.card_files.specs.gated_ring.Ring.{size_of as ring_size}
 use Rattle.card_image.specs.Fields.{file, day_string, vehicle_ring, place_ring}
 
 -- two images have the same bytes in a range

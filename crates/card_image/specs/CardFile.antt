@@ -2,19 +2,19 @@
 use Rattle.std.specs.Prelude.{◌≡◌, ℕ, ◌+◌, ◌*◌, ◌/◌, ◌<◌, ◌≤◌, ◌^◌, Bool, not, ◌&&◌, Option, Some, None, List, [], ◌∷◌}
 use Rattle.std.specs.Prelude.{◌++◌, length, map, filter, nat_eq, All}
 use Rattle.byteorder.specs.Endian.{big_bytes}
-use Rattle.card_layout.specs.Fields.{joined}
-use Rattle.activity_codec.specs.declared.entries.Entry.{Entry}
-use Rattle.card_layout.specs.declared.files.Application.{Application}
-use Rattle.card_layout.specs.declared.files.CardFile.{CardFile}
-use Rattle.card_layout.specs.Application.{application_of, first_bad_field}
-use Rattle.card_layout.specs.Files.{files_of, place_of, size_of}
-use Rattle.tach_media.specs.Medium.{bytes_at}
-use Rattle.card_model.specs.Image.{StringShape}
-use Rattle.card_model.specs.Walk.{days_of}
-use Rattle.card_model.specs.Checks.{first_bad}
+use Rattle.card_files.specs.card_layout.Fields.{joined}
+use Rattle.card_retention.specs.activity_codec.declared.entries.Entry.{Entry}
+use Rattle.card_files.specs.card_layout.declared.files.Application.{Application}
+use Rattle.card_files.specs.card_layout.declared.files.CardFile.{CardFile}
+use Rattle.card_files.specs.card_layout.Application.{application_of, first_bad_field}
+use Rattle.card_files.specs.card_layout.Files.{files_of, place_of, size_of}
+use Rattle.card_files.specs.tach_media.Medium.{bytes_at}
+use Rattle.card_retention.specs.card_model.Image.{StringShape}
+use Rattle.card_retention.specs.card_model.Walk.{days_of}
+use Rattle.card_retention.specs.card_model.Checks.{first_bad}
 use Rattle.card_retention.specs.Entries.{entries_up_to}
 use Rattle.card_files.specs.Vehicles.{vehicle_of}
-use Rattle.gated_ring.specs.Ring.{Shape, PointsInside, indices, entry_at}
+use Rattle.card_files.specs.gated_ring.Ring.{Shape, PointsInside, indices, entry_at}
 use Rattle.card_image.specs.Fields.{vehicle_ring, last_of}
 
 -- an entry of a card file: a file's identifier, the kind, 0 for its value and 1 for a signature, and the bytes

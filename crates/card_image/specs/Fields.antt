@@ -1,17 +1,17 @@
 -- Where a card of given sizes keeps its days, vehicles, places and session, and what these fields say.
 use Rattle.std.specs.Prelude.{ℕ, ◌/◌, Option, Some, None, List, [], ◌∷◌, ◌++◌}
-use Rattle.card_layout.specs.declared.files.Application.{Application}
-use Rattle.card_layout.specs.Files.{place_of, size_of}
-use Rattle.tach_media.specs.Medium.{bytes_at}
+use Rattle.card_files.specs.card_layout.declared.files.Application.{Application}
+use Rattle.card_files.specs.card_layout.Files.{place_of, size_of}
+use Rattle.card_files.specs.tach_media.Medium.{bytes_at}
 use Rattle.card_files.specs.declared.vehicle.Vehicle.{Vehicle}
 use Rattle.card_files.specs.Vehicles.{vehicle_of}
 use Rattle.card_files.specs.declared.current_use.CurrentUse.{CurrentUse}
 use Rattle.card_files.specs.CurrentUses.{current_use_of}
 pub use Rattle.card_files.specs.Rings.{file, vehicle_ring, place_ring}
-use Rattle.card_model.specs.Days.{Day}
-use Rattle.card_model.specs.Image.{StringShape}
-use Rattle.card_model.specs.Walk.{days_of}
-use Rattle.gated_ring.specs.Ring.{indices, entry_at}
+use Rattle.card_retention.specs.card_model.Days.{Day}
+use Rattle.card_retention.specs.card_model.Image.{StringShape}
+use Rattle.card_retention.specs.card_model.Walk.{days_of}
+use Rattle.card_files.specs.gated_ring.Ring.{indices, entry_at}
 
 -- a file's bytes in the image
 abbrev pub file_bytes : Application → ℕ → List ℕ → List ℕ

@@ -1,15 +1,15 @@
 -- Whether a card is valid: the checks of an insertion in their order, each with its file and its place in the file.
 use Rattle.std.specs.Prelude.{◌≡◌, ℕ, suc, ◌+◌, ◌/◌, Bool, false, not, ◌&&◌, Option, Some, None, option_map, List, []}
 use Rattle.std.specs.Prelude.{◌∷◌, ◌++◌, map, filter, nat_eq, nat_lt, nat_le, if◌then◌else◌}
-use Rattle.activity_codec.specs.Words.{word_absent, word_minute}
-use Rattle.card_layout.specs.declared.files.Application.{Application}
-use Rattle.card_layout.specs.declared.files.Fid.{Fid}
-use Rattle.card_layout.specs.Application.{first_bad_field, place_of_field}
-use Rattle.card_model.specs.Days.{Day, len_of}
-use Rattle.card_model.specs.Changes.{date_of, trimmed}
-use Rattle.card_model.specs.Image.{oldest_pointer}
-use Rattle.card_model.specs.Checks.{Check, check, first_failing, file_place, first_bad}
-use Rattle.gated_ring.specs.Ring.{Shape as RingShape, pointer}
+use Rattle.card_retention.specs.activity_codec.Words.{word_absent, word_minute}
+use Rattle.card_files.specs.card_layout.declared.files.Application.{Application}
+use Rattle.card_files.specs.card_layout.declared.files.Fid.{Fid}
+use Rattle.card_files.specs.card_layout.Application.{first_bad_field, place_of_field}
+use Rattle.card_retention.specs.card_model.Days.{Day, len_of}
+use Rattle.card_retention.specs.card_model.Changes.{date_of, trimmed}
+use Rattle.card_retention.specs.card_model.Image.{oldest_pointer}
+use Rattle.card_retention.specs.card_model.Checks.{Check, check, first_failing, file_place, first_bad}
+use Rattle.card_files.specs.gated_ring.Ring.{Shape as RingShape, pointer}
 use Rattle.card_image.specs.Fields.{file, file_bytes, day_string, vehicle_ring, place_ring, last_of, card_days}
 use Rattle.card_image.specs.Fields.{end_mark, session_time}
 

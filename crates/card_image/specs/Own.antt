@@ -1,10 +1,10 @@
 -- A card's image read by the sizes that it tells itself, and what the stated overwriting leaves of a card's entries.
 use Rattle.std.specs.Prelude.{◌≡◌, ℕ, ◌/◌, ◌≤◌, Option, None, List, ◌++◌, Contains}
-use Rattle.activity_codec.specs.declared.entries.Entry.{Entry}
-use Rattle.activity_codec.specs.declared.entries.Manual.{Manual}
-use Rattle.card_layout.specs.declared.files.Application.{Application}
-use Rattle.card_layout.specs.declared.files.Fid.{Fid}
-use Rattle.card_layout.specs.Application.{application_in, application_of}
+use Rattle.card_retention.specs.activity_codec.declared.entries.Entry.{Entry}
+use Rattle.card_retention.specs.activity_codec.declared.entries.Manual.{Manual}
+use Rattle.card_files.specs.card_layout.declared.files.Application.{Application}
+use Rattle.card_files.specs.card_layout.declared.files.Fid.{Fid}
+use Rattle.card_files.specs.card_layout.Application.{application_in, application_of}
 use Rattle.card_retention.specs.Expected.{WordDay, Counted, counted, expected_days}
 use Rattle.card_retention.specs.ByHand.{and_by_hand}
 use Rattle.card_retention.specs.Entries.{last_entry, newest_word}

@@ -1,9 +1,9 @@
 -- What a card's image shows: its entries, its end mark, its session, and its newest minute.
 use Rattle.std.specs.Prelude.{ℕ, ◌*◌, max, min, List, nat_eq, if◌then◌else◌}
-use Rattle.activity_codec.specs.declared.entries.Entry.{Entry}
-use Rattle.card_layout.specs.declared.files.Application.{Application}
-use Rattle.card_model.specs.Days.{Day}
-use Rattle.card_model.specs.Changes.{trimmed}
+use Rattle.card_retention.specs.activity_codec.declared.entries.Entry.{Entry}
+use Rattle.card_files.specs.card_layout.declared.files.Application.{Application}
+use Rattle.card_retention.specs.card_model.Days.{Day}
+use Rattle.card_retention.specs.card_model.Changes.{trimmed}
 use Rattle.card_retention.specs.Expected.{WordDay}
 use Rattle.card_retention.specs.Shown.{sizes}
 use Rattle.card_retention.specs.Entries.{entries_up_to, newest_word, newest_minute}

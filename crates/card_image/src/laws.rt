@@ -1,11 +1,11 @@
 ghost use Rattle.std.specs.Prelude.{◌≡◌, ℕ, max, List};
-ghost use Rattle.card_layout.specs.declared.files.Application.{Application};
-ghost use Rattle.card_layout.specs.Application.{IsApplication};
-ghost use Rattle.tach_media.specs.Medium.{SameOutside};
+ghost use Rattle.card_files.specs.card_layout.declared.files.Application.{Application};
+ghost use Rattle.card_files.specs.card_layout.Application.{IsApplication};
+ghost use Rattle.card_files.specs.tach_media.Medium.{SameOutside};
 ghost use Rattle.card_files.specs.Vehicles.{vehicle_of};
-ghost use Rattle.card_model.specs.Days.{Day, AreDays};
+ghost use Rattle.card_retention.specs.card_model.Days.{Day, AreDays};
 ghost use Rattle.card_retention.specs.Entries.{entries_up_to, last_entry, closed_at};
-ghost use Rattle.gated_ring.specs.Ring.{PointsInside, IsLast, entry_at};
+ghost use Rattle.card_files.specs.gated_ring.Ring.{PointsInside, IsLast, entry_at};
 ghost use Rattle.card_image.specs.Fields.{vehicle_ring, last_use, end_mark, session_time, card_days, card_number};
 ghost use Rattle.card_image.specs.View.{view_of, card_view, counting};
 ghost use Rattle.card_image.specs.Judging.{first_bad_file};

@@ -15,3 +15,4 @@ pub mod Listing
 pub mod Committing
 pub mod ListTrims
 pub mod Due
+pub use Rattle.card_model.proofs as card_model

@@ -3,14 +3,14 @@ use Rattle.std.proofs.Common.{◌≡◌, ℕ, suc, ◌+◌, ◌/◌, ◌%◌, �
 use Rattle.std.specs.Prelude.{nat_eq, nat_lt, nat_le}
 use Rattle.activity_codec.specs.declared.entries.Entry.{Entry}
 use Rattle.activity_codec.specs.Words.{word_minute, word_absent}
-use Rattle.card_model.specs.Days.{Day, AreDays, last_word}
-use Rattle.card_model.specs.Changes.{OnNewest, AreStrict, with_newest, with_early, early, until, cut, trimmed, date_of}
-use Rattle.card_model.proofs.Trims.{cut_date}
-use Rattle.card_retention.specs.Expected.{WordDay, more, Counted, expected_days}
-use Rattle.card_retention.specs.Shown.{Bound, Shows, Grows, sizes, size_day, is_open, owing, Tells, TellsIn, Rests, Sound, Sound.Flat, Sound.Tail, Lives}
-use Rattle.card_retention.specs.Entries.{latest, told_by, entry_at, day_entries, entries_up_to, newest_word}
-use Rattle.card_retention.proofs.Flat.{UpTo, newest_flat, flat_newest}
-use Rattle.card_retention.proofs.Listing.{minutes_same}
+use Rattle.card_days.specs.card_model.Days.{Day, AreDays, last_word}
+use Rattle.card_days.specs.card_model.Changes.{OnNewest, AreStrict, with_newest, with_early, early, until, cut, trimmed, date_of}
+use Rattle.card_days.proofs.card_model.Trims.{cut_date}
+use Rattle.card_validity.specs.card_retention.Expected.{WordDay, more, Counted, expected_days}
+use Rattle.card_validity.specs.card_retention.Shown.{Bound, Shows, Grows, sizes, size_day, is_open, owing, Tells, TellsIn, Rests, Sound, Sound.Flat, Sound.Tail, Lives}
+use Rattle.card_validity.specs.card_retention.Entries.{latest, told_by, entry_at, day_entries, entries_up_to, newest_word}
+use Rattle.card_validity.proofs.card_retention.Flat.{UpTo, newest_flat, flat_newest}
+use Rattle.card_validity.proofs.card_retention.Listing.{minutes_same}
 use Rattle.card_session.specs.Books.{travelled}
 use Rattle.card_session.specs.Sessions.{EndsStrictly}
 

@@ -6,20 +6,20 @@ use Rattle.activity_codec.specs.Words.{word_minute, word_absent}
 use Rattle.tach_media.specs.Medium.{State, IsCoherent, LeavesOnly, HasCause}
 use Rattle.tach_media.proofs.Runs.{weaken, where_told, at_image}
 use Rattle.card_layout.specs.declared.files.Application.{Application}
-use Rattle.card_model.specs.Days.{Day, AreDays, last_word, total}
-use Rattle.card_model.specs.Changes.{Remain, OnNewest, TakesWord, AreStrict, IsLater, IsNext, fitting, with_newest, with_word, new_day, date_of}
-use Rattle.card_model.specs.Image.{StringShape, HoldsDays, newest_pointer}
-use Rattle.card_model.proofs.Retention.{remain_some, remain_fitting}
+use Rattle.card_days.specs.card_model.Days.{Day, AreDays, last_word, total}
+use Rattle.card_days.specs.card_model.Changes.{Remain, OnNewest, TakesWord, AreStrict, IsLater, IsNext, fitting, with_newest, with_word, new_day, date_of}
+use Rattle.card_days.specs.card_model.Image.{StringShape, HoldsDays, newest_pointer}
+use Rattle.card_days.proofs.card_model.Retention.{remain_some, remain_fitting}
 use Rattle.gated_ring.specs.Ring.{PointsInside, IsNewest}
 use Rattle.card_days.specs.declared.head.Tail.{Tail}
 use Rattle.card_days.specs.Held.{Held, Knows, tail_in}
 use Rattle.card_days.specs.Moments.{IfKnown, IsDayBeginning, IsDayBegun, KnowsBegun}
 use Rattle.card_days.specs.Plans.{most_drops}
-use Rattle.card_retention.specs.Expected.{is_newest}
-use Rattle.card_retention.specs.Shown.{sizes, EndsAbsent}
-use Rattle.card_retention.specs.Entries.{EndsBy, newest_word}
-use Rattle.card_retention.proofs.Entering.{date_newest, last_append, on_append}
-use Rattle.card_image.specs.Fields.{day_string, vehicle_ring}
+use Rattle.card_validity.specs.card_retention.Expected.{is_newest}
+use Rattle.card_validity.specs.card_retention.Shown.{sizes, EndsAbsent}
+use Rattle.card_validity.specs.card_retention.Entries.{EndsBy, newest_word}
+use Rattle.card_validity.proofs.card_retention.Entering.{date_newest, last_append, on_append}
+use Rattle.card_validity.specs.card_image.Fields.{day_string, vehicle_ring}
 use Rattle.activity_codec.specs.declared.entries.Manual.{Manual}
 use Rattle.hand_model.specs.Manual.{manual_word}
 use Rattle.hand_model.proofs.Words.{minute_is, absent_is}

@@ -7,14 +7,14 @@ use Rattle.card_layout.specs.Files.{files_of, image_size_of, place_of}
 use Rattle.tach_media.specs.Medium.{State, LeavesOnly, IsPartlyWritten, LiesInside, put}
 use Rattle.tach_media.proofs.Runs.{weaken, goes_on, told_too, turned_into, where_told, at_image}
 use Rattle.card_files.specs.declared.vehicle.Vehicle.{Vehicle}
-use Rattle.card_model.specs.Days.{Day, total}
-use Rattle.card_model.specs.Changes.{OnNewest, TakesWord}
-use Rattle.card_model.specs.Image.{newest_pointer}
-use Rattle.card_retention.specs.Shown.{is_open}
+use Rattle.card_days.specs.card_model.Days.{Day, total}
+use Rattle.card_days.specs.card_model.Changes.{OnNewest, TakesWord}
+use Rattle.card_days.specs.card_model.Image.{newest_pointer}
+use Rattle.card_validity.specs.card_retention.Shown.{is_open}
 use Rattle.gated_ring.specs.Ring.{IsNewest, entry_at}
 use Rattle.card_days.specs.declared.head.Tail.{Tail}
 use Rattle.card_days.specs.Held.{Knows, tail_in}
-use Rattle.card_image.specs.Fields.{file, vehicle_ring, last_use_of}
+use Rattle.card_validity.specs.card_image.Fields.{file, vehicle_ring, last_use_of}
 use Rattle.card_files.specs.Vehicles.{vehicle_of}
 use Rattle.card_session.specs.Vehicles.{Vehicles}
 use Rattle.card_session.specs.Books.{Book, mark_of, latest_of, closing_word, with_change, closed_days, closed, last_used, used}

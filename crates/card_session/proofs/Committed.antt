@@ -11,20 +11,20 @@ use Rattle.tacho_types.specs.declared.texts.Registration.{Registration}
 use Rattle.card_layout.specs.declared.files.Application.{Application}
 use Rattle.card_layout.specs.Application.{IsApplication}
 use Rattle.card_layout.specs.Files.{image_size_of}
-use Rattle.card_model.specs.Days.{Day, AreDays, last_word}
-use Rattle.card_model.specs.Changes.{Remain, OnNewest, fitting, with_newest, with_word, new_day, date_of}
-use Rattle.card_model.proofs.Lists.{last_is}
-use Rattle.card_model.proofs.Retention.{remain_fitting, remain_some}
-use Rattle.card_retention.specs.Expected.{WordDay, is_newest}
-use Rattle.card_retention.specs.Shown.{sizes, is_open, AllUpTo, Tells, TellsIn, Entered, Entered.Same, Entered.Word, Entered.Begun}
-use Rattle.card_retention.specs.Entries.{latest, told_by, entry_at, minutes_from, day_entries, entries_up_to, newest_word}
-use Rattle.card_retention.specs.Retains.{is_day, entries_in}
-use Rattle.card_retention.proofs.Entering.{on_word, on_append, last_append, date_newest}
-use Rattle.card_retention.proofs.Newest.{latest_last}
-use Rattle.card_retention.proofs.Committing.{QuietDay, Quiet, Olds, told_back, commits}
-use Rattle.card_retention.proofs.ListTrims.{QuietEnd, quiet}
-use Rattle.card_retention.proofs.Listing.{Lists}
-use Rattle.card_image.specs.Fields.{card_days, end_mark}
+use Rattle.card_days.specs.card_model.Days.{Day, AreDays, last_word}
+use Rattle.card_days.specs.card_model.Changes.{Remain, OnNewest, fitting, with_newest, with_word, new_day, date_of}
+use Rattle.card_days.proofs.card_model.Lists.{last_is}
+use Rattle.card_days.proofs.card_model.Retention.{remain_fitting, remain_some}
+use Rattle.card_validity.specs.card_retention.Expected.{WordDay, is_newest}
+use Rattle.card_validity.specs.card_retention.Shown.{sizes, is_open, AllUpTo, Tells, TellsIn, Entered, Entered.Same, Entered.Word, Entered.Begun}
+use Rattle.card_validity.specs.card_retention.Entries.{latest, told_by, entry_at, minutes_from, day_entries, entries_up_to, newest_word}
+use Rattle.card_validity.specs.card_retention.Retains.{is_day, entries_in}
+use Rattle.card_validity.proofs.card_retention.Entering.{on_word, on_append, last_append, date_newest}
+use Rattle.card_validity.proofs.card_retention.Newest.{latest_last}
+use Rattle.card_validity.proofs.card_retention.Committing.{QuietDay, Quiet, Olds, told_back, commits}
+use Rattle.card_validity.proofs.card_retention.ListTrims.{QuietEnd, quiet}
+use Rattle.card_validity.proofs.card_retention.Listing.{Lists}
+use Rattle.card_validity.specs.card_image.Fields.{card_days, end_mark}
 use Rattle.card_session.specs.Books.{Book, mark_of, latest_of, closing_word, with_change, gap_closed, closed_days, closed, last_used, entry_word, bare_word, day_words, tells_state, with_new_day, entered_days, travelled}
 use Rattle.card_session.specs.Sessions.{book_of}
 use Rattle.card_session.specs.Moments.{IsBook, IsKeepMoment, IsCloseMoment}

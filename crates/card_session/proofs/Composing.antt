@@ -5,9 +5,9 @@ use Rattle.card_layout.proofs.Images.{outside_then}
 use Rattle.card_layout.specs.declared.files.Application.{Application}
 use Rattle.tach_media.specs.Medium.{State, HasCause, Unchanged}
 use Rattle.tach_media.proofs.Runs.{weaken, goes_on, told_too, cause_after, starts, where_told, at_image}
-use Rattle.card_model.specs.Days.{Day}
+use Rattle.card_days.specs.card_model.Days.{Day}
 use Rattle.card_days.specs.Steps.{IsIdle}
-use Rattle.card_image.specs.Fields.{day_string}
+use Rattle.card_validity.specs.card_image.Fields.{day_string}
 use Rattle.card_session.specs.Vehicles.{Vehicles}
 use Rattle.card_session.specs.Books.{Book}
 use Rattle.card_session.specs.Sessions.{Session, KnowsCard, book_of}

@@ -8,13 +8,13 @@ use Rattle.tacho_types.specs.declared.texts.Registration.{Registration}
 use Rattle.card_layout.specs.declared.files.Application.{Application}
 use Rattle.card_layout.specs.Application.{IsApplication}
 use Rattle.card_layout.specs.Files.{image_size_of}
-use Rattle.card_model.specs.Days.{Day, AreDays}
-use Rattle.card_model.specs.Changes.{trimmed}
-use Rattle.card_retention.specs.Shown.{is_open}
-use Rattle.card_image.specs.Fields.{vehicle_ring, card_days, end_mark, session_time}
-use Rattle.card_image.specs.Beside.{HaveSameSizes, HaveSamePlacePointer}
-use Rattle.card_image.specs.Judging.{IsValid}
-use Rattle.card_image.proofs.Beside.{days_same}
+use Rattle.card_days.specs.card_model.Days.{Day, AreDays}
+use Rattle.card_days.specs.card_model.Changes.{trimmed}
+use Rattle.card_validity.specs.card_retention.Shown.{is_open}
+use Rattle.card_validity.specs.card_image.Fields.{vehicle_ring, card_days, end_mark, session_time}
+use Rattle.card_validity.specs.card_image.Beside.{HaveSameSizes, HaveSamePlacePointer}
+use Rattle.card_validity.specs.card_image.Judging.{IsValid}
+use Rattle.card_validity.proofs.card_image.Beside.{days_same}
 use Rattle.card_session.specs.Vehicles.{Vehicles}
 use Rattle.card_session.specs.Books.{Book, mark_of, closed, closed_days, last_used}
 use Rattle.card_session.specs.Sessions.{EndsStrictly, IsOpenBook, book_of}

@@ -6,7 +6,7 @@ use Rattle.std.proofs.lemmas.Bool.Decides.{nat_tests}
 use Rattle.activity_codec.proofs.ByTest.{by_test}
 use Rattle.activity_codec.specs.declared.values.Activity.TheVariants.{Rest}
 use Rattle.activity_codec.specs.Words.{word_minute, word_absent}
-use Rattle.card_model.specs.Changes.{date_of}
+use Rattle.card_days.specs.card_model.Changes.{date_of}
 use Rattle.card_days.specs.declared.head.Tail.{Tail}
 use Rattle.card_days.specs.Held.{Held, EndsWith, tail_of}
 use Rattle.card_days.specs.Plans.{most_drops}

@@ -7,12 +7,12 @@ use Rattle.activity_codec.specs.declared.values.Activity.{Activity}
 use Rattle.activity_codec.specs.declared.values.Activity.TheVariants.{Rest, Available, Work, Driving}
 use Rattle.activity_codec.specs.declared.entries.Entry.{Entry}
 use Rattle.activity_codec.specs.Words.{activity_number, word_minute, word_absent}
-use Rattle.card_model.specs.Days.{Day, AreDays, last_word}
-use Rattle.card_model.specs.Changes.{AreStrict, Increase, OnNewest, TakesWord, IsLater, IsNext, date_of, with_newest, with_km}
-use Rattle.card_model.proofs.Ascending.{words_below}
-use Rattle.card_retention.specs.Expected.{is_newest}
-use Rattle.card_retention.specs.Shown.{sizes, is_open, entry_state}
-use Rattle.card_retention.specs.Entries.{EndsBy, newest_word}
+use Rattle.card_days.specs.card_model.Days.{Day, AreDays, last_word}
+use Rattle.card_days.specs.card_model.Changes.{AreStrict, Increase, OnNewest, TakesWord, IsLater, IsNext, date_of, with_newest, with_km}
+use Rattle.card_days.proofs.card_model.Ascending.{words_below}
+use Rattle.card_validity.specs.card_retention.Expected.{is_newest}
+use Rattle.card_validity.specs.card_retention.Shown.{sizes, is_open, entry_state}
+use Rattle.card_validity.specs.card_retention.Entries.{EndsBy, newest_word}
 use Rattle.card_days.specs.Held.{tail_by}
 use Rattle.card_session.specs.Books.{closing_word, entry_word, bare_word, day_words, latest_of, tells_state, km_after, travelled}
 use Rattle.card_session.specs.Telling.{closing_at, gap_word, is_newest_day, entry_change, km_told}

@@ -10,13 +10,13 @@ use Rattle.card_layout.specs.declared.files.Application.{Application}
 use Rattle.card_layout.specs.Files.{files_of, place_of, size_of}
 use Rattle.tach_media.specs.Medium.{SameOutside, bytes_at}
 use Rattle.card_files.specs.Rings.{event_ring}
-use Rattle.card_model.specs.Days.{Day}
+use Rattle.card_days.specs.card_model.Days.{Day}
 use Rattle.card_files.proofs.Sets.{set_inside}
 use Rattle.gated_ring.specs.Ring.{place_of as entry_place}
 use Rattle.gated_ring.proofs.Places.{place_high}
-use Rattle.card_image.specs.Fields.{file, day_string, place_ring, card_number}
-use Rattle.card_image.specs.Beside.{HaveSameSizes, HaveSameIdentification, HaveSamePlacePointer}
-use Rattle.card_image.proofs.Beside.{number_same}
+use Rattle.card_validity.specs.card_image.Fields.{file, day_string, place_ring, card_number}
+use Rattle.card_validity.specs.card_image.Beside.{HaveSameSizes, HaveSameIdentification, HaveSamePlacePointer}
+use Rattle.card_validity.proofs.card_image.Beside.{number_same}
 use Rattle.card_session.specs.Cards.{IsCard, days_and_vehicles}
 use Rattle.card_session.specs.Vehicles.{Vehicles}
 use Rattle.card_session.specs.Books.{closed}

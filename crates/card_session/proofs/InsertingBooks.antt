@@ -8,17 +8,17 @@ use Rattle.std.proofs.lemmas.Bool.{eqb-true, ltb-true}
 use Rattle.activity_codec.specs.declared.values.Activity.{Activity}
 use Rattle.activity_codec.specs.declared.entries.Entry.{Entry}
 use Rattle.activity_codec.specs.Words.{word_minute, word_absent}
-use Rattle.card_model.proofs.Ascending.{words_below}
-use Rattle.card_model.specs.Days.{Day, AreDays, last_word}
-use Rattle.card_model.specs.Changes.{OnNewest, TakesWord, date_of, trimmed, fitting, with_newest, with_word}
-use Rattle.card_model.proofs.Retention.{remain_some, remain_fitting}
-use Rattle.card_retention.specs.Shown.{is_open}
-use Rattle.card_retention.proofs.Entering.{last_append}
-use Rattle.card_model.proofs.Trims.{are_trimmed, trimmed_twice}
-use Rattle.card_retention.specs.Entries.{newest_word, EndsBy}
-use Rattle.card_retention.proofs.Flat.{UpTo, newest_flat}
-use Rattle.card_retention.proofs.Checked.{early_last}
-use Rattle.card_retention.proofs.ListTrims.{ends_flat}
+use Rattle.card_days.proofs.card_model.Ascending.{words_below}
+use Rattle.card_days.specs.card_model.Days.{Day, AreDays, last_word}
+use Rattle.card_days.specs.card_model.Changes.{OnNewest, TakesWord, date_of, trimmed, fitting, with_newest, with_word}
+use Rattle.card_days.proofs.card_model.Retention.{remain_some, remain_fitting}
+use Rattle.card_validity.specs.card_retention.Shown.{is_open}
+use Rattle.card_validity.proofs.card_retention.Entering.{last_append}
+use Rattle.card_days.proofs.card_model.Trims.{are_trimmed, trimmed_twice}
+use Rattle.card_validity.specs.card_retention.Entries.{newest_word, EndsBy}
+use Rattle.card_validity.proofs.card_retention.Flat.{UpTo, newest_flat}
+use Rattle.card_validity.proofs.card_retention.Checked.{early_last}
+use Rattle.card_validity.proofs.card_retention.ListTrims.{ends_flat}
 use Rattle.card_session.specs.declared.words.TheConstants.{LATEST_MINUTE}
 use Rattle.card_session.specs.Vehicles.{last_use_in}
 use Rattle.card_session.specs.Books.{Book, mark_of, latest_of, closing_word, with_change, closed, last_used}

@@ -12,16 +12,16 @@ use Rattle.tach_media.specs.Medium.{bytes_at, SameOutside}
 use Rattle.card_files.specs.CurrentUses.{current_use_of}
 use Rattle.card_files.specs.Rings.{event_ring}
 use Rattle.card_files.proofs.Sets.{set_inside}
-use Rattle.card_model.specs.Days.{Day}
-use Rattle.card_model.specs.Image.{StringShape}
-use Rattle.card_model.proofs.Elsewhere.{days_elsewhere}
+use Rattle.card_days.specs.card_model.Days.{Day}
+use Rattle.card_days.specs.card_model.Image.{StringShape}
+use Rattle.card_days.proofs.card_model.Elsewhere.{days_elsewhere}
 use Rattle.gated_ring.specs.Ring.{Shape, PointsInside, place_of as entry_place, size_of as ring_size}
 use Rattle.gated_ring.proofs.Places.{place_high}
 use Rattle.gated_ring.proofs.Elsewhere.{points_elsewhere, newest_elsewhere}
 use Rattle.card_days.specs.Held.{Knows}
 use Rattle.card_days.proofs.Elsewhere.{knows_elsewhere}
-use Rattle.card_image.specs.Fields.{file, day_string, vehicle_ring, current_use, card_days}
-use Rattle.card_image.specs.Beside.{HaveSameDays, HaveSameVehicles, HaveSameSession}
+use Rattle.card_validity.specs.card_image.Fields.{file, day_string, vehicle_ring, current_use, card_days}
+use Rattle.card_validity.specs.card_image.Beside.{HaveSameDays, HaveSameVehicles, HaveSameSession}
 use Rattle.card_session.specs.Vehicles.{Vehicles}
 use Rattle.card_session.specs.Books.{Book, mark_of, with_entry}
 use Rattle.card_session.specs.Sessions.{Session, IsValue, KnowsCard, book_of}

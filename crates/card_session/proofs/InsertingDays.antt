@@ -7,14 +7,14 @@ use Rattle.card_layout.specs.Application.{IsApplication}
 use Rattle.tach_media.specs.Medium.{State, IsCoherent, LeavesOnly, HasCause}
 use Rattle.tach_media.proofs.Runs.{weaken, where_told, at_image}
 use Rattle.card_files.specs.declared.vehicle.Vehicle.{Vehicle}
-use Rattle.card_model.specs.Days.{Day}
-use Rattle.card_model.specs.Changes.{Shorter, date_of, trimmed}
-use Rattle.card_model.specs.Image.{StringShape, HoldsDays}
+use Rattle.card_days.specs.card_model.Days.{Day}
+use Rattle.card_days.specs.card_model.Changes.{Shorter, date_of, trimmed}
+use Rattle.card_days.specs.card_model.Image.{StringShape, HoldsDays}
 use Rattle.card_days.specs.Held.{Held, Knows}
 use Rattle.card_days.specs.Moments.{IfKnown}
 use Rattle.card_days.specs.Steps.{SameDays, IsIdle}
 use Rattle.card_days.specs.Trim.{IsTrim, IsTrimMoment}
-use Rattle.card_image.specs.Fields.{day_string, vehicle_ring, last_use_of}
+use Rattle.card_validity.specs.card_image.Fields.{day_string, vehicle_ring, last_use_of}
 use Rattle.card_session.specs.declared.words.TheConstants.{LATEST_MINUTE}
 use Rattle.card_session.specs.Sessions.{Session, IsValue, KnowsCard, MayKeep, book_of}
 use Rattle.card_session.specs.Moments.{IsBook}

@@ -6,8 +6,8 @@ use Rattle.card_layout.specs.declared.files.Application.{Application}
 use Rattle.tach_media.specs.Medium.{State}
 use Rattle.tach_media.proofs.Runs.{where_told, at_image}
 use Rattle.card_files.specs.declared.current_use.CurrentUse.{CurrentUse}
-use Rattle.card_model.specs.Days.{Day}
-use Rattle.card_image.specs.Fields.{current_use}
+use Rattle.card_days.specs.card_model.Days.{Day}
+use Rattle.card_validity.specs.card_image.Fields.{current_use}
 use Rattle.card_session.specs.declared.words.TheConstants.{LATEST_MINUTE}
 use Rattle.card_session.specs.Vehicles.{Vehicles}
 use Rattle.card_session.specs.Books.{Book, mark_of}

@@ -9,8 +9,8 @@ use Rattle.card_layout.specs.declared.files.Application.{Application}
 use Rattle.card_layout.specs.Files.{place_of}
 use Rattle.tach_media.specs.Medium.{State, IsCoherent, LeavesOnly, HasCause}
 use Rattle.tach_media.proofs.Runs.{where_told, turned_into}
-use Rattle.card_image.specs.Fields.{file}
-use Rattle.card_image.specs.Beside.{HaveSameDays, HaveSameVehicles}
+use Rattle.card_validity.specs.card_image.Fields.{file}
+use Rattle.card_validity.specs.card_image.Beside.{HaveSameDays, HaveSameVehicles}
 use Rattle.card_session.specs.Books.{closed}
 use Rattle.card_session.specs.Sessions.{Session, IsValue, IsOpenBook, book_of}
 use Rattle.card_session.specs.Moments.{IsBook, IsCloseMoment}

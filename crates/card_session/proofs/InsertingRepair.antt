@@ -7,9 +7,9 @@ use Rattle.card_layout.specs.declared.files.Application.{Application}
 use Rattle.tach_media.specs.Medium.{State}
 use Rattle.tach_media.proofs.Runs.{if_told, told_too, at_image}
 use Rattle.card_files.specs.declared.vehicle.Vehicle.{Vehicle}
-use Rattle.card_model.specs.Days.{Day}
-use Rattle.card_model.specs.Changes.{trimmed}
-use Rattle.card_image.specs.Fields.{last_use_of}
+use Rattle.card_days.specs.card_model.Days.{Day}
+use Rattle.card_days.specs.card_model.Changes.{trimmed}
+use Rattle.card_validity.specs.card_image.Fields.{last_use_of}
 use Rattle.card_session.specs.Vehicles.{Vehicles}
 use Rattle.card_session.specs.Books.{Book, mark_of}
 use Rattle.card_session.specs.Sessions.{Session, IsOpenBook, KnowsCard, EndsStrictly, book_of}

@@ -11,8 +11,8 @@ use Rattle.tacho_types.specs.Numbers.{time_bytes}
 use Rattle.card_layout.specs.declared.files.Application.{Application}
 use Rattle.card_layout.specs.Files.{place_of, image_size_of}
 use Rattle.tach_media.specs.Medium.{SameOutside}
-use Rattle.card_image.specs.Fields.{file, session_time}
-use Rattle.card_image.proofs.Beside.{session_same as session_beside}
+use Rattle.card_validity.specs.card_image.Fields.{file, session_time}
+use Rattle.card_validity.proofs.card_image.Beside.{session_same as session_beside}
 use Rattle.card_session.specs.Books.{closed}
 use Rattle.card_session.specs.Sessions.{book_of}
 use Rattle.card_session.specs.Moments.{IsBook, IsCloseMoment}

@@ -8,13 +8,13 @@ use Rattle.card_layout.specs.declared.files.Application.{Application}
 use Rattle.tach_media.specs.Medium.{State}
 use Rattle.card_files.specs.declared.vehicle.Vehicle.{Vehicle}
 use Rattle.card_files.specs.declared.current_use.CurrentUse.{CurrentUse}
-use Rattle.card_model.specs.Days.{Day, total}
-use Rattle.card_model.specs.Image.{newest_pointer}
-use Rattle.card_retention.specs.Entries.{newest_word}
+use Rattle.card_days.specs.card_model.Days.{Day, total}
+use Rattle.card_days.specs.card_model.Image.{newest_pointer}
+use Rattle.card_validity.specs.card_retention.Entries.{newest_word}
 use Rattle.card_days.specs.declared.head.Tail.{Tail}
 use Rattle.card_days.specs.Held.{Held, Knows, tail_in, tail_by}
 use Rattle.gated_ring.specs.Ring.{Shape}
-use Rattle.card_image.specs.Fields.{last_use_of, session_time}
+use Rattle.card_validity.specs.card_image.Fields.{last_use_of, session_time}
 use Rattle.card_session.specs.Books.{Book}
 use Rattle.card_session.specs.Telling.{minute_told}
 use Rattle.card_session.specs.Sessions.{Session, IsSession, IsOpenBook, KnowsCard, book_of}

@@ -10,7 +10,7 @@ use Rattle.tacho_types.specs.declared.texts.Registration.{Registration}
 use Rattle.tacho_types.specs.Numbers.{time_bytes}
 use Rattle.card_files.specs.declared.current_use.CurrentUse.{CurrentUse}
 use Rattle.card_files.specs.Noting.{HoldsEvent, IsNotingEvent, IsEventNoted}
-use Rattle.card_image.specs.Fields.{file, current_use}
+use Rattle.card_validity.specs.card_image.Fields.{file, current_use}
 use Rattle.card_session.proofs.OnCard.{may_still}
 use Rattle.card_session.specs.Inserting.{MayInsert, HoldsUnclosed, IsNoted, IsNoting, unclosed, timed, registered, IsOpening}
 

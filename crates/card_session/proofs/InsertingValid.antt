@@ -6,15 +6,15 @@ use Rattle.std.proofs.lemmas.Bool.Decides.{nat_tests}
 use Rattle.std.proofs.lemmas.Bool.{and_parts}
 use Rattle.activity_codec.specs.Words.{word_minute, word_absent}
 use Rattle.card_layout.specs.declared.files.Application.{Application}
-use Rattle.card_model.specs.Days.{Day, AreDays, AreWords, last_word, len_of}
-use Rattle.card_model.specs.Changes.{trimmed}
-use Rattle.card_model.specs.Checks.{check, first_failing, first_bad}
-use Rattle.card_model.specs.Image.{oldest_pointer}
-use Rattle.card_model.proofs.Judging.{first_passes}
-use Rattle.card_model.proofs.Trims.{are_trimmed}
-use Rattle.card_retention.specs.Entries.{EndsBy}
-use Rattle.card_image.specs.Fields.{day_string, vehicle_ring, place_ring, card_days, end_mark, session_time}
-use Rattle.card_image.specs.Judging.{PlacedWord, minute_at, words_placed, days_placed, tells_none, leaves_gap, closing_checks, words_behind_mark, newest_rises, word_checks, file_check, first_bad_of, pointer_bad}
+use Rattle.card_days.specs.card_model.Days.{Day, AreDays, AreWords, last_word, len_of}
+use Rattle.card_days.specs.card_model.Changes.{trimmed}
+use Rattle.card_days.specs.card_model.Checks.{check, first_failing, first_bad}
+use Rattle.card_days.specs.card_model.Image.{oldest_pointer}
+use Rattle.card_days.proofs.card_model.Judging.{first_passes}
+use Rattle.card_days.proofs.card_model.Trims.{are_trimmed}
+use Rattle.card_validity.specs.card_retention.Entries.{EndsBy}
+use Rattle.card_validity.specs.card_image.Fields.{day_string, vehicle_ring, place_ring, card_days, end_mark, session_time}
+use Rattle.card_validity.specs.card_image.Judging.{PlacedWord, minute_at, words_placed, days_placed, tells_none, leaves_gap, closing_checks, words_behind_mark, newest_rises, word_checks, file_check, first_bad_of, pointer_bad}
 use Rattle.card_validity.specs.Words.{first_of}
 use Rattle.card_validity.specs.Judged.{first_bad_behind}
 use Rattle.card_validity.proofs.Checking.{checks_open, checks_closed}

@@ -8,7 +8,7 @@ use Rattle.card_layout.specs.declared.files.Application.{Application}
 use Rattle.tach_media.specs.Medium.{State, LeavesOnly, Reads}
 use Rattle.tach_media.proofs.Runs.{weaken, after_reads, where_told, at_image}
 use Rattle.card_files.specs.declared.vehicle.Vehicle.{Vehicle}
-use Rattle.card_image.specs.Fields.{last_use_of, session_time}
+use Rattle.card_validity.specs.card_image.Fields.{last_use_of, session_time}
 use Rattle.card_validity.specs.declared.files.Judged.{Judged}
 use Rattle.card_validity.specs.Judged.{IsKnown, IsJudged}
 use Rattle.card_session.specs.declared.words.TheConstants.{LATEST_MINUTE}

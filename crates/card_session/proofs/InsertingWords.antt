@@ -2,8 +2,8 @@
 use Rattle.std.proofs.Common.{◌≡◌, ℕ, ◌/◌, Bool, false, List, Option, ap, ◌∙◌, arith}
 use Rattle.tach_media.specs.Medium.{State}
 use Rattle.card_files.specs.declared.vehicle.Vehicle.{Vehicle}
-use Rattle.card_model.specs.Days.{Day}
-use Rattle.card_image.specs.Fields.{last_use_of}
+use Rattle.card_days.specs.card_model.Days.{Day}
+use Rattle.card_validity.specs.card_image.Fields.{last_use_of}
 use Rattle.card_session.specs.declared.words.TheConstants.{LATEST_MINUTE}
 use Rattle.card_session.specs.Vehicles.{Vehicles}
 use Rattle.card_session.specs.Books.{Book, mark_of}

@@ -7,13 +7,13 @@ use Rattle.tach_media.proofs.Runs.{where_told, at_image}
 use Rattle.tacho_types.specs.declared.texts.Registration.{Registration}
 use Rattle.card_layout.specs.declared.files.Application.{Application}
 use Rattle.card_files.specs.declared.vehicle.Vehicle.{Vehicle}
-use Rattle.card_model.specs.Days.{Day}
+use Rattle.card_days.specs.card_model.Days.{Day}
 use Rattle.card_session.proofs.Round.{vehicles_is, map_twice, newest_twice}
 use Rattle.card_session.specs.Vehicles.{Vehicles, renewed, with_vehicle, with_room}
 use Rattle.card_session.specs.Books.{Book, goes_on_in, goes_on_with, measured_to, last_used, used_until, vehicle_counter, begun_vehicle, measured, used, vehicles_with}
 use Rattle.gated_ring.specs.Ring.{PointsInside, IsNewest}
 use Rattle.card_days.specs.Held.{Held, Knows}
-use Rattle.card_image.specs.Fields.{vehicle_ring}
+use Rattle.card_validity.specs.card_image.Fields.{vehicle_ring}
 use Rattle.card_session.specs.Sessions.{Session, IsValue, IsSession, IsOpenBook, KnowsCard, newest_in, book_of}
 use Rattle.card_session.specs.Cards.{IsCard, IsCardKept, IsCardKeeping, grown}
 use Rattle.card_session.specs.Moments.{IsBook, IsKeepMoment}

@@ -4,9 +4,9 @@ use Rattle.std.specs.Prelude.{nat_eq}
 use Rattle.std.proofs.lemmas.Bool.{eqb-true, eqb-false}
 use Rattle.activity_codec.specs.declared.entries.Entry.{Entry}
 use Rattle.activity_codec.specs.Words.{word_minute}
-use Rattle.card_model.specs.Days.{Day, AreDays, last_word}
-use Rattle.card_retention.specs.Expected.{is_newest, first_words}
-use Rattle.card_retention.specs.Shown.{sizes, Tells, Entered, Entered.Same, Entered.Word, Entered.Begun}
+use Rattle.card_days.specs.card_model.Days.{Day, AreDays, last_word}
+use Rattle.card_validity.specs.card_retention.Expected.{is_newest, first_words}
+use Rattle.card_validity.specs.card_retention.Shown.{sizes, Tells, Entered, Entered.Same, Entered.Word, Entered.Begun}
 use Rattle.card_session.specs.Books.{entry_word, bare_word, day_words, tells_state, with_change, with_new_day, entered_days}
 use Rattle.card_session.proofs.Following.{entry_top, entry_minute}
 

@@ -48,3 +48,7 @@ pub mod Ends
 pub mod Ended
 pub mod ByHand
 pub mod FewWrites
+pub use Rattle.card_days.proofs as card_days
+pub use Rattle.card_days.proofs.card_model as card_model
+pub use Rattle.card_validity.proofs.card_retention as card_retention
+pub use Rattle.gated_ring.proofs as gated_ring

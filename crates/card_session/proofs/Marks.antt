@@ -8,10 +8,10 @@ use Rattle.tach_media.specs.Medium.{bytes_at}
 use Rattle.card_layout.specs.declared.files.Application.{Application}
 use Rattle.card_layout.specs.Files.{files_of, place_of, size_of}
 use Rattle.card_files.specs.CurrentUses.{current_use_of}
-use Rattle.card_model.specs.Days.{Day}
-use Rattle.card_image.specs.Fields.{file, file_bytes, day_string, end_mark, current_use, session_time, card_number, last_use_of}
-use Rattle.card_image.specs.Beside.{HaveSameSizes, HaveSameIdentification}
-use Rattle.card_image.proofs.Beside.{number_same}
+use Rattle.card_days.specs.card_model.Days.{Day}
+use Rattle.card_validity.specs.card_image.Fields.{file, file_bytes, day_string, end_mark, current_use, session_time, card_number, last_use_of}
+use Rattle.card_validity.specs.card_image.Beside.{HaveSameSizes, HaveSameIdentification}
+use Rattle.card_validity.proofs.card_image.Beside.{number_same}
 use Rattle.card_files.specs.declared.vehicle.Vehicle.{Vehicle}
 use Rattle.card_session.specs.Moments.{IsBeforeUse}
 use Rattle.card_session.specs.Vehicles.{Vehicles, last_use_in}

@@ -5,7 +5,7 @@ use Rattle.card_layout.specs.Files.{files_of, image_size_of, place_of, size_of}
 use Rattle.tach_media.specs.Log.{History}
 use Rattle.tach_media.specs.declared.counts.Counts.{Counts}
 use Rattle.tach_media.specs.MemMedium.{memory_state}
-use Rattle.card_image.specs.Fields.{file}
+use Rattle.card_validity.specs.card_image.Fields.{file}
 use Rattle.card_session.specs.Sessions.{MayKeep, MayClose}
 use Rattle.card_session.specs.Inserting.{MayInsert}
 use Rattle.card_session.proofs.OnCard.{ring_behind, ring_inside}

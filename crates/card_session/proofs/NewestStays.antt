@@ -9,19 +9,19 @@ use Rattle.activity_codec.specs.Words.{word_absent}
 use Rattle.tacho_types.specs.declared.texts.Registration.{Registration}
 use Rattle.card_layout.specs.declared.files.Application.{Application}
 use Rattle.card_layout.specs.Application.{IsApplication}
-use Rattle.card_model.specs.Days.{Day, AreDays, last_word}
-use Rattle.card_model.specs.Changes.{Remain, OnNewest, fitting, with_newest, with_word, until, cut, date_of, trimmed}
-use Rattle.card_model.proofs.Retention.{remain_fitting, remain_some}
-use Rattle.card_model.proofs.Trims.{trimmed_word, trimmed_day, trimmed_cases}
-use Rattle.card_retention.specs.Shown.{is_open, Tells}
-use Rattle.card_retention.specs.Entries.{newest_minute, newest_word, closed_at}
-use Rattle.card_retention.proofs.Entering.{on_word, last_append}
-use Rattle.card_retention.proofs.Flat.{Ends}
-use Rattle.card_retention.proofs.Moments.{kept_newest}
-use Rattle.card_retention.proofs.Newest.{at_mark}
-use Rattle.card_retention.proofs.Stops.{absent_shut}
-use Rattle.card_image.specs.Fields.{card_days, end_mark}
-use Rattle.card_image.specs.View.{card_view}
+use Rattle.card_days.specs.card_model.Days.{Day, AreDays, last_word}
+use Rattle.card_days.specs.card_model.Changes.{Remain, OnNewest, fitting, with_newest, with_word, until, cut, date_of, trimmed}
+use Rattle.card_days.proofs.card_model.Retention.{remain_fitting, remain_some}
+use Rattle.card_days.proofs.card_model.Trims.{trimmed_word, trimmed_day, trimmed_cases}
+use Rattle.card_validity.specs.card_retention.Shown.{is_open, Tells}
+use Rattle.card_validity.specs.card_retention.Entries.{newest_minute, newest_word, closed_at}
+use Rattle.card_validity.proofs.card_retention.Entering.{on_word, last_append}
+use Rattle.card_validity.proofs.card_retention.Flat.{Ends}
+use Rattle.card_validity.proofs.card_retention.Moments.{kept_newest}
+use Rattle.card_validity.proofs.card_retention.Newest.{at_mark}
+use Rattle.card_validity.proofs.card_retention.Stops.{absent_shut}
+use Rattle.card_validity.specs.card_image.Fields.{card_days, end_mark}
+use Rattle.card_validity.specs.card_image.View.{card_view}
 use Rattle.card_session.specs.Vehicles.{Vehicles, last_use_in}
 use Rattle.card_session.specs.Books.{Book, mark_of, latest_of, closing_word, with_change, gap_closed, closed_days, closed, last_used, entered_days, travelled, with_entry}
 use Rattle.card_session.specs.Sessions.{IsOpenBook, newest_in, book_of}

@@ -5,15 +5,15 @@ use Rattle.card_layout.specs.declared.files.Application.{Application}
 use Rattle.card_layout.specs.Application.{IsApplication}
 use Rattle.card_layout.specs.Files.{files_of, image_size_of}
 use Rattle.tach_media.specs.Medium.{State, SameOutside, LiesInside, LeavesOnly, bytes_at}
-use Rattle.card_model.specs.Days.{Day}
-use Rattle.card_model.specs.Image.{StringShape, IsStringShape, HoldsDays}
-use Rattle.card_model.proofs.Walking.{walked}
-use Rattle.card_model.proofs.Elsewhere.{holds_elsewhere, days_elsewhere}
+use Rattle.card_days.specs.card_model.Days.{Day}
+use Rattle.card_days.specs.card_model.Image.{StringShape, IsStringShape, HoldsDays}
+use Rattle.card_days.proofs.card_model.Walking.{walked}
+use Rattle.card_days.proofs.card_model.Elsewhere.{holds_elsewhere, days_elsewhere}
 use Rattle.gated_ring.specs.Ring.{Shape, IsShape, PointsInside, IsNewest, place_of, size_of as ring_size}
 use Rattle.tach_media.proofs.Ranges.{lies_part}
 use Rattle.gated_ring.proofs.Places.{place_high}
 use Rattle.gated_ring.proofs.Elsewhere.{points_elsewhere, newest_elsewhere}
-use Rattle.card_image.specs.Fields.{day_string, vehicle_ring, vehicle_at, newest_vehicle, last_of, card_days}
+use Rattle.card_validity.specs.card_image.Fields.{day_string, vehicle_ring, vehicle_at, newest_vehicle, last_of, card_days}
 use Rattle.card_files.specs.declared.vehicle.Vehicle.{Vehicle}
 use Rattle.card_session.specs.Vehicles.{Vehicles, ring_round, on_newest, renewed}
 use Rattle.card_session.specs.Sessions.{MayKeep, book_of}

@@ -6,14 +6,14 @@ use Rattle.card_layout.specs.declared.files.Application.{Application}
 use Rattle.card_layout.specs.Files.{image_size_of}
 use Rattle.tach_media.specs.Medium.{State, IsCoherent, LeavesOnly, HasCause, SameOutside}
 use Rattle.tach_media.proofs.Runs.{weaken, where_told, at_image}
-use Rattle.card_model.specs.Days.{Day}
-use Rattle.card_model.specs.Changes.{Remain, fitting, with_newest, with_word, with_km, IsNext, new_day, date_of}
-use Rattle.card_model.specs.Image.{StringShape, HoldsDays}
+use Rattle.card_days.specs.card_model.Days.{Day}
+use Rattle.card_days.specs.card_model.Changes.{Remain, fitting, with_newest, with_word, with_km, IsNext, new_day, date_of}
+use Rattle.card_days.specs.card_model.Image.{StringShape, HoldsDays}
 use Rattle.gated_ring.specs.Ring.{PointsInside, IsNewest}
 use Rattle.card_days.specs.Held.{Knows}
 use Rattle.card_days.specs.Moments.{IfKnown, IsChanging, IsChanged, KnowsChanged, IsDayBeginning, IsDayBegun, KnowsBegun}
 use Rattle.card_days.specs.Steps.{IsMeasured, IsMeasuring, KnowsMeasured}
-use Rattle.card_image.specs.Fields.{day_string, vehicle_ring}
+use Rattle.card_validity.specs.card_image.Fields.{day_string, vehicle_ring}
 use Rattle.card_session.specs.Vehicles.{Vehicles}
 use Rattle.card_session.specs.Books.{Book, with_change, with_new_day, day_words}
 use Rattle.card_session.specs.Sessions.{Session, IsValue, KnowsCard, MayKeep, book_of}

@@ -5,15 +5,15 @@ use Rattle.std.proofs.lemmas.Bool.Decides.{nat_tests}
 use Rattle.std.proofs.lemmas.Bool.{eqb-false}
 use Rattle.activity_codec.specs.declared.entries.Entry.{Entry}
 use Rattle.activity_codec.specs.Words.{word_minute, word_absent}
-use Rattle.card_model.specs.Days.{Day, AreDays, last_word}
-use Rattle.card_model.specs.Changes.{OnNewest, Remain, AreStrict, with_early, early, cut, date_of, trimmed}
-use Rattle.card_model.proofs.Ascending.{words_below}
-use Rattle.card_retention.specs.Expected.{WordDay, is_newest}
-use Rattle.card_retention.specs.Shown.{AllBefore, sizes, is_open}
-use Rattle.card_retention.specs.Entries.{latest, told_by, entry_at, day_entries, entries_up_to, newest_word, newest_minute}
-use Rattle.card_retention.specs.Retains.{is_day, entries_in, begun_on}
-use Rattle.card_retention.proofs.Newest.{minutes_none}
-use Rattle.card_retention.proofs.Stub.{trimmed_before, trimmed_stub}
+use Rattle.card_days.specs.card_model.Days.{Day, AreDays, last_word}
+use Rattle.card_days.specs.card_model.Changes.{OnNewest, Remain, AreStrict, with_early, early, cut, date_of, trimmed}
+use Rattle.card_days.proofs.card_model.Ascending.{words_below}
+use Rattle.card_validity.specs.card_retention.Expected.{WordDay, is_newest}
+use Rattle.card_validity.specs.card_retention.Shown.{AllBefore, sizes, is_open}
+use Rattle.card_validity.specs.card_retention.Entries.{latest, told_by, entry_at, day_entries, entries_up_to, newest_word, newest_minute}
+use Rattle.card_validity.specs.card_retention.Retains.{is_day, entries_in, begun_on}
+use Rattle.card_validity.proofs.card_retention.Newest.{minutes_none}
+use Rattle.card_validity.proofs.card_retention.Stub.{trimmed_before, trimmed_stub}
 use Rattle.card_session.specs.Books.{bare_word, entry_word, day_words}
 use Rattle.card_session.specs.Sessions.{EndsStrictly}
 use Rattle.card_session.proofs.Following.{entry_minute}

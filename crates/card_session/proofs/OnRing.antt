@@ -15,8 +15,8 @@ use Rattle.tacho_types.specs.declared.numbers.TimeReal.{TimeReal}
 use Rattle.tacho_types.specs.Numbers.{time_bytes, time_of, odometer_bytes, odometer_of}
 use Rattle.card_files.specs.declared.vehicle.Vehicle.{Vehicle}
 use Rattle.card_files.specs.Vehicles.{vehicle_of, vehicle_bytes, vehicle_widths}
-use Rattle.card_model.specs.Days.{Day}
-use Rattle.card_model.specs.Image.{StringShape, HoldsDays}
+use Rattle.card_days.specs.card_model.Days.{Day}
+use Rattle.card_days.specs.card_model.Image.{StringShape, HoldsDays}
 use Rattle.card_files.proofs.Changes.{vehicle_gate}
 use Rattle.gated_ring.specs.Ring.{number_at, gate_number, Shape, PointsInside, IsNewest, entry_at, taken, with_head, place_of, size_of as ring_size}
 use Rattle.gated_ring.specs.Change.{IsSet, IsShortened, IsExtended, OrUnwritten, IsAdding, IsAdded, IsAddStep, SameOthers}
@@ -26,7 +26,7 @@ use Rattle.gated_ring.proofs.Places.{place_high}
 use Rattle.gated_ring.proofs.Dense.{drop_all}
 use Rattle.card_days.specs.Held.{Held, Knows}
 use Rattle.card_days.proofs.Elsewhere.{knows_elsewhere}
-use Rattle.card_image.specs.Fields.{day_string, vehicle_ring}
+use Rattle.card_validity.specs.card_image.Fields.{day_string, vehicle_ring}
 use Rattle.card_session.specs.Vehicles.{Vehicles, ring_round, on_newest, renewed, behind_first, with_vehicle, with_room}
 use Rattle.card_session.specs.Books.{Book, measured, used}
 use Rattle.card_session.specs.Sessions.{Session, IsValue, KnowsCard, MayKeep, book_of}

@@ -6,14 +6,14 @@ use Rattle.activity_codec.specs.declared.values.Activity.TheVariants.{Rest}
 use Rattle.activity_codec.specs.declared.entries.Entry.{Entry}
 use Rattle.activity_codec.specs.Words.{word_minute, word_absent}
 use Rattle.tacho_types.specs.declared.texts.Registration.{Registration}
-use Rattle.card_model.specs.Days.{Day, AreDays, last_word}
-use Rattle.card_model.specs.Changes.{OnNewest, TakesWord, Remain, fitting, with_newest, with_word, new_day, date_of, AreStrict}
-use Rattle.card_model.proofs.Retention.{remain_some, remain_fitting}
-use Rattle.card_retention.specs.Expected.{is_newest}
-use Rattle.card_retention.specs.Shown.{sizes, is_open}
-use Rattle.card_retention.specs.Entries.{EndsBy, newest_word}
-use Rattle.card_retention.proofs.Entering.{last_append, date_newest}
-use Rattle.card_retention.proofs.Stops.{are_left}
+use Rattle.card_days.specs.card_model.Days.{Day, AreDays, last_word}
+use Rattle.card_days.specs.card_model.Changes.{OnNewest, TakesWord, Remain, fitting, with_newest, with_word, new_day, date_of, AreStrict}
+use Rattle.card_days.proofs.card_model.Retention.{remain_some, remain_fitting}
+use Rattle.card_validity.specs.card_retention.Expected.{is_newest}
+use Rattle.card_validity.specs.card_retention.Shown.{sizes, is_open}
+use Rattle.card_validity.specs.card_retention.Entries.{EndsBy, newest_word}
+use Rattle.card_validity.proofs.card_retention.Entering.{last_append, date_newest}
+use Rattle.card_validity.proofs.card_retention.Stops.{are_left}
 use Rattle.card_days.proofs.Lists.{longer_day}
 use Rattle.card_files.specs.declared.vehicle.Vehicle.{Vehicle}
 use Rattle.card_session.specs.Vehicles.{Vehicles, with_vehicle, on_newest, last_use_in}

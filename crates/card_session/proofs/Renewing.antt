@@ -13,17 +13,17 @@ use Rattle.tacho_types.specs.declared.texts.Registration.{Registration}
 use Rattle.card_layout.specs.declared.files.Application.{Application}
 use Rattle.card_layout.specs.Application.{IsApplication}
 use Rattle.card_layout.specs.Files.{image_size_of, place_of}
-use Rattle.card_model.specs.Days.{Day, AreDays}
-use Rattle.card_model.specs.Changes.{trimmed}
-use Rattle.card_model.proofs.Trims.{are_trimmed, trim_from_moment, trimmed_twice}
-use Rattle.card_retention.specs.Shown.{is_open}
-use Rattle.card_retention.specs.Entries.{newest_minute, newest_word, closed_at}
+use Rattle.card_days.specs.card_model.Days.{Day, AreDays}
+use Rattle.card_days.specs.card_model.Changes.{trimmed}
+use Rattle.card_days.proofs.card_model.Trims.{are_trimmed, trim_from_moment, trimmed_twice}
+use Rattle.card_validity.specs.card_retention.Shown.{is_open}
+use Rattle.card_validity.specs.card_retention.Entries.{newest_minute, newest_word, closed_at}
 use Rattle.gated_ring.specs.Ring.{PointsInside}
-use Rattle.card_image.specs.Fields.{file, vehicle_ring, last_use, card_days, end_mark, session_time}
-use Rattle.card_image.specs.Beside.{HaveSameDays, HaveSameVehicles}
-use Rattle.card_image.specs.Judging.{IsValid}
-use Rattle.card_image.specs.View.{card_view}
-use Rattle.card_image.proofs.Beside.{days_same, last_use_same}
+use Rattle.card_validity.specs.card_image.Fields.{file, vehicle_ring, last_use, card_days, end_mark, session_time}
+use Rattle.card_validity.specs.card_image.Beside.{HaveSameDays, HaveSameVehicles}
+use Rattle.card_validity.specs.card_image.Judging.{IsValid}
+use Rattle.card_validity.specs.card_image.View.{card_view}
+use Rattle.card_validity.proofs.card_image.Beside.{days_same, last_use_same}
 use Rattle.card_session.specs.Vehicles.{Vehicles, last_use_in}
 use Rattle.card_session.specs.Books.{Book, mark_of, with_entry, closed}
 use Rattle.card_session.specs.Sessions.{Session, IsSession, IsOpenBook, newest_in, book_of}

@@ -12,20 +12,20 @@ use Rattle.tacho_types.specs.declared.texts.Registration.{Registration}
 use Rattle.card_layout.specs.declared.files.Application.{Application}
 use Rattle.card_layout.specs.Application.{IsApplication}
 use Rattle.card_layout.specs.Files.{image_size_of, place_of}
-use Rattle.card_model.specs.Days.{Day, AreDays}
-use Rattle.card_model.specs.Changes.{trimmed}
-use Rattle.card_model.proofs.Trims.{trim_from_moment, trimmed_twice}
-use Rattle.card_retention.specs.Expected.{Counted}
-use Rattle.card_retention.specs.Entries.{newest_minute, newest_word}
-use Rattle.card_retention.specs.Shown.{Bound, Rests, Lives, is_open}
-use Rattle.card_retention.proofs.Stops.{stop_none}
-use Rattle.card_retention.proofs.Closing.{lives_trimmed}
-use Rattle.card_retention.proofs.Moments.{rests_later}
+use Rattle.card_days.specs.card_model.Days.{Day, AreDays}
+use Rattle.card_days.specs.card_model.Changes.{trimmed}
+use Rattle.card_days.proofs.card_model.Trims.{trim_from_moment, trimmed_twice}
+use Rattle.card_validity.specs.card_retention.Expected.{Counted}
+use Rattle.card_validity.specs.card_retention.Entries.{newest_minute, newest_word}
+use Rattle.card_validity.specs.card_retention.Shown.{Bound, Rests, Lives, is_open}
+use Rattle.card_validity.proofs.card_retention.Stops.{stop_none}
+use Rattle.card_validity.proofs.card_retention.Closing.{lives_trimmed}
+use Rattle.card_validity.proofs.card_retention.Moments.{rests_later}
 use Rattle.gated_ring.specs.Ring.{PointsInside}
-use Rattle.card_image.specs.Fields.{file, vehicle_ring, card_days, end_mark, session_time}
-use Rattle.card_image.specs.Beside.{HaveSameDays, HaveSameVehicles}
-use Rattle.card_image.specs.Judging.{IsValid}
-use Rattle.card_image.proofs.Beside.{days_same, last_use_same, session_same as session_beside}
+use Rattle.card_validity.specs.card_image.Fields.{file, vehicle_ring, card_days, end_mark, session_time}
+use Rattle.card_validity.specs.card_image.Beside.{HaveSameDays, HaveSameVehicles}
+use Rattle.card_validity.specs.card_image.Judging.{IsValid}
+use Rattle.card_validity.proofs.card_image.Beside.{days_same, last_use_same, session_same as session_beside}
 use Rattle.card_session.specs.Vehicles.{Vehicles, last_use_in}
 use Rattle.card_session.specs.Books.{Book, mark_of, closed_days, last_used}
 use Rattle.card_session.specs.Sessions.{book_of}

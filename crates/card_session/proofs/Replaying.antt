@@ -5,16 +5,16 @@ use Rattle.std.specs.List.{AllByRecursion}
 use Rattle.std.proofs.lemmas.Bool.Decides.{nat_tests}
 use Rattle.activity_codec.specs.declared.entries.Entry.{Entry}
 use Rattle.tacho_types.specs.declared.texts.Registration.{Registration}
-use Rattle.card_model.specs.Days.{Day, IsDay, AreDays}
-use Rattle.card_model.specs.Changes.{Remain, TakesWord, IsLater, fitting, new_day, date_of, trimmed}
-use Rattle.card_model.proofs.Retention.{remain_fitting, remain_some}
+use Rattle.card_days.specs.card_model.Days.{Day, IsDay, AreDays}
+use Rattle.card_days.specs.card_model.Changes.{Remain, TakesWord, IsLater, fitting, new_day, date_of, trimmed}
+use Rattle.card_days.proofs.card_model.Retention.{remain_fitting, remain_some}
 use Rattle.card_days.proofs.Beginning.{new_is}
-use Rattle.card_retention.specs.Expected.{Counted, is_newest, with_entry as counted_with}
-use Rattle.card_retention.specs.Entries.{newest_word}
-use Rattle.card_retention.specs.Shown.{Bound, Fits, Rests, Lives, sizes}
-use Rattle.card_retention.proofs.Entering.{fits_sizes, newest_more}
-use Rattle.card_retention.proofs.Growing.{sizes_word, left_newest, left_of}
-use Rattle.card_retention.proofs.Stops.{are_left, stop_none}
+use Rattle.card_validity.specs.card_retention.Expected.{Counted, is_newest, with_entry as counted_with}
+use Rattle.card_validity.specs.card_retention.Entries.{newest_word}
+use Rattle.card_validity.specs.card_retention.Shown.{Bound, Fits, Rests, Lives, sizes}
+use Rattle.card_validity.proofs.card_retention.Entering.{fits_sizes, newest_more}
+use Rattle.card_validity.proofs.card_retention.Growing.{sizes_word, left_newest, left_of}
+use Rattle.card_validity.proofs.card_retention.Stops.{are_left, stop_none}
 use Rattle.card_session.specs.Vehicles.{Vehicles, last_use_in}
 use Rattle.card_session.specs.Books.{Book, mark_of, with_change, gap_closed, entered_days, travelled, with_entry, with_new_day, day_words, entry_word, tells_state}
 use Rattle.card_session.specs.Parts.{IsBeforeGapOf, IsBeforeEntry, with_gap_closed}

@@ -12,21 +12,21 @@ use Rattle.tacho_types.specs.declared.texts.Registration.{Registration}
 use Rattle.card_layout.specs.declared.files.Application.{Application}
 use Rattle.card_layout.specs.Application.{IsApplication}
 use Rattle.card_layout.specs.Files.{image_size_of, place_of}
-use Rattle.card_model.specs.Days.{Day, AreDays, AreWords, Ascend, last_word, len_of}
-use Rattle.card_model.specs.Changes.{OnNewest, date_of, trimmed, with_newest, with_word}
-use Rattle.card_model.specs.Checks.{first_failing, first_bad, file_place}
-use Rattle.card_model.specs.Image.{oldest_pointer}
-use Rattle.card_model.proofs.Ascending.{words_ascend, words_below, first_last}
-use Rattle.card_model.proofs.Judging.{holds_passes}
-use Rattle.card_model.proofs.Trims.{are_trimmed, trim_from_moment, trimmed_twice}
-use Rattle.card_retention.specs.Entries.{newest_word}
+use Rattle.card_days.specs.card_model.Days.{Day, AreDays, AreWords, Ascend, last_word, len_of}
+use Rattle.card_days.specs.card_model.Changes.{OnNewest, date_of, trimmed, with_newest, with_word}
+use Rattle.card_days.specs.card_model.Checks.{first_failing, first_bad, file_place}
+use Rattle.card_days.specs.card_model.Image.{oldest_pointer}
+use Rattle.card_days.proofs.card_model.Ascending.{words_ascend, words_below, first_last}
+use Rattle.card_days.proofs.card_model.Judging.{holds_passes}
+use Rattle.card_days.proofs.card_model.Trims.{are_trimmed, trim_from_moment, trimmed_twice}
+use Rattle.card_validity.specs.card_retention.Entries.{newest_word}
 use Rattle.gated_ring.specs.Ring.{PointsInside}
 use Rattle.gated_ring.proofs.Elsewhere.{points_elsewhere}
-use Rattle.card_image.specs.Fields.{file, day_string, vehicle_ring, last_of, card_days, end_mark, session_time}
-use Rattle.card_image.specs.Beside.{HaveSameDays, HaveSameVehicles, HaveSameSizes, HaveSamePlacePointer}
-use Rattle.card_image.specs.Judging.{PlacedWord, minute_at, words_placed, days_placed, tells_none, leaves_gap, closing_checks, words_behind_mark, newest_rises, IsValid}
-use Rattle.card_image.proofs.Beside.{days_same, session_same as session_beside}
-use Rattle.card_image.proofs.DaysBeside.{bad_elsewhere}
+use Rattle.card_validity.specs.card_image.Fields.{file, day_string, vehicle_ring, last_of, card_days, end_mark, session_time}
+use Rattle.card_validity.specs.card_image.Beside.{HaveSameDays, HaveSameVehicles, HaveSameSizes, HaveSamePlacePointer}
+use Rattle.card_validity.specs.card_image.Judging.{PlacedWord, minute_at, words_placed, days_placed, tells_none, leaves_gap, closing_checks, words_behind_mark, newest_rises, IsValid}
+use Rattle.card_validity.proofs.card_image.Beside.{days_same, session_same as session_beside}
+use Rattle.card_validity.proofs.card_image.DaysBeside.{bad_elsewhere}
 use Rattle.card_validity.specs.Words.{first_of}
 use Rattle.card_validity.proofs.Checking.{checks_open, checks_closed}
 use Rattle.card_session.specs.Vehicles.{Vehicles, last_use_in}

@@ -13,7 +13,7 @@ use Rattle.gated_ring.specs.Change.{SameOthers, IsSet, IsExtended}
 use Rattle.gated_ring.proofs.Orders.{Each, each_weaker, rest, rest_each, order_each, order_first, order_last, map_same, filter_first, filter_skip}
 use Rattle.gated_ring.proofs.Listing.{taken_below, taken_chosen, staying_there, indices_cases, indices_below}
 use Rattle.gated_ring.proofs.Elsewhere.{entry_elsewhere, there_elsewhere, taken_elsewhere, indices_elsewhere}
-use Rattle.card_image.specs.Fields.{vehicle_ring, vehicle_at, newest_vehicle, last_of}
+use Rattle.card_validity.specs.card_image.Fields.{vehicle_ring, vehicle_at, newest_vehicle, last_of}
 use Rattle.card_session.specs.Vehicles.{Vehicles, vehicles_of, standing_at, ring_round, standing, any_stands, on_newest, behind_first}
 use Rattle.card_session.proofs.RingOrder.{older_others}
 

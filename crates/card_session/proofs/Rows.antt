@@ -5,7 +5,7 @@ use Rattle.activity_codec.specs.declared.values.Slot.TheVariants.{Driver}
 use Rattle.activity_codec.specs.declared.entries.Entry.{Entry}
 use Rattle.tacho_types.specs.declared.texts.Registration.{Registration}
 use Rattle.card_files.specs.declared.vehicle.Vehicle.{Vehicle}
-use Rattle.card_model.specs.Days.{Day}
+use Rattle.card_days.specs.card_model.Days.{Day}
 use Rattle.card_session.specs.Vehicles.{Vehicles, with_room}
 use Rattle.card_session.specs.Books.{Book, begun_vehicle, vehicles_with, with_entry, closed}
 

@@ -10,20 +10,20 @@ use Rattle.tacho_types.specs.declared.texts.Registration.{Registration}
 use Rattle.card_layout.specs.declared.files.Application.{Application}
 use Rattle.card_layout.specs.Application.{IsApplication}
 use Rattle.card_layout.specs.Files.{image_size_of, place_of}
-use Rattle.card_model.specs.Days.{Day, AreDays}
-use Rattle.card_model.specs.Changes.{AllLater, date_of, trimmed}
-use Rattle.card_model.proofs.Trims.{are_trimmed}
-use Rattle.card_retention.specs.Expected.{is_newest}
-use Rattle.card_retention.specs.Entries.{day_entries, entries_up_to, newest_word}
-use Rattle.card_retention.specs.Retains.{is_day, entries_in}
-use Rattle.card_retention.specs.Shown.{AllUpTo, sizes}
-use Rattle.card_retention.proofs.Listing.{Lists, day_none}
-use Rattle.card_retention.proofs.ListTrims.{lists_trimmed}
+use Rattle.card_days.specs.card_model.Days.{Day, AreDays}
+use Rattle.card_days.specs.card_model.Changes.{AllLater, date_of, trimmed}
+use Rattle.card_days.proofs.card_model.Trims.{are_trimmed}
+use Rattle.card_validity.specs.card_retention.Expected.{is_newest}
+use Rattle.card_validity.specs.card_retention.Entries.{day_entries, entries_up_to, newest_word}
+use Rattle.card_validity.specs.card_retention.Retains.{is_day, entries_in}
+use Rattle.card_validity.specs.card_retention.Shown.{AllUpTo, sizes}
+use Rattle.card_validity.proofs.card_retention.Listing.{Lists, day_none}
+use Rattle.card_validity.proofs.card_retention.ListTrims.{lists_trimmed}
 use Rattle.gated_ring.specs.Ring.{PointsInside}
-use Rattle.card_image.specs.Fields.{file, vehicle_ring, card_days, end_mark, session_time}
-use Rattle.card_image.specs.Beside.{HaveSameDays, HaveSameVehicles}
-use Rattle.card_image.specs.Judging.{IsValid}
-use Rattle.card_image.proofs.Beside.{days_same}
+use Rattle.card_validity.specs.card_image.Fields.{file, vehicle_ring, card_days, end_mark, session_time}
+use Rattle.card_validity.specs.card_image.Beside.{HaveSameDays, HaveSameVehicles}
+use Rattle.card_validity.specs.card_image.Judging.{IsValid}
+use Rattle.card_validity.proofs.card_image.Beside.{days_same}
 use Rattle.card_session.specs.Vehicles.{Vehicles, last_use_in}
 use Rattle.card_session.specs.Books.{Book, mark_of, gap_closed, with_entry}
 use Rattle.card_session.specs.Sessions.{book_of}

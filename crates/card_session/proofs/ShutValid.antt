@@ -9,17 +9,17 @@ use Rattle.tacho_types.specs.declared.texts.Registration.{Registration}
 use Rattle.card_layout.specs.declared.files.Application.{Application}
 use Rattle.card_layout.specs.Application.{IsApplication}
 use Rattle.card_layout.specs.Files.{image_size_of, place_of}
-use Rattle.card_model.specs.Days.{Day, AreDays, len_of}
-use Rattle.card_model.specs.Changes.{date_of, trimmed}
-use Rattle.card_model.specs.Checks.{check, first_failing}
-use Rattle.card_model.specs.Image.{oldest_pointer}
-use Rattle.card_model.proofs.Judging.{first_passes}
-use Rattle.card_model.proofs.Trims.{are_trimmed}
-use Rattle.card_retention.specs.Shown.{is_open}
-use Rattle.card_image.specs.Fields.{file, day_string, last_of, card_days, end_mark, session_time}
-use Rattle.card_image.specs.Beside.{HaveSameSizes, HaveSamePlacePointer}
-use Rattle.card_image.specs.Judging.{PlacedWord, minute_at, words_placed, days_placed, tells_none, leaves_gap, closing_checks, words_behind_mark, newest_rises, word_checks, IsValid}
-use Rattle.card_image.proofs.Beside.{days_same}
+use Rattle.card_days.specs.card_model.Days.{Day, AreDays, len_of}
+use Rattle.card_days.specs.card_model.Changes.{date_of, trimmed}
+use Rattle.card_days.specs.card_model.Checks.{check, first_failing}
+use Rattle.card_days.specs.card_model.Image.{oldest_pointer}
+use Rattle.card_days.proofs.card_model.Judging.{first_passes}
+use Rattle.card_days.proofs.card_model.Trims.{are_trimmed}
+use Rattle.card_validity.specs.card_retention.Shown.{is_open}
+use Rattle.card_validity.specs.card_image.Fields.{file, day_string, last_of, card_days, end_mark, session_time}
+use Rattle.card_validity.specs.card_image.Beside.{HaveSameSizes, HaveSamePlacePointer}
+use Rattle.card_validity.specs.card_image.Judging.{PlacedWord, minute_at, words_placed, days_placed, tells_none, leaves_gap, closing_checks, words_behind_mark, newest_rises, word_checks, IsValid}
+use Rattle.card_validity.proofs.card_image.Beside.{days_same}
 use Rattle.card_validity.specs.Words.{first_of}
 use Rattle.card_validity.proofs.Checking.{checks_closed}
 use Rattle.card_session.specs.Books.{Book, mark_of}

@@ -9,16 +9,16 @@ use Rattle.activity_codec.specs.Words.{word_minute, word_absent, activity_number
 use Rattle.tacho_types.specs.declared.texts.Registration.{Registration}
 use Rattle.card_layout.specs.declared.files.Application.{Application}
 use Rattle.card_layout.specs.Application.{IsApplication}
-use Rattle.card_model.specs.Days.{Day, AreDays}
-use Rattle.card_model.specs.Changes.{OnNewest, fitting, with_newest, with_word, date_of, trimmed}
-use Rattle.card_model.proofs.Retention.{remain_all}
-use Rattle.card_model.proofs.Trims.{are_trimmed}
-use Rattle.card_retention.specs.Expected.{Counted, is_newest, with_entry as counted_with}
-use Rattle.card_retention.specs.Shown.{Bound, AllUpTo, Rests, Lives, sizes, is_open, with_closing}
-use Rattle.card_retention.specs.Entries.{newest_minute, newest_word}
-use Rattle.card_retention.proofs.Stops.{stop_none, stop_first, stop_between, stop_after}
-use Rattle.card_retention.proofs.Closing.{kept_lives, closed_lives}
-use Rattle.card_retention.proofs.Listing.{Lists}
+use Rattle.card_days.specs.card_model.Days.{Day, AreDays}
+use Rattle.card_days.specs.card_model.Changes.{OnNewest, fitting, with_newest, with_word, date_of, trimmed}
+use Rattle.card_days.proofs.card_model.Retention.{remain_all}
+use Rattle.card_days.proofs.card_model.Trims.{are_trimmed}
+use Rattle.card_validity.specs.card_retention.Expected.{Counted, is_newest, with_entry as counted_with}
+use Rattle.card_validity.specs.card_retention.Shown.{Bound, AllUpTo, Rests, Lives, sizes, is_open, with_closing}
+use Rattle.card_validity.specs.card_retention.Entries.{newest_minute, newest_word}
+use Rattle.card_validity.proofs.card_retention.Stops.{stop_none, stop_first, stop_between, stop_after}
+use Rattle.card_validity.proofs.card_retention.Closing.{kept_lives, closed_lives}
+use Rattle.card_validity.proofs.card_retention.Listing.{Lists}
 use Rattle.card_layout.specs.Files.{files_of, image_size_of, place_of}
 use Rattle.card_layout.specs.Images.{big_number}
 use Rattle.card_layout.proofs.Images.{part_before, part_put, put_outside}
@@ -26,9 +26,9 @@ use Rattle.tach_media.proofs.Images.{part_in}
 use Rattle.card_files.specs.CurrentUses.{current_use_of}
 use Rattle.tach_media.specs.Medium.{SameOutside, bytes_at}
 use Rattle.gated_ring.specs.Ring.{PointsInside, size_of as ring_size}
-use Rattle.card_image.specs.Fields.{file, day_string, vehicle_ring, card_days, end_mark, current_use, session_time, last_use_of}
-use Rattle.card_image.specs.Beside.{HaveSameDays, HaveSameVehicles}
-use Rattle.card_image.proofs.Beside.{days_same, last_use_same}
+use Rattle.card_validity.specs.card_image.Fields.{file, day_string, vehicle_ring, card_days, end_mark, current_use, session_time, last_use_of}
+use Rattle.card_validity.specs.card_image.Beside.{HaveSameDays, HaveSameVehicles}
+use Rattle.card_validity.proofs.card_image.Beside.{days_same, last_use_same}
 use Rattle.card_files.specs.declared.vehicle.Vehicle.{Vehicle}
 use Rattle.card_session.specs.Vehicles.{Vehicles, last_use_in}
 use Rattle.card_session.specs.Books.{Book, mark_of, latest_of, closing_word, gap_closed, closed_days, closed, last_used, entered_days, travelled, with_entry, used}

@@ -5,13 +5,13 @@ use Rattle.std.proofs.lemmas.Bool.{lt-ltb, le-ltb}
 use Rattle.activity_codec.specs.declared.entries.Entry.{Entry}
 use Rattle.card_layout.specs.declared.files.Application.{Application}
 use Rattle.card_files.specs.declared.current_use.CurrentUse.{CurrentUse}
-use Rattle.card_model.specs.Days.{total}
-use Rattle.card_model.specs.Image.{newest_pointer}
-use Rattle.card_retention.specs.Entries.{newest_word}
+use Rattle.card_days.specs.card_model.Days.{total}
+use Rattle.card_days.specs.card_model.Image.{newest_pointer}
+use Rattle.card_validity.specs.card_retention.Entries.{newest_word}
 use Rattle.card_days.specs.declared.head.Tail.{Tail}
 use Rattle.card_days.specs.Held.{tail_in}
-use Rattle.card_image.specs.Fields.{last_use_of, last_use, session_time, card_days}
-use Rattle.card_image.specs.View.{card_view}
+use Rattle.card_validity.specs.card_image.Fields.{last_use_of, last_use, session_time, card_days}
+use Rattle.card_validity.specs.card_image.View.{card_view}
 use Rattle.card_validity.specs.declared.files.Judged.{Judged}
 use Rattle.card_validity.specs.Judged.{IsKnown}
 use Rattle.card_session.specs.Telling.{minute_told}

@@ -6,17 +6,17 @@ use Rattle.activity_codec.specs.declared.values.Activity.{Activity}
 use Rattle.activity_codec.specs.declared.values.Activity.TheVariants.{Rest}
 use Rattle.activity_codec.specs.declared.entries.Entry.{Entry}
 use Rattle.tacho_types.specs.declared.texts.Registration.{Registration}
-use Rattle.card_model.specs.Days.{Day, AreDays}
-use Rattle.card_model.specs.Changes.{Remain, OnNewest, fitting, with_newest, with_word, new_day, date_of, trimmed}
-use Rattle.card_model.proofs.Retention.{remain_fitting, remain_some}
-use Rattle.card_model.proofs.Trims.{Behind, trimmed_word, trimmed_day, trimmed_cases}
-use Rattle.card_retention.specs.Expected.{is_newest}
-use Rattle.card_retention.specs.Shown.{Fits, sizes, is_open, AllUpTo}
-use Rattle.card_retention.specs.Retains.{entries_in}
-use Rattle.card_retention.proofs.Entering.{fits_sizes, newest_more, date_newest}
-use Rattle.card_retention.proofs.Growing.{sizes_word, left_newest, left_of}
-use Rattle.card_retention.proofs.Stops.{are_left}
-use Rattle.card_retention.proofs.Listing.{Lists, lists_left, lists_word, lists_day}
+use Rattle.card_days.specs.card_model.Days.{Day, AreDays}
+use Rattle.card_days.specs.card_model.Changes.{Remain, OnNewest, fitting, with_newest, with_word, new_day, date_of, trimmed}
+use Rattle.card_days.proofs.card_model.Retention.{remain_fitting, remain_some}
+use Rattle.card_days.proofs.card_model.Trims.{Behind, trimmed_word, trimmed_day, trimmed_cases}
+use Rattle.card_validity.specs.card_retention.Expected.{is_newest}
+use Rattle.card_validity.specs.card_retention.Shown.{Fits, sizes, is_open, AllUpTo}
+use Rattle.card_validity.specs.card_retention.Retains.{entries_in}
+use Rattle.card_validity.proofs.card_retention.Entering.{fits_sizes, newest_more, date_newest}
+use Rattle.card_validity.proofs.card_retention.Growing.{sizes_word, left_newest, left_of}
+use Rattle.card_validity.proofs.card_retention.Stops.{are_left}
+use Rattle.card_validity.proofs.card_retention.Listing.{Lists, lists_left, lists_word, lists_day}
 use Rattle.card_session.specs.Books.{Book, mark_of, latest_of, closing_word, with_change, gap_closed, entry_word, bare_word, day_words, tells_state, with_new_day, entered_days, travelled, with_entry}
 use Rattle.card_session.specs.Sessions.{EndsStrictly}
 use Rattle.card_session.specs.Moments.{IsBeforeGap, IsBeforeWords, IsBeforeMark, IsClosingWord, entry_len}

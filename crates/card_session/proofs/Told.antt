@@ -9,15 +9,15 @@ use Rattle.tacho_types.specs.declared.numbers.Odometer.{Odometer}
 use Rattle.tach_media.specs.Medium.{State}
 use Rattle.card_layout.specs.declared.files.Application.{Application}
 use Rattle.card_files.specs.declared.vehicle.Vehicle.{Vehicle}
-use Rattle.card_model.specs.Days.{Day, total}
-use Rattle.card_model.specs.Changes.{with_newest, with_km}
-use Rattle.card_model.specs.Image.{StringShape, HoldsDays, newest_pointer}
+use Rattle.card_days.specs.card_model.Days.{Day, total}
+use Rattle.card_days.specs.card_model.Changes.{with_newest, with_km}
+use Rattle.card_days.specs.card_model.Image.{StringShape, HoldsDays, newest_pointer}
 use Rattle.gated_ring.specs.Ring.{Shape, IsNewest}
 use Rattle.card_days.specs.declared.head.Tail.{Tail}
 use Rattle.card_days.specs.Held.{Held, Knows, tail_in}
-use Rattle.card_retention.specs.Expected.{is_newest}
-use Rattle.card_retention.specs.Shown.{sizes, is_open}
-use Rattle.card_image.specs.Fields.{day_string, vehicle_ring, last_use_of}
+use Rattle.card_validity.specs.card_retention.Expected.{is_newest}
+use Rattle.card_validity.specs.card_retention.Shown.{sizes, is_open}
+use Rattle.card_validity.specs.card_image.Fields.{day_string, vehicle_ring, last_use_of}
 use Rattle.card_session.specs.Books.{Book, mark_of, latest_of, closing_word, entry_word, tells_state, km_after, travelled, goes_on_with}
 use Rattle.card_session.specs.Telling.{gap_word, is_newest_day, entry_change, km_told}
 use Rattle.card_session.specs.Sessions.{Session, IsValue, KnowsCard, book_of}

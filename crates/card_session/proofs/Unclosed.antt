@@ -6,17 +6,17 @@ use Rattle.tacho_types.specs.declared.texts.Registration.{Registration}
 use Rattle.card_layout.specs.declared.files.Application.{Application}
 use Rattle.card_layout.specs.Application.{IsApplication}
 use Rattle.card_layout.specs.Files.{image_size_of}
-use Rattle.card_model.specs.Days.{Day, AreDays}
-use Rattle.card_model.specs.Changes.{Remain, fitting, trimmed, with_newest, with_word}
-use Rattle.card_model.specs.Checks.{first_failing}
-use Rattle.card_model.specs.Image.{oldest_pointer}
-use Rattle.card_model.proofs.Retention.{remain_fitting}
-use Rattle.card_retention.specs.Shown.{is_open}
-use Rattle.card_retention.specs.Entries.{newest_word}
-use Rattle.card_retention.proofs.Stops.{are_left}
-use Rattle.card_image.specs.Fields.{day_string, card_days, end_mark, session_time}
-use Rattle.card_image.specs.Beside.{HaveSameSizes, HaveSamePlacePointer}
-use Rattle.card_image.specs.Judging.{days_placed, words_behind_mark, IsValid}
+use Rattle.card_days.specs.card_model.Days.{Day, AreDays}
+use Rattle.card_days.specs.card_model.Changes.{Remain, fitting, trimmed, with_newest, with_word}
+use Rattle.card_days.specs.card_model.Checks.{first_failing}
+use Rattle.card_days.specs.card_model.Image.{oldest_pointer}
+use Rattle.card_days.proofs.card_model.Retention.{remain_fitting}
+use Rattle.card_validity.specs.card_retention.Shown.{is_open}
+use Rattle.card_validity.specs.card_retention.Entries.{newest_word}
+use Rattle.card_validity.proofs.card_retention.Stops.{are_left}
+use Rattle.card_validity.specs.card_image.Fields.{day_string, card_days, end_mark, session_time}
+use Rattle.card_validity.specs.card_image.Beside.{HaveSameSizes, HaveSamePlacePointer}
+use Rattle.card_validity.specs.card_image.Judging.{days_placed, words_behind_mark, IsValid}
 use Rattle.card_session.specs.Books.{Book, mark_of, latest_of, closing_word, with_change, closed_days, closed}
 use Rattle.card_session.specs.Sessions.{EndsStrictly, IsOpenBook, book_of}
 use Rattle.card_session.specs.Moments.{IsBook, IsCloseMoment}

@@ -14,20 +14,20 @@ use Rattle.card_layout.specs.declared.files.Fid.{Fid}
 use Rattle.card_layout.specs.Application.{IsApplication, first_bad_field, place_of_field}
 use Rattle.card_layout.specs.Files.{files_of, image_size_of}
 use Rattle.gated_ring.specs.Ring.{pointer, PointsInside}
-use Rattle.card_model.specs.Days.{Day, AreDays, AreWords, Ascend, len_of}
-use Rattle.card_model.specs.Changes.{OnNewest, AreStrict, Increase, fitting, date_of, trimmed, TakesWord}
-use Rattle.card_model.specs.Image.{oldest_pointer}
-use Rattle.card_model.specs.Checks.{first_bad, first_failing, file_place}
-use Rattle.card_model.proofs.Ascending.{early_words_all}
-use Rattle.card_model.proofs.Judging.{holds_passes}
-use Rattle.card_model.proofs.Retention.{remain_fitting, remain_some}
-use Rattle.card_model.proofs.Trims.{are_trimmed}
-use Rattle.card_retention.specs.Shown.{sizes, is_open}
-use Rattle.card_retention.specs.Entries.{newest_word}
-use Rattle.card_retention.proofs.Flat.{UpTo, flat_newest}
-use Rattle.card_image.specs.Fields.{file_bytes, day_string, vehicle_ring, place_ring, card_days, end_mark, session_time}
-use Rattle.card_image.specs.Beside.{HaveSameSizes, HaveSamePlacePointer}
-use Rattle.card_image.specs.Judging.{file_check, first_bad_of, first_bad_file, pointer_bad, word_checks, words_behind_mark, days_placed, newest_rises, rising_checks, words_placed, IsValid}
+use Rattle.card_days.specs.card_model.Days.{Day, AreDays, AreWords, Ascend, len_of}
+use Rattle.card_days.specs.card_model.Changes.{OnNewest, AreStrict, Increase, fitting, date_of, trimmed, TakesWord}
+use Rattle.card_days.specs.card_model.Image.{oldest_pointer}
+use Rattle.card_days.specs.card_model.Checks.{first_bad, first_failing, file_place}
+use Rattle.card_days.proofs.card_model.Ascending.{early_words_all}
+use Rattle.card_days.proofs.card_model.Judging.{holds_passes}
+use Rattle.card_days.proofs.card_model.Retention.{remain_fitting, remain_some}
+use Rattle.card_days.proofs.card_model.Trims.{are_trimmed}
+use Rattle.card_validity.specs.card_retention.Shown.{sizes, is_open}
+use Rattle.card_validity.specs.card_retention.Entries.{newest_word}
+use Rattle.card_validity.proofs.card_retention.Flat.{UpTo, flat_newest}
+use Rattle.card_validity.specs.card_image.Fields.{file_bytes, day_string, vehicle_ring, place_ring, card_days, end_mark, session_time}
+use Rattle.card_validity.specs.card_image.Beside.{HaveSameSizes, HaveSamePlacePointer}
+use Rattle.card_validity.specs.card_image.Judging.{file_check, first_bad_of, first_bad_file, pointer_bad, word_checks, words_behind_mark, days_placed, newest_rises, rising_checks, words_placed, IsValid}
 use Rattle.card_session.specs.Vehicles.{Vehicles, last_use_in}
 use Rattle.card_session.specs.Books.{Book, mark_of, latest_of, closing_word, with_change, closed_days, closed, last_used, with_entry}
 use Rattle.card_session.specs.Sessions.{EndsStrictly, IsOpenBook, book_of}

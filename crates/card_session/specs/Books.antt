@@ -12,10 +12,11 @@ use Rattle.tacho_types.specs.declared.decimal.Bcd2.{Bcd2}
 use Rattle.tacho_types.specs.declared.decimal.BadValue.{BadValue}
 use Rattle.tacho_types.specs.Decimal.{bcd2_of, bcd2_bytes}
 use Rattle.card_files.specs.declared.vehicle.Vehicle.{Vehicle}
-use Rattle.card_model.specs.Days.{Day, last_word}
-use Rattle.card_model.specs.Changes.{date_of, fitting, with_newest, with_word, with_km, new_day, counter_after}
-use Rattle.card_retention.specs.Expected.{is_newest}
-use Rattle.card_retention.specs.Shown.{sizes, is_open, entry_state, with_closing}
+use Rattle.card_days.specs.card_model.Days.{Day, last_word}
+use Rattle.card_days.specs.card_model.Changes.{date_of, fitting, with_newest, with_word, with_km, new_day}
+use Rattle.card_days.specs.card_model.Changes.{counter_after}
+use Rattle.card_validity.specs.card_retention.Expected.{is_newest}
+use Rattle.card_validity.specs.card_retention.Shown.{sizes, is_open, entry_state, with_closing}
 use Rattle.card_session.specs.Vehicles.{Vehicles, last_use_in, renewed, with_vehicle}
 
 -- the days of a card and its vehicle entries

@@ -3,11 +3,11 @@
 use Rattle.std.specs.Prelude.{◌≡◌, ◌⊎◌, ℕ, ◌+◌, ◌-◌, ◌*◌, ◌/◌, ◌%◌, ◌<◌, true, List, [], ◌∷◌, ◌++◌, length, nat_eq}
 use Rattle.std.specs.Prelude.{if◌then◌else◌}
 use Rattle.activity_codec.specs.Words.{word_absent}
-use Rattle.card_model.specs.Days.{Day}
-use Rattle.card_model.specs.Changes.{Remain, IsNext, date_of, fitting, new_day}
-use Rattle.card_retention.specs.Expected.{is_newest}
-use Rattle.card_retention.specs.Shown.{sizes}
-use Rattle.card_retention.specs.Entries.{newest_word}
+use Rattle.card_days.specs.card_model.Days.{Day}
+use Rattle.card_days.specs.card_model.Changes.{Remain, IsNext, date_of, fitting, new_day}
+use Rattle.card_validity.specs.card_retention.Expected.{is_newest}
+use Rattle.card_validity.specs.card_retention.Shown.{sizes}
+use Rattle.card_validity.specs.card_retention.Entries.{newest_word}
 use Rattle.activity_codec.specs.declared.entries.Manual.{Manual}
 use Rattle.hand_model.specs.Manual.{manual_word}
 use Rattle.card_session.specs.Vehicles.{Vehicles}

@@ -6,11 +6,11 @@ use Rattle.card_layout.specs.declared.files.Application.{Application}
 use Rattle.card_layout.specs.Files.{place_of}
 use Rattle.tach_media.specs.Medium.{SameOutside, put}
 use Rattle.tacho_types.specs.declared.numbers.Odometer.{Odometer}
-use Rattle.card_model.specs.Days.{Day}
-use Rattle.card_model.specs.Image.{HoldsDays}
+use Rattle.card_days.specs.card_model.Days.{Day}
+use Rattle.card_days.specs.card_model.Image.{HoldsDays}
 use Rattle.gated_ring.specs.Ring.{PointsInside, size_of as ring_size}
-use Rattle.card_image.specs.Fields.{file, day_string, vehicle_ring}
-use Rattle.card_image.specs.Judging.{IsValid}
+use Rattle.card_validity.specs.card_image.Fields.{file, day_string, vehicle_ring}
+use Rattle.card_validity.specs.card_image.Judging.{IsValid}
 use Rattle.card_session.specs.Books.{with_entry, closed}
 use Rattle.card_session.specs.Sessions.{Session, IsSession, book_of}
 use Rattle.card_session.specs.Moments.{IsBook, IsKeepMoment, IsCloseMoment}

@@ -11,9 +11,9 @@ use Rattle.tacho_types.specs.Numbers.{time_bytes}
 use Rattle.card_files.specs.declared.card_event.CardEvent.{CardEvent}
 use Rattle.card_files.specs.declared.current_use.CurrentUse.{CurrentUse}
 use Rattle.card_files.specs.Noting.{HoldsEvent, IsNotingEvent, IsEventNoted}
-use Rattle.card_model.specs.Days.{Day}
-use Rattle.card_model.specs.Changes.{Shorter, date_of, trimmed}
-use Rattle.card_image.specs.Fields.{file, current_use, session_time}
+use Rattle.card_days.specs.card_model.Days.{Day}
+use Rattle.card_days.specs.card_model.Changes.{Shorter, date_of, trimmed}
+use Rattle.card_validity.specs.card_image.Fields.{file, current_use, session_time}
 use Rattle.card_session.specs.declared.words.TheConstants.{LATEST_MINUTE}
 use Rattle.card_session.specs.Vehicles.{Vehicles}
 use Rattle.card_session.specs.Books.{Book, mark_of, with_entry, closed}

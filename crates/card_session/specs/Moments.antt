@@ -4,10 +4,10 @@ use Rattle.std.specs.Prelude.{if◌then◌else◌}
 use Rattle.activity_codec.specs.declared.values.Activity.{Activity}
 use Rattle.activity_codec.specs.declared.entries.Entry.{Entry}
 use Rattle.tacho_types.specs.declared.texts.Registration.{Registration}
-use Rattle.card_model.specs.Days.{Day}
-use Rattle.card_model.specs.Changes.{Remain}
-use Rattle.card_retention.specs.Expected.{is_newest}
-use Rattle.card_retention.specs.Shown.{sizes, is_open}
+use Rattle.card_days.specs.card_model.Days.{Day}
+use Rattle.card_days.specs.card_model.Changes.{Remain}
+use Rattle.card_validity.specs.card_retention.Expected.{is_newest}
+use Rattle.card_validity.specs.card_retention.Shown.{sizes, is_open}
 use Rattle.card_session.specs.Vehicles.{Vehicles, with_room}
 use Rattle.card_session.specs.Books.{Book, mark_of, day_words, tells_state, gap_closed, entered_days, with_entry}
 use Rattle.card_session.specs.Books.{goes_on_with, measured_to, closed_days, closed}

@@ -2,13 +2,13 @@
 use Rattle.std.specs.Prelude.{◌≡◌, ℕ, ◌+◌, ◌/◌, ◌<◌, false, None, List, ◌∷◌, [], ◌++◌}
 use Rattle.activity_codec.specs.declared.entries.Entry.{Entry}
 use Rattle.card_layout.specs.declared.files.Application.{Application}
-use Rattle.card_model.specs.Days.{Day}
-use Rattle.card_model.specs.Changes.{trimmed}
-use Rattle.card_retention.specs.Expected.{Counted, is_newest}
-use Rattle.card_retention.specs.Shown.{Bound, Rests, Lives, sizes, is_open}
-use Rattle.card_retention.specs.Entries.{latest, told_by, entries_up_to}
-use Rattle.card_retention.specs.Retains.{entries_in}
-use Rattle.card_image.specs.Fields.{card_days, end_mark}
+use Rattle.card_days.specs.card_model.Days.{Day}
+use Rattle.card_days.specs.card_model.Changes.{trimmed}
+use Rattle.card_validity.specs.card_retention.Expected.{Counted, is_newest}
+use Rattle.card_validity.specs.card_retention.Shown.{Bound, Rests, Lives, sizes, is_open}
+use Rattle.card_validity.specs.card_retention.Entries.{latest, told_by, entries_up_to}
+use Rattle.card_validity.specs.card_retention.Retains.{entries_in}
+use Rattle.card_validity.specs.card_image.Fields.{card_days, end_mark}
 
 -- Between two calls of a session the days are those that the overwriting leaves of all that the entries brought, where
 -- the next entry is not earlier than a minute.

@@ -4,9 +4,9 @@ use Rattle.std.specs.Prelude.{[], length, IfSome}
 use Rattle.activity_codec.specs.declared.entries.Entry.{Entry}
 use Rattle.tach_media.specs.Medium.{State, LeavesOnly, HasCause}
 use Rattle.card_session.specs.Vehicles.{Vehicles, with_room, with_vehicle}
-use Rattle.card_model.specs.Days.{Day}
-use Rattle.card_model.specs.Changes.{Remain, OnNewest, TakesWord, IsNext, date_of}
-use Rattle.card_retention.specs.Entries.{newest_word}
+use Rattle.card_days.specs.card_model.Days.{Day}
+use Rattle.card_days.specs.card_model.Changes.{Remain, OnNewest, TakesWord, IsNext, date_of}
+use Rattle.card_validity.specs.card_retention.Entries.{newest_word}
 use Rattle.tacho_types.specs.declared.texts.Registration.{Registration}
 use Rattle.card_days.specs.Steps.{IsIdle}
 use Rattle.card_session.specs.Books.{Book, mark_of, with_change, with_new_day, day_words, gap_closed, entered_days}

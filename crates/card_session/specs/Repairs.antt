@@ -3,13 +3,13 @@
 use Rattle.std.specs.Prelude.{◌≡◌, ◌⊎◌, ℕ, ◌/◌, ◌<◌, false, Some, List, [], ◌∷◌, ◌++◌}
 use Rattle.activity_codec.specs.declared.entries.Entry.{Entry}
 use Rattle.card_layout.specs.declared.files.Application.{Application}
-use Rattle.card_model.specs.Days.{Day}
-use Rattle.card_model.specs.Changes.{trimmed}
-use Rattle.card_retention.specs.Expected.{Counted, is_newest, with_entry}
-use Rattle.card_retention.specs.Shown.{Bound, Rests, sizes}
-use Rattle.card_retention.specs.Entries.{entries_up_to, closed_at}
-use Rattle.card_retention.specs.Retains.{entries_in}
-use Rattle.card_image.specs.Fields.{card_days, end_mark}
+use Rattle.card_days.specs.card_model.Days.{Day}
+use Rattle.card_days.specs.card_model.Changes.{trimmed}
+use Rattle.card_validity.specs.card_retention.Expected.{Counted, is_newest, with_entry}
+use Rattle.card_validity.specs.card_retention.Shown.{Bound, Rests, sizes}
+use Rattle.card_validity.specs.card_retention.Entries.{entries_up_to, closed_at}
+use Rattle.card_validity.specs.card_retention.Retains.{entries_in}
+use Rattle.card_validity.specs.card_image.Fields.{card_days, end_mark}
 use Rattle.card_session.specs.Inserting.{lacked}
 use Rattle.card_session.specs.Overwriting.{DaysFollowOverwriting, and_entry}
 

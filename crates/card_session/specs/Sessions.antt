@@ -8,11 +8,11 @@ use Rattle.tacho_types.specs.declared.texts.Registration.{Registration}
 use Rattle.tacho_types.specs.declared.numbers.Odometer.{Odometer}
 use Rattle.card_files.specs.declared.vehicle.Vehicle.{Vehicle}
 use Rattle.gated_ring.specs.Ring.{Shape, PointsInside, IsNewest, size_of as ring_size}
-use Rattle.card_model.specs.Days.{Day}
-use Rattle.card_model.specs.Changes.{AreStrict}
+use Rattle.card_days.specs.card_model.Days.{Day}
+use Rattle.card_days.specs.card_model.Changes.{AreStrict}
 use Rattle.card_days.specs.Held.{Held, Knows}
-use Rattle.card_retention.specs.Entries.{EndsBy, newest_word}
-use Rattle.card_image.specs.Fields.{file, day_string, vehicle_ring, card_days, last_use_of}
+use Rattle.card_validity.specs.card_retention.Entries.{EndsBy, newest_word}
+use Rattle.card_validity.specs.card_image.Fields.{file, day_string, vehicle_ring, card_days, last_use_of}
 use Rattle.card_session.specs.declared.words.TheConstants.{LATEST_MINUTE}
 use Rattle.card_session.specs.Vehicles.{vehicles_of}
 use Rattle.card_session.specs.Books.{Book, mark_of}

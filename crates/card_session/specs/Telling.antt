@@ -5,7 +5,7 @@ use Rattle.activity_codec.specs.declared.values.Activity.{Activity}
 use Rattle.activity_codec.specs.declared.values.Activity.TheVariants.{Rest}
 use Rattle.activity_codec.specs.declared.entries.Entry.{Entry}
 use Rattle.activity_codec.specs.Words.{word_minute, word_absent}
-use Rattle.card_model.specs.Changes.{date_of}
+use Rattle.card_days.specs.card_model.Changes.{date_of}
 use Rattle.card_days.specs.declared.head.Tail.{Tail}
 use Rattle.card_session.specs.Books.{closing_word, entry_word}
 

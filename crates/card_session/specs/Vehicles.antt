@@ -5,7 +5,7 @@ use Rattle.card_layout.specs.declared.files.Application.{Application}
 use Rattle.card_files.specs.declared.vehicle.Vehicle.{Vehicle}
 use Rattle.card_files.specs.Vehicles.{vehicle_of}
 use Rattle.gated_ring.specs.Ring.{is_there, entry_at, order, taken}
-use Rattle.card_image.specs.Fields.{vehicle_ring, newest_vehicle, last_use_of}
+use Rattle.card_validity.specs.card_image.Fields.{vehicle_ring, newest_vehicle, last_use_of}
 
 -- THE VEHICLE ENTRIES OF A CARD: the newest one; and the places of its ring, from the one that the next entry takes
 -- round to the one before it, None where no entry stands.

@@ -2,7 +2,7 @@
 //! first keep.
 ghost use Rattle.std.specs.Prelude.{◌≡◌, ◌≤◌, ◌<◌, ◌+◌, OnOk, Some, IfSome, is_err};
 ghost use Rattle.tach_media.specs.Medium.{LeavesOnly, HasCause};
-ghost use Rattle.card_model.specs.Changes.{date_of};
+ghost use Rattle.card_days.specs.card_model.Changes.{date_of};
 ghost use Rattle.card_days.specs.Held.{EndsWith};
 ghost use Rattle.hand_model.specs.Manual.{manual_word};
 ghost use Rattle.card_session.specs.declared.words.TheConstants.{LATEST_MINUTE};

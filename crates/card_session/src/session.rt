@@ -6,7 +6,7 @@ ghost use Rattle.card_layout.specs.Application.{IsApplication};
 ghost use Rattle.tach_media.specs.Medium.{LeavesOnly, HasCause, IsSettled, last_count};
 ghost use Rattle.card_days.specs.Held.{tail_of};
 ghost use Rattle.card_days.specs.Plans.{most_drops};
-ghost use Rattle.card_image.specs.Fields.{file, day_string, vehicle_ring, last_use_of};
+ghost use Rattle.card_validity.specs.card_image.Fields.{file, day_string, vehicle_ring, last_use_of};
 ghost use Rattle.card_session.specs.Books.{goes_on_in, goes_on_with, measured, closed};
 ghost use Rattle.card_session.specs.declared.words.TheConstants.{LATEST_MINUTE};
 ghost use Rattle.card_session.specs.Telling.{minute_told};

@@ -2,7 +2,7 @@
 //! profile).
 ghost use Rattle.std.specs.Prelude.{◌≡◌, ◌*◌, ◌≤◌};
 ghost use Rattle.card_session.specs.Books.{goes_on_in, next_count, vehicle_counter, begun_vehicle, measured, used};
-ghost use Rattle.card_image.specs.Fields.{last_use_of};
+ghost use Rattle.card_validity.specs.card_image.Fields.{last_use_of};
 ghost use Rattle.card_session.specs.declared.words.TheConstants.{LATEST_MINUTE};
 
 use crate::words::{DAY_MINUTES, DAY_SECONDS};

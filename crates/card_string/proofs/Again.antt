@@ -2,29 +2,29 @@
 use Rattle.std.proofs.Common.{◌≡◌, inl, inr, ⊎_elim, ℕ, suc, ◌+◌, ◌-◌, ◌*◌, ◌/◌, ◌%◌, ◌<◌, ◌≤◌, Bool, true, false, cond, ◌&&◌, List, [], ◌∷◌, ◌++◌, length, refl, sym, ◌∙◌, ap, subst, arith}
 use Rattle.std.specs.Prelude.{nat_eq, nat_lt}
 use Rattle.std.proofs.lemmas.Bool.{eqb-true}
-use Rattle.activity_codec.specs.declared.entries.Entry.{Entry}
-use Rattle.activity_codec.specs.declared.values.Activity.{Activity}
-use Rattle.activity_codec.specs.declared.values.Activity.TheVariants.{Rest, Available, Work, Driving}
-use Rattle.activity_codec.specs.Words.{word_minute, activity_number}
-use Rattle.tacho_types.specs.declared.texts.Registration.{Registration}
-use Rattle.card_model.specs.Days.{Day, AreDays, len_of, total, last_word}
-use Rattle.card_model.specs.Changes.{Remain, fitting, with_newest, with_word, with_km, date_of, trimmed}
-use Rattle.card_model.proofs.Retention.{remain_fitting}
-use Rattle.card_retention.specs.Expected.{Counted, is_newest, with_entry as counted_with}
-use Rattle.card_retention.specs.Shown.{Bound, Rests, Sound.Flat, Lives, sizes, is_open, entry_state}
-use Rattle.card_retention.specs.Entries.{latest, told_by, entries_up_to, newest_word}
-use Rattle.card_retention.proofs.Entering.{last_append}
-use Rattle.card_retention.proofs.Listing.{Lists}
-use Rattle.card_retention.proofs.Stub.{Stubbed, stub_kept, trimmed_before}
-use Rattle.card_session.specs.Books.{Book, mark_of, latest_of, closing_word, gap_closed, entry_word, bare_word, day_words, tells_state, with_change, with_new_day, entered_days, km_after, travelled, with_entry}
-use Rattle.card_session.specs.Moments.{IsBeforeMark, entry_len}
-use Rattle.card_session.specs.Overwriting.{and_entry}
-use Rattle.card_session.specs.Parts.{IsBeforeGapOf}
-use Rattle.card_session.proofs.Alike.{alike_km, are_bare, lives_alike}
-use Rattle.card_session.proofs.Following.{entry_minute, entry_top}
-use Rattle.card_session.proofs.Valid.{flat_of}
+use Rattle.card_by_hand.specs.activity_codec.declared.entries.Entry.{Entry}
+use Rattle.card_by_hand.specs.activity_codec.declared.values.Activity.{Activity}
+use Rattle.card_by_hand.specs.activity_codec.declared.values.Activity.TheVariants.{Rest, Available, Work, Driving}
+use Rattle.card_by_hand.specs.activity_codec.Words.{word_minute, activity_number}
+use Rattle.card_by_hand.specs.tacho_types.declared.texts.Registration.{Registration}
+use Rattle.card_by_hand.specs.card_model.Days.{Day, AreDays, len_of, total, last_word}
+use Rattle.card_by_hand.specs.card_model.Changes.{Remain, fitting, with_newest, with_word, with_km, date_of, trimmed}
+use Rattle.card_by_hand.proofs.card_model.Retention.{remain_fitting}
+use Rattle.card_by_hand.specs.card_retention.Expected.{Counted, is_newest, with_entry as counted_with}
+use Rattle.card_by_hand.specs.card_retention.Shown.{Bound, Rests, Sound.Flat, Lives, sizes, is_open, entry_state}
+use Rattle.card_by_hand.specs.card_retention.Entries.{latest, told_by, entries_up_to, newest_word}
+use Rattle.card_by_hand.proofs.card_retention.Entering.{last_append}
+use Rattle.card_by_hand.proofs.card_retention.Listing.{Lists}
+use Rattle.card_by_hand.proofs.card_retention.Stub.{Stubbed, stub_kept, trimmed_before}
+use Rattle.card_by_hand.specs.card_session.Books.{Book, mark_of, latest_of, closing_word, gap_closed, entry_word, bare_word, day_words, tells_state, with_change, with_new_day, entered_days, km_after, travelled, with_entry}
+use Rattle.card_by_hand.specs.card_session.Moments.{IsBeforeMark, entry_len}
+use Rattle.card_by_hand.specs.card_session.Overwriting.{and_entry}
+use Rattle.card_by_hand.specs.card_session.Parts.{IsBeforeGapOf}
+use Rattle.card_by_hand.proofs.card_session.Alike.{alike_km, are_bare, lives_alike}
+use Rattle.card_by_hand.proofs.card_session.Following.{entry_minute, entry_top}
+use Rattle.card_by_hand.proofs.card_session.Valid.{flat_of}
 use Rattle.card_string.specs.Carried.{BegunOf}
-use Rattle.card_session.proofs.OnMark.{shut_first, none_day, bare_tells, entries_more}
+use Rattle.card_by_hand.proofs.card_session.OnMark.{shut_first, none_day, bare_tells, entries_more}
 use Rattle.card_string.proofs.Begun.{same, with_last, Stops, bare_stop, begun_stop, begun_lists}
 
 -- of a string that ends with such a day the oldest go, but that one stays

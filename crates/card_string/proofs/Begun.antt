@@ -2,37 +2,37 @@
 use Rattle.std.proofs.Common.{◌≡◌, ◌⊎◌, inl, inr, ⊎_elim, ℕ, suc, ◌+◌, ◌-◌, ◌*◌, ◌/◌, ◌%◌, ◌<◌, ◌≤◌, max, Bool, true, false, cond, ◌&&◌, ◌||◌, Option, Some, None, List, [], ◌∷◌, ◌++◌, length, refl, sym, ◌∙◌, ap, subst, arith}
 use Rattle.std.specs.Prelude.{nat_eq, nat_lt, nat_le}
 use Rattle.std.proofs.lemmas.Bool.Decides.{nat_tests}
-use Rattle.activity_codec.specs.declared.entries.Entry.{Entry}
-use Rattle.activity_codec.specs.declared.values.Activity.TheVariants.{Rest}
-use Rattle.activity_codec.specs.Words.{word_minute}
-use Rattle.card_model.specs.Days.{Day, AreDays, IsDay}
-use Rattle.card_model.specs.Changes.{Remain, fitting, with_newest, with_word, with_km, with_early, early, cut, new_day, date_of, trimmed}
-use Rattle.card_model.proofs.Retention.{remain_fitting}
-use Rattle.card_model.proofs.Trims.{cut_date}
-use Rattle.card_retention.specs.Expected.{WordDay, Counted, is_newest, with_entry as counted_with}
-use Rattle.card_retention.specs.Shown.{Bound, AllUpTo, AllBefore, Rests, Lives, sizes, size_day}
-use Rattle.card_retention.specs.Entries.{latest, told_by, entry_at, day_entries, entries_up_to, newest_word, newest_minute}
-use Rattle.card_retention.specs.Retains.{is_day, entries_in, begun_on}
-use Rattle.card_retention.proofs.Closing.{kept_lives}
-use Rattle.card_retention.proofs.Committing.{Quiet, Olds, told_back, commits}
-use Rattle.card_retention.proofs.Growing.{sizes_append}
-use Rattle.card_retention.proofs.Listing.{Lists, append_in, lists_left}
-use Rattle.card_retention.proofs.ListTrims.{cut_entries}
-use Rattle.card_retention.proofs.Newest.{minutes_none}
-use Rattle.card_retention.proofs.Stops.{are_left, stop_none, stop_first}
-use Rattle.card_retention.proofs.Stub.{trimmed_before, trimmed_stub}
-use Rattle.card_session.specs.Books.{Book, mark_of, latest_of, closing_word, gap_closed, entry_word, bare_word, day_words, tells_state, with_change, with_new_day, entered_days, km_after, travelled, with_entry}
-use Rattle.card_session.specs.Moments.{IsBeforeMark, entry_len}
-use Rattle.card_session.specs.Overwriting.{and_entry}
-use Rattle.card_session.specs.Parts.{IsBeforeGapOf}
-use Rattle.card_session.proofs.Alike.{alike_km, are_bare, lives_alike}
-use Rattle.card_session.proofs.Following.{entry_minute, entry_top}
-use Rattle.card_session.proofs.Lasting.{entered_as}
-use Rattle.card_session.proofs.Preparing.{gap_are}
-use Rattle.card_session.proofs.Stopping.{closing_absent}
-use Rattle.card_session.proofs.OnMark.{all_before, before_left, shut_of, newest_of_before, cut_first, shut_first, word_first, bare_tells, none_day, entries_more, day_last, entries_same}
-use Rattle.card_session.proofs.Surviving.{few_bytes}
-use Rattle.tacho_types.specs.declared.texts.Registration.{Registration}
+use Rattle.card_by_hand.specs.activity_codec.declared.entries.Entry.{Entry}
+use Rattle.card_by_hand.specs.activity_codec.declared.values.Activity.TheVariants.{Rest}
+use Rattle.card_by_hand.specs.activity_codec.Words.{word_minute}
+use Rattle.card_by_hand.specs.card_model.Days.{Day, AreDays, IsDay}
+use Rattle.card_by_hand.specs.card_model.Changes.{Remain, fitting, with_newest, with_word, with_km, with_early, early, cut, new_day, date_of, trimmed}
+use Rattle.card_by_hand.proofs.card_model.Retention.{remain_fitting}
+use Rattle.card_by_hand.proofs.card_model.Trims.{cut_date}
+use Rattle.card_by_hand.specs.card_retention.Expected.{WordDay, Counted, is_newest, with_entry as counted_with}
+use Rattle.card_by_hand.specs.card_retention.Shown.{Bound, AllUpTo, AllBefore, Rests, Lives, sizes, size_day}
+use Rattle.card_by_hand.specs.card_retention.Entries.{latest, told_by, entry_at, day_entries, entries_up_to, newest_word, newest_minute}
+use Rattle.card_by_hand.specs.card_retention.Retains.{is_day, entries_in, begun_on}
+use Rattle.card_by_hand.proofs.card_retention.Closing.{kept_lives}
+use Rattle.card_by_hand.proofs.card_retention.Committing.{Quiet, Olds, told_back, commits}
+use Rattle.card_by_hand.proofs.card_retention.Growing.{sizes_append}
+use Rattle.card_by_hand.proofs.card_retention.Listing.{Lists, append_in, lists_left}
+use Rattle.card_by_hand.proofs.card_retention.ListTrims.{cut_entries}
+use Rattle.card_by_hand.proofs.card_retention.Newest.{minutes_none}
+use Rattle.card_by_hand.proofs.card_retention.Stops.{are_left, stop_none, stop_first}
+use Rattle.card_by_hand.proofs.card_retention.Stub.{trimmed_before, trimmed_stub}
+use Rattle.card_by_hand.specs.card_session.Books.{Book, mark_of, latest_of, closing_word, gap_closed, entry_word, bare_word, day_words, tells_state, with_change, with_new_day, entered_days, km_after, travelled, with_entry}
+use Rattle.card_by_hand.specs.card_session.Moments.{IsBeforeMark, entry_len}
+use Rattle.card_by_hand.specs.card_session.Overwriting.{and_entry}
+use Rattle.card_by_hand.specs.card_session.Parts.{IsBeforeGapOf}
+use Rattle.card_by_hand.proofs.card_session.Alike.{alike_km, are_bare, lives_alike}
+use Rattle.card_by_hand.proofs.card_session.Following.{entry_minute, entry_top}
+use Rattle.card_by_hand.proofs.card_session.Lasting.{entered_as}
+use Rattle.card_by_hand.proofs.card_session.Preparing.{gap_are}
+use Rattle.card_by_hand.proofs.card_session.Stopping.{closing_absent}
+use Rattle.card_by_hand.proofs.card_session.OnMark.{all_before, before_left, shut_of, newest_of_before, cut_first, shut_first, word_first, bare_tells, none_day, entries_more, day_last, entries_same}
+use Rattle.card_by_hand.proofs.card_session.Surviving.{few_bytes}
+use Rattle.card_by_hand.specs.tacho_types.declared.texts.Registration.{Registration}
 use Rattle.card_string.specs.Carried.{BrokeOf, BegunOf}
 
 above : (m n : ℕ) → n < m → nat_le m n ≡ false

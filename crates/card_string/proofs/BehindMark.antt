@@ -6,18 +6,18 @@ use Rattle.std.specs.List.{AllByRecursion}
 use Rattle.std.proofs.lemmas.Bool.{cases_lt, and_parts, not-true}
 use Rattle.std.proofs.lemmas.Bool.Decides.{nat_tests}
 use Rattle.std.proofs.lemmas.List.Elements.{filter-append}
-use Rattle.activity_codec.specs.declared.entries.Entry.{Entry}
-use Rattle.activity_codec.specs.Words.{word_minute, word_absent, word_slot, word_crew, word_act}
-use Rattle.card_model.specs.Days.{Day, AreDays, AreWords, Ascend, last_word, len_of}
-use Rattle.card_model.specs.Changes.{early, date_of}
-use Rattle.card_model.specs.Checks.{check, first_failing, file_place}
-use Rattle.card_model.proofs.Judging.{first_passes}
-use Rattle.card_model.proofs.Trims.{early_front}
-use Rattle.card_retention.specs.Entries.{IsChecked, latest, told_by}
-use Rattle.card_retention.specs.Shown.{is_open}
-use Rattle.card_image.specs.Fields.{last_of}
-use Rattle.card_image.specs.Judging.{PlacedWord, minute_at, words_placed, days_placed, tells_none, leaves_gap, closing_checks, words_behind_mark}
-use Rattle.card_session.specs.Overwriting.{IsSilentBehind}
+use Rattle.card_by_hand.specs.activity_codec.declared.entries.Entry.{Entry}
+use Rattle.card_by_hand.specs.activity_codec.Words.{word_minute, word_absent, word_slot, word_crew, word_act}
+use Rattle.card_by_hand.specs.card_model.Days.{Day, AreDays, AreWords, Ascend, last_word, len_of}
+use Rattle.card_by_hand.specs.card_model.Changes.{early, date_of}
+use Rattle.card_by_hand.specs.card_model.Checks.{check, first_failing, file_place}
+use Rattle.card_by_hand.proofs.card_model.Judging.{first_passes}
+use Rattle.card_by_hand.proofs.card_model.Trims.{early_front}
+use Rattle.card_by_hand.specs.card_retention.Entries.{IsChecked, latest, told_by}
+use Rattle.card_by_hand.specs.card_retention.Shown.{is_open}
+use Rattle.card_by_hand.specs.card_image.Fields.{last_of}
+use Rattle.card_by_hand.specs.card_image.Judging.{PlacedWord, minute_at, words_placed, days_placed, tells_none, leaves_gap, closing_checks, words_behind_mark}
+use Rattle.card_by_hand.specs.card_session.Overwriting.{IsSilentBehind}
 
 -- ---- the words in their order: those up to the mark, and those behind it
 

@@ -3,13 +3,13 @@ use Rattle.std.proofs.Common.{◌≡◌, ◌⊎◌, inl, inr, ⊎_elim, ℕ, suc
 use Rattle.std.specs.Prelude.{nat_eq, nat_lt}
 use Rattle.std.proofs.lemmas.Bool.{cases_lt, eqb-true}
 use Rattle.std.proofs.lemmas.Bool.Decides.{nat_tests}
-use Rattle.activity_codec.specs.declared.entries.Entry.{Entry}
-use Rattle.card_model.specs.Days.{Day}
-use Rattle.card_retention.specs.Expected.{WordDay, more, is_newest, goes_on, closes, adds, is_closed, first_words, Counted, with_entry, expected_days}
-use Rattle.card_retention.specs.Shown.{Bound, InDays, AllFrom, AllBefore, AllIn, Rising, Shows, sizes, is_open, owing, Rests}
-use Rattle.card_retention.specs.Retains.{entries_in, begun_on}
-use Rattle.card_retention.proofs.Entering.{rising_more, newest_more, shows_before, rising_sizes, closes_is}
-use Rattle.card_retention.proofs.Growing.{in_more, in_front, still_in}
+use Rattle.card_by_hand.specs.activity_codec.declared.entries.Entry.{Entry}
+use Rattle.card_by_hand.specs.card_model.Days.{Day}
+use Rattle.card_by_hand.specs.card_retention.Expected.{WordDay, more, is_newest, goes_on, closes, adds, is_closed, first_words, Counted, with_entry, expected_days}
+use Rattle.card_by_hand.specs.card_retention.Shown.{Bound, InDays, AllFrom, AllBefore, AllIn, Rising, Shows, sizes, is_open, owing, Rests}
+use Rattle.card_by_hand.specs.card_retention.Retains.{entries_in, begun_on}
+use Rattle.card_by_hand.proofs.card_retention.Entering.{rising_more, newest_more, shows_before, rising_sizes, closes_is}
+use Rattle.card_by_hand.proofs.card_retention.Growing.{in_more, in_front, still_in}
 use Rattle.card_string.specs.Since.{HasOn, IsByEntries}
 
 -- ---- days in their order

@@ -1,36 +1,36 @@
 -- What the moments of each call make of a card's days and of its vehicle entries, deed by deed.
 use Rattle.std.proofs.Common.{◌≡◌, ◌⊎◌, inl, inr, ⊎_elim, ℕ, suc, ◌+◌, ◌*◌, ◌/◌, ◌<◌, ◌≤◌, Bool, true, false, cond, Option, Some, None, List, [], ◌∷◌, ◌++◌, append_assoc, length, refl, sym, ◌∙◌, ap, subst, arith, option_map}
 use Rattle.std.proofs.lemmas.List.{append-nil}
-use Rattle.activity_codec.specs.declared.values.Activity.{Activity}
-use Rattle.activity_codec.specs.declared.values.Activity.TheVariants.{Rest}
-use Rattle.activity_codec.specs.declared.entries.Entry.{Entry}
-use Rattle.activity_codec.specs.declared.entries.Manual.{Manual}
-use Rattle.tacho_types.specs.declared.texts.Registration.{Registration}
-use Rattle.card_layout.specs.declared.files.Application.{Application}
-use Rattle.card_layout.specs.Application.{IsApplication}
-use Rattle.card_layout.specs.Files.{place_of, image_size_of}
-use Rattle.card_retention.specs.Shown.{AllUpTo, is_open}
-use Rattle.gated_ring.specs.Ring.{PointsInside}
-use Rattle.card_image.specs.Fields.{file, vehicle_ring, end_mark, last_use_of}
-use Rattle.card_image.specs.Beside.{HaveSameDays, HaveSameVehicles}
-use Rattle.card_files.specs.declared.vehicle.Vehicle.{Vehicle}
-use Rattle.card_session.specs.Books.{Book, mark_of, with_entry, closed, closed_days, last_used, used}
-use Rattle.card_session.specs.Sessions.{Session, book_of}
-use Rattle.card_session.specs.Moments.{IsKeepMoment, IsCloseMoment}
-use Rattle.card_session.specs.ByHand.{by_hand, IsByHandMoment}
-use Rattle.card_session.specs.Cards.{IsCardKeeping, IsCardClosing, ended, grown}
-use Rattle.card_session.specs.Vehicles.{Vehicles, last_use_in}
-use Rattle.card_session.specs.Inserting.{Follow, lacked, with_cut, with_owed, IsReplaying, repaired, IsRepairMoment, IsStill, IsRepaired, IsRepairing, IsNoted, IsNoting, IsShut, IsShutting, InsertingClosed, InsertingOpen}
+use Rattle.card_by_hand.specs.activity_codec.declared.values.Activity.{Activity}
+use Rattle.card_by_hand.specs.activity_codec.declared.values.Activity.TheVariants.{Rest}
+use Rattle.card_by_hand.specs.activity_codec.declared.entries.Entry.{Entry}
+use Rattle.card_by_hand.specs.activity_codec.declared.entries.Manual.{Manual}
+use Rattle.card_by_hand.specs.tacho_types.declared.texts.Registration.{Registration}
+use Rattle.tach_media.specs.card_layout.declared.files.Application.{Application}
+use Rattle.tach_media.specs.card_layout.Application.{IsApplication}
+use Rattle.tach_media.specs.card_layout.Files.{place_of, image_size_of}
+use Rattle.card_by_hand.specs.card_retention.Shown.{AllUpTo, is_open}
+use Rattle.card_by_hand.specs.gated_ring.Ring.{PointsInside}
+use Rattle.card_by_hand.specs.card_image.Fields.{file, vehicle_ring, end_mark, last_use_of}
+use Rattle.card_by_hand.specs.card_image.Beside.{HaveSameDays, HaveSameVehicles}
+use Rattle.card_by_hand.specs.card_files.declared.vehicle.Vehicle.{Vehicle}
+use Rattle.card_by_hand.specs.card_session.Books.{Book, mark_of, with_entry, closed, closed_days, last_used, used}
+use Rattle.card_by_hand.specs.card_session.Sessions.{Session, book_of}
+use Rattle.card_by_hand.specs.card_session.Moments.{IsKeepMoment, IsCloseMoment}
+use Rattle.card_by_hand.specs.card_session.ByHand.{by_hand, IsByHandMoment}
+use Rattle.card_by_hand.specs.card_session.Cards.{IsCardKeeping, IsCardClosing, ended, grown}
+use Rattle.card_by_hand.specs.card_session.Vehicles.{Vehicles, last_use_in}
+use Rattle.card_by_hand.specs.card_session.Inserting.{Follow, lacked, with_cut, with_owed, IsReplaying, repaired, IsRepairMoment, IsStill, IsRepaired, IsRepairing, IsNoted, IsNoting, IsShut, IsShutting, InsertingClosed, InsertingOpen}
 use Rattle.card_by_hand.specs.First.{AreEntered, IsEntering, IsKeepingBehind, IsFirstKeeping}
-use Rattle.card_session.proofs.Composing.{book_is, told_book}
-use Rattle.card_session.proofs.InsertingBooks.{lacked_follow}
-use Rattle.card_session.proofs.InsertingCards.{noted_same, noting_same}
-use Rattle.card_session.proofs.InsertingUse.{use_inside}
-use Rattle.card_session.proofs.InsertingOpen.{opening_same, reopening_same}
-use Rattle.card_session.proofs.InsertingAgain.{noted_keeps}
-use Rattle.card_session.proofs.Marks.{mark_told}
-use Rattle.card_session.proofs.Preparing.{used_at}
-use Rattle.card_session.proofs.Stopping.{before_use, ended_same}
+use Rattle.card_by_hand.proofs.card_session.Composing.{book_is, told_book}
+use Rattle.card_by_hand.proofs.card_session.InsertingBooks.{lacked_follow}
+use Rattle.card_by_hand.proofs.card_session.InsertingCards.{noted_same, noting_same}
+use Rattle.card_by_hand.proofs.card_session.InsertingUse.{use_inside}
+use Rattle.card_by_hand.proofs.card_session.InsertingOpen.{opening_same, reopening_same}
+use Rattle.card_by_hand.proofs.card_session.InsertingAgain.{noted_keeps}
+use Rattle.card_by_hand.proofs.card_session.Marks.{mark_told}
+use Rattle.card_by_hand.proofs.card_session.Preparing.{used_at}
+use Rattle.card_by_hand.proofs.card_session.Stopping.{before_use, ended_same}
 use Rattle.card_string.specs.Deeds.{EntryKept, Keep, Enter, Close, Cut, Step, Done, Broken, Makes, MadeBy, kept_by, kept_in, AreNext, IsMadeOf, IsMade}
 use Rattle.card_string.proofs.Lists.{same_parts}
 use Rattle.card_string.proofs.SameBook.{same_book}

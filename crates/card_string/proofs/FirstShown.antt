@@ -3,29 +3,29 @@ use Rattle.std.proofs.Common.{◌≡◌, ◌⊎◌, inl, inr, ⊎_elim, ℕ, suc
 use Rattle.std.specs.Prelude.{nat_le}
 use Rattle.std.proofs.lemmas.Bool.Decides.{nat_tests}
 use Rattle.std.proofs.Math.Nat.{le-max_left}
-use Rattle.activity_codec.specs.declared.entries.Entry.{Entry}
-use Rattle.activity_codec.specs.declared.entries.Manual.{Manual}
-use Rattle.card_layout.specs.declared.files.Application.{Application}
-use Rattle.card_model.specs.Days.{Day, AreDays}
-use Rattle.card_model.specs.Changes.{Remain, trimmed}
-use Rattle.card_retention.specs.Expected.{Counted, with_entry}
-use Rattle.card_retention.specs.Entries.{last_entry, closed_at, newest_word, newest_minute}
-use Rattle.card_retention.specs.Shown.{Bound, AllUpTo, AllBefore, Tells, sizes, is_open}
-use Rattle.card_retention.proofs.ListTrims.{entries_trimmed, lists_trimmed}
-use Rattle.card_image.specs.Fields.{card_days, end_mark, session_time}
-use Rattle.card_image.specs.View.{card_view}
-use Rattle.card_image.proofs.Newest.{newest_of_entries}
-use Rattle.hand_model.proofs.OfDay.{spans}
-use Rattle.card_session.specs.Sessions.{Session, book_of}
-use Rattle.card_session.specs.Cards.{IsCardKeeping, grown}
-use Rattle.card_session.specs.Overwriting.{DaysFollowOverwriting, ShowsEntries, BeginsBehind, TellsNoLater, and_entry}
-use Rattle.card_session.proofs.InsertingBooks.{trimmed_low}
-use Rattle.card_session.proofs.Marks.{mark_told}
-use Rattle.card_session.proofs.OnMark.{all_before}
-use Rattle.card_session.proofs.Stopping.{asked_at, book_days, days_there}
-use Rattle.card_session.proofs.Committed.{keep_silent}
-use Rattle.card_session.proofs.NewestStays.{newest_after}
-use Rattle.card_session.proofs.Valid.{flat_of}
+use Rattle.card_by_hand.specs.activity_codec.declared.entries.Entry.{Entry}
+use Rattle.card_by_hand.specs.activity_codec.declared.entries.Manual.{Manual}
+use Rattle.tach_media.specs.card_layout.declared.files.Application.{Application}
+use Rattle.card_by_hand.specs.card_model.Days.{Day, AreDays}
+use Rattle.card_by_hand.specs.card_model.Changes.{Remain, trimmed}
+use Rattle.card_by_hand.specs.card_retention.Expected.{Counted, with_entry}
+use Rattle.card_by_hand.specs.card_retention.Entries.{last_entry, closed_at, newest_word, newest_minute}
+use Rattle.card_by_hand.specs.card_retention.Shown.{Bound, AllUpTo, AllBefore, Tells, sizes, is_open}
+use Rattle.card_by_hand.proofs.card_retention.ListTrims.{entries_trimmed, lists_trimmed}
+use Rattle.card_by_hand.specs.card_image.Fields.{card_days, end_mark, session_time}
+use Rattle.card_by_hand.specs.card_image.View.{card_view}
+use Rattle.card_by_hand.proofs.card_image.Newest.{newest_of_entries}
+use Rattle.card_by_hand.proofs.hand_model.OfDay.{spans}
+use Rattle.card_by_hand.specs.card_session.Sessions.{Session, book_of}
+use Rattle.card_by_hand.specs.card_session.Cards.{IsCardKeeping, grown}
+use Rattle.card_by_hand.specs.card_session.Overwriting.{DaysFollowOverwriting, ShowsEntries, BeginsBehind, TellsNoLater, and_entry}
+use Rattle.card_by_hand.proofs.card_session.InsertingBooks.{trimmed_low}
+use Rattle.card_by_hand.proofs.card_session.Marks.{mark_told}
+use Rattle.card_by_hand.proofs.card_session.OnMark.{all_before}
+use Rattle.card_by_hand.proofs.card_session.Stopping.{asked_at, book_days, days_there}
+use Rattle.card_by_hand.proofs.card_session.Committed.{keep_silent}
+use Rattle.card_by_hand.proofs.card_session.NewestStays.{newest_after}
+use Rattle.card_by_hand.proofs.card_session.Valid.{flat_of}
 use Rattle.card_by_hand.specs.Over.{IsBegunOver}
 use Rattle.card_by_hand.specs.First.{IsFirstKeeping, IsKeepingBehind, IsEntering, MayCome, MayFollow, AreHandsOf, IsFreshFor}
 use Rattle.card_by_hand.specs.Wider.{with_hands}

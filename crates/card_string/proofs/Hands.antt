@@ -3,64 +3,64 @@ use Rattle.std.proofs.Common.{◌≡◌, ◌⊎◌, inl, inr, ⊎_elim, ℕ, suc
 use Rattle.std.specs.List.{AllByRecursion}
 use Rattle.std.specs.Prelude.{◌&&◌, not, nat_eq}
 use Rattle.std.proofs.lemmas.Bool.{cases_lt}
-use Rattle.activity_codec.specs.Words.{word_absent}
-use Rattle.activity_codec.specs.declared.values.Activity.{Activity}
-use Rattle.activity_codec.specs.declared.values.Activity.TheVariants.{Rest}
-use Rattle.activity_codec.specs.declared.entries.Entry.{Entry}
-use Rattle.activity_codec.specs.declared.entries.Manual.{Manual}
-use Rattle.tacho_types.specs.declared.texts.Registration.{Registration}
-use Rattle.card_layout.specs.declared.files.Application.{Application}
-use Rattle.card_layout.specs.Application.{IsApplication}
-use Rattle.card_layout.specs.Files.{place_of, image_size_of}
-use Rattle.gated_ring.specs.Ring.{PointsInside}
-use Rattle.card_model.specs.Days.{Day, AreDays, last_word}
-use Rattle.card_model.specs.Changes.{Remain, fitting, date_of, trimmed}
-use Rattle.card_model.proofs.Ascending.{words_below}
-use Rattle.card_model.proofs.Retention.{remain_fitting}
-use Rattle.card_model.proofs.Trims.{are_trimmed, trimmed_twice, trim_from_moment}
-use Rattle.card_retention.specs.Expected.{WordDay, Counted, more, is_newest, closes, first_words, with_entry as counted_with}
-use Rattle.card_retention.specs.Entries.{last_entry, newest_word, EndsBy}
-use Rattle.card_retention.specs.Retains.{is_day}
-use Rattle.card_retention.specs.Shown.{Bound, InDays, AllBefore, AllUpTo, sizes, is_open}
-use Rattle.card_retention.specs.ByHand.{with_by_hand, hands_in}
-use Rattle.card_retention.proofs.Entering.{closes_is}
-use Rattle.card_retention.proofs.Growing.{in_more, in_front}
-use Rattle.card_retention.proofs.ListTrims.{day_trimmed}
-use Rattle.card_image.specs.Beside.{HaveSameDays, HaveSameVehicles}
-use Rattle.card_image.specs.Fields.{file, vehicle_ring, card_days, end_mark}
-use Rattle.card_image.specs.Own.{own_view, own_covered, counted_view}
-use Rattle.card_image.specs.View.{card_view}
-use Rattle.hand_model.specs.ByHand.{by_hand_up_to, TellsHands, HandsUpTo, HandsBefore}
-use Rattle.hand_model.specs.Holding.{LieBetween}
-use Rattle.hand_model.specs.Written.{Written, Written.Minute, Written.ByHand, Rises, GoesOnIn, IsUpTo, entries_of, hands_of, written_by, minutes_alone, counted_by}
-use Rattle.hand_model.proofs.Cuts.{tells_by, tells_trimmed, told_trimmed, hands_trimmed, up_append, up_more}
-use Rattle.hand_model.proofs.OfDay.{spans}
-use Rattle.hand_model.proofs.Told.{hands_before, tells_left}
-use Rattle.hand_model.proofs.Written.{counted_append, hands_append, hands_then, alone_hands, rises_then}
-use Rattle.card_session.specs.Books.{Book, mark_of, latest_of, closing_word, with_entry, with_change, closed_days, closed, last_used, gap_closed}
-use Rattle.card_session.specs.Cards.{IsCardKeeping, IsCardClosing, ended, grown}
-use Rattle.card_session.specs.Inserting.{Follow, lacked, with_cut, with_owed, IsBeforeAll, EndsCut, IsReplaying, repaired, IsRepairMoment, IsStill, IsRepaired, IsRepairing, IsNoted, IsNoting, IsShut, IsShutting, InsertingClosed, InsertingOpen}
-use Rattle.card_session.specs.Moments.{IsBeforeMark, IsKeepMoment, IsClosingWord, IsCloseMoment}
-use Rattle.card_session.specs.Overwriting.{BeginsBehind}
-use Rattle.card_session.specs.Parts.{IsBeforeGapOf}
-use Rattle.card_session.specs.Sessions.{Session, IsSession, EndsStrictly, book_of}
-use Rattle.card_session.specs.Repairs.{BeginsLater}
-use Rattle.card_session.specs.Vehicles.{Vehicles, last_use_in}
-use Rattle.card_session.proofs.Composing.{book_is, told_book}
-use Rattle.card_session.proofs.InsertingAgain.{noted_keeps}
-use Rattle.card_session.proofs.InsertingBooks.{cut_ready, trimmed_low}
-use Rattle.card_session.proofs.InsertingCards.{noted_same, noting_same}
-use Rattle.card_session.proofs.InsertingOpen.{opening_same, reopening_same}
-use Rattle.card_session.proofs.InsertingUse.{use_inside}
-use Rattle.card_session.proofs.Marks.{mark_told}
-use Rattle.card_session.proofs.NewestStays.{next_low, view_word}
-use Rattle.card_session.proofs.OnMark.{all_before}
-use Rattle.card_session.proofs.Preparing.{gap_are, used_at}
-use Rattle.card_session.proofs.Renewing.{keep_word}
-use Rattle.card_session.proofs.Repairing.{lacked_many}
-use Rattle.card_session.proofs.Replaying.{with_are, with_before, with_later}
-use Rattle.card_session.proofs.Stopping.{asked_at, before_use, book_days, days_there, ended_same}
-use Rattle.card_session.proofs.Surviving.{newest_gapped}
+use Rattle.card_by_hand.specs.activity_codec.Words.{word_absent}
+use Rattle.card_by_hand.specs.activity_codec.declared.values.Activity.{Activity}
+use Rattle.card_by_hand.specs.activity_codec.declared.values.Activity.TheVariants.{Rest}
+use Rattle.card_by_hand.specs.activity_codec.declared.entries.Entry.{Entry}
+use Rattle.card_by_hand.specs.activity_codec.declared.entries.Manual.{Manual}
+use Rattle.card_by_hand.specs.tacho_types.declared.texts.Registration.{Registration}
+use Rattle.tach_media.specs.card_layout.declared.files.Application.{Application}
+use Rattle.tach_media.specs.card_layout.Application.{IsApplication}
+use Rattle.tach_media.specs.card_layout.Files.{place_of, image_size_of}
+use Rattle.card_by_hand.specs.gated_ring.Ring.{PointsInside}
+use Rattle.card_by_hand.specs.card_model.Days.{Day, AreDays, last_word}
+use Rattle.card_by_hand.specs.card_model.Changes.{Remain, fitting, date_of, trimmed}
+use Rattle.card_by_hand.proofs.card_model.Ascending.{words_below}
+use Rattle.card_by_hand.proofs.card_model.Retention.{remain_fitting}
+use Rattle.card_by_hand.proofs.card_model.Trims.{are_trimmed, trimmed_twice, trim_from_moment}
+use Rattle.card_by_hand.specs.card_retention.Expected.{WordDay, Counted, more, is_newest, closes, first_words, with_entry as counted_with}
+use Rattle.card_by_hand.specs.card_retention.Entries.{last_entry, newest_word, EndsBy}
+use Rattle.card_by_hand.specs.card_retention.Retains.{is_day}
+use Rattle.card_by_hand.specs.card_retention.Shown.{Bound, InDays, AllBefore, AllUpTo, sizes, is_open}
+use Rattle.card_by_hand.specs.card_retention.ByHand.{with_by_hand, hands_in}
+use Rattle.card_by_hand.proofs.card_retention.Entering.{closes_is}
+use Rattle.card_by_hand.proofs.card_retention.Growing.{in_more, in_front}
+use Rattle.card_by_hand.proofs.card_retention.ListTrims.{day_trimmed}
+use Rattle.card_by_hand.specs.card_image.Beside.{HaveSameDays, HaveSameVehicles}
+use Rattle.card_by_hand.specs.card_image.Fields.{file, vehicle_ring, card_days, end_mark}
+use Rattle.card_by_hand.specs.card_image.Own.{own_view, own_covered, counted_view}
+use Rattle.card_by_hand.specs.card_image.View.{card_view}
+use Rattle.card_by_hand.specs.hand_model.ByHand.{by_hand_up_to, TellsHands, HandsUpTo, HandsBefore}
+use Rattle.card_by_hand.specs.hand_model.Holding.{LieBetween}
+use Rattle.card_by_hand.specs.hand_model.Written.{Written, Written.Minute, Written.ByHand, Rises, GoesOnIn, IsUpTo, entries_of, hands_of, written_by, minutes_alone, counted_by}
+use Rattle.card_by_hand.proofs.hand_model.Cuts.{tells_by, tells_trimmed, told_trimmed, hands_trimmed, up_append, up_more}
+use Rattle.card_by_hand.proofs.hand_model.OfDay.{spans}
+use Rattle.card_by_hand.proofs.hand_model.Told.{hands_before, tells_left}
+use Rattle.card_by_hand.proofs.hand_model.Written.{counted_append, hands_append, hands_then, alone_hands, rises_then}
+use Rattle.card_by_hand.specs.card_session.Books.{Book, mark_of, latest_of, closing_word, with_entry, with_change, closed_days, closed, last_used, gap_closed}
+use Rattle.card_by_hand.specs.card_session.Cards.{IsCardKeeping, IsCardClosing, ended, grown}
+use Rattle.card_by_hand.specs.card_session.Inserting.{Follow, lacked, with_cut, with_owed, IsBeforeAll, EndsCut, IsReplaying, repaired, IsRepairMoment, IsStill, IsRepaired, IsRepairing, IsNoted, IsNoting, IsShut, IsShutting, InsertingClosed, InsertingOpen}
+use Rattle.card_by_hand.specs.card_session.Moments.{IsBeforeMark, IsKeepMoment, IsClosingWord, IsCloseMoment}
+use Rattle.card_by_hand.specs.card_session.Overwriting.{BeginsBehind}
+use Rattle.card_by_hand.specs.card_session.Parts.{IsBeforeGapOf}
+use Rattle.card_by_hand.specs.card_session.Sessions.{Session, IsSession, EndsStrictly, book_of}
+use Rattle.card_by_hand.specs.card_session.Repairs.{BeginsLater}
+use Rattle.card_by_hand.specs.card_session.Vehicles.{Vehicles, last_use_in}
+use Rattle.card_by_hand.proofs.card_session.Composing.{book_is, told_book}
+use Rattle.card_by_hand.proofs.card_session.InsertingAgain.{noted_keeps}
+use Rattle.card_by_hand.proofs.card_session.InsertingBooks.{cut_ready, trimmed_low}
+use Rattle.card_by_hand.proofs.card_session.InsertingCards.{noted_same, noting_same}
+use Rattle.card_by_hand.proofs.card_session.InsertingOpen.{opening_same, reopening_same}
+use Rattle.card_by_hand.proofs.card_session.InsertingUse.{use_inside}
+use Rattle.card_by_hand.proofs.card_session.Marks.{mark_told}
+use Rattle.card_by_hand.proofs.card_session.NewestStays.{next_low, view_word}
+use Rattle.card_by_hand.proofs.card_session.OnMark.{all_before}
+use Rattle.card_by_hand.proofs.card_session.Preparing.{gap_are, used_at}
+use Rattle.card_by_hand.proofs.card_session.Renewing.{keep_word}
+use Rattle.card_by_hand.proofs.card_session.Repairing.{lacked_many}
+use Rattle.card_by_hand.proofs.card_session.Replaying.{with_are, with_before, with_later}
+use Rattle.card_by_hand.proofs.card_session.Stopping.{asked_at, before_use, book_days, days_there, ended_same}
+use Rattle.card_by_hand.proofs.card_session.Surviving.{newest_gapped}
 use Rattle.card_by_hand.specs.First.{IsKeepingBehind, IsFirstKeeping, MayTell, AreHandsOf}
 use Rattle.card_by_hand.specs.Wider.{with_hands}
 use Rattle.card_by_hand.proofs.FirstLaws.{entering_same, past_same, past_follows}

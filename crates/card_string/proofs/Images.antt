@@ -1,40 +1,40 @@
 -- Each image of a card since the start of a run, over a call on it.
 use Rattle.std.proofs.Common.{◌≡◌, ◌≢◌, inl, inr, ⊎_elim, ℕ, ◌<◌, ◌≤◌, Bool, false, cond, filter, Some, List, [], ◌∷◌, ◌++◌, append_assoc, length, refl, sym, ◌∙◌, ap, subst, arith}
 use Rattle.std.specs.Prelude.{Contains, nat_le, max}
-use Rattle.card_retention.specs.Entries.{newest_word}
+use Rattle.card_by_hand.specs.card_retention.Entries.{newest_word}
 use Rattle.std.proofs.lemmas.Bool.Decides.{nat_tests}
 use Rattle.std.proofs.lemmas.List.{append-nil}
 use Rattle.std.proofs.lemmas.List.Elements.{filter-append, Contains-append_left, Contains-append_right}
-use Rattle.activity_codec.specs.declared.entries.Entry.{Entry}
-use Rattle.activity_codec.specs.declared.entries.Manual.{Manual}
-use Rattle.activity_codec.specs.declared.values.Activity.{Activity}
-use Rattle.tacho_types.specs.declared.texts.Registration.{Registration}
+use Rattle.card_by_hand.specs.activity_codec.declared.entries.Entry.{Entry}
+use Rattle.card_by_hand.specs.activity_codec.declared.entries.Manual.{Manual}
+use Rattle.card_by_hand.specs.activity_codec.declared.values.Activity.{Activity}
+use Rattle.card_by_hand.specs.tacho_types.declared.texts.Registration.{Registration}
 use Rattle.tach_media.specs.Medium.{State, IsCoherent, LeavesOnly, Unchanged}
-use Rattle.card_layout.specs.declared.files.Application.{Application}
-use Rattle.card_layout.specs.Application.{IsApplication, application_of}
-use Rattle.card_layout.specs.Files.{image_size_of, files_of}
-use Rattle.card_retention.specs.Entries.{newest_minute}
-use Rattle.card_retention.specs.Shown.{AllUpTo, sizes}
-use Rattle.card_image.specs.Beside.{HaveSameSizes}
-use Rattle.card_image.specs.Fields.{card_days, end_mark, session_time}
-use Rattle.card_image.specs.Judging.{IsValid}
-use Rattle.card_image.specs.Own.{own_sizes, own_view, KeepsOf}
-use Rattle.card_retention.specs.ByHand.{hands_in}
-use Rattle.hand_model.specs.AtStart.{HasDayOf, hands_at, marked_at, all_at, AreFirst, StaysTold}
-use Rattle.hand_model.specs.ByHand.{by_hand_in, by_hand_up_to}
-use Rattle.hand_model.specs.Written.{Hands, IsPartOf, entries_of, hands_of, and_sure, and_given}
-use Rattle.hand_model.proofs.Contained.{part_contains, in_contains}
-use Rattle.hand_model.proofs.Cuts.{part_first, part_marks}
-use Rattle.hand_model.proofs.Written.{part_both, part_in, part_self, part_then, part_wider}
-use Rattle.card_image.specs.View.{card_view}
-use Rattle.card_session.specs.Sessions.{Session, IsSession}
+use Rattle.tach_media.specs.card_layout.declared.files.Application.{Application}
+use Rattle.tach_media.specs.card_layout.Application.{IsApplication, application_of}
+use Rattle.tach_media.specs.card_layout.Files.{image_size_of, files_of}
+use Rattle.card_by_hand.specs.card_retention.Entries.{newest_minute}
+use Rattle.card_by_hand.specs.card_retention.Shown.{AllUpTo, sizes}
+use Rattle.card_by_hand.specs.card_image.Beside.{HaveSameSizes}
+use Rattle.card_by_hand.specs.card_image.Fields.{card_days, end_mark, session_time}
+use Rattle.card_by_hand.specs.card_image.Judging.{IsValid}
+use Rattle.card_by_hand.specs.card_image.Own.{own_sizes, own_view, KeepsOf}
+use Rattle.card_by_hand.specs.card_retention.ByHand.{hands_in}
+use Rattle.card_by_hand.specs.hand_model.AtStart.{HasDayOf, hands_at, marked_at, all_at, AreFirst, StaysTold}
+use Rattle.card_by_hand.specs.hand_model.ByHand.{by_hand_in, by_hand_up_to}
+use Rattle.card_by_hand.specs.hand_model.Written.{Hands, IsPartOf, entries_of, hands_of, and_sure, and_given}
+use Rattle.card_by_hand.proofs.hand_model.Contained.{part_contains, in_contains}
+use Rattle.card_by_hand.proofs.hand_model.Cuts.{part_first, part_marks}
+use Rattle.card_by_hand.proofs.hand_model.Written.{part_both, part_in, part_self, part_then, part_wider}
+use Rattle.card_by_hand.specs.card_image.View.{card_view}
+use Rattle.card_by_hand.specs.card_session.Sessions.{Session, IsSession}
 use Rattle.card_by_hand.specs.First.{AreEntered, IsEntering, IsFirstKeeping}
-use Rattle.card_session.specs.Cards.{IsCardClosing, ended}
-use Rattle.card_session.specs.Inserting.{AreOwed, Follow, IsCardInserting}
-use Rattle.card_session.specs.Repairs.{first_minute, newest_behind, lacked_by}
-use Rattle.card_session.proofs.InsertingAgain.{ended_keeps, inserting_keeps}
-use Rattle.card_session.proofs.InsertingUse.{use_inside}
-use Rattle.card_session.proofs.Marks.{sizes_still}
+use Rattle.card_by_hand.specs.card_session.Cards.{IsCardClosing, ended}
+use Rattle.card_by_hand.specs.card_session.Inserting.{AreOwed, Follow, IsCardInserting}
+use Rattle.card_by_hand.specs.card_session.Repairs.{first_minute, newest_behind, lacked_by}
+use Rattle.card_by_hand.proofs.card_session.InsertingAgain.{ended_keeps, inserting_keeps}
+use Rattle.card_by_hand.proofs.card_session.InsertingUse.{use_inside}
+use Rattle.card_by_hand.proofs.card_session.Marks.{sizes_still}
 use Rattle.card_string.specs.Since.{all_since, last_of, TellsSince, HoldsSince, SitsSince, IsReadySince}
 use Rattle.card_string.specs.Each.{EachHolds, LeavesString}
 use Rattle.card_string.proofs.Since.{beside_holds, given_holds, later_holds, brought_holds}

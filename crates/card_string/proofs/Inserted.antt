@@ -3,47 +3,47 @@ use Rattle.std.proofs.Common.{◌≡◌, ◌⊎◌, inl, inr, ⊎_elim, ℕ, suc
 use Rattle.std.specs.Prelude.{nat_eq}
 use Rattle.std.specs.List.{AllByRecursion}
 use Rattle.std.proofs.lemmas.List.{append-nil}
-use Rattle.activity_codec.specs.declared.values.Activity.TheVariants.{Rest}
-use Rattle.activity_codec.specs.declared.entries.Entry.{Entry}
-use Rattle.tacho_types.specs.declared.texts.Registration.{Registration}
-use Rattle.card_layout.specs.declared.files.Application.{Application}
-use Rattle.card_layout.specs.Application.{IsApplication}
-use Rattle.card_layout.specs.Files.{image_size_of, place_of}
-use Rattle.card_model.specs.Days.{Day, AreDays}
-use Rattle.card_model.specs.Changes.{trimmed}
-use Rattle.card_model.proofs.Trims.{are_trimmed, trim_from_moment, trimmed_twice}
-use Rattle.card_retention.specs.Expected.{Counted}
-use Rattle.card_retention.specs.Entries.{newest_minute, newest_word}
-use Rattle.card_retention.specs.Shown.{Bound, is_open}
-use Rattle.card_retention.proofs.Closing.{lives_trimmed}
-use Rattle.card_retention.proofs.ListTrims.{entries_trimmed}
-use Rattle.card_image.specs.Fields.{file, card_days, end_mark, session_time}
-use Rattle.card_image.specs.Judging.{IsValid}
-use Rattle.card_image.specs.View.{card_view}
-use Rattle.card_image.proofs.Beside.{days_same, session_same as session_beside}
-use Rattle.card_session.specs.Vehicles.{Vehicles, last_use_in}
-use Rattle.card_session.specs.Books.{Book, mark_of, with_entry, closed}
-use Rattle.card_session.specs.Sessions.{EndsStrictly, IsOpenBook, book_of}
-use Rattle.card_session.specs.Moments.{IsBook, IsCloseMoment}
-use Rattle.card_session.specs.Parts.{IsBeforeGapOf}
-use Rattle.card_session.specs.Inserting.{Follow, lacked, with_cut, with_owed, IsBeforeAll, EndsCut, repaired, IsRepairMoment, IsStill, IsRepaired, IsRepairing, IsNoted, IsNoting, IsShut, IsShutting, InsertingClosed, InsertsOpen, InsertingOpen}
-use Rattle.card_session.specs.Repairs.{first_minute, mark_behind, newest_behind, and_entries, with_entries, lacked_by}
-use Rattle.card_session.proofs.Composing.{told_book}
-use Rattle.card_session.proofs.Preparing.{ends_by, open_date}
-use Rattle.card_session.proofs.Marks.{session_same, mark_told}
-use Rattle.card_session.proofs.Stopping.{mark_at}
-use Rattle.card_session.proofs.Committed.{silent_end, close_shows}
-use Rattle.card_session.proofs.Valid.{valid_strict, flat_of, closed_low}
-use Rattle.card_session.proofs.NewestStays.{newest_by_mark, closed_open, view_newest}
-use Rattle.card_session.proofs.InsertingBooks.{lacked_follow, trimmed_low, cut_ready}
-use Rattle.card_session.proofs.InsertingCards.{noted_same, noting_same}
-use Rattle.card_session.proofs.InsertingUse.{use_inside}
-use Rattle.card_session.proofs.InsertingOpen.{Same, opening_same, reopening_same, reopened_same}
-use Rattle.card_session.proofs.InsertingAgain.{noted_keeps}
-use Rattle.card_session.proofs.Replaying.{with_are, with_before}
-use Rattle.card_session.proofs.Repairing.{lacked_many, owed_at, mark_beside, closed_still}
-use Rattle.card_session.proofs.Renewing.{repair_newest}
-use Rattle.card_session.proofs.Revalid.{low_told}
+use Rattle.card_by_hand.specs.activity_codec.declared.values.Activity.TheVariants.{Rest}
+use Rattle.card_by_hand.specs.activity_codec.declared.entries.Entry.{Entry}
+use Rattle.card_by_hand.specs.tacho_types.declared.texts.Registration.{Registration}
+use Rattle.tach_media.specs.card_layout.declared.files.Application.{Application}
+use Rattle.tach_media.specs.card_layout.Application.{IsApplication}
+use Rattle.tach_media.specs.card_layout.Files.{image_size_of, place_of}
+use Rattle.card_by_hand.specs.card_model.Days.{Day, AreDays}
+use Rattle.card_by_hand.specs.card_model.Changes.{trimmed}
+use Rattle.card_by_hand.proofs.card_model.Trims.{are_trimmed, trim_from_moment, trimmed_twice}
+use Rattle.card_by_hand.specs.card_retention.Expected.{Counted}
+use Rattle.card_by_hand.specs.card_retention.Entries.{newest_minute, newest_word}
+use Rattle.card_by_hand.specs.card_retention.Shown.{Bound, is_open}
+use Rattle.card_by_hand.proofs.card_retention.Closing.{lives_trimmed}
+use Rattle.card_by_hand.proofs.card_retention.ListTrims.{entries_trimmed}
+use Rattle.card_by_hand.specs.card_image.Fields.{file, card_days, end_mark, session_time}
+use Rattle.card_by_hand.specs.card_image.Judging.{IsValid}
+use Rattle.card_by_hand.specs.card_image.View.{card_view}
+use Rattle.card_by_hand.proofs.card_image.Beside.{days_same, session_same as session_beside}
+use Rattle.card_by_hand.specs.card_session.Vehicles.{Vehicles, last_use_in}
+use Rattle.card_by_hand.specs.card_session.Books.{Book, mark_of, with_entry, closed}
+use Rattle.card_by_hand.specs.card_session.Sessions.{EndsStrictly, IsOpenBook, book_of}
+use Rattle.card_by_hand.specs.card_session.Moments.{IsBook, IsCloseMoment}
+use Rattle.card_by_hand.specs.card_session.Parts.{IsBeforeGapOf}
+use Rattle.card_by_hand.specs.card_session.Inserting.{Follow, lacked, with_cut, with_owed, IsBeforeAll, EndsCut, repaired, IsRepairMoment, IsStill, IsRepaired, IsRepairing, IsNoted, IsNoting, IsShut, IsShutting, InsertingClosed, InsertsOpen, InsertingOpen}
+use Rattle.card_by_hand.specs.card_session.Repairs.{first_minute, mark_behind, newest_behind, and_entries, with_entries, lacked_by}
+use Rattle.card_by_hand.proofs.card_session.Composing.{told_book}
+use Rattle.card_by_hand.proofs.card_session.Preparing.{ends_by, open_date}
+use Rattle.card_by_hand.proofs.card_session.Marks.{session_same, mark_told}
+use Rattle.card_by_hand.proofs.card_session.Stopping.{mark_at}
+use Rattle.card_by_hand.proofs.card_session.Committed.{silent_end, close_shows}
+use Rattle.card_by_hand.proofs.card_session.Valid.{valid_strict, flat_of, closed_low}
+use Rattle.card_by_hand.proofs.card_session.NewestStays.{newest_by_mark, closed_open, view_newest}
+use Rattle.card_by_hand.proofs.card_session.InsertingBooks.{lacked_follow, trimmed_low, cut_ready}
+use Rattle.card_by_hand.proofs.card_session.InsertingCards.{noted_same, noting_same}
+use Rattle.card_by_hand.proofs.card_session.InsertingUse.{use_inside}
+use Rattle.card_by_hand.proofs.card_session.InsertingOpen.{Same, opening_same, reopening_same, reopened_same}
+use Rattle.card_by_hand.proofs.card_session.InsertingAgain.{noted_keeps}
+use Rattle.card_by_hand.proofs.card_session.Replaying.{with_are, with_before}
+use Rattle.card_by_hand.proofs.card_session.Repairing.{lacked_many, owed_at, mark_beside, closed_still}
+use Rattle.card_by_hand.proofs.card_session.Renewing.{repair_newest}
+use Rattle.card_by_hand.proofs.card_session.Revalid.{low_told}
 use Rattle.card_string.specs.Carried.{StringFollowsEntries, Broke, BrokeOf}
 use Rattle.card_string.specs.Inserts.{MayReplayOf, MayReplay, ReplaysOf, IsReplayShown, IsAllShown, IsInsertionShown, IsStillShown}
 use Rattle.card_string.proofs.Replayed.{GoesIn, Starts, broke_later, begun_later, broke_same, begun_same, none_there, start_all, start_moments, up_to, mark_least}

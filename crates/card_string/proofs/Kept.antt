@@ -4,25 +4,25 @@ use Rattle.std.specs.Prelude.{nat_le}
 use Rattle.std.specs.List.{AllByRecursion}
 use Rattle.std.proofs.lemmas.Bool.Decides.{nat_tests}
 use Rattle.std.proofs.lemmas.List.Elements.{All-from_recursion, All-contains}
-use Rattle.activity_codec.specs.declared.entries.Entry.{Entry}
-use Rattle.activity_codec.specs.declared.entries.Manual.{Manual}
-use Rattle.activity_codec.specs.declared.values.Activity.TheVariants.{Rest}
-use Rattle.activity_codec.specs.declared.values.Slot.TheVariants.{Driver}
-use Rattle.card_layout.specs.declared.files.Application.{Application}
-use Rattle.card_layout.specs.Application.{IsApplication}
-use Rattle.card_retention.specs.Entries.{last_entry}
-use Rattle.card_retention.specs.Expected.{WordDay, expected_days}
-use Rattle.card_retention.specs.Retains.{CardRetains}
-use Rattle.card_retention.specs.Shown.{InDays, AllIn}
-use Rattle.card_image.specs.Fields.{end_mark}
-use Rattle.card_image.specs.View.{Held, card_view}
-use Rattle.card_image.specs.Own.{own_sizes, own_view, own_covered, counted_view, expected_with, StandsFrom, KeepsFrom, KeepsOf, most_slack}
-use Rattle.card_retention.specs.ByHand.{and_by_hand}
-use Rattle.hand_model.specs.Written.{Written, Hands, IsPartOf, Rises, entries_of, hands_of}
+use Rattle.card_by_hand.specs.activity_codec.declared.entries.Entry.{Entry}
+use Rattle.card_by_hand.specs.activity_codec.declared.entries.Manual.{Manual}
+use Rattle.card_by_hand.specs.activity_codec.declared.values.Activity.TheVariants.{Rest}
+use Rattle.card_by_hand.specs.activity_codec.declared.values.Slot.TheVariants.{Driver}
+use Rattle.tach_media.specs.card_layout.declared.files.Application.{Application}
+use Rattle.tach_media.specs.card_layout.Application.{IsApplication}
+use Rattle.card_by_hand.specs.card_retention.Entries.{last_entry}
+use Rattle.card_by_hand.specs.card_retention.Expected.{WordDay, expected_days}
+use Rattle.card_by_hand.specs.card_retention.Retains.{CardRetains}
+use Rattle.card_by_hand.specs.card_retention.Shown.{InDays, AllIn}
+use Rattle.card_by_hand.specs.card_image.Fields.{end_mark}
+use Rattle.card_by_hand.specs.card_image.View.{Held, card_view}
+use Rattle.card_by_hand.specs.card_image.Own.{own_sizes, own_view, own_covered, counted_view, expected_with, StandsFrom, KeepsFrom, KeepsOf, most_slack}
+use Rattle.card_by_hand.specs.card_retention.ByHand.{and_by_hand}
+use Rattle.card_by_hand.specs.hand_model.Written.{Written, Hands, IsPartOf, Rises, entries_of, hands_of}
 use Rattle.card_by_hand.specs.Wider.{Wider}
 use Rattle.card_by_hand.proofs.Wider.{wider_then, retains_wider, retains_oldest}
 use Rattle.card_by_hand.proofs.Written.{among_wider, written_wider}
-use Rattle.card_session.specs.Repairs.{first_minute}
+use Rattle.card_by_hand.specs.card_session.Repairs.{first_minute}
 use Rattle.card_string.specs.Carried.{IsStated}
 use Rattle.card_string.specs.Since.{minute_of, last_at, day_marks, all_since, bound_since, counted_since, GoesSince, BrokeSince, HoldsSince}
 use Rattle.card_string.proofs.Stated.{goes_stated, broke_stated, begun_stated}

@@ -23,3 +23,4 @@ pub mod Small
 pub mod BehindMark
 pub mod Start
 pub mod Hands
+pub use Rattle.card_by_hand.proofs.hand_model as hand_model

@@ -3,18 +3,18 @@ use Rattle.std.proofs.Common.{◌≡◌, ℕ, ◌<◌, ◌≤◌, Bool, true, fa
 use Rattle.std.specs.Prelude.{nat_le}
 use Rattle.std.proofs.lemmas.Bool.Decides.{nat_tests}
 use Rattle.std.proofs.lemmas.List.{append-nil}
-use Rattle.activity_codec.specs.declared.entries.Entry.{Entry}
-use Rattle.activity_codec.specs.declared.entries.Manual.{Manual}
-use Rattle.card_retention.specs.Expected.{Counted, with_entry}
-use Rattle.card_retention.specs.ByHand.{with_by_hand}
-use Rattle.card_retention.specs.Shown.{Bound, AllUpTo}
-use Rattle.card_image.specs.Own.{own_view, own_covered, counted_view}
-use Rattle.card_session.specs.Inserting.{Follow}
-use Rattle.hand_model.specs.Written.{Written, entries_of, written_by, minutes_alone, counted_by}
-use Rattle.hand_model.proofs.Written.{entries_append, entries_alone, entries_then, counted_append}
+use Rattle.card_by_hand.specs.activity_codec.declared.entries.Entry.{Entry}
+use Rattle.card_by_hand.specs.activity_codec.declared.entries.Manual.{Manual}
+use Rattle.card_by_hand.specs.card_retention.Expected.{Counted, with_entry}
+use Rattle.card_by_hand.specs.card_retention.ByHand.{with_by_hand}
+use Rattle.card_by_hand.specs.card_retention.Shown.{Bound, AllUpTo}
+use Rattle.card_by_hand.specs.card_image.Own.{own_view, own_covered, counted_view}
+use Rattle.card_by_hand.specs.card_session.Inserting.{Follow}
+use Rattle.card_by_hand.specs.hand_model.Written.{Written, entries_of, written_by, minutes_alone, counted_by}
+use Rattle.card_by_hand.proofs.hand_model.Written.{entries_append, entries_alone, entries_then, counted_append}
 use Rattle.card_by_hand.specs.Wider.{with_hands}
-use Rattle.card_session.specs.Overwriting.{and_entry}
-use Rattle.card_session.specs.Repairs.{first_minute, mark_behind, and_entries, with_entries}
+use Rattle.card_by_hand.specs.card_session.Overwriting.{and_entry}
+use Rattle.card_by_hand.specs.card_session.Repairs.{first_minute, mark_behind, and_entries, with_entries}
 use Rattle.card_string.specs.Since.{day_marks, all_since, bound_since, counted_since}
 
 -- ---- what is carried, with some entries more

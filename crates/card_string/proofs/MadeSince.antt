@@ -1,19 +1,19 @@
 -- One image of a card is made of another since a minute: by each call, and by calls one after another.
 use Rattle.std.proofs.Common.{◌≡◌, inl, inr, ℕ, ◌<◌, ◌≤◌, List, [], ◌∷◌, ◌++◌, length, refl, sym, subst, arith}
 use Rattle.std.specs.List.{AllByRecursion}
-use Rattle.activity_codec.specs.declared.values.Activity.{Activity}
-use Rattle.activity_codec.specs.declared.entries.Entry.{Entry}
-use Rattle.activity_codec.specs.declared.entries.Manual.{Manual}
-use Rattle.tacho_types.specs.declared.texts.Registration.{Registration}
-use Rattle.card_layout.specs.declared.files.Application.{Application}
-use Rattle.card_layout.specs.Application.{IsApplication}
-use Rattle.card_layout.specs.Files.{image_size_of}
-use Rattle.card_image.specs.Fields.{end_mark}
-use Rattle.card_session.specs.Books.{Book}
-use Rattle.card_session.specs.Sessions.{Session, book_of}
-use Rattle.card_session.specs.Cards.{IsCardClosing}
-use Rattle.card_session.specs.Inserting.{Follow, lacked, IsCardInserting}
-use Rattle.card_session.proofs.InsertingBooks.{lacked_follow}
+use Rattle.card_by_hand.specs.activity_codec.declared.values.Activity.{Activity}
+use Rattle.card_by_hand.specs.activity_codec.declared.entries.Entry.{Entry}
+use Rattle.card_by_hand.specs.activity_codec.declared.entries.Manual.{Manual}
+use Rattle.card_by_hand.specs.tacho_types.declared.texts.Registration.{Registration}
+use Rattle.tach_media.specs.card_layout.declared.files.Application.{Application}
+use Rattle.tach_media.specs.card_layout.Application.{IsApplication}
+use Rattle.tach_media.specs.card_layout.Files.{image_size_of}
+use Rattle.card_by_hand.specs.card_image.Fields.{end_mark}
+use Rattle.card_by_hand.specs.card_session.Books.{Book}
+use Rattle.card_by_hand.specs.card_session.Sessions.{Session, book_of}
+use Rattle.card_by_hand.specs.card_session.Cards.{IsCardClosing}
+use Rattle.card_by_hand.specs.card_session.Inserting.{Follow, lacked, IsCardInserting}
+use Rattle.card_by_hand.proofs.card_session.InsertingBooks.{lacked_follow}
 use Rattle.card_by_hand.specs.First.{IsFirstKeeping}
 use Rattle.card_string.specs.Deeds.{Keep, Enter, Close, Cut, Step, Done, Broken, MadeBy, AreNext, IsMade, IsLaterStep, IsMadeSince}
 use Rattle.card_string.proofs.Deeds.{made_start, made_more, first_stopped, close_made, closed_made, open_parted}

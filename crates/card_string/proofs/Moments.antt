@@ -4,32 +4,32 @@ use Rattle.std.specs.Prelude.{nat_eq}
 use Rattle.std.proofs.lemmas.Bool.{cases_lt}
 use Rattle.std.proofs.lemmas.Bool.Decides.{nat_tests}
 use Rattle.std.proofs.Math.Nat.{le-max_left}
-use Rattle.activity_codec.specs.declared.entries.Entry.{Entry}
-use Rattle.card_layout.specs.Application.{IsApplication}
-use Rattle.card_layout.specs.declared.files.Application.{Application}
-use Rattle.card_model.specs.Days.{Day, AreDays}
-use Rattle.card_model.specs.Changes.{trimmed}
-use Rattle.card_retention.specs.Expected.{Counted, is_newest, with_entry}
-use Rattle.card_retention.specs.Entries.{last_entry, closed_at, newest_minute}
-use Rattle.card_retention.specs.Shown.{Bound, AllBefore, AllUpTo, Tells, Lives, sizes}
-use Rattle.card_retention.specs.Retains.{entries_in, begun_on}
-use Rattle.card_retention.proofs.Listing.{Lists}
-use Rattle.card_retention.proofs.ListTrims.{entries_trimmed, lists_trimmed}
-use Rattle.card_image.specs.Fields.{card_days, end_mark}
-use Rattle.card_image.specs.View.{card_view}
-use Rattle.card_image.proofs.Newest.{newest_of_entries}
-use Rattle.card_session.specs.Vehicles.{Vehicles, last_use_in}
-use Rattle.card_session.specs.Books.{Book, mark_of, gap_closed, entered_days, travelled, with_entry as book_with}
-use Rattle.card_session.specs.Moments.{IsBeforeMark}
-use Rattle.card_session.specs.Parts.{IsBeforeGapOf}
-use Rattle.card_session.specs.Sessions.{Session, IsSession, book_of}
-use Rattle.card_session.specs.Cards.{IsCardKeeping, grown}
-use Rattle.card_session.specs.Overwriting.{DaysFollowOverwriting, IsRepairable, ShowsEntries, BeginsBehind, and_entry}
-use Rattle.card_session.proofs.Marks.{session_same, mark_told}
-use Rattle.card_session.proofs.Preparing.{used_at}
-use Rattle.card_session.proofs.Stopping.{asked_at, days_there, book_days, mark_at, before_use, keep_leaves, keep_shows}
-use Rattle.card_session.proofs.Committed.{keep_commits, keep_silent}
-use Rattle.card_session.proofs.NewestStays.{newest_before, newest_after}
+use Rattle.card_by_hand.specs.activity_codec.declared.entries.Entry.{Entry}
+use Rattle.tach_media.specs.card_layout.Application.{IsApplication}
+use Rattle.tach_media.specs.card_layout.declared.files.Application.{Application}
+use Rattle.card_by_hand.specs.card_model.Days.{Day, AreDays}
+use Rattle.card_by_hand.specs.card_model.Changes.{trimmed}
+use Rattle.card_by_hand.specs.card_retention.Expected.{Counted, is_newest, with_entry}
+use Rattle.card_by_hand.specs.card_retention.Entries.{last_entry, closed_at, newest_minute}
+use Rattle.card_by_hand.specs.card_retention.Shown.{Bound, AllBefore, AllUpTo, Tells, Lives, sizes}
+use Rattle.card_by_hand.specs.card_retention.Retains.{entries_in, begun_on}
+use Rattle.card_by_hand.proofs.card_retention.Listing.{Lists}
+use Rattle.card_by_hand.proofs.card_retention.ListTrims.{entries_trimmed, lists_trimmed}
+use Rattle.card_by_hand.specs.card_image.Fields.{card_days, end_mark}
+use Rattle.card_by_hand.specs.card_image.View.{card_view}
+use Rattle.card_by_hand.proofs.card_image.Newest.{newest_of_entries}
+use Rattle.card_by_hand.specs.card_session.Vehicles.{Vehicles, last_use_in}
+use Rattle.card_by_hand.specs.card_session.Books.{Book, mark_of, gap_closed, entered_days, travelled, with_entry as book_with}
+use Rattle.card_by_hand.specs.card_session.Moments.{IsBeforeMark}
+use Rattle.card_by_hand.specs.card_session.Parts.{IsBeforeGapOf}
+use Rattle.card_by_hand.specs.card_session.Sessions.{Session, IsSession, book_of}
+use Rattle.card_by_hand.specs.card_session.Cards.{IsCardKeeping, grown}
+use Rattle.card_by_hand.specs.card_session.Overwriting.{DaysFollowOverwriting, IsRepairable, ShowsEntries, BeginsBehind, and_entry}
+use Rattle.card_by_hand.proofs.card_session.Marks.{session_same, mark_told}
+use Rattle.card_by_hand.proofs.card_session.Preparing.{used_at}
+use Rattle.card_by_hand.proofs.card_session.Stopping.{asked_at, days_there, book_days, mark_at, before_use, keep_leaves, keep_shows}
+use Rattle.card_by_hand.proofs.card_session.Committed.{keep_commits, keep_silent}
+use Rattle.card_by_hand.proofs.card_session.NewestStays.{newest_before, newest_after}
 use Rattle.card_string.proofs.Begun.{Stopping as Begins, was_newest, stops, begun_lives, begun_shows}
 use Rattle.card_string.specs.Carried.{StringFollowsEntries, BrokeOf, BegunOf, IsFresh}
 use Rattle.card_string.specs.Shows.{IsStopped, IsDone, IsKeepShown}

@@ -1,16 +1,16 @@
 -- What is carried of a string where its days and its end mark stay, and where it is broken off.
 use Rattle.std.proofs.Common.{◌≡◌, ℕ, ◌≤◌, false, List, sym, ◌∙◌, subst}
-use Rattle.activity_codec.specs.declared.entries.Entry.{Entry}
-use Rattle.card_layout.specs.declared.files.Application.{Application}
-use Rattle.card_layout.specs.Application.{IsApplication}
-use Rattle.card_model.specs.Days.{Day}
-use Rattle.card_retention.specs.Expected.{Counted}
-use Rattle.card_retention.specs.Shown.{Bound, AllUpTo, Lives, is_open}
-use Rattle.card_retention.proofs.Listing.{Lists}
-use Rattle.card_retention.proofs.ListTrims.{entries_trimmed, lists_trimmed}
-use Rattle.card_retention.proofs.Stops.{stop_none}
-use Rattle.card_image.specs.Fields.{card_days, end_mark}
-use Rattle.card_session.specs.Overwriting.{IsSilentBehind}
+use Rattle.card_by_hand.specs.activity_codec.declared.entries.Entry.{Entry}
+use Rattle.tach_media.specs.card_layout.declared.files.Application.{Application}
+use Rattle.tach_media.specs.card_layout.Application.{IsApplication}
+use Rattle.card_by_hand.specs.card_model.Days.{Day}
+use Rattle.card_by_hand.specs.card_retention.Expected.{Counted}
+use Rattle.card_by_hand.specs.card_retention.Shown.{Bound, AllUpTo, Lives, is_open}
+use Rattle.card_by_hand.proofs.card_retention.Listing.{Lists}
+use Rattle.card_by_hand.proofs.card_retention.ListTrims.{entries_trimmed, lists_trimmed}
+use Rattle.card_by_hand.proofs.card_retention.Stops.{stop_none}
+use Rattle.card_by_hand.specs.card_image.Fields.{card_days, end_mark}
+use Rattle.card_by_hand.specs.card_session.Overwriting.{IsSilentBehind}
 use Rattle.card_string.specs.Carried.{StringFollowsEntries, Broke}
 
 module _ (app : Application) (slack : Bound) (covered from : ℕ) (c : Counted) (all : List Entry) where

@@ -1,38 +1,38 @@
 -- A card's string since the start, at each moment of a keep, a withdrawal and an insertion.
 use Rattle.std.proofs.Common.{◌≡◌, ◌⊎◌, inl, inr, ⊎_elim, ℕ, suc, ◌/◌, ◌<◌, ◌≤◌, max, List, [], ◌∷◌, ◌++◌, length, refl, sym, ◌∙◌, ap, subst, arith}
 use Rattle.std.proofs.lemmas.List.{append-nil}
-use Rattle.activity_codec.specs.declared.entries.Entry.{Entry}
-use Rattle.activity_codec.specs.declared.entries.Manual.{Manual}
-use Rattle.activity_codec.specs.declared.values.Activity.{Activity}
-use Rattle.tacho_types.specs.declared.texts.Registration.{Registration}
-use Rattle.card_layout.specs.declared.files.Application.{Application}
-use Rattle.card_layout.specs.Application.{IsApplication}
-use Rattle.card_layout.specs.Files.{image_size_of}
-use Rattle.card_model.specs.Days.{Day}
-use Rattle.card_retention.specs.Entries.{newest_minute, newest_word, EndsBy}
-use Rattle.card_retention.specs.Shown.{Bound, InDays, AllUpTo}
-use Rattle.card_retention.proofs.Growing.{still_in}
-use Rattle.card_image.specs.Fields.{card_days, end_mark, session_time}
-use Rattle.card_image.specs.Judging.{IsValid}
-use Rattle.card_image.specs.Own.{own_covered}
-use Rattle.card_image.specs.View.{card_view}
-use Rattle.card_retention.specs.Expected.{Counted, with_entry}
-use Rattle.hand_model.specs.Holding.{LieBetween}
-use Rattle.hand_model.specs.Written.{Written, Hands, Lie, Rises, entries_of, hands_of, written_by, minutes_alone, and_sure, and_given}
-use Rattle.hand_model.proofs.OfDay.{spans}
-use Rattle.hand_model.proofs.Written.{entries_then, hands_then, alone_hands, lie_sure, rises_by}
-use Rattle.card_session.specs.Books.{mark_of, with_entry as book_with}
-use Rattle.card_session.specs.Sessions.{Session, IsSession, newest_in, book_of}
-use Rattle.card_session.specs.Cards.{IsCardClosing, grown}
-use Rattle.card_session.specs.Inserting.{AreOwed, Follow, InsertsClosed, InsertingClosed, InsertsOpen, InsertingOpen}
-use Rattle.card_session.specs.Repairs.{first_minute, newest_behind, lacked_by}
-use Rattle.card_session.proofs.Ends.{closed_end, open_end}
-use Rattle.card_session.proofs.InsertingBooks.{lacked_follow}
-use Rattle.card_session.proofs.Marks.{mark_told}
-use Rattle.card_session.proofs.NewestStays.{view_word}
-use Rattle.card_session.proofs.Preparing.{used_at}
-use Rattle.card_session.proofs.Stopping.{asked_at, book_days, mark_at}
-use Rattle.card_session.proofs.Valid.{above_zero, valid_strict}
+use Rattle.card_by_hand.specs.activity_codec.declared.entries.Entry.{Entry}
+use Rattle.card_by_hand.specs.activity_codec.declared.entries.Manual.{Manual}
+use Rattle.card_by_hand.specs.activity_codec.declared.values.Activity.{Activity}
+use Rattle.card_by_hand.specs.tacho_types.declared.texts.Registration.{Registration}
+use Rattle.tach_media.specs.card_layout.declared.files.Application.{Application}
+use Rattle.tach_media.specs.card_layout.Application.{IsApplication}
+use Rattle.tach_media.specs.card_layout.Files.{image_size_of}
+use Rattle.card_by_hand.specs.card_model.Days.{Day}
+use Rattle.card_by_hand.specs.card_retention.Entries.{newest_minute, newest_word, EndsBy}
+use Rattle.card_by_hand.specs.card_retention.Shown.{Bound, InDays, AllUpTo}
+use Rattle.card_by_hand.proofs.card_retention.Growing.{still_in}
+use Rattle.card_by_hand.specs.card_image.Fields.{card_days, end_mark, session_time}
+use Rattle.card_by_hand.specs.card_image.Judging.{IsValid}
+use Rattle.card_by_hand.specs.card_image.Own.{own_covered}
+use Rattle.card_by_hand.specs.card_image.View.{card_view}
+use Rattle.card_by_hand.specs.card_retention.Expected.{Counted, with_entry}
+use Rattle.card_by_hand.specs.hand_model.Holding.{LieBetween}
+use Rattle.card_by_hand.specs.hand_model.Written.{Written, Hands, Lie, Rises, entries_of, hands_of, written_by, minutes_alone, and_sure, and_given}
+use Rattle.card_by_hand.proofs.hand_model.OfDay.{spans}
+use Rattle.card_by_hand.proofs.hand_model.Written.{entries_then, hands_then, alone_hands, lie_sure, rises_by}
+use Rattle.card_by_hand.specs.card_session.Books.{mark_of, with_entry as book_with}
+use Rattle.card_by_hand.specs.card_session.Sessions.{Session, IsSession, newest_in, book_of}
+use Rattle.card_by_hand.specs.card_session.Cards.{IsCardClosing, grown}
+use Rattle.card_by_hand.specs.card_session.Inserting.{AreOwed, Follow, InsertsClosed, InsertingClosed, InsertsOpen, InsertingOpen}
+use Rattle.card_by_hand.specs.card_session.Repairs.{first_minute, newest_behind, lacked_by}
+use Rattle.card_by_hand.proofs.card_session.Ends.{closed_end, open_end}
+use Rattle.card_by_hand.proofs.card_session.InsertingBooks.{lacked_follow}
+use Rattle.card_by_hand.proofs.card_session.Marks.{mark_told}
+use Rattle.card_by_hand.proofs.card_session.NewestStays.{view_word}
+use Rattle.card_by_hand.proofs.card_session.Preparing.{used_at}
+use Rattle.card_by_hand.proofs.card_session.Stopping.{asked_at, book_days, mark_at}
+use Rattle.card_by_hand.proofs.card_session.Valid.{above_zero, valid_strict}
 use Rattle.card_by_hand.specs.First.{IsFirstKept, IsFirstKeeping, IsKeepingBehind, first_written}
 use Rattle.card_by_hand.specs.Wider.{with_hands}
 use Rattle.card_by_hand.proofs.FirstLaws.{entering_same, past_same, kept_keeping}

@@ -1,30 +1,30 @@
 -- The first keep on a card whose day of the end mark was begun, at each of its moments.
 use Rattle.std.proofs.Common.{◌≡◌, ◌⊎◌, inl, inr, ⊎_elim, ℕ, suc, ◌/◌, ◌<◌, ◌≤◌, max, List, [], ◌∷◌, ◌++◌, refl, sym, ◌∙◌, ap, subst, arith}
 use Rattle.std.proofs.Math.Nat.{le-max_left}
-use Rattle.activity_codec.specs.declared.entries.Entry.{Entry}
-use Rattle.card_layout.specs.Application.{IsApplication}
-use Rattle.card_layout.specs.declared.files.Application.{Application}
-use Rattle.card_model.specs.Days.{Day, AreDays}
-use Rattle.card_model.specs.Changes.{trimmed}
-use Rattle.card_retention.specs.Expected.{Counted, with_entry}
-use Rattle.card_retention.specs.Entries.{last_entry, closed_at, newest_minute}
-use Rattle.card_retention.specs.Shown.{Bound, AllUpTo, Tells, Lives}
-use Rattle.card_retention.proofs.Listing.{Lists}
-use Rattle.card_image.specs.Fields.{card_days, end_mark}
-use Rattle.card_image.specs.View.{card_view}
-use Rattle.card_image.proofs.Newest.{newest_of_entries}
-use Rattle.card_session.specs.Vehicles.{Vehicles, last_use_in}
-use Rattle.card_session.specs.Books.{Book, mark_of, gap_closed, entered_days, travelled, with_entry as book_with}
-use Rattle.card_session.specs.Moments.{IsBeforeMark}
-use Rattle.card_session.specs.Parts.{IsBeforeGapOf}
-use Rattle.card_session.specs.Sessions.{Session, IsSession, book_of}
-use Rattle.card_session.specs.Cards.{IsCardKeeping, grown}
-use Rattle.card_session.specs.Overwriting.{DaysFollowOverwriting, ShowsEntries, and_entry}
-use Rattle.card_session.proofs.Marks.{session_same, mark_told}
-use Rattle.card_session.proofs.Preparing.{used_at}
-use Rattle.card_session.proofs.Stopping.{asked_at, days_there, book_days, mark_at, before_use}
-use Rattle.card_session.proofs.Committed.{keep_silent}
-use Rattle.card_session.proofs.NewestStays.{newest_after}
+use Rattle.card_by_hand.specs.activity_codec.declared.entries.Entry.{Entry}
+use Rattle.tach_media.specs.card_layout.Application.{IsApplication}
+use Rattle.tach_media.specs.card_layout.declared.files.Application.{Application}
+use Rattle.card_by_hand.specs.card_model.Days.{Day, AreDays}
+use Rattle.card_by_hand.specs.card_model.Changes.{trimmed}
+use Rattle.card_by_hand.specs.card_retention.Expected.{Counted, with_entry}
+use Rattle.card_by_hand.specs.card_retention.Entries.{last_entry, closed_at, newest_minute}
+use Rattle.card_by_hand.specs.card_retention.Shown.{Bound, AllUpTo, Tells, Lives}
+use Rattle.card_by_hand.proofs.card_retention.Listing.{Lists}
+use Rattle.card_by_hand.specs.card_image.Fields.{card_days, end_mark}
+use Rattle.card_by_hand.specs.card_image.View.{card_view}
+use Rattle.card_by_hand.proofs.card_image.Newest.{newest_of_entries}
+use Rattle.card_by_hand.specs.card_session.Vehicles.{Vehicles, last_use_in}
+use Rattle.card_by_hand.specs.card_session.Books.{Book, mark_of, gap_closed, entered_days, travelled, with_entry as book_with}
+use Rattle.card_by_hand.specs.card_session.Moments.{IsBeforeMark}
+use Rattle.card_by_hand.specs.card_session.Parts.{IsBeforeGapOf}
+use Rattle.card_by_hand.specs.card_session.Sessions.{Session, IsSession, book_of}
+use Rattle.card_by_hand.specs.card_session.Cards.{IsCardKeeping, grown}
+use Rattle.card_by_hand.specs.card_session.Overwriting.{DaysFollowOverwriting, ShowsEntries, and_entry}
+use Rattle.card_by_hand.proofs.card_session.Marks.{session_same, mark_told}
+use Rattle.card_by_hand.proofs.card_session.Preparing.{used_at}
+use Rattle.card_by_hand.proofs.card_session.Stopping.{asked_at, days_there, book_days, mark_at, before_use}
+use Rattle.card_by_hand.proofs.card_session.Committed.{keep_silent}
+use Rattle.card_by_hand.proofs.card_session.NewestStays.{newest_after}
 use Rattle.card_string.specs.Carried.{Begun, BrokeOf, BegunOf}
 use Rattle.card_string.specs.Shows.{IsStopped, IsDone, IsKeepShown}
 use Rattle.card_string.proofs.Moments.{until_more, later_day, view_newest}

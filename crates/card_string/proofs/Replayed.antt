@@ -4,31 +4,31 @@ use Rattle.std.specs.Prelude.{nat_eq}
 use Rattle.std.specs.List.{AllByRecursion}
 use Rattle.std.proofs.lemmas.Bool.{cases_lt}
 use Rattle.std.proofs.lemmas.List.{append-nil}
-use Rattle.activity_codec.specs.declared.entries.Entry.{Entry}
-use Rattle.tacho_types.specs.declared.texts.Registration.{Registration}
-use Rattle.card_model.specs.Days.{Day, AreDays}
-use Rattle.card_model.specs.Changes.{trimmed}
-use Rattle.card_retention.specs.Expected.{Counted, is_newest, with_entry as counted_with}
-use Rattle.card_retention.specs.Entries.{closed_at, entries_up_to, newest_word}
-use Rattle.card_retention.specs.Retains.{entries_in, begun_on}
-use Rattle.card_retention.specs.Shown.{Bound, AllBefore, AllUpTo, Rests, Lives, sizes}
-use Rattle.card_retention.proofs.Listing.{Lists}
-use Rattle.card_retention.proofs.ListTrims.{entries_trimmed, lists_trimmed}
-use Rattle.card_retention.proofs.Moments.{rests_later}
-use Rattle.card_retention.proofs.Stops.{stop_none}
-use Rattle.card_session.specs.Vehicles.{Vehicles, last_use_in}
-use Rattle.card_session.specs.Books.{Book, mark_of, gap_closed, with_entry}
-use Rattle.card_session.specs.Moments.{IsKeepMoment, IsBeforeMark}
-use Rattle.card_session.specs.Parts.{IsBeforeGapOf}
-use Rattle.card_session.specs.Inserting.{Follow, with_owed, IsBeforeAll, IsReplaying}
-use Rattle.card_session.specs.Overwriting.{and_entry}
-use Rattle.card_session.specs.Repairs.{first_minute, mark_behind, and_entries, with_entries, BeginsLater, newest_behind}
-use Rattle.card_session.proofs.Preparing.{used_at}
-use Rattle.card_session.proofs.Stopping.{before_stop, before_use, goes_on, lives_later}
-use Rattle.card_session.proofs.Surviving.{newest_gapped, keep_survives, lists_survive}
-use Rattle.card_session.proofs.Committed.{silent_end, commit_shows}
-use Rattle.card_session.proofs.NewestStays.{next_low}
-use Rattle.card_session.proofs.Replaying.{with_are, with_before, with_later}
+use Rattle.card_by_hand.specs.activity_codec.declared.entries.Entry.{Entry}
+use Rattle.card_by_hand.specs.tacho_types.declared.texts.Registration.{Registration}
+use Rattle.card_by_hand.specs.card_model.Days.{Day, AreDays}
+use Rattle.card_by_hand.specs.card_model.Changes.{trimmed}
+use Rattle.card_by_hand.specs.card_retention.Expected.{Counted, is_newest, with_entry as counted_with}
+use Rattle.card_by_hand.specs.card_retention.Entries.{closed_at, entries_up_to, newest_word}
+use Rattle.card_by_hand.specs.card_retention.Retains.{entries_in, begun_on}
+use Rattle.card_by_hand.specs.card_retention.Shown.{Bound, AllBefore, AllUpTo, Rests, Lives, sizes}
+use Rattle.card_by_hand.proofs.card_retention.Listing.{Lists}
+use Rattle.card_by_hand.proofs.card_retention.ListTrims.{entries_trimmed, lists_trimmed}
+use Rattle.card_by_hand.proofs.card_retention.Moments.{rests_later}
+use Rattle.card_by_hand.proofs.card_retention.Stops.{stop_none}
+use Rattle.card_by_hand.specs.card_session.Vehicles.{Vehicles, last_use_in}
+use Rattle.card_by_hand.specs.card_session.Books.{Book, mark_of, gap_closed, with_entry}
+use Rattle.card_by_hand.specs.card_session.Moments.{IsKeepMoment, IsBeforeMark}
+use Rattle.card_by_hand.specs.card_session.Parts.{IsBeforeGapOf}
+use Rattle.card_by_hand.specs.card_session.Inserting.{Follow, with_owed, IsBeforeAll, IsReplaying}
+use Rattle.card_by_hand.specs.card_session.Overwriting.{and_entry}
+use Rattle.card_by_hand.specs.card_session.Repairs.{first_minute, mark_behind, and_entries, with_entries, BeginsLater, newest_behind}
+use Rattle.card_by_hand.proofs.card_session.Preparing.{used_at}
+use Rattle.card_by_hand.proofs.card_session.Stopping.{before_stop, before_use, goes_on, lives_later}
+use Rattle.card_by_hand.proofs.card_session.Surviving.{newest_gapped, keep_survives, lists_survive}
+use Rattle.card_by_hand.proofs.card_session.Committed.{silent_end, commit_shows}
+use Rattle.card_by_hand.proofs.card_session.NewestStays.{next_low}
+use Rattle.card_by_hand.proofs.card_session.Replaying.{with_are, with_before, with_later}
 use Rattle.card_string.specs.Carried.{BrokeOf, BegunOf}
 use Rattle.card_string.specs.Inserts.{IsOnDay, ReplaysOf}
 use Rattle.card_string.proofs.Moments.{until_more}

@@ -1,28 +1,28 @@
 -- The closing word that a withdrawal or an insertion writes, by the rule of overwriting: at each moment, and once the end mark is at it.
 use Rattle.std.proofs.Common.{◌≡◌, ⊎_elim, ℕ, suc, ◌*◌, ◌/◌, ◌<◌, ◌≤◌, max, Bool, true, false, cond, List, [], ◌∷◌, refl, sym, ◌∙◌, ap, subst, arith}
-use Rattle.activity_codec.specs.declared.entries.Entry.{Entry}
-use Rattle.activity_codec.specs.declared.values.Activity.{Activity}
-use Rattle.card_layout.specs.Application.{IsApplication}
-use Rattle.card_layout.specs.declared.files.Application.{Application}
-use Rattle.card_model.specs.Days.{Day, AreDays}
-use Rattle.card_model.specs.Changes.{OnNewest, date_of}
-use Rattle.card_retention.specs.Expected.{Counted}
-use Rattle.card_retention.specs.Entries.{newest_minute, newest_word}
-use Rattle.card_retention.specs.Shown.{Bound, AllUpTo, is_open}
-use Rattle.card_retention.proofs.ListTrims.{entries_trimmed, lists_trimmed}
-use Rattle.card_retention.proofs.Stops.{stop_none}
-use Rattle.card_image.specs.Fields.{card_days, end_mark}
-use Rattle.card_session.specs.Books.{Book, mark_of, closed, closed_days, closing_word, latest_of, last_used, with_change}
-use Rattle.card_session.specs.Moments.{IsBook, IsCloseMoment}
-use Rattle.card_session.specs.Sessions.{IsOpenBook, book_of}
-use Rattle.card_session.specs.Cards.{IsCard}
-use Rattle.card_session.specs.Overwriting.{ShowsEntries, TellsNoLater, IsSilentBehind}
-use Rattle.card_session.proofs.Marks.{mark_told}
-use Rattle.card_session.proofs.Stopping.{book_days, mark_at, mark_moves, closed_leaves, close_leaves}
-use Rattle.card_session.proofs.Committed.{silent_end, close_shows}
-use Rattle.card_session.proofs.Valid.{closing_newest}
-use Rattle.card_session.proofs.NewestStays.{open_low, closed_open}
-use Rattle.card_session.proofs.Preparing.{open_date}
+use Rattle.card_by_hand.specs.activity_codec.declared.entries.Entry.{Entry}
+use Rattle.card_by_hand.specs.activity_codec.declared.values.Activity.{Activity}
+use Rattle.tach_media.specs.card_layout.Application.{IsApplication}
+use Rattle.tach_media.specs.card_layout.declared.files.Application.{Application}
+use Rattle.card_by_hand.specs.card_model.Days.{Day, AreDays}
+use Rattle.card_by_hand.specs.card_model.Changes.{OnNewest, date_of}
+use Rattle.card_by_hand.specs.card_retention.Expected.{Counted}
+use Rattle.card_by_hand.specs.card_retention.Entries.{newest_minute, newest_word}
+use Rattle.card_by_hand.specs.card_retention.Shown.{Bound, AllUpTo, is_open}
+use Rattle.card_by_hand.proofs.card_retention.ListTrims.{entries_trimmed, lists_trimmed}
+use Rattle.card_by_hand.proofs.card_retention.Stops.{stop_none}
+use Rattle.card_by_hand.specs.card_image.Fields.{card_days, end_mark}
+use Rattle.card_by_hand.specs.card_session.Books.{Book, mark_of, closed, closed_days, closing_word, latest_of, last_used, with_change}
+use Rattle.card_by_hand.specs.card_session.Moments.{IsBook, IsCloseMoment}
+use Rattle.card_by_hand.specs.card_session.Sessions.{IsOpenBook, book_of}
+use Rattle.card_by_hand.specs.card_session.Cards.{IsCard}
+use Rattle.card_by_hand.specs.card_session.Overwriting.{ShowsEntries, TellsNoLater, IsSilentBehind}
+use Rattle.card_by_hand.proofs.card_session.Marks.{mark_told}
+use Rattle.card_by_hand.proofs.card_session.Stopping.{book_days, mark_at, mark_moves, closed_leaves, close_leaves}
+use Rattle.card_by_hand.proofs.card_session.Committed.{silent_end, close_shows}
+use Rattle.card_by_hand.proofs.card_session.Valid.{closing_newest}
+use Rattle.card_by_hand.proofs.card_session.NewestStays.{open_low, closed_open}
+use Rattle.card_by_hand.proofs.card_session.Preparing.{open_date}
 use Rattle.card_string.specs.Carried.{StringFollowsEntries, Broke}
 use Rattle.card_string.specs.Closes.{IsClosedShown}
 

@@ -3,27 +3,27 @@ use Rattle.std.proofs.Common.{◌≡◌, ◌⊎◌, inl, inr, ⊎_elim, ℕ, suc
 use Rattle.std.specs.Prelude.{nat_eq}
 use Rattle.std.proofs.lemmas.Bool.Decides.{nat_tests}
 use Rattle.std.proofs.lemmas.List.{append-nil}
-use Rattle.activity_codec.specs.declared.entries.Entry.{Entry}
-use Rattle.activity_codec.specs.declared.entries.Manual.{Manual}
-use Rattle.card_layout.specs.declared.files.Application.{Application}
-use Rattle.card_layout.specs.Application.{IsApplication}
-use Rattle.card_model.specs.Days.{Day}
-use Rattle.card_model.specs.Changes.{trimmed}
-use Rattle.card_retention.specs.Expected.{Counted, with_entry}
-use Rattle.card_retention.specs.Entries.{closed_at, newest_word}
-use Rattle.card_retention.specs.Shown.{Bound, InDays, AllUpTo, is_open}
-use Rattle.card_image.specs.Fields.{card_days, end_mark, session_time}
-use Rattle.card_image.specs.Own.{own_view, own_covered}
-use Rattle.hand_model.specs.Written.{Written, Hands, Lie, Rises, entries_of, hands_of, written_by, minutes_alone, and_given}
-use Rattle.hand_model.proofs.Written.{entries_then, hands_append, hands_alone, hands_then, lie_sure, lie_given, lie_less}
+use Rattle.card_by_hand.specs.activity_codec.declared.entries.Entry.{Entry}
+use Rattle.card_by_hand.specs.activity_codec.declared.entries.Manual.{Manual}
+use Rattle.tach_media.specs.card_layout.declared.files.Application.{Application}
+use Rattle.tach_media.specs.card_layout.Application.{IsApplication}
+use Rattle.card_by_hand.specs.card_model.Days.{Day}
+use Rattle.card_by_hand.specs.card_model.Changes.{trimmed}
+use Rattle.card_by_hand.specs.card_retention.Expected.{Counted, with_entry}
+use Rattle.card_by_hand.specs.card_retention.Entries.{closed_at, newest_word}
+use Rattle.card_by_hand.specs.card_retention.Shown.{Bound, InDays, AllUpTo, is_open}
+use Rattle.card_by_hand.specs.card_image.Fields.{card_days, end_mark, session_time}
+use Rattle.card_by_hand.specs.card_image.Own.{own_view, own_covered}
+use Rattle.card_by_hand.specs.hand_model.Written.{Written, Hands, Lie, Rises, entries_of, hands_of, written_by, minutes_alone, and_given}
+use Rattle.card_by_hand.proofs.hand_model.Written.{entries_then, hands_append, hands_alone, hands_then, lie_sure, lie_given, lie_less}
 use Rattle.card_by_hand.specs.Wider.{with_hands}
-use Rattle.card_session.specs.Books.{Book, mark_of}
-use Rattle.card_session.specs.Sessions.{book_of}
-use Rattle.card_session.specs.Inserting.{Follow}
-use Rattle.card_session.specs.Overwriting.{BeginsBehind, and_entry}
-use Rattle.card_session.specs.Repairs.{first_minute, mark_behind, and_entries, with_entries, newest_behind, BeginsLater}
-use Rattle.card_session.proofs.Marks.{mark_told}
-use Rattle.card_session.proofs.Stopping.{book_days}
+use Rattle.card_by_hand.specs.card_session.Books.{Book, mark_of}
+use Rattle.card_by_hand.specs.card_session.Sessions.{book_of}
+use Rattle.card_by_hand.specs.card_session.Inserting.{Follow}
+use Rattle.card_by_hand.specs.card_session.Overwriting.{BeginsBehind, and_entry}
+use Rattle.card_by_hand.specs.card_session.Repairs.{first_minute, mark_behind, and_entries, with_entries, newest_behind, BeginsLater}
+use Rattle.card_by_hand.proofs.card_session.Marks.{mark_told}
+use Rattle.card_by_hand.proofs.card_session.Stopping.{book_days}
 use Rattle.card_string.specs.Carried.{StringFollowsEntries, Broke, BrokeOf, Begun, BegunOf, IsFresh}
 use Rattle.card_string.specs.Shows.{IsStopped, IsDone, IsFirstShown}
 use Rattle.card_string.specs.Closes.{IsClosedShown, IsCloseShown}

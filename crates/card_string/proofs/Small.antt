@@ -3,14 +3,14 @@ use Rattle.std.proofs.Common.{◌≡◌, ℕ, zero, suc, ◌+◌, ◌-◌, ◌/�
 use Rattle.std.specs.Prelude.{nat_eq, nat_lt, nat_le}
 use Rattle.std.specs.List.{AllByRecursion}
 use Rattle.std.proofs.lemmas.List.Elements.{All-append, All-take, All-drop, recursion_from_All}
-use Rattle.card_layout.specs.declared.files.Application.{Application}
-use Rattle.card_model.specs.declared.lengths.TheConstants.{DAYS_MOST}
-use Rattle.card_model.specs.Bytes.{number}
-use Rattle.card_model.specs.Days.{Day, last_word}
-use Rattle.card_model.specs.Changes.{OnNewest, with_newest, until, early, cut, with_early, date_of, trimmed}
-use Rattle.card_model.specs.Image.{oldest_pointer, string_of, circle_of}
-use Rattle.card_model.specs.Walk.{words_of, day_told, days_in, days_of}
-use Rattle.card_image.specs.Fields.{day_string, card_days}
+use Rattle.tach_media.specs.card_layout.declared.files.Application.{Application}
+use Rattle.card_by_hand.specs.card_model.declared.lengths.TheConstants.{DAYS_MOST}
+use Rattle.card_by_hand.specs.card_model.Bytes.{number}
+use Rattle.card_by_hand.specs.card_model.Days.{Day, last_word}
+use Rattle.card_by_hand.specs.card_model.Changes.{OnNewest, with_newest, until, early, cut, with_early, date_of, trimmed}
+use Rattle.card_by_hand.specs.card_model.Image.{oldest_pointer, string_of, circle_of}
+use Rattle.card_by_hand.specs.card_model.Walk.{words_of, day_told, days_in, days_of}
+use Rattle.card_by_hand.specs.card_image.Fields.{day_string, card_days}
 use Rattle.tach_media.specs.Medium.{bytes_at}
 
 abbrev pub AreBytes : List ℕ → Type 0

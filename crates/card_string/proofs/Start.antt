@@ -4,43 +4,43 @@ use Rattle.std.specs.Prelude.{nat_eq, nat_lt, nat_le}
 use Rattle.std.proofs.lemmas.Bool.{cases_lt}
 use Rattle.std.proofs.lemmas.Bool.Decides.{nat_tests}
 use Rattle.std.proofs.lemmas.List.{append-nil}
-use Rattle.activity_codec.specs.declared.entries.Entry.{Entry}
-use Rattle.activity_codec.specs.declared.entries.Manual.{Manual}
-use Rattle.activity_codec.specs.declared.values.Activity.TheVariants.{Rest}
-use Rattle.activity_codec.specs.declared.values.Slot.TheVariants.{Driver}
-use Rattle.activity_codec.specs.Words.{word_absent}
-use Rattle.card_layout.specs.declared.files.Application.{Application}
-use Rattle.card_model.specs.Days.{Day, AreDays, last_word}
-use Rattle.card_model.specs.Changes.{OnNewest, trimmed}
-use Rattle.card_model.specs.Checks.{first_failing}
-use Rattle.card_model.specs.Image.{oldest_pointer}
-use Rattle.card_model.proofs.Ascending.{words_ascend}
-use Rattle.card_model.proofs.Judging.{both_pass}
-use Rattle.card_model.proofs.Trims.{are_trimmed, trimmed_twice}
-use Rattle.card_retention.specs.Expected.{WordDay, more, is_newest, Counted}
-use Rattle.card_retention.specs.Entries.{entries_up_to, last_entry, newest_word, EndsBy, IsChecked}
-use Rattle.card_retention.specs.Retains.{entries_in}
-use Rattle.card_retention.specs.Shown.{Bound, InDays, AllIn, AllUpTo, EndsAbsent, IsFull, Rests, sizes, size_day, is_open, owing}
-use Rattle.card_retention.proofs.Checked.{closed_lives}
-use Rattle.card_retention.proofs.Growing.{in_more, still_in}
-use Rattle.card_retention.proofs.ListTrims.{entries_trimmed, ends_flat}
-use Rattle.card_retention.proofs.Retaining.{day_in}
-use Rattle.card_retention.proofs.Starting.{start_of, start_bound, starts, entries_by, entries_there}
-use Rattle.card_image.specs.Fields.{day_string, card_days, end_mark, session_time}
-use Rattle.card_image.specs.Judging.{days_placed, words_behind_mark, IsValid}
-use Rattle.card_image.specs.Own.{own_sizes, own_view, own_covered, most_slack}
-use Rattle.card_image.specs.View.{card_view, counting}
-use Rattle.hand_model.specs.AtStart.{marked_at, all_at, AreFirst}
-use Rattle.hand_model.specs.ByHand.{words_by_hand, by_hand_up_to, TellsHands, HandsUpTo}
-use Rattle.hand_model.specs.Written.{no_hands, counted_by}
-use Rattle.hand_model.proofs.Cuts.{told_trimmed, tells_own, up_told}
-use Rattle.hand_model.proofs.Told.{AllDay, words_day}
-use Rattle.card_session.specs.Inserting.{Follow}
-use Rattle.card_session.specs.Overwriting.{IsSilentBehind}
-use Rattle.card_session.specs.Repairs.{first_minute}
-use Rattle.card_session.proofs.InsertingBooks.{trimmed_low}
-use Rattle.card_session.proofs.InsertingValid.{closed_by_words}
-use Rattle.card_session.proofs.Valid.{valid_words}
+use Rattle.card_by_hand.specs.activity_codec.declared.entries.Entry.{Entry}
+use Rattle.card_by_hand.specs.activity_codec.declared.entries.Manual.{Manual}
+use Rattle.card_by_hand.specs.activity_codec.declared.values.Activity.TheVariants.{Rest}
+use Rattle.card_by_hand.specs.activity_codec.declared.values.Slot.TheVariants.{Driver}
+use Rattle.card_by_hand.specs.activity_codec.Words.{word_absent}
+use Rattle.tach_media.specs.card_layout.declared.files.Application.{Application}
+use Rattle.card_by_hand.specs.card_model.Days.{Day, AreDays, last_word}
+use Rattle.card_by_hand.specs.card_model.Changes.{OnNewest, trimmed}
+use Rattle.card_by_hand.specs.card_model.Checks.{first_failing}
+use Rattle.card_by_hand.specs.card_model.Image.{oldest_pointer}
+use Rattle.card_by_hand.proofs.card_model.Ascending.{words_ascend}
+use Rattle.card_by_hand.proofs.card_model.Judging.{both_pass}
+use Rattle.card_by_hand.proofs.card_model.Trims.{are_trimmed, trimmed_twice}
+use Rattle.card_by_hand.specs.card_retention.Expected.{WordDay, more, is_newest, Counted}
+use Rattle.card_by_hand.specs.card_retention.Entries.{entries_up_to, last_entry, newest_word, EndsBy, IsChecked}
+use Rattle.card_by_hand.specs.card_retention.Retains.{entries_in}
+use Rattle.card_by_hand.specs.card_retention.Shown.{Bound, InDays, AllIn, AllUpTo, EndsAbsent, IsFull, Rests, sizes, size_day, is_open, owing}
+use Rattle.card_by_hand.proofs.card_retention.Checked.{closed_lives}
+use Rattle.card_by_hand.proofs.card_retention.Growing.{in_more, still_in}
+use Rattle.card_by_hand.proofs.card_retention.ListTrims.{entries_trimmed, ends_flat}
+use Rattle.card_by_hand.proofs.card_retention.Retaining.{day_in}
+use Rattle.card_by_hand.proofs.card_retention.Starting.{start_of, start_bound, starts, entries_by, entries_there}
+use Rattle.card_by_hand.specs.card_image.Fields.{day_string, card_days, end_mark, session_time}
+use Rattle.card_by_hand.specs.card_image.Judging.{days_placed, words_behind_mark, IsValid}
+use Rattle.card_by_hand.specs.card_image.Own.{own_sizes, own_view, own_covered, most_slack}
+use Rattle.card_by_hand.specs.card_image.View.{card_view, counting}
+use Rattle.card_by_hand.specs.hand_model.AtStart.{marked_at, all_at, AreFirst}
+use Rattle.card_by_hand.specs.hand_model.ByHand.{words_by_hand, by_hand_up_to, TellsHands, HandsUpTo}
+use Rattle.card_by_hand.specs.hand_model.Written.{no_hands, counted_by}
+use Rattle.card_by_hand.proofs.hand_model.Cuts.{told_trimmed, tells_own, up_told}
+use Rattle.card_by_hand.proofs.hand_model.Told.{AllDay, words_day}
+use Rattle.card_by_hand.specs.card_session.Inserting.{Follow}
+use Rattle.card_by_hand.specs.card_session.Overwriting.{IsSilentBehind}
+use Rattle.card_by_hand.specs.card_session.Repairs.{first_minute}
+use Rattle.card_by_hand.proofs.card_session.InsertingBooks.{trimmed_low}
+use Rattle.card_by_hand.proofs.card_session.InsertingValid.{closed_by_words}
+use Rattle.card_by_hand.proofs.card_session.Valid.{valid_words}
 use Rattle.card_string.specs.Since.{HasOn, day_marks, all_since, bound_since, counted_since, last_of, AllOnDays, TellsSince, IsTied, HoldsSince}
 use Rattle.card_string.proofs.Deeds.{made_start}
 use Rattle.card_string.proofs.Since.{tied_wider}

@@ -2,22 +2,22 @@
 use Rattle.std.proofs.Common.{◌≡◌, ◌⊎◌, inl, inr, ⊎_elim, ℕ, suc, ◌/◌, ◌<◌, ◌≤◌, Bool, true, false, cond, ◌&&◌, ◌||◌, List, [], ◌∷◌, ◌++◌, length, refl, sym, ◌∙◌, ap, subst, arith}
 use Rattle.std.specs.Prelude.{nat_eq, nat_lt}
 use Rattle.std.proofs.lemmas.Bool.Decides.{nat_tests}
-use Rattle.activity_codec.specs.declared.entries.Entry.{Entry}
-use Rattle.card_layout.specs.Application.{IsApplication}
-use Rattle.card_layout.specs.declared.files.Application.{Application}
-use Rattle.card_model.specs.Days.{Day}
-use Rattle.card_model.specs.Changes.{trimmed}
-use Rattle.card_retention.specs.Expected.{WordDay, more, Counted, expected_days}
-use Rattle.card_retention.specs.Shown.{Bound, Covers, AllBefore, AllIn, InDays, Grows, sizes, size_day, is_open, owing, Shows, Rests}
-use Rattle.card_retention.specs.Retains.{is_day, entries_in, begun_on, HasBegun, CardRetains}
-use Rattle.card_retention.specs.Entries.{entries_up_to}
-use Rattle.card_retention.proofs.Entering.{closes_is, before_more}
-use Rattle.card_retention.proofs.Growing.{covers_fewer, more_grows, sizes_append}
-use Rattle.card_retention.proofs.ListTrims.{entries_trimmed, lists_trimmed}
-use Rattle.card_retention.proofs.Retaining.{covers_from, same_entries, is_day_owing}
-use Rattle.card_retention.proofs.Stops.{stop_none}
-use Rattle.card_image.specs.Fields.{card_days, end_mark, session_time}
-use Rattle.card_image.specs.View.{card_view, counting}
+use Rattle.card_by_hand.specs.activity_codec.declared.entries.Entry.{Entry}
+use Rattle.tach_media.specs.card_layout.Application.{IsApplication}
+use Rattle.tach_media.specs.card_layout.declared.files.Application.{Application}
+use Rattle.card_by_hand.specs.card_model.Days.{Day}
+use Rattle.card_by_hand.specs.card_model.Changes.{trimmed}
+use Rattle.card_by_hand.specs.card_retention.Expected.{WordDay, more, Counted, expected_days}
+use Rattle.card_by_hand.specs.card_retention.Shown.{Bound, Covers, AllBefore, AllIn, InDays, Grows, sizes, size_day, is_open, owing, Shows, Rests}
+use Rattle.card_by_hand.specs.card_retention.Retains.{is_day, entries_in, begun_on, HasBegun, CardRetains}
+use Rattle.card_by_hand.specs.card_retention.Entries.{entries_up_to}
+use Rattle.card_by_hand.proofs.card_retention.Entering.{closes_is, before_more}
+use Rattle.card_by_hand.proofs.card_retention.Growing.{covers_fewer, more_grows, sizes_append}
+use Rattle.card_by_hand.proofs.card_retention.ListTrims.{entries_trimmed, lists_trimmed}
+use Rattle.card_by_hand.proofs.card_retention.Retaining.{covers_from, same_entries, is_day_owing}
+use Rattle.card_by_hand.proofs.card_retention.Stops.{stop_none}
+use Rattle.card_by_hand.specs.card_image.Fields.{card_days, end_mark, session_time}
+use Rattle.card_by_hand.specs.card_image.View.{card_view, counting}
 use Rattle.card_string.specs.Carried.{StringFollowsEntries, Broke, BegunOf, Begun, IsStated}
 
 in_later : (oldest : ℕ) (first all : List Entry) (days : List WordDay) → AllIn oldest (first ++ all) days → AllIn oldest all days

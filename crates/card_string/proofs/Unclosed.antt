@@ -2,49 +2,49 @@
 -- old one; and an insertion of such a card.
 use Rattle.std.proofs.Common.{◌≡◌, ◌⊎◌, inl, inr, ⊎_elim, ℕ, suc, ◌+◌, ◌-◌, ◌/◌, ◌<◌, ◌≤◌, max, Bool, true, false, cond, ◌&&◌, Option, List, [], ◌∷◌, length, refl, sym, ◌∙◌, ap, subst, arith}
 use Rattle.std.specs.Prelude.{nat_lt}
-use Rattle.activity_codec.specs.declared.entries.Entry.{Entry}
-use Rattle.activity_codec.specs.declared.values.Activity.{Activity}
-use Rattle.activity_codec.specs.declared.values.Activity.TheVariants.{Rest}
-use Rattle.activity_codec.specs.Words.{word_absent, word_minute}
-use Rattle.tacho_types.specs.declared.texts.Registration.{Registration}
-use Rattle.card_layout.specs.Application.{IsApplication}
-use Rattle.card_layout.specs.Files.{image_size_of, place_of}
-use Rattle.card_layout.specs.declared.files.Application.{Application}
-use Rattle.card_model.specs.Days.{Day, AreDays, last_word}
-use Rattle.card_model.specs.Changes.{OnNewest, Remain, fitting, with_newest, with_word, date_of, trimmed}
-use Rattle.card_model.proofs.Retention.{remain_fitting, remain_some}
-use Rattle.card_model.proofs.Trims.{Behind, trimmed_word}
-use Rattle.card_retention.specs.Expected.{WordDay, more, Counted}
-use Rattle.card_retention.specs.Entries.{newest_minute, newest_word}
-use Rattle.card_retention.specs.Shown.{Bound, AllUpTo, Grows, EndsAbsent, Sound, Sound.Flat, Sound.Tail, Rests, Lives, sizes, is_open, owing}
-use Rattle.card_retention.proofs.Closing.{closed_rests}
-use Rattle.card_retention.proofs.Committing.{Quiet}
-use Rattle.card_retention.proofs.Entering.{before_later, fits_sizes, last_append, on_word}
-use Rattle.card_retention.proofs.Growing.{more_grows, sizes_word}
-use Rattle.card_retention.proofs.ListTrims.{QuietEnd, quiet}
-use Rattle.card_retention.proofs.Stops.{Base, base_days, base_left, absent_shut, open_left, sound_left}
-use Rattle.card_image.specs.Fields.{file, card_days, end_mark, session_time}
-use Rattle.card_image.specs.Judging.{IsValid}
-use Rattle.card_image.specs.View.{card_view}
-use Rattle.card_image.proofs.Beside.{days_same}
-use Rattle.card_session.specs.Books.{Book, mark_of, closed_days, closing_word, latest_of, with_change}
-use Rattle.card_session.specs.Moments.{IsClosingWord, IsCloseMoment}
-use Rattle.card_session.specs.Sessions.{IsOpenBook, newest_in, book_of}
-use Rattle.card_session.specs.Cards.{IsCard}
-use Rattle.card_session.specs.Inserting.{IsStill, IsShut, IsShutting, InsertsClosed, InsertingClosed}
-use Rattle.card_session.specs.Overwriting.{IsSilentBehind}
-use Rattle.card_session.proofs.Committed.{close_shows}
-use Rattle.card_session.proofs.Composing.{told_book}
-use Rattle.card_session.proofs.Following.{closing_minute}
-use Rattle.card_session.proofs.InsertingOpen.{Same, opening_same}
-use Rattle.card_session.proofs.InsertingUse.{use_inside}
-use Rattle.card_session.proofs.Marks.{mark_told}
-use Rattle.card_session.proofs.NewestStays.{newest_by_mark, open_low, view_newest, view_word}
-use Rattle.card_session.proofs.Preparing.{open_date}
-use Rattle.card_session.proofs.Renewing.{x_may, closed_answered}
-use Rattle.card_session.proofs.Repairing.{mark_beside}
-use Rattle.card_session.proofs.Stopping.{book_days, mark_at, closing_absent, lives_later}
-use Rattle.card_session.proofs.Valid.{flat_of}
+use Rattle.card_by_hand.specs.activity_codec.declared.entries.Entry.{Entry}
+use Rattle.card_by_hand.specs.activity_codec.declared.values.Activity.{Activity}
+use Rattle.card_by_hand.specs.activity_codec.declared.values.Activity.TheVariants.{Rest}
+use Rattle.card_by_hand.specs.activity_codec.Words.{word_absent, word_minute}
+use Rattle.card_by_hand.specs.tacho_types.declared.texts.Registration.{Registration}
+use Rattle.tach_media.specs.card_layout.Application.{IsApplication}
+use Rattle.tach_media.specs.card_layout.Files.{image_size_of, place_of}
+use Rattle.tach_media.specs.card_layout.declared.files.Application.{Application}
+use Rattle.card_by_hand.specs.card_model.Days.{Day, AreDays, last_word}
+use Rattle.card_by_hand.specs.card_model.Changes.{OnNewest, Remain, fitting, with_newest, with_word, date_of, trimmed}
+use Rattle.card_by_hand.proofs.card_model.Retention.{remain_fitting, remain_some}
+use Rattle.card_by_hand.proofs.card_model.Trims.{Behind, trimmed_word}
+use Rattle.card_by_hand.specs.card_retention.Expected.{WordDay, more, Counted}
+use Rattle.card_by_hand.specs.card_retention.Entries.{newest_minute, newest_word}
+use Rattle.card_by_hand.specs.card_retention.Shown.{Bound, AllUpTo, Grows, EndsAbsent, Sound, Sound.Flat, Sound.Tail, Rests, Lives, sizes, is_open, owing}
+use Rattle.card_by_hand.proofs.card_retention.Closing.{closed_rests}
+use Rattle.card_by_hand.proofs.card_retention.Committing.{Quiet}
+use Rattle.card_by_hand.proofs.card_retention.Entering.{before_later, fits_sizes, last_append, on_word}
+use Rattle.card_by_hand.proofs.card_retention.Growing.{more_grows, sizes_word}
+use Rattle.card_by_hand.proofs.card_retention.ListTrims.{QuietEnd, quiet}
+use Rattle.card_by_hand.proofs.card_retention.Stops.{Base, base_days, base_left, absent_shut, open_left, sound_left}
+use Rattle.card_by_hand.specs.card_image.Fields.{file, card_days, end_mark, session_time}
+use Rattle.card_by_hand.specs.card_image.Judging.{IsValid}
+use Rattle.card_by_hand.specs.card_image.View.{card_view}
+use Rattle.card_by_hand.proofs.card_image.Beside.{days_same}
+use Rattle.card_by_hand.specs.card_session.Books.{Book, mark_of, closed_days, closing_word, latest_of, with_change}
+use Rattle.card_by_hand.specs.card_session.Moments.{IsClosingWord, IsCloseMoment}
+use Rattle.card_by_hand.specs.card_session.Sessions.{IsOpenBook, newest_in, book_of}
+use Rattle.card_by_hand.specs.card_session.Cards.{IsCard}
+use Rattle.card_by_hand.specs.card_session.Inserting.{IsStill, IsShut, IsShutting, InsertsClosed, InsertingClosed}
+use Rattle.card_by_hand.specs.card_session.Overwriting.{IsSilentBehind}
+use Rattle.card_by_hand.proofs.card_session.Committed.{close_shows}
+use Rattle.card_by_hand.proofs.card_session.Composing.{told_book}
+use Rattle.card_by_hand.proofs.card_session.Following.{closing_minute}
+use Rattle.card_by_hand.proofs.card_session.InsertingOpen.{Same, opening_same}
+use Rattle.card_by_hand.proofs.card_session.InsertingUse.{use_inside}
+use Rattle.card_by_hand.proofs.card_session.Marks.{mark_told}
+use Rattle.card_by_hand.proofs.card_session.NewestStays.{newest_by_mark, open_low, view_newest, view_word}
+use Rattle.card_by_hand.proofs.card_session.Preparing.{open_date}
+use Rattle.card_by_hand.proofs.card_session.Renewing.{x_may, closed_answered}
+use Rattle.card_by_hand.proofs.card_session.Repairing.{mark_beside}
+use Rattle.card_by_hand.proofs.card_session.Stopping.{book_days, mark_at, closing_absent, lives_later}
+use Rattle.card_by_hand.proofs.card_session.Valid.{flat_of}
 use Rattle.card_string.specs.Carried.{StringFollowsEntries}
 use Rattle.card_string.proofs.Moved.{goes_moved}
 use Rattle.card_string.proofs.Shutting.{close_done}

@@ -1,21 +1,21 @@
 -- A withdrawal at each of its moments, and at its end.
 use Rattle.std.proofs.Common.{◌≡◌, inl, inr, ⊎_elim, ℕ, ◌/◌, ◌<◌, ◌≤◌, List, length, sym, ◌∙◌, ap, subst, arith}
-use Rattle.activity_codec.specs.declared.entries.Entry.{Entry}
-use Rattle.activity_codec.specs.declared.values.Activity.{Activity}
-use Rattle.card_layout.specs.Application.{IsApplication}
-use Rattle.card_layout.specs.Files.{image_size_of}
-use Rattle.card_layout.specs.declared.files.Application.{Application}
-use Rattle.card_retention.specs.Expected.{Counted}
-use Rattle.card_retention.specs.Entries.{newest_minute}
-use Rattle.card_retention.specs.Shown.{Bound, is_open}
-use Rattle.card_image.specs.Fields.{card_days, end_mark}
-use Rattle.card_session.specs.Books.{closed}
-use Rattle.card_session.specs.Moments.{IsBook, IsCloseMoment}
-use Rattle.card_session.specs.Sessions.{Session, IsSession, book_of}
-use Rattle.card_session.specs.Cards.{IsCard, IsCardClosing, IsCardClosed, ended}
-use Rattle.card_session.proofs.Marks.{session_same, mark_told}
-use Rattle.card_session.proofs.Stopping.{days_there, mark_at, ended_days, ended_mark}
-use Rattle.card_session.proofs.Committed.{close_shows}
+use Rattle.card_by_hand.specs.activity_codec.declared.entries.Entry.{Entry}
+use Rattle.card_by_hand.specs.activity_codec.declared.values.Activity.{Activity}
+use Rattle.tach_media.specs.card_layout.Application.{IsApplication}
+use Rattle.tach_media.specs.card_layout.Files.{image_size_of}
+use Rattle.tach_media.specs.card_layout.declared.files.Application.{Application}
+use Rattle.card_by_hand.specs.card_retention.Expected.{Counted}
+use Rattle.card_by_hand.specs.card_retention.Entries.{newest_minute}
+use Rattle.card_by_hand.specs.card_retention.Shown.{Bound, is_open}
+use Rattle.card_by_hand.specs.card_image.Fields.{card_days, end_mark}
+use Rattle.card_by_hand.specs.card_session.Books.{closed}
+use Rattle.card_by_hand.specs.card_session.Moments.{IsBook, IsCloseMoment}
+use Rattle.card_by_hand.specs.card_session.Sessions.{Session, IsSession, book_of}
+use Rattle.card_by_hand.specs.card_session.Cards.{IsCard, IsCardClosing, IsCardClosed, ended}
+use Rattle.card_by_hand.proofs.card_session.Marks.{session_same, mark_told}
+use Rattle.card_by_hand.proofs.card_session.Stopping.{days_there, mark_at, ended_days, ended_mark}
+use Rattle.card_by_hand.proofs.card_session.Committed.{close_shows}
 use Rattle.card_string.specs.Carried.{StringFollowsEntries}
 use Rattle.card_string.proofs.Moved.{goes_moved}
 use Rattle.card_string.specs.Closes.{IsClosedShown, IsCloseShown}

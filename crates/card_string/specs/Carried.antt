@@ -1,17 +1,17 @@
 -- What is carried of a card's string of days (profile): in a session, and where one was broken off.
 use Rattle.std.specs.Prelude.{◌≡◌, ℕ, ◌/◌, List, [], ◌∷◌, ◌++◌}
-use Rattle.activity_codec.specs.declared.entries.Entry.{Entry}
-use Rattle.card_layout.specs.declared.files.Application.{Application}
-use Rattle.card_model.specs.Days.{Day}
-use Rattle.card_model.specs.Changes.{date_of, trimmed}
-use Rattle.card_retention.specs.Expected.{Counted, expected_days}
-use Rattle.card_retention.specs.Entries.{entries_up_to}
-use Rattle.card_retention.specs.Retains.{entries_in, begun_on, CardRetains}
-use Rattle.card_retention.specs.Shown.{Bound, AllBefore, AllUpTo, AllIn, Rests, sizes}
-use Rattle.card_image.specs.Fields.{card_days, end_mark}
-use Rattle.card_image.specs.View.{card_view}
-use Rattle.card_session.specs.Books.{bare_word}
-use Rattle.card_session.specs.Overwriting.{DaysFollowOverwriting, ShowsEntries, TellsNoLater}
+use Rattle.card_by_hand.specs.activity_codec.declared.entries.Entry.{Entry}
+use Rattle.tach_media.specs.card_layout.declared.files.Application.{Application}
+use Rattle.card_by_hand.specs.card_model.Days.{Day}
+use Rattle.card_by_hand.specs.card_model.Changes.{date_of, trimmed}
+use Rattle.card_by_hand.specs.card_retention.Expected.{Counted, expected_days}
+use Rattle.card_by_hand.specs.card_retention.Entries.{entries_up_to}
+use Rattle.card_by_hand.specs.card_retention.Retains.{entries_in, begun_on, CardRetains}
+use Rattle.card_by_hand.specs.card_retention.Shown.{Bound, AllBefore, AllUpTo, AllIn, Rests, sizes}
+use Rattle.card_by_hand.specs.card_image.Fields.{card_days, end_mark}
+use Rattle.card_by_hand.specs.card_image.View.{card_view}
+use Rattle.card_by_hand.specs.card_session.Books.{bare_word}
+use Rattle.card_by_hand.specs.card_session.Overwriting.{DaysFollowOverwriting, ShowsEntries, TellsNoLater}
 
 -- In a session: of all entries so far the card shows those whose days it has, and keeps the rule of overwriting where
 -- the next one is not earlier than `from`; behind the end mark no minute tells one, but where the closing word is still

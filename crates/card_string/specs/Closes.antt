@@ -1,10 +1,10 @@
 -- What an image shows at a moment of a withdrawal of its card (profile).
 use Rattle.std.specs.Prelude.{◌≡◌, ◌⊎◌, ℕ, ◌/◌, false, List}
-use Rattle.activity_codec.specs.declared.entries.Entry.{Entry}
-use Rattle.card_layout.specs.declared.files.Application.{Application}
-use Rattle.card_retention.specs.Expected.{Counted}
-use Rattle.card_retention.specs.Shown.{Bound, is_open}
-use Rattle.card_image.specs.Fields.{card_days, end_mark, session_time}
+use Rattle.card_by_hand.specs.activity_codec.declared.entries.Entry.{Entry}
+use Rattle.tach_media.specs.card_layout.declared.files.Application.{Application}
+use Rattle.card_by_hand.specs.card_retention.Expected.{Counted}
+use Rattle.card_by_hand.specs.card_retention.Shown.{Bound, is_open}
+use Rattle.card_by_hand.specs.card_image.Fields.{card_days, end_mark, session_time}
 use Rattle.card_string.specs.Carried.{StringFollowsEntries, Broke}
 
 -- The last entry is closed: the days go on where the next entry is not earlier than `next`, and the end mark lies on

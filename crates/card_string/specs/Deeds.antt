@@ -1,16 +1,16 @@
 -- What sessions have made of a card's days and of its vehicle entries since an image of it, deed by deed (profile).
 use Rattle.std.specs.Prelude.{◌≡◌, ℕ, ◌<◌, List, [], ◌∷◌, ◌++◌}
 use Rattle.std.specs.List.{AllByRecursion}
-use Rattle.activity_codec.specs.declared.values.Activity.{Activity}
-use Rattle.activity_codec.specs.declared.entries.Entry.{Entry}
-use Rattle.activity_codec.specs.declared.entries.Manual.{Manual}
-use Rattle.card_layout.specs.declared.files.Application.{Application}
-use Rattle.tacho_types.specs.declared.texts.Registration.{Registration}
-use Rattle.card_session.specs.Books.{Book, mark_of, with_entry, closed}
-use Rattle.card_session.specs.Sessions.{book_of}
-use Rattle.card_session.specs.Moments.{IsKeepMoment, IsCloseMoment}
-use Rattle.card_session.specs.ByHand.{by_hand, IsByHandMoment}
-use Rattle.card_session.specs.Inserting.{with_cut, IsCutting}
+use Rattle.card_by_hand.specs.activity_codec.declared.values.Activity.{Activity}
+use Rattle.card_by_hand.specs.activity_codec.declared.entries.Entry.{Entry}
+use Rattle.card_by_hand.specs.activity_codec.declared.entries.Manual.{Manual}
+use Rattle.tach_media.specs.card_layout.declared.files.Application.{Application}
+use Rattle.card_by_hand.specs.tacho_types.declared.texts.Registration.{Registration}
+use Rattle.card_by_hand.specs.card_session.Books.{Book, mark_of, with_entry, closed}
+use Rattle.card_by_hand.specs.card_session.Sessions.{book_of}
+use Rattle.card_by_hand.specs.card_session.Moments.{IsKeepMoment, IsCloseMoment}
+use Rattle.card_by_hand.specs.card_session.ByHand.{by_hand, IsByHandMoment}
+use Rattle.card_by_hand.specs.card_session.Inserting.{with_cut, IsCutting}
 
 -- an entry that is kept: in which vehicle, with which odometer value, and how many km behind the one before
 pub record EntryKept : Type 0 where

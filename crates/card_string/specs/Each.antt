@@ -1,15 +1,15 @@
 -- Each image that a stop may leave of a card, and each that it might have left since the start of a run (profile).
 use Rattle.std.specs.Prelude.{◌≡◌, ℕ, List, ◌++◌, filter, nat_le}
-use Rattle.activity_codec.specs.declared.entries.Entry.{Entry}
-use Rattle.activity_codec.specs.declared.entries.Manual.{Manual}
+use Rattle.card_by_hand.specs.activity_codec.declared.entries.Entry.{Entry}
+use Rattle.card_by_hand.specs.activity_codec.declared.entries.Manual.{Manual}
 use Rattle.tach_media.specs.Medium.{State}
-use Rattle.card_layout.specs.declared.files.Application.{Application}
-use Rattle.card_image.specs.Fields.{session_time}
-use Rattle.hand_model.specs.ByHand.{by_hand_in}
-use Rattle.hand_model.specs.AtStart.{all_at, hands_at, StaysTold}
-use Rattle.hand_model.specs.Written.{Hands, IsPartOf}
-use Rattle.card_image.specs.Own.{own_sizes, own_view, KeepsOf}
-use Rattle.card_session.specs.Sessions.{book_of}
+use Rattle.tach_media.specs.card_layout.declared.files.Application.{Application}
+use Rattle.card_by_hand.specs.card_image.Fields.{session_time}
+use Rattle.card_by_hand.specs.hand_model.ByHand.{by_hand_in}
+use Rattle.card_by_hand.specs.hand_model.AtStart.{all_at, hands_at, StaysTold}
+use Rattle.card_by_hand.specs.hand_model.Written.{Hands, IsPartOf}
+use Rattle.card_by_hand.specs.card_image.Own.{own_sizes, own_view, KeepsOf}
+use Rattle.card_by_hand.specs.card_session.Sessions.{book_of}
 use Rattle.card_string.specs.Since.{all_since, HoldsSince}
 
 -- of the entries that came since the start, those up to a card's end mark are kept with its own, but for what the

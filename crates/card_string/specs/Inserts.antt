@@ -1,15 +1,16 @@
 -- What an image shows at a moment of an insertion of its card, and at its end (profile).
 use Rattle.std.specs.Prelude.{◌≡◌, ◌⊎◌, ℕ, ◌/◌, ◌≤◌, false, List, [], ◌∷◌, ◌++◌}
-use Rattle.activity_codec.specs.declared.entries.Entry.{Entry}
-use Rattle.card_layout.specs.declared.files.Application.{Application}
-use Rattle.card_model.specs.Days.{Day}
-use Rattle.card_model.specs.Changes.{trimmed}
-use Rattle.card_retention.specs.Expected.{Counted}
-use Rattle.card_retention.specs.Shown.{Bound, AllBefore, is_open}
-use Rattle.card_retention.specs.Retains.{entries_in, begun_on}
-use Rattle.card_image.specs.Fields.{card_days, end_mark, session_time}
-use Rattle.card_image.specs.View.{card_view}
-use Rattle.card_session.specs.Repairs.{first_minute, mark_behind, newest_behind, and_entries, with_entries, BeginsLater}
+use Rattle.card_by_hand.specs.activity_codec.declared.entries.Entry.{Entry}
+use Rattle.tach_media.specs.card_layout.declared.files.Application.{Application}
+use Rattle.card_by_hand.specs.card_model.Days.{Day}
+use Rattle.card_by_hand.specs.card_model.Changes.{trimmed}
+use Rattle.card_by_hand.specs.card_retention.Expected.{Counted}
+use Rattle.card_by_hand.specs.card_retention.Shown.{Bound, AllBefore, is_open}
+use Rattle.card_by_hand.specs.card_retention.Retains.{entries_in, begun_on}
+use Rattle.card_by_hand.specs.card_image.Fields.{card_days, end_mark, session_time}
+use Rattle.card_by_hand.specs.card_image.View.{card_view}
+use Rattle.card_by_hand.specs.card_session.Repairs.{first_minute, mark_behind, newest_behind, and_entries, with_entries}
+use Rattle.card_by_hand.specs.card_session.Repairs.{BeginsLater}
 use Rattle.card_string.specs.Carried.{StringFollowsEntries, BrokeOf, BegunOf}
 
 -- the first of some entries lies on the day of an end mark

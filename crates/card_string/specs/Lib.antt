@@ -5,3 +5,4 @@ pub mod Inserts
 pub mod Deeds
 pub mod Since
 pub mod Each
+pub use Rattle.card_by_hand.specs.hand_model as hand_model

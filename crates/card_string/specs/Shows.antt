@@ -1,17 +1,17 @@
 -- What an image shows at a moment of a keep on its card (profile).
 use Rattle.std.specs.Prelude.{◌≡◌, ◌⊎◌, ℕ, suc, ◌/◌, ◌<◌, ◌≤◌, max, Some, List, [], ◌∷◌, ◌++◌, length}
-use Rattle.activity_codec.specs.declared.entries.Entry.{Entry}
-use Rattle.activity_codec.specs.declared.entries.Manual.{Manual}
-use Rattle.card_layout.specs.declared.files.Application.{Application}
-use Rattle.card_retention.specs.Expected.{Counted, with_entry}
-use Rattle.card_retention.specs.Entries.{closed_at}
-use Rattle.card_retention.specs.Shown.{Bound}
-use Rattle.card_layout.specs.Application.{IsApplication}
-use Rattle.card_image.specs.Fields.{end_mark, session_time}
-use Rattle.card_image.specs.Own.{most_slack}
-use Rattle.card_image.specs.View.{card_view}
-use Rattle.card_session.specs.Overwriting.{BeginsBehind, and_entry}
-use Rattle.card_session.specs.Sessions.{Session, IsSession}
+use Rattle.card_by_hand.specs.activity_codec.declared.entries.Entry.{Entry}
+use Rattle.card_by_hand.specs.activity_codec.declared.entries.Manual.{Manual}
+use Rattle.tach_media.specs.card_layout.declared.files.Application.{Application}
+use Rattle.card_by_hand.specs.card_retention.Expected.{Counted, with_entry}
+use Rattle.card_by_hand.specs.card_retention.Entries.{closed_at}
+use Rattle.card_by_hand.specs.card_retention.Shown.{Bound}
+use Rattle.tach_media.specs.card_layout.Application.{IsApplication}
+use Rattle.card_by_hand.specs.card_image.Fields.{end_mark, session_time}
+use Rattle.card_by_hand.specs.card_image.Own.{most_slack}
+use Rattle.card_by_hand.specs.card_image.View.{card_view}
+use Rattle.card_by_hand.specs.card_session.Overwriting.{BeginsBehind, and_entry}
+use Rattle.card_by_hand.specs.card_session.Sessions.{Session, IsSession}
 use Rattle.card_by_hand.specs.First.{AreHandsOf, IsShutAt, ComeFrom}
 use Rattle.card_by_hand.specs.Wider.{with_hands}
 use Rattle.card_string.specs.Carried.{StringFollowsEntries, Broke, Begun, IsFresh}

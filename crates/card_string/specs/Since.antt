@@ -2,25 +2,25 @@
 -- it, and those that it lacks (profile).
 use Rattle.std.specs.Prelude.{◌≡◌, ◌⊎◌, ℕ, ◌*◌, ◌/◌, ◌<◌, ◌≤◌, max, true, false, Option, Some, None, List, [], ◌∷◌}
 use Rattle.std.specs.Prelude.{◌++◌, length, nat_le, if◌then◌else◌}
-use Rattle.activity_codec.specs.declared.entries.Entry.{Entry}
-use Rattle.activity_codec.specs.declared.entries.Manual.{Manual}
-use Rattle.activity_codec.specs.declared.values.Activity.TheVariants.{Rest}
-use Rattle.activity_codec.specs.declared.values.Slot.TheVariants.{Driver}
-use Rattle.card_layout.specs.declared.files.Application.{Application}
-use Rattle.card_model.specs.Days.{Day}
-use Rattle.card_retention.specs.Expected.{WordDay, Counted, is_newest}
-use Rattle.card_retention.specs.Entries.{last_entry, newest_word}
-use Rattle.card_retention.specs.Shown.{Bound, InDays, AllIn}
-use Rattle.card_image.specs.Fields.{card_days, end_mark, session_time}
-use Rattle.card_image.specs.Own.{own_view, own_covered, counted_view, most_slack}
-use Rattle.hand_model.specs.ByHand.{TellsHands, HandsUpTo}
-use Rattle.hand_model.specs.AtStart.{AreFirst}
-use Rattle.hand_model.specs.Written.{Written, Hands, Lie, Rises, entries_of, hands_of, counted_by}
-use Rattle.card_layout.specs.Application.{IsApplication}
-use Rattle.card_session.specs.Inserting.{Follow}
-use Rattle.card_session.specs.Sessions.{Session, IsSession}
+use Rattle.card_by_hand.specs.activity_codec.declared.entries.Entry.{Entry}
+use Rattle.card_by_hand.specs.activity_codec.declared.entries.Manual.{Manual}
+use Rattle.card_by_hand.specs.activity_codec.declared.values.Activity.TheVariants.{Rest}
+use Rattle.card_by_hand.specs.activity_codec.declared.values.Slot.TheVariants.{Driver}
+use Rattle.tach_media.specs.card_layout.declared.files.Application.{Application}
+use Rattle.card_by_hand.specs.card_model.Days.{Day}
+use Rattle.card_by_hand.specs.card_retention.Expected.{WordDay, Counted, is_newest}
+use Rattle.card_by_hand.specs.card_retention.Entries.{last_entry, newest_word}
+use Rattle.card_by_hand.specs.card_retention.Shown.{Bound, InDays, AllIn}
+use Rattle.card_by_hand.specs.card_image.Fields.{card_days, end_mark, session_time}
+use Rattle.card_by_hand.specs.card_image.Own.{own_view, own_covered, counted_view, most_slack}
+use Rattle.card_by_hand.specs.hand_model.ByHand.{TellsHands, HandsUpTo}
+use Rattle.card_by_hand.specs.hand_model.AtStart.{AreFirst}
+use Rattle.card_by_hand.specs.hand_model.Written.{Written, Hands, Lie, Rises, entries_of, hands_of, counted_by}
+use Rattle.tach_media.specs.card_layout.Application.{IsApplication}
+use Rattle.card_by_hand.specs.card_session.Inserting.{Follow}
+use Rattle.card_by_hand.specs.card_session.Sessions.{Session, IsSession}
 use Rattle.card_by_hand.specs.First.{AreHandsOf, IsShutAt, ComeFrom}
-use Rattle.card_session.specs.Repairs.{first_minute}
+use Rattle.card_by_hand.specs.card_session.Repairs.{first_minute}
 use Rattle.card_string.specs.Carried.{StringFollowsEntries, Broke, Begun}
 use Rattle.card_string.specs.Deeds.{IsMade}
 use Rattle.card_string.specs.Inserts.{IsOnDay}

@@ -5,8 +5,8 @@ use Rattle.std.proofs.lemmas.List.{append-nil}
 use Rattle.std.proofs.Math.Seq.{take-suc}
 use Rattle.std.proofs.lemmas.List.Elements.{filter-append}
 use Rattle.std.proofs.lemmas.Grind.{common_steps}
-use Rattle.card_model.specs.Changes.{date_of}
-use Rattle.card_model.specs.Checks.{first_failing, file_place}
+use Rattle.card_image.specs.card_model.Changes.{date_of}
+use Rattle.card_image.specs.card_model.Checks.{first_failing, file_place}
 use Rattle.card_image.specs.Fields.{last_of}
 use Rattle.card_image.specs.Judging.{PlacedWord, minute_at, tells_none, leaves_gap, closing_checks, words_behind_mark, words_placed}
 use Rattle.card_validity.specs.declared.behind.Behind.{Behind}

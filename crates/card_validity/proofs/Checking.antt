@@ -2,12 +2,12 @@
 use Rattle.std.proofs.Common.{◌≡◌, ℕ, ◌+◌, ◌%◌, Bool, true, false, cond, Option, Some, None, List, [], ◌++◌, refl, sym, ◌∙◌, ap, arith}
 use Rattle.std.specs.Prelude.{nat_eq}
 use Rattle.std.proofs.lemmas.List.{append-nil}
-use Rattle.card_model.specs.Days.{Day}
-use Rattle.card_model.specs.Image.{StringShape}
-use Rattle.card_model.specs.Changes.{date_of, until, trimmed, cut, early, with_early, with_newest}
-use Rattle.card_model.specs.Checks.{Check, first_failing}
-use Rattle.card_model.proofs.Judging.{passed_then, failed_then}
-use Rattle.card_model.proofs.Trims.{with_last}
+use Rattle.card_image.specs.card_model.Days.{Day}
+use Rattle.card_image.specs.card_model.Image.{StringShape}
+use Rattle.card_image.specs.card_model.Changes.{date_of, until, trimmed, cut, early, with_early, with_newest}
+use Rattle.card_image.specs.card_model.Checks.{Check, first_failing}
+use Rattle.card_image.proofs.card_model.Judging.{passed_then, failed_then}
+use Rattle.card_image.proofs.card_model.Trims.{with_last}
 use Rattle.card_image.specs.Judging.{words_placed, rising_checks, newest_rises, words_behind_mark, days_placed, word_checks}
 use Rattle.card_validity.specs.declared.walk.Met.{Met}
 use Rattle.card_validity.specs.Words.{first_of, limit_of}

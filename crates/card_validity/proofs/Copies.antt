@@ -18,10 +18,10 @@ use Rattle.card_files.specs.declared.vehicle.Vehicle.{Vehicle}
 use Rattle.card_files.specs.declared.current_use.CurrentUse.{CurrentUse}
 use Rattle.card_files.specs.Vehicles.{vehicle_of}
 use Rattle.card_files.specs.CurrentUses.{current_use_of}
-use Rattle.card_model.specs.Days.{Day}
-use Rattle.card_model.specs.Checks.{first_bad, first_failing}
-use Rattle.card_model.proofs.Elsewhere.{bad_elsewhere, days_elsewhere, oldest_elsewhere}
-use Rattle.card_model.specs.Image.{StringShape, oldest_pointer}
+use Rattle.card_image.specs.card_model.Days.{Day}
+use Rattle.card_image.specs.card_model.Checks.{first_bad, first_failing}
+use Rattle.card_image.proofs.card_model.Elsewhere.{bad_elsewhere, days_elsewhere, oldest_elsewhere}
+use Rattle.card_image.specs.card_model.Image.{StringShape, oldest_pointer}
 use Rattle.card_days.specs.Held.{Knows}
 use Rattle.card_days.proofs.Elsewhere.{knows_elsewhere}
 use Rattle.card_image.specs.Fields.{file, file_bytes, day_string, vehicle_ring, place_ring, last_of, vehicle_at, newest_vehicle, last_use_of, end_mark, current_use, session_time, card_days}

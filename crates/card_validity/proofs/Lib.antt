@@ -10,3 +10,5 @@ pub mod Verdicts
 pub mod Newest
 pub mod Telling
 pub mod Faults
+pub use Rattle.card_image.proofs as card_image
+pub use Rattle.card_image.proofs.card_retention as card_retention

@@ -2,9 +2,9 @@
 use Rattle.std.proofs.Common.{◌≡◌, ℕ, ◌+◌, Bool, true, false, cond, Option, Some, List, [], ◌∷◌, ◌++◌, refl, sym, ◌∙◌, ap, subst, arith, append_assoc}
 use Rattle.std.specs.Prelude.{◌||◌, nat_le}
 use Rattle.std.proofs.lemmas.List.{append-nil}
-use Rattle.card_model.specs.Days.{Day, len_of, total}
-use Rattle.card_model.specs.Image.{StringShape, oldest_pointer}
-use Rattle.card_model.specs.Changes.{date_of, until}
+use Rattle.card_image.specs.card_model.Days.{Day, len_of, total}
+use Rattle.card_image.specs.card_model.Image.{StringShape, oldest_pointer}
+use Rattle.card_image.specs.card_model.Changes.{date_of, until}
 use Rattle.card_image.specs.Judging.{PlacedWord, words_placed, days_placed}
 use Rattle.card_validity.specs.declared.behind.Behind.{Behind}
 use Rattle.card_validity.specs.declared.walk.Met.{Met}

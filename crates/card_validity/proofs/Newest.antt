@@ -7,14 +7,14 @@ use Rattle.activity_codec.specs.Words.{word_minute}
 use Rattle.card_layout.specs.declared.files.Application.{Application}
 use Rattle.card_files.specs.declared.vehicle.Vehicle.{Vehicle}
 use Rattle.card_files.specs.declared.current_use.CurrentUse.{CurrentUse}
-use Rattle.card_model.specs.Days.{Day, AreDays, last_word, total}
-use Rattle.card_model.specs.Image.{newest_pointer}
-use Rattle.card_model.specs.Changes.{OnNewest, date_of, trimmed}
-use Rattle.card_model.proofs.Ascending.{words_below}
-use Rattle.card_model.proofs.Trims.{are_trimmed, trimmed_twice}
-use Rattle.card_retention.specs.Entries.{newest_word}
-use Rattle.card_retention.proofs.Flat.{UpTo, newest_flat}
-use Rattle.card_retention.proofs.Checked.{early_last}
+use Rattle.card_image.specs.card_model.Days.{Day, AreDays, last_word, total}
+use Rattle.card_image.specs.card_model.Image.{newest_pointer}
+use Rattle.card_image.specs.card_model.Changes.{OnNewest, date_of, trimmed}
+use Rattle.card_image.proofs.card_model.Ascending.{words_below}
+use Rattle.card_image.proofs.card_model.Trims.{are_trimmed, trimmed_twice}
+use Rattle.card_image.specs.card_retention.Entries.{newest_word}
+use Rattle.card_image.proofs.card_retention.Flat.{UpTo, newest_flat}
+use Rattle.card_image.proofs.card_retention.Checked.{early_last}
 use Rattle.card_days.specs.declared.head.Tail.{Tail}
 use Rattle.card_days.specs.Held.{tail_by, tail_in}
 use Rattle.card_image.specs.Fields.{last_use_of, end_mark, session_time, card_days}

@@ -7,8 +7,8 @@ use Rattle.card_layout.specs.Files.{files_of, place_of, size_of, image_size_of}
 use Rattle.card_layout.proofs.Sizes.{largest_image}
 use Rattle.gated_ring.specs.Ring.{IsNewest, entry_at, size_of as ring_size}
 use Rattle.card_files.specs.Vehicles.{vehicle_of}
-use Rattle.card_model.specs.Image.{StringShape, IsStringShape}
-use Rattle.card_model.specs.Walk.{days_of}
+use Rattle.card_image.specs.card_model.Image.{StringShape, IsStringShape}
+use Rattle.card_image.specs.card_model.Walk.{days_of}
 use Rattle.card_days.specs.Held.{Held, Knows}
 use Rattle.card_days.specs.Loading.{shape_of}
 use Rattle.card_image.specs.Fields.{file, day_string, vehicle_ring, last_of, vehicle_at, newest_vehicle}

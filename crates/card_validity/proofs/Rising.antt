@@ -5,9 +5,9 @@ use Rattle.std.proofs.Math.Seq.{drop-cons}
 use Rattle.std.proofs.lemmas.Grind.{common_steps}
 use Rattle.std.proofs.lemmas.Bool.{le-leb}
 use Rattle.activity_codec.specs.Words.{word_minute}
-use Rattle.card_model.specs.Days.{Day, total, len_of}
-use Rattle.card_model.specs.Changes.{early}
-use Rattle.card_model.specs.Checks.{first_failing, file_place}
+use Rattle.card_image.specs.card_model.Days.{Day, total, len_of}
+use Rattle.card_image.specs.card_model.Changes.{early}
+use Rattle.card_image.specs.card_model.Checks.{first_failing, file_place}
 use Rattle.card_image.specs.Judging.{PlacedWord, words_placed, rising_checks, newest_rises}
 use Rattle.card_validity.specs.Words.{passes_after}
 

@@ -12,7 +12,7 @@ use Rattle.tach_media.specs.Medium.{bytes_at}
 use Rattle.tacho_types.specs.Numbers.{time_of}
 use Rattle.tacho_types.specs.CardNumber.{card_number_of}
 use Rattle.card_files.specs.declared.current_use.CurrentUse.{CurrentUse}
-use Rattle.card_retention.specs.Entries.{newest_word}
+use Rattle.card_image.specs.card_retention.Entries.{newest_word}
 use Rattle.card_image.specs.Fields.{file, file_bytes, card_number, end_mark, session_time, card_days}
 use Rattle.card_image.specs.View.{counting}
 use Rattle.card_validity.specs.declared.files.Judged.{Judged}

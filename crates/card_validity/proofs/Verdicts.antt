@@ -7,10 +7,10 @@ use Rattle.card_layout.specs.declared.files.Fid.{Fid}
 use Rattle.card_layout.specs.Application.{IsApplication, place_of_field}
 use Rattle.card_layout.specs.Files.{image_size_of}
 use Rattle.gated_ring.specs.Ring.{Shape, pointer, PointsInside}
-use Rattle.card_model.specs.Image.{StringShape, HoldsDays, oldest_pointer}
-use Rattle.card_model.specs.Walk.{days_of}
-use Rattle.card_model.specs.Checks.{first_bad, first_failing}
-use Rattle.card_model.proofs.Judging.{holds_passes}
+use Rattle.card_image.specs.card_model.Image.{StringShape, HoldsDays, oldest_pointer}
+use Rattle.card_image.specs.card_model.Walk.{days_of}
+use Rattle.card_image.specs.card_model.Checks.{first_bad, first_failing}
+use Rattle.card_image.proofs.card_model.Judging.{holds_passes}
 use Rattle.card_days.specs.Held.{Held, Knows}
 use Rattle.card_image.specs.Fields.{file, day_string, vehicle_ring, place_ring, end_mark, session_time, card_days}
 use Rattle.card_image.specs.Judging.{word_checks, file_check, first_bad_of, pointer_bad, first_bad_file, file_checks}

@@ -2,11 +2,11 @@
 use Rattle.std.proofs.Common.{◌≡◌, ℕ, ◌+◌, ◌*◌, ◌<◌, ◌≤◌, Option, Some, None, List, [], ◌∷◌, ◌++◌, false, refl, sym, ◌∙◌, ap, subst, arith, append_assoc}
 use Rattle.std.specs.Prelude.{slice_get}
 use Rattle.std.proofs.lemmas.List.{append-nil}
-use Rattle.card_model.specs.Days.{Day, len_of, total}
-use Rattle.card_model.specs.Image.{StringShape, oldest_pointer, spot, HoldsDays, IsAt}
-use Rattle.card_model.specs.Walk.{days_of}
-use Rattle.card_model.proofs.Lists.{total-append}
-use Rattle.card_model.proofs.Reading.{fills}
+use Rattle.card_image.specs.card_model.Days.{Day, len_of, total}
+use Rattle.card_image.specs.card_model.Image.{StringShape, oldest_pointer, spot, HoldsDays, IsAt}
+use Rattle.card_image.specs.card_model.Walk.{days_of}
+use Rattle.card_image.proofs.card_model.Lists.{total-append}
+use Rattle.card_image.proofs.card_model.Reading.{fills}
 use Rattle.card_days.specs.declared.head.DayHead.{DayHead}
 use Rattle.card_days.specs.Heads.{day_head, heads_from, IsAfter}
 use Rattle.card_days.proofs.WalkOrder.{day_here}

@@ -10,7 +10,7 @@ use Rattle.tacho_types.specs.CardNumber.{card_number_of}
 use Rattle.tach_media.specs.Medium.{bytes_at}
 use Rattle.gated_ring.specs.Ring.{PointsInside, IsNewest}
 use Rattle.card_days.specs.Held.{Knows}
-use Rattle.card_retention.specs.Entries.{newest_word}
+use Rattle.card_image.specs.card_retention.Entries.{newest_word}
 use Rattle.card_image.specs.Fields.{file, file_bytes, day_string, vehicle_ring, newest_vehicle, end_mark, session_time}
 use Rattle.card_image.specs.Fields.{current_use, card_days, card_number}
 use Rattle.card_image.specs.View.{counting}

@@ -1,8 +1,8 @@
 -- A card's days in memory, and what a walk over them has met.
 use Rattle.std.specs.Prelude.{◌≡◌, ℕ, ◌+◌, ◌<◌, ◌≤◌, ◌^◌, List, [], ◌∷◌, ◌++◌, length, Option, Some, None}
-use Rattle.card_model.specs.Days.{Day, total}
-use Rattle.card_model.specs.Image.{StringShape, IsStringShape, HoldsDays, IsAt}
-use Rattle.card_model.specs.Walk.{days_of}
+use Rattle.card_image.specs.card_model.Days.{Day, total}
+use Rattle.card_image.specs.card_model.Image.{StringShape, IsStringShape, HoldsDays, IsAt}
+use Rattle.card_image.specs.card_model.Walk.{days_of}
 use Rattle.card_layout.specs.declared.files.TheConstants.{STRING_MOST}
 use Rattle.card_validity.specs.declared.walk.Met.{Met}
 

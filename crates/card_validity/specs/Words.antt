@@ -1,10 +1,10 @@
 -- What a walk tells of the words of the days that it met.
 use Rattle.std.specs.Prelude.{◌≡◌, ℕ, suc, ◌+◌, ◌%◌, Bool, true, false, not, ◌&&◌, Option, Some, None, List, [], ◌∷◌}
 use Rattle.std.specs.Prelude.{◌++◌, map, filter, nat_eq, nat_le, nat_lt, if◌then◌else◌}
-use Rattle.card_model.specs.Days.{Day}
-use Rattle.card_model.specs.Image.{StringShape, oldest_pointer}
-use Rattle.card_model.specs.Changes.{date_of, until}
-use Rattle.card_model.specs.Checks.{Check, check, first_failing}
+use Rattle.card_image.specs.card_model.Days.{Day}
+use Rattle.card_image.specs.card_model.Image.{StringShape, oldest_pointer}
+use Rattle.card_image.specs.card_model.Changes.{date_of, until}
+use Rattle.card_image.specs.card_model.Checks.{Check, check, first_failing}
 use Rattle.card_image.specs.Fields.{last_of}
 use Rattle.card_image.specs.Judging.{PlacedWord, minute_at, tells_none, days_placed}
 use Rattle.card_validity.specs.declared.behind.Behind.{Behind}

@@ -1,7 +1,7 @@
 //! What stands behind the end mark of a card whose session is closed.
 ghost use Rattle.std.specs.Prelude.{◌≡◌, ◌≤◌, ◌+◌, ◌/◌, ◌%◌, None, false, true, nat_le, if◌then◌else◌};
 ghost use Rattle.activity_codec.specs.Words.{word_absent};
-ghost use Rattle.card_model.specs.Changes.{date_of};
+ghost use Rattle.card_image.specs.card_model.Changes.{date_of};
 ghost use Rattle.card_validity.specs.Words.{seen_by, with_check, answer_by};
 
 use activity_codec::{WORD_ABSENT, WORD_MINUTES};

@@ -4,7 +4,7 @@ ghost use Rattle.card_layout.specs.Application.{IsApplication};
 ghost use Rattle.card_layout.specs.Files.{image_size_of};
 ghost use Rattle.tacho_types.specs.CardNumber.{card_number_of};
 ghost use Rattle.tach_media.specs.Medium.{Reads};
-ghost use Rattle.card_retention.specs.Entries.{newest_word};
+ghost use Rattle.card_image.specs.card_retention.Entries.{newest_word};
 ghost use Rattle.card_image.specs.Fields.{end_mark, session_time, card_days};
 ghost use Rattle.card_image.specs.View.{counting};
 ghost use Rattle.card_image.specs.Judging.{first_bad_file};

@@ -1,8 +1,8 @@
 //! The days of a string that lies in memory: reads of it do not fail.
 ghost use Rattle.std.specs.Prelude.{◌≡◌, ◌≤◌, ◌<◌, ◌+◌, ◌^◌, length, slice_get, slice_index, IfSome};
-ghost use Rattle.card_model.specs.Days.{Day};
-ghost use Rattle.card_model.specs.Image.{IsAt};
-ghost use Rattle.card_model.specs.Walk.{days_of};
+ghost use Rattle.card_image.specs.card_model.Days.{Day};
+ghost use Rattle.card_image.specs.card_model.Image.{IsAt};
+ghost use Rattle.card_image.specs.card_model.Walk.{days_of};
 ghost use Rattle.card_days.specs.Heads.{heads_of, IsAfter};
 ghost use Rattle.card_validity.specs.Walks.{IsInMemory};
 

@@ -1,6 +1,6 @@
 //! Places of the string, round its end.
 ghost use Rattle.std.specs.Prelude.{◌≡◌, ◌+◌, ◌<◌, ◌≤◌, ◌^◌};
-ghost use Rattle.card_model.specs.Checks.{file_place};
+ghost use Rattle.card_image.specs.card_model.Checks.{file_place};
 
 /// The string of days: how long it is, and where its oldest day begins.
 #[derive(Clone, Copy)]

@@ -1,8 +1,8 @@
 //! A walk over the days of a card in memory, from the oldest to the newest.
 ghost use Rattle.std.specs.Prelude.{◌≡◌, ◌≤◌, ◌<◌, ◌+◌, ◌^◌, Some, ◌++◌, ◌∷◌, [], List, ◌||◌, if◌then◌else◌};
-ghost use Rattle.card_model.specs.Days.{Day};
-ghost use Rattle.card_model.specs.Image.{oldest_pointer};
-ghost use Rattle.card_model.specs.Walk.{days_of};
+ghost use Rattle.card_image.specs.card_model.Days.{Day};
+ghost use Rattle.card_image.specs.card_model.Image.{oldest_pointer};
+ghost use Rattle.card_image.specs.card_model.Walk.{days_of};
 ghost use Rattle.card_image.specs.Judging.{PlacedWord, words_placed};
 ghost use Rattle.card_validity.specs.Walks.{IsInMemory, IsMet};
 ghost use Rattle.card_validity.specs.Words.{IsBehind, HasMet};

@@ -1,10 +1,10 @@
 //! The words of a card's days that an insertion judges, beyond what any reader asks of the string.
 ghost use Rattle.std.specs.Prelude.{◌≡◌, ◌≤◌, ◌<◌, ◌+◌, ◌^◌, List};
-ghost use Rattle.card_model.specs.Days.{Day};
-ghost use Rattle.card_model.specs.Image.{oldest_pointer};
-ghost use Rattle.card_model.specs.Changes.{early, until, date_of, trimmed};
-ghost use Rattle.card_model.specs.Checks.{first_failing};
-ghost use Rattle.card_model.specs.Walk.{days_of};
+ghost use Rattle.card_image.specs.card_model.Days.{Day};
+ghost use Rattle.card_image.specs.card_model.Image.{oldest_pointer};
+ghost use Rattle.card_image.specs.card_model.Changes.{early, until, date_of, trimmed};
+ghost use Rattle.card_image.specs.card_model.Checks.{first_failing};
+ghost use Rattle.card_image.specs.card_model.Walk.{days_of};
 ghost use Rattle.card_image.specs.Judging.{words_placed, rising_checks, newest_rises, word_checks};
 ghost use Rattle.card_validity.specs.Words.{passes_after, first_of, limit_of};
 ghost use Rattle.card_validity.specs.Walks.{IsInMemory, IsMet, IsLastOf};

@@ -6,31 +6,31 @@ use Rattle.activity_codec.specs.declared.entries.Entry.{Entry}
 use Rattle.trace_model.specs.declared.Card.{Card}
 use Rattle.tach_media.specs.Medium.{State, IsCoherent, LeavesOnly, SameOutside, bytes_at}
 use Rattle.tach_media.proofs.Runs.{at_image, weaken}
-use Rattle.gated_ring.specs.Ring.{PointsInside, place_of as entry_place, size_of as ring_size}
-use Rattle.gated_ring.proofs.Places.{place_high}
-use Rattle.gated_ring.proofs.Elsewhere.{points_elsewhere}
+use Rattle.card_session.specs.gated_ring.Ring.{PointsInside, place_of as entry_place, size_of as ring_size}
+use Rattle.card_session.proofs.gated_ring.Places.{place_high}
+use Rattle.card_session.proofs.gated_ring.Elsewhere.{points_elsewhere}
 use Rattle.card_layout.specs.declared.files.Application.{Application}
 use Rattle.card_layout.specs.Application.{application_of, IsApplication, first_bad_field, place_of_field}
 use Rattle.card_layout.specs.Files.{files_of, place_of, size_of}
 use Rattle.card_files.specs.Rings.{event_ring}
 use Rattle.card_files.proofs.Sets.{set_inside}
-use Rattle.card_model.specs.Days.{Day}
-use Rattle.card_model.specs.Image.{oldest_pointer}
-use Rattle.card_model.specs.Checks.{first_failing}
-use Rattle.card_model.proofs.Elsewhere.{oldest_elsewhere, bad_elsewhere}
-use Rattle.card_image.specs.Fields.{file, day_string, vehicle_ring, place_ring, card_days, last_use, session_time}
-use Rattle.card_image.specs.Beside.{HaveSameSizes, HaveSameDays, HaveSameVehicles, HaveSameSession}
-use Rattle.card_image.specs.Judging.{IsValid, word_checks}
-use Rattle.card_image.specs.Own.{own_sizes, own_view}
-use Rattle.card_image.specs.View.{CardView, card_view}
-use Rattle.card_image.proofs.Beside.{days_same, session_same, last_use_same, view_same}
+use Rattle.unit_rule.specs.card_model.Days.{Day}
+use Rattle.unit_rule.specs.card_model.Image.{oldest_pointer}
+use Rattle.unit_rule.specs.card_model.Checks.{first_failing}
+use Rattle.unit_rule.proofs.card_model.Elsewhere.{oldest_elsewhere, bad_elsewhere}
+use Rattle.card_validity.specs.card_image.Fields.{file, day_string, vehicle_ring, place_ring, card_days, last_use, session_time}
+use Rattle.card_validity.specs.card_image.Beside.{HaveSameSizes, HaveSameDays, HaveSameVehicles, HaveSameSession}
+use Rattle.card_validity.specs.card_image.Judging.{IsValid, word_checks}
+use Rattle.card_validity.specs.card_image.Own.{own_sizes, own_view}
+use Rattle.card_validity.specs.card_image.View.{CardView, card_view}
+use Rattle.card_validity.proofs.card_image.Beside.{days_same, session_same, last_use_same, view_same}
 use Rattle.card_session.proofs.OnCard.{ring_shape}
-use Rattle.history_model.specs.Book.{Book}
-use Rattle.device_rule.specs.Device.{LeavesViews, Nothing}
-use Rattle.device_rule.specs.Rules.{Standing, Out, In, Torn, MeetsStanding}
-use Rattle.device_rule.proofs.CardLaws.{look-dark}
-use Rattle.device_rule.proofs.EnterLaws.{tear-card}
-use Rattle.device_rule.proofs.Viewed.{seen-run, seen-coherent}
+use Rattle.unit_rule.specs.history_model.Book.{Book}
+use Rattle.unit_rule.specs.device_rule.Device.{LeavesViews, Nothing}
+use Rattle.unit_rule.specs.device_rule.Rules.{Standing, Out, In, Torn, MeetsStanding}
+use Rattle.unit_rule.proofs.device_rule.CardLaws.{look-dark}
+use Rattle.unit_rule.proofs.device_rule.EnterLaws.{tear-card}
+use Rattle.unit_rule.proofs.device_rule.Viewed.{seen-run, seen-coherent}
 use Rattle.device_calls.specs.Rule.{Both, opened, unit_seen, card_seen, AnyString, CardHolds, CardRests}
 use Rattle.device_calls.specs.Minute.{IsNotIn}
 use Rattle.device_calls.specs.CardNotes.{IsNote, IsSound}

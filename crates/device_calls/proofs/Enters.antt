@@ -12,10 +12,10 @@ use Rattle.card_layout.specs.declared.files.Application.{Application}
 use Rattle.card_layout.specs.Application.{application_of, IsApplication}
 use Rattle.card_layout.specs.Files.{files_of, image_size_of, place_of}
 use Rattle.card_layout.proofs.Images.{part_before, put_outside}
-use Rattle.card_image.specs.Fields.{file, file_bytes, card_number, end_mark, session_time}
-use Rattle.card_image.specs.Judging.{IsValid}
-use Rattle.card_image.specs.Own.{own_sizes, own_view, own_number}
-use Rattle.card_image.specs.View.{CardView, card_view}
+use Rattle.card_validity.specs.card_image.Fields.{file, file_bytes, card_number, end_mark, session_time}
+use Rattle.card_validity.specs.card_image.Judging.{IsValid}
+use Rattle.card_validity.specs.card_image.Own.{own_sizes, own_view, own_number}
+use Rattle.card_validity.specs.card_image.View.{CardView, card_view}
 use Rattle.card_session.specs.Sessions.{Session, IsSession}
 use Rattle.card_session.specs.Cards.{IsCardClosing, ended as ended_image}
 use Rattle.card_session.specs.Inserting.{AreOwed, IsCardInserting, IsCardInserted}
@@ -25,23 +25,23 @@ use Rattle.card_session.proofs.InsertingUse.{use_inside}
 use Rattle.card_session.proofs.Marks.{session_same}
 use Rattle.card_session.proofs.Stopping.{closed_session}
 use Rattle.card_session.proofs.Renewing.{closing_renews}
-use Rattle.log_model.specs.declared.lines.Mark.{Mark}
-use Rattle.history_model.specs.Minutes.{HistoryMinute}
-use Rattle.history_model.specs.Book.{Book}
-use Rattle.history_model.proofs.Books.{mark-earlier}
-use Rattle.unit_owed.specs.Owed.{Row, owed_to, row_view}
-use Rattle.unit_model.specs.declared.layout.TheConstants.{IMAGE_SIZE}
-use Rattle.unit_model.specs.Image.{last_kept, IsUnit}
+use Rattle.unit_rule.specs.log_model.declared.lines.Mark.{Mark}
+use Rattle.unit_rule.specs.history_model.Minutes.{HistoryMinute}
+use Rattle.unit_rule.specs.history_model.Book.{Book}
+use Rattle.unit_rule.proofs.history_model.Books.{mark-earlier}
+use Rattle.unit_minutes.specs.unit_owed.Owed.{Row, owed_to, row_view}
+use Rattle.unit_minutes.specs.unit_model.declared.layout.TheConstants.{IMAGE_SIZE}
+use Rattle.unit_minutes.specs.unit_model.Image.{last_kept, IsUnit}
 use Rattle.unit_minutes.specs.declared.notes.Notes.{Notes}
 use Rattle.unit_minutes.specs.Image.{Agrees}
-use Rattle.device_rule.specs.Views.{UnitView, unit_view, row, owed, owed_in}
-use Rattle.device_rule.specs.Device.{LeavesViews, EndsWith, Nothing}
-use Rattle.device_rule.specs.Steps.{IsInserting, IsInserted, IsClosing}
-use Rattle.device_rule.specs.Rules.{Standing, Out, In, IsEntered}
-use Rattle.device_rule.proofs.CardLaws.{look-card, read-card}
-use Rattle.device_rule.proofs.EnterLaws.{insert-card, insert-entered, close-card}
-use Rattle.device_rule.proofs.OwedView.{owed-seen}
-use Rattle.device_rule.proofs.Viewed.{seen-run}
+use Rattle.unit_rule.specs.device_rule.Views.{UnitView, unit_view, row, owed, owed_in}
+use Rattle.unit_rule.specs.device_rule.Device.{LeavesViews, EndsWith, Nothing}
+use Rattle.unit_rule.specs.device_rule.Steps.{IsInserting, IsInserted, IsClosing}
+use Rattle.unit_rule.specs.device_rule.Rules.{Standing, Out, In, IsEntered}
+use Rattle.unit_rule.proofs.device_rule.CardLaws.{look-card, read-card}
+use Rattle.unit_rule.proofs.device_rule.EnterLaws.{insert-card, insert-entered, close-card}
+use Rattle.unit_rule.proofs.device_rule.OwedView.{owed-seen}
+use Rattle.unit_rule.proofs.device_rule.Viewed.{seen-run}
 use Rattle.unit_rule.specs.Rule.{Started}
 use Rattle.unit_rule.specs.Marks.{UnitFollowsBook}
 use Rattle.unit_rule.proofs.Moves.{shown-last}

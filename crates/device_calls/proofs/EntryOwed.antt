@@ -8,21 +8,21 @@ use Rattle.trace_model.specs.declared.Card.{Card}
 use Rattle.trace_model.specs.declared.Card.TheVariants.{A, B}
 use Rattle.tach_media.specs.Medium.{State, IsCoherent, LeavesOnly, HasCause}
 use Rattle.tach_media.proofs.Runs.{at_image, weaken}
-use Rattle.gated_ring.specs.Ring.{PointsInside}
-use Rattle.unit_model.specs.Image.{day_ring}
-use Rattle.unit_owed.specs.Owed.{Row, row_view}
-use Rattle.unit_owed.specs.Rows.{IsPutting as IsPuttingRow, OwedRowHas as IsPutRow, HasRow, IsRowAt}
+use Rattle.card_session.specs.gated_ring.Ring.{PointsInside}
+use Rattle.unit_minutes.specs.unit_model.Image.{day_ring}
+use Rattle.unit_minutes.specs.unit_owed.Owed.{Row, row_view}
+use Rattle.unit_minutes.specs.unit_owed.Rows.{IsPutting as IsPuttingRow, OwedRowHas as IsPutRow, HasRow, IsRowAt}
 use Rattle.unit_minutes.specs.declared.notes.Notes.{Notes}
 use Rattle.unit_minutes.specs.Image.{Agrees}
-use Rattle.log_model.specs.declared.lines.Mark.{Mark}
-use Rattle.history_model.specs.Book.{Book}
-use Rattle.history_model.proofs.Books.{mark-earlier}
-use Rattle.device_rule.specs.Views.{UnitView, unit_view, row, other}
-use Rattle.device_rule.specs.Device.{LeavesViews, EndsWith}
-use Rattle.device_rule.specs.Steps.{IsPutting, UnitOwes, cleared}
-use Rattle.device_rule.specs.Rules.{Standing, IsPresent, Cells}
-use Rattle.device_rule.proofs.Viewed.{seen-run}
-use Rattle.device_rule.proofs.KeepLaws.{owe-card, owe-dark, owe-other, owe-other_dark}
+use Rattle.unit_rule.specs.log_model.declared.lines.Mark.{Mark}
+use Rattle.unit_rule.specs.history_model.Book.{Book}
+use Rattle.unit_rule.proofs.history_model.Books.{mark-earlier}
+use Rattle.unit_rule.specs.device_rule.Views.{UnitView, unit_view, row, other}
+use Rattle.unit_rule.specs.device_rule.Device.{LeavesViews, EndsWith}
+use Rattle.unit_rule.specs.device_rule.Steps.{IsPutting, UnitOwes, cleared}
+use Rattle.unit_rule.specs.device_rule.Rules.{Standing, IsPresent, Cells}
+use Rattle.unit_rule.proofs.device_rule.Viewed.{seen-run}
+use Rattle.unit_rule.proofs.device_rule.KeepLaws.{owe-card, owe-dark, owe-other, owe-other_dark}
 use Rattle.unit_rule.proofs.Putting.{first_putting, second_putting, first_put, second_put}
 use Rattle.unit_rule.specs.Rule.{Started, IsCards}
 use Rattle.unit_rule.specs.Marks.{UnitFollowsBook}

@@ -8,17 +8,17 @@ use Rattle.std.proofs.lemmas.Bool.Decides.{nat_tests}
 use Rattle.std.proofs.lemmas.List.Elements.{All-from_recursion, All-weaker, All-nil}
 use Rattle.activity_codec.specs.declared.entries.Entry.{Entry}
 use Rattle.tacho_types.specs.declared.texts.Registration.{Registration}
-use Rattle.minute_model.specs.Activity.{last}
+use Rattle.unit_rule.specs.minute_model.Activity.{last}
 use Rattle.card_layout.specs.declared.files.Application.{Application}
 use Rattle.card_layout.specs.Application.{IsApplication}
 use Rattle.card_layout.specs.Files.{image_size_of}
-use Rattle.card_model.specs.Days.{Day}
-use Rattle.card_model.specs.Changes.{trimmed}
-use Rattle.card_retention.specs.Shown.{is_open}
-use Rattle.card_retention.specs.Entries.{newest_minute, newest_word, closed_at as closed_on_card}
-use Rattle.card_image.specs.Fields.{card_days, end_mark, session_time}
-use Rattle.card_image.specs.Judging.{IsValid}
-use Rattle.card_image.specs.View.{CardView, card_view}
+use Rattle.unit_rule.specs.card_model.Days.{Day}
+use Rattle.unit_rule.specs.card_model.Changes.{trimmed}
+use Rattle.unit_rule.specs.card_retention.Shown.{is_open}
+use Rattle.unit_rule.specs.card_retention.Entries.{newest_minute, newest_word, closed_at as closed_on_card}
+use Rattle.card_validity.specs.card_image.Fields.{card_days, end_mark, session_time}
+use Rattle.card_validity.specs.card_image.Judging.{IsValid}
+use Rattle.card_validity.specs.card_image.View.{CardView, card_view}
 use Rattle.card_session.specs.Sessions.{Session, IsSession, newest_in, book_of}
 use Rattle.card_session.specs.Inserting.{AreOwed, Follow, lacked, InsertingOpen, InsertingClosed, InsertsOpen, InsertsClosed}
 use Rattle.card_session.specs.Repairs.{mark_behind, newest_behind, NewestSoFar, lacked_by}
@@ -26,9 +26,9 @@ use Rattle.card_session.proofs.InsertingBooks.{lacked_follow, follow_from}
 use Rattle.card_session.proofs.InsertingSession.{open_session, closed_session, open_begun, closed_begun}
 use Rattle.card_session.proofs.Renewing.{Renews, newest_first, newest_end, ends_answered, ends_low, moments_low, closed_renews, closed_answered}
 use Rattle.card_session.proofs.Valid.{above_zero}
-use Rattle.device_rule.specs.Views.{newest_with, beyond}
-use Rattle.device_rule.specs.Steps.{IsInserting, IsInserted, replayed, IsTrimming}
-use Rattle.device_rule.proofs.Brought.{closed-same}
+use Rattle.unit_rule.specs.device_rule.Views.{newest_with, beyond}
+use Rattle.unit_rule.specs.device_rule.Steps.{IsInserting, IsInserted, replayed, IsTrimming}
+use Rattle.unit_rule.proofs.device_rule.Brought.{closed-same}
 use Rattle.device_calls.proofs.OnCard.{AnyStep, mark-is, session-is}
 
 -- ---- entries that a card lacks

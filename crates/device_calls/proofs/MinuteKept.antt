@@ -4,28 +4,28 @@ use Rattle.std.specs.Prelude.{OnOk, Result, Ok, Err, ◌/◌, ◌==◌, if◌the
 use Rattle.activity_codec.specs.declared.entries.Entry.{Entry}
 use Rattle.trace_model.specs.declared.Card.{Card}
 use Rattle.trace_model.specs.declared.Card.TheVariants.{A, B}
-use Rattle.run_model.specs.declared.Device.TheVariants.{Unit as Recorder}
+use Rattle.unit_rule.specs.run_model.declared.Device.TheVariants.{Unit as Recorder}
 use Rattle.tach_media.specs.Medium.{State, IsCoherent, IsSettled, LeavesOnly, last_count}
-use Rattle.unit_model.specs.Days.{UnitMinute}
-use Rattle.unit_owed.specs.Owed.{row_index}
-use Rattle.unit_owed.specs.Rows.{IsRowAt}
+use Rattle.unit_minutes.specs.unit_model.Days.{UnitMinute}
+use Rattle.unit_minutes.specs.unit_owed.Owed.{row_index}
+use Rattle.unit_minutes.specs.unit_owed.Rows.{IsRowAt}
 use Rattle.unit_minutes.specs.declared.kept.KeptMinute.{KeptMinute}
 use Rattle.unit_minutes.specs.Kept.{kept_minute}
 use Rattle.unit_minutes.specs.Plans.{most_kept}
 use Rattle.unit_minutes.specs.Image as journal
-use Rattle.log_model.specs.declared.lines.Mark.{Mark}
-use Rattle.history_model.specs.Minutes.{HistoryMinute, on_card}
-use Rattle.history_model.specs.Book.{Book, broken}
-use Rattle.history_model.proofs.Books.{mark-earlier}
-use Rattle.card_image.specs.View.{Held}
-use Rattle.device_rule.specs.Views.{UnitView, unit_view}
-use Rattle.device_rule.specs.Device.{LeavesViews}
-use Rattle.device_rule.specs.Steps.{IsKeeping, IsKept}
-use Rattle.device_rule.specs.Filling.{seen_by_unit, KeepsMinute, GivesUpDay}
-use Rattle.device_rule.specs.Marked.{of_unit}
-use Rattle.device_rule.specs.Rules.{Standing, Fits}
-use Rattle.device_rule.proofs.Viewed.{seen-run}
-use Rattle.device_rule.proofs.KeepLaws.{keep-card, keep-dark}
+use Rattle.unit_rule.specs.log_model.declared.lines.Mark.{Mark}
+use Rattle.unit_rule.specs.history_model.Minutes.{HistoryMinute, on_card}
+use Rattle.unit_rule.specs.history_model.Book.{Book, broken}
+use Rattle.unit_rule.proofs.history_model.Books.{mark-earlier}
+use Rattle.card_validity.specs.card_image.View.{Held}
+use Rattle.unit_rule.specs.device_rule.Views.{UnitView, unit_view}
+use Rattle.unit_rule.specs.device_rule.Device.{LeavesViews}
+use Rattle.unit_rule.specs.device_rule.Steps.{IsKeeping, IsKept}
+use Rattle.unit_rule.specs.device_rule.Filling.{seen_by_unit, KeepsMinute, GivesUpDay}
+use Rattle.unit_rule.specs.device_rule.Marked.{of_unit}
+use Rattle.unit_rule.specs.device_rule.Rules.{Standing, Fits}
+use Rattle.unit_rule.proofs.device_rule.Viewed.{seen-run}
+use Rattle.unit_rule.proofs.device_rule.KeepLaws.{keep-card, keep-dark}
 use Rattle.unit_rule.proofs.Keeping.{keeping_view, kept_view}
 use Rattle.unit_rule.specs.Rule.{Started, once_mended}
 use Rattle.unit_rule.specs.Marks.{UnitFollowsBook}

@@ -8,18 +8,18 @@ use Rattle.trace_model.specs.declared.Card.{Card}
 use Rattle.trace_model.specs.declared.Card.TheVariants.{A, B}
 use Rattle.tach_media.specs.Medium.{State, HasCause}
 use Rattle.tach_media.proofs.Runs.{at_image, both_told}
-use Rattle.card_days.specs.Steps.{IsIdle}
+use Rattle.card_session.specs.card_days.Steps.{IsIdle}
 use Rattle.card_layout.specs.declared.files.Application.{Application}
 use Rattle.card_session.specs.Sessions.{Session}
 use Rattle.card_session.specs.Overwriting.{BeginsBehind}
 use Rattle.card_session.proofs.Composing.{called_then}
-use Rattle.card_string.specs.Shows.{IsDone}
-use Rattle.history_model.specs.Minutes.{HistoryMinute, on_card}
-use Rattle.history_model.specs.Presence.{CardStart}
-use Rattle.history_model.specs.Book.{Book, broken}
-use Rattle.history_model.proofs.Books.{on_card-minute}
-use Rattle.device_rule.specs.Rules.{Standing, Out, In, Torn, IsPresent, Fits}
-use Rattle.device_rule.specs.Views.{other}
+use Rattle.unit_rule.specs.card_string.Shows.{IsDone}
+use Rattle.unit_rule.specs.history_model.Minutes.{HistoryMinute, on_card}
+use Rattle.unit_rule.specs.history_model.Presence.{CardStart}
+use Rattle.unit_rule.specs.history_model.Book.{Book, broken}
+use Rattle.unit_rule.proofs.history_model.Books.{on_card-minute}
+use Rattle.unit_rule.specs.device_rule.Rules.{Standing, Out, In, Torn, IsPresent, Fits}
+use Rattle.unit_rule.specs.device_rule.Views.{other}
 use Rattle.unit_rule.specs.Marks.{UnitFollowsBook}
 use Rattle.device_calls.specs.Rule.{Both, CardHolds, CardRests, IsKeptUp}
 use Rattle.device_calls.specs.OnCard.{SessionKnowsCard, CardMayTake}

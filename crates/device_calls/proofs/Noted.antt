@@ -6,22 +6,22 @@ use Rattle.trace_model.specs.declared.Card.{Card}
 use Rattle.trace_model.specs.declared.Card.TheVariants.{A, B}
 use Rattle.card_layout.proofs.Images.{part_in}
 use Rattle.tach_media.specs.Medium.{State, IsCoherent, LeavesOnly, bytes_at}
-use Rattle.unit_model.specs.Days.{ShownDay}
-use Rattle.unit_model.specs.Image.{recorded, last_kept}
-use Rattle.unit_model.specs.Decoding.{Decodes}
-use Rattle.unit_model.specs.declared.layout.TheConstants.{DAYS, FIRST_OVER, INSERTIONS, LAST_KEPT, ODOMETER, OWED, SPARE_COUNTS, SPARE_ROWS}
-use Rattle.unit_model.proofs.WholeDays.{decoded_of}
-use Rattle.unit_owed.specs.Owed.{rows_in, row_in, row_index, row_view, seen_row}
+use Rattle.unit_minutes.specs.unit_model.Days.{ShownDay}
+use Rattle.unit_minutes.specs.unit_model.Image.{recorded, last_kept}
+use Rattle.unit_minutes.specs.unit_model.Decoding.{Decodes}
+use Rattle.unit_minutes.specs.unit_model.declared.layout.TheConstants.{DAYS, FIRST_OVER, INSERTIONS, LAST_KEPT, ODOMETER, OWED, SPARE_COUNTS, SPARE_ROWS}
+use Rattle.unit_minutes.proofs.unit_model.WholeDays.{decoded_of}
+use Rattle.unit_minutes.specs.unit_owed.Owed.{rows_in, row_in, row_index, row_view, seen_row}
 use Rattle.unit_minutes.specs.Beside.{SameJournal}
 use Rattle.unit_minutes.proofs.Beside.{last_beside, recorded_beside}
 use Rattle.unit_notes.specs.Journal.{KeepsJournal, LeavesJournal}
-use Rattle.log_model.specs.declared.lines.Mark.{Mark}
-use Rattle.history_model.specs.Book.{Book}
-use Rattle.device_rule.specs.Views.{UnitView, unit_view, row}
-use Rattle.device_rule.specs.Device.{LeavesViews}
-use Rattle.device_rule.specs.Rules.{Standing}
-use Rattle.device_rule.proofs.CardLaws.{dark-beside, rule-beside}
-use Rattle.device_rule.proofs.Viewed.{seen-run}
+use Rattle.unit_rule.specs.log_model.declared.lines.Mark.{Mark}
+use Rattle.unit_rule.specs.history_model.Book.{Book}
+use Rattle.unit_rule.specs.device_rule.Views.{UnitView, unit_view, row}
+use Rattle.unit_rule.specs.device_rule.Device.{LeavesViews}
+use Rattle.unit_rule.specs.device_rule.Rules.{Standing}
+use Rattle.unit_rule.proofs.device_rule.CardLaws.{dark-beside, rule-beside}
+use Rattle.unit_rule.proofs.device_rule.Viewed.{seen-run}
 use Rattle.unit_rule.specs.Rule.{Started}
 use Rattle.unit_rule.specs.Marks.{UnitFollowsBook}
 use Rattle.unit_rule.proofs.Moves.{issued-parts}

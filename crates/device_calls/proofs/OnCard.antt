@@ -11,13 +11,13 @@ use Rattle.card_layout.specs.declared.files.Application.{Application}
 use Rattle.card_layout.specs.declared.files.TheConstants.{APPLICATION_RANGE}
 use Rattle.card_layout.specs.Application.{application_of, IsApplication}
 use Rattle.card_layout.specs.Files.{files_of}
-use Rattle.card_model.specs.Days.{Day}
-use Rattle.card_retention.specs.Expected.{Counted, with_entry}
-use Rattle.card_retention.specs.Shown.{Bound}
-use Rattle.card_retention.specs.Entries.{newest_word}
-use Rattle.card_image.specs.Fields.{session_time, card_days, end_mark}
-use Rattle.card_image.specs.View.{CardView, Held, card_view}
-use Rattle.card_image.specs.Own.{own_sizes, own_view}
+use Rattle.unit_rule.specs.card_model.Days.{Day}
+use Rattle.unit_rule.specs.card_retention.Expected.{Counted, with_entry}
+use Rattle.unit_rule.specs.card_retention.Shown.{Bound}
+use Rattle.unit_rule.specs.card_retention.Entries.{newest_word}
+use Rattle.card_validity.specs.card_image.Fields.{session_time, card_days, end_mark}
+use Rattle.card_validity.specs.card_image.View.{CardView, Held, card_view}
+use Rattle.card_validity.specs.card_image.Own.{own_sizes, own_view}
 use Rattle.card_session.specs.Vehicles.{Vehicles, last_use_in}
 use Rattle.card_session.specs.Books.{mark_of}
 use Rattle.card_session.specs.Sessions.{Session, IsSession, book_of}
@@ -31,21 +31,21 @@ use Rattle.hand_model.specs.Holding.{Holding, LieBetween}
 use Rattle.hand_model.proofs.OfDay.{spans, day_lies, day_all}
 use Rattle.card_by_hand.specs.First.{AreHandsOf, AreEntered, IsEntering, IsFirstKept, IsFirstKeeping}
 use Rattle.card_by_hand.specs.Wider.{with_hands}
-use Rattle.card_string.specs.Carried.{StringFollowsEntries}
-use Rattle.card_string.specs.Shows.{IsDone, IsFirstReady, IsFirstShown}
-use Rattle.card_string.proofs.Deeds.{entered_app}
-use Rattle.card_string.proofs.FirstShown.{first_shown}
-use Rattle.log_model.specs.declared.lines.Mark.{Mark}
-use Rattle.history_model.specs.Book.{Book}
-use Rattle.history_model.specs.Presence.{closed_at}
-use Rattle.device_rule.specs.Views.{UnitView, unit_view}
-use Rattle.device_rule.specs.Device.{LeavesViews, EndsWith}
-use Rattle.device_rule.specs.Steps.{IsOnCard, IsNowOnCard}
-use Rattle.device_rule.specs.Rules.{In, EntriesGoOn}
-use Rattle.device_rule.proofs.Brought.{closed-same}
-use Rattle.device_rule.proofs.Pairs.{closed-from}
-use Rattle.device_rule.proofs.Viewed.{seen-run}
-use Rattle.device_rule.proofs.KeepLaws.{on_card-card, on_card-torn}
+use Rattle.unit_rule.specs.card_string.Carried.{StringFollowsEntries}
+use Rattle.unit_rule.specs.card_string.Shows.{IsDone, IsFirstReady, IsFirstShown}
+use Rattle.unit_rule.proofs.card_string.Deeds.{entered_app}
+use Rattle.unit_rule.proofs.card_string.FirstShown.{first_shown}
+use Rattle.unit_rule.specs.log_model.declared.lines.Mark.{Mark}
+use Rattle.unit_rule.specs.history_model.Book.{Book}
+use Rattle.unit_rule.specs.history_model.Presence.{closed_at}
+use Rattle.unit_rule.specs.device_rule.Views.{UnitView, unit_view}
+use Rattle.unit_rule.specs.device_rule.Device.{LeavesViews, EndsWith}
+use Rattle.unit_rule.specs.device_rule.Steps.{IsOnCard, IsNowOnCard}
+use Rattle.unit_rule.specs.device_rule.Rules.{In, EntriesGoOn}
+use Rattle.unit_rule.proofs.device_rule.Brought.{closed-same}
+use Rattle.unit_rule.proofs.device_rule.Pairs.{closed-from}
+use Rattle.unit_rule.proofs.device_rule.Viewed.{seen-run}
+use Rattle.unit_rule.proofs.device_rule.KeepLaws.{on_card-card, on_card-torn}
 use Rattle.unit_rule.specs.Rule.{Started}
 use Rattle.unit_rule.specs.Marks.{UnitFollowsBook}
 use Rattle.unit_rule.proofs.Moves.{ended}

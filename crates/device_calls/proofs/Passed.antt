@@ -6,21 +6,21 @@ use Rattle.std.proofs.lemmas.Bool.Decides.{nat_tests}
 use Rattle.std.proofs.lemmas.List.{length-take-le, take-append-le, drop-append-le, append-nil}
 use Rattle.tach_media.specs.Medium.{bytes_at}
 use Rattle.activity_codec.specs.Words.{word_minute}
-use Rattle.card_model.specs.Bytes.{number, decimal}
-use Rattle.card_model.specs.Days.{Ascend, AreWords, IsDay, AreDays}
-use Rattle.card_model.specs.Image.{StringShape, turned, oldest_pointer, newest_pointer, circle_of, string_of}
-use Rattle.card_model.specs.Walk.{words_of, day_told, days_in, days_of}
-use Rattle.card_model.specs.Checks.{Check, check, first_failing, is_pointer, is_len, is_previous, is_date, is_decimal, field_checks, word_checks, record_checks, file_place, placed_checks, day_checks, distance_of, is_empty, first_bad}
+use Rattle.unit_rule.specs.card_model.Bytes.{number, decimal}
+use Rattle.unit_rule.specs.card_model.Days.{Ascend, AreWords, IsDay, AreDays}
+use Rattle.unit_rule.specs.card_model.Image.{StringShape, turned, oldest_pointer, newest_pointer, circle_of, string_of}
+use Rattle.unit_rule.specs.card_model.Walk.{words_of, day_told, days_in, days_of}
+use Rattle.unit_rule.specs.card_model.Checks.{Check, check, first_failing, is_pointer, is_len, is_previous, is_date, is_decimal, field_checks, word_checks, record_checks, file_place, placed_checks, day_checks, distance_of, is_empty, first_bad}
 use Rattle.card_layout.specs.declared.files.Application.{Application}
 use Rattle.card_layout.specs.declared.files.Fid.{Fid}
 use Rattle.card_layout.specs.Application.{IsApplication, first_bad_field, place_of_field}
 use Rattle.card_layout.specs.Files.{files_of, image_size_of}
-use Rattle.card_image.specs.Fields.{file_bytes, day_string, vehicle_ring, place_ring, card_days, end_mark, session_time}
-use Rattle.card_image.specs.Judging.{file_check, first_bad_of, first_bad_file, pointer_bad, IsValid}
-use Rattle.card_image.specs.Judging as card
-use Rattle.gated_ring.specs.Ring.{Shape, pointer, PointsInside}
-use Rattle.card_model.proofs.Circle.{part_front, turned_front, turned_length}
-use Rattle.card_model.proofs.Judging.{first_passes, both_pass, placed_failing, checks_unless}
+use Rattle.card_validity.specs.card_image.Fields.{file_bytes, day_string, vehicle_ring, place_ring, card_days, end_mark, session_time}
+use Rattle.card_validity.specs.card_image.Judging.{file_check, first_bad_of, first_bad_file, pointer_bad, IsValid}
+use Rattle.card_validity.specs.card_image.Judging as card
+use Rattle.card_session.specs.gated_ring.Ring.{Shape, pointer, PointsInside}
+use Rattle.unit_rule.proofs.card_model.Circle.{part_front, turned_front, turned_length}
+use Rattle.unit_rule.proofs.card_model.Judging.{first_passes, both_pass, placed_failing, checks_unless}
 
 le_of : (m n : ℕ) → nat_le m n ≡ true → m ≤ n
 le_of m n is = grind (arith, nat_tests)

@@ -6,7 +6,7 @@ use Rattle.card_layout.proofs.Sizes.{places_at}
 use Rattle.tach_media.specs.Medium.{LiesInside}
 use Rattle.card_commands.specs.Ports.{writable_of}
 use Rattle.card_commands.proofs.Updated.{updated_writable}
-use Rattle.card_image.specs.Fields.{file}
+use Rattle.card_validity.specs.card_image.Fields.{file}
 
 pub places_may : (app : Application) → LiesInside (writable_of app) (place_of app (file 0x0506)) (size_of app (file 0x0506))
 unfolding files_of

@@ -12,13 +12,13 @@ use Rattle.card_layout.specs.Files.{files_of, place_of, size_of, image_size_of}
 use Rattle.card_layout.proofs.Sizes.{largest_image, days_at, vehicles_at, events_at, use_at}
 use Rattle.card_layout.specs.declared.command.CardState.{CardState}
 use Rattle.card_layout.specs.declared.command.ElementaryFile.{ElementaryFile}
-use Rattle.gated_ring.specs.Ring.{size_of as ring_size}
+use Rattle.card_session.specs.gated_ring.Ring.{size_of as ring_size}
 use Rattle.card_commands.specs.Ports.{IsPort, port_state, writable_of}
 use Rattle.card_commands.proofs.Updated.{updated_writable}
-use Rattle.card_image.specs.Fields.{file, day_string, vehicle_ring}
+use Rattle.card_validity.specs.card_image.Fields.{file, day_string, vehicle_ring}
 use Rattle.card_session.specs.Sessions.{MayKeep, MayClose}
 use Rattle.card_session.specs.Inserting.{MayInsert, IsCardInserting}
-use Rattle.history_model.specs.Book.{Book}
+use Rattle.unit_rule.specs.history_model.Book.{Book}
 use Rattle.device_calls.specs.declared.entering.Entered.{Entered}
 use Rattle.device_calls.specs.declared.entering.NotEntered.{NotEntered}
 use Rattle.device_calls.specs.declared.entering.NotEntered.TheVariants.{UnitFailed, CardFailed, NotValid, TimeOverlap}

@@ -3,23 +3,23 @@ use Rattle.std.proofs.Common.{◌≡◌, ℕ, ◌≤◌, Bool, true, false, not,
 use Rattle.trace_model.specs.declared.Card.{Card}
 use Rattle.trace_model.specs.declared.Card.TheVariants.{A, B}
 use Rattle.tach_media.specs.Medium.{State, IsCoherent, LeavesOnly, Unchanged}
-use Rattle.unit_model.specs.Image.{last_kept}
+use Rattle.unit_minutes.specs.unit_model.Image.{last_kept}
 use Rattle.unit_minutes.specs.declared.notes.Notes.{Notes}
 use Rattle.unit_minutes.specs.Mends.{IsMending as IsMendingImage, IsMended as IsMendedImage}
-use Rattle.log_model.specs.declared.lines.Mark.{Mark}
-use Rattle.history_model.specs.Minutes.{HistoryMinute}
-use Rattle.history_model.specs.Book.{Book, found}
-use Rattle.card_image.specs.Own.{own_view}
-use Rattle.device_rule.specs.Views.{UnitView, unit_view}
-use Rattle.device_rule.specs.Device.{LeavesViews, Nothing}
-use Rattle.device_rule.specs.Steps.{IsMending, IsMended}
-use Rattle.device_rule.specs.Marked.{of_unit}
-use Rattle.device_rule.specs.Rules.{Standing, In, Torn}
-use Rattle.device_rule.specs.Filling.{FillsDays}
-use Rattle.device_rule.proofs.Viewed.{seen-run}
-use Rattle.device_rule.proofs.CardLaws.{look-dark}
-use Rattle.device_rule.proofs.UnitLaws.{sure-found}
-use Rattle.device_rule.proofs.EnterLaws.{tear-card, found-dark, mend-dark, mend-card}
+use Rattle.unit_rule.specs.log_model.declared.lines.Mark.{Mark}
+use Rattle.unit_rule.specs.history_model.Minutes.{HistoryMinute}
+use Rattle.unit_rule.specs.history_model.Book.{Book, found}
+use Rattle.card_validity.specs.card_image.Own.{own_view}
+use Rattle.unit_rule.specs.device_rule.Views.{UnitView, unit_view}
+use Rattle.unit_rule.specs.device_rule.Device.{LeavesViews, Nothing}
+use Rattle.unit_rule.specs.device_rule.Steps.{IsMending, IsMended}
+use Rattle.unit_rule.specs.device_rule.Marked.{of_unit}
+use Rattle.unit_rule.specs.device_rule.Rules.{Standing, In, Torn}
+use Rattle.unit_rule.specs.device_rule.Filling.{FillsDays}
+use Rattle.unit_rule.proofs.device_rule.Viewed.{seen-run}
+use Rattle.unit_rule.proofs.device_rule.CardLaws.{look-dark}
+use Rattle.unit_rule.proofs.device_rule.UnitLaws.{sure-found}
+use Rattle.unit_rule.proofs.device_rule.EnterLaws.{tear-card, found-dark, mend-dark, mend-card}
 use Rattle.unit_rule.proofs.Mended.{mending_view, mended_view}
 use Rattle.unit_rule.specs.Rule.{Started, seen_unit, HasRowsMended}
 use Rattle.unit_rule.specs.Marks.{UnitFollowsBook}

@@ -13,12 +13,12 @@ use Rattle.tach_media.proofs.Runs.{starts, weaken, from_reads, after_reads, goes
 use Rattle.card_layout.specs.declared.files.Application.{Application}
 use Rattle.card_layout.specs.Application.{IsApplication}
 use Rattle.card_layout.specs.Files.{files_of, image_size_of, place_of}
-use Rattle.card_model.specs.Days.{AreDays}
-use Rattle.card_model.specs.Changes.{trimmed}
-use Rattle.card_retention.specs.Entries.{newest_word}
-use Rattle.card_image.specs.Fields.{file, card_number, card_days, end_mark, session_time}
-use Rattle.card_image.specs.Judging.{first_bad_file, IsValid}
-use Rattle.card_image.specs.View.{card_view}
+use Rattle.unit_rule.specs.card_model.Days.{AreDays}
+use Rattle.unit_rule.specs.card_model.Changes.{trimmed}
+use Rattle.unit_rule.specs.card_retention.Entries.{newest_word}
+use Rattle.card_validity.specs.card_image.Fields.{file, card_number, card_days, end_mark, session_time}
+use Rattle.card_validity.specs.card_image.Judging.{first_bad_file, IsValid}
+use Rattle.card_validity.specs.card_image.View.{card_view}
 use Rattle.card_validity.specs.declared.fault.InsertFault.{InsertFault}
 use Rattle.card_validity.specs.declared.fault.InsertFault.TheVariants.{Failed, NotValid, TimeOverlap}
 use Rattle.card_validity.specs.declared.looking.CardLook.{CardLook}
@@ -28,18 +28,18 @@ use Rattle.tacho_types.specs.declared.texts.Registration.{Registration}
 use Rattle.card_session.specs.Sessions.{IsSession}
 use Rattle.card_session.specs.Inserting.{AreOwed, Follow, IsCardInserted, IsCardInserting, replayed_count}
 use Rattle.card_session.proofs.InsertingBooks.{trimmed_low}
-use Rattle.device_rule.specs.Views.{counts, is_session}
-use Rattle.device_rule.proofs.OwedView.{owed-seen}
-use Rattle.unit_owed.specs.Owed.{owed_to, row_view}
-use Rattle.unit_owed.specs.Rows.{IsRowFor}
-use Rattle.unit_owed.specs.Searching.{IsSane}
-use Rattle.unit_model.specs.Image.{last_kept}
+use Rattle.unit_rule.specs.device_rule.Views.{counts, is_session}
+use Rattle.unit_rule.proofs.device_rule.OwedView.{owed-seen}
+use Rattle.unit_minutes.specs.unit_owed.Owed.{owed_to, row_view}
+use Rattle.unit_minutes.specs.unit_owed.Rows.{IsRowFor}
+use Rattle.unit_minutes.specs.unit_owed.Searching.{IsSane}
+use Rattle.unit_minutes.specs.unit_model.Image.{last_kept}
 use Rattle.device_calls.proofs.EntryOwed.{worked}
 use Rattle.device_calls.proofs.Passed.{valid-days}
 use Rattle.device_calls.specs.declared.entering.Entered.{Entered}
 use Rattle.device_calls.specs.declared.entering.NotEntered.{NotEntered}
 use Rattle.device_calls.specs.declared.entering.NotEntered.TheVariants.{UnitFailed, CardFailed, NotValid as NotValidCard, TimeOverlap as LaterCard}
-use Rattle.card_model.specs.declared.lengths.TheConstants.{DAYS_MOST}
+use Rattle.unit_rule.specs.card_model.declared.lengths.TheConstants.{DAYS_MOST}
 use Rattle.device_calls.specs.Entering.{IsInTime, owed_on, of_card, IsRead, IsAccepted, IsRefused, IsEntering, IsInsertedWith, unit_failed, unit_called, card_failed}
 
 -- how an insertion answers, and what is told of it

@@ -5,23 +5,23 @@ use Rattle.trace_model.specs.declared.Card.{Card}
 use Rattle.trace_model.specs.declared.Card.TheVariants.{A, B}
 use Rattle.tach_media.specs.Medium.{State, IsCoherent, LeavesOnly}
 use Rattle.tach_media.proofs.Runs.{at_image}
-use Rattle.gated_ring.specs.Ring.{PointsInside}
-use Rattle.unit_model.specs.Image.{day_ring}
-use Rattle.unit_owed.specs.Owed.{rows_in}
-use Rattle.unit_owed.specs.Rows.{IsRowBeginning, IsRowBegun}
-use Rattle.unit_owed.proofs.Laws.{begun_view}
-use Rattle.unit_owed.proofs.Taking.{begun_is}
+use Rattle.card_session.specs.gated_ring.Ring.{PointsInside}
+use Rattle.unit_minutes.specs.unit_model.Image.{day_ring}
+use Rattle.unit_minutes.specs.unit_owed.Owed.{rows_in}
+use Rattle.unit_minutes.specs.unit_owed.Rows.{IsRowBeginning, IsRowBegun}
+use Rattle.unit_minutes.proofs.unit_owed.Laws.{begun_view}
+use Rattle.unit_minutes.proofs.unit_owed.Taking.{begun_is}
 use Rattle.unit_minutes.specs.declared.notes.Notes.{Notes}
 use Rattle.unit_minutes.specs.Image.{Agrees}
-use Rattle.log_model.specs.declared.lines.Mark.{Mark}
-use Rattle.history_model.specs.Book.{Book}
-use Rattle.history_model.proofs.Books.{mark-earlier}
-use Rattle.device_rule.specs.Views.{UnitView, unit_view, row, with_row, other}
-use Rattle.device_rule.specs.Device.{Seen, LeavesViews, EndsWith}
-use Rattle.device_rule.specs.Steps.{IsBeginning, IsBegun}
-use Rattle.device_rule.specs.Rules.{Standing, Out, In, Torn, MeetsStanding, CardDark, CardRule, IsEntered}
-use Rattle.device_rule.proofs.CardLaws.{dark-beside, rule-beside}
-use Rattle.device_rule.proofs.EnterLaws.{begin-dark, begin-card}
+use Rattle.unit_rule.specs.log_model.declared.lines.Mark.{Mark}
+use Rattle.unit_rule.specs.history_model.Book.{Book}
+use Rattle.unit_rule.proofs.history_model.Books.{mark-earlier}
+use Rattle.unit_rule.specs.device_rule.Views.{UnitView, unit_view, row, with_row, other}
+use Rattle.unit_rule.specs.device_rule.Device.{Seen, LeavesViews, EndsWith}
+use Rattle.unit_rule.specs.device_rule.Steps.{IsBeginning, IsBegun}
+use Rattle.unit_rule.specs.device_rule.Rules.{Standing, Out, In, Torn, MeetsStanding, CardDark, CardRule, IsEntered}
+use Rattle.unit_rule.proofs.device_rule.CardLaws.{dark-beside, rule-beside}
+use Rattle.unit_rule.proofs.device_rule.EnterLaws.{begin-dark, begin-card}
 use Rattle.unit_rule.proofs.Beginning.{last_same, recorded_same}
 use Rattle.unit_rule.specs.Rule.{Started}
 use Rattle.unit_rule.specs.Marks.{UnitFollowsBook}

@@ -6,20 +6,20 @@ use Rattle.trace_model.specs.declared.Card.{Card}
 use Rattle.trace_model.specs.declared.Card.TheVariants.{A, B}
 use Rattle.tach_media.specs.Medium.{State, IsCoherent, LeavesOnly}
 use Rattle.tach_media.proofs.Runs.{at_image, weaken}
-use Rattle.gated_ring.specs.Ring.{PointsInside}
-use Rattle.unit_model.specs.Image.{day_ring}
-use Rattle.unit_owed.specs.Rows.{IsRowBeginning, IsRowBegun, IsRowAt}
-use Rattle.unit_owed.proofs.Known.{index_spared}
+use Rattle.card_session.specs.gated_ring.Ring.{PointsInside}
+use Rattle.unit_minutes.specs.unit_model.Image.{day_ring}
+use Rattle.unit_minutes.specs.unit_owed.Rows.{IsRowBeginning, IsRowBegun, IsRowAt}
+use Rattle.unit_minutes.proofs.unit_owed.Known.{index_spared}
 use Rattle.unit_minutes.specs.declared.notes.Notes.{Notes}
 use Rattle.unit_minutes.specs.Image.{Agrees}
-use Rattle.log_model.specs.declared.lines.Mark.{Mark}
-use Rattle.history_model.specs.Book.{Book}
-use Rattle.device_rule.specs.Views.{unit_view, other}
-use Rattle.device_rule.specs.Device.{LeavesViews}
-use Rattle.device_rule.specs.Steps.{IsBeginning}
-use Rattle.device_rule.specs.Rules.{Standing}
-use Rattle.device_rule.proofs.Viewed.{seen-run}
-use Rattle.device_rule.proofs.EnterLaws.{begin-other, begin-other_dark}
+use Rattle.unit_rule.specs.log_model.declared.lines.Mark.{Mark}
+use Rattle.unit_rule.specs.history_model.Book.{Book}
+use Rattle.unit_rule.specs.device_rule.Views.{unit_view, other}
+use Rattle.unit_rule.specs.device_rule.Device.{LeavesViews}
+use Rattle.unit_rule.specs.device_rule.Steps.{IsBeginning}
+use Rattle.unit_rule.specs.device_rule.Rules.{Standing}
+use Rattle.unit_rule.proofs.device_rule.Viewed.{seen-run}
+use Rattle.unit_rule.proofs.device_rule.EnterLaws.{begin-other, begin-other_dark}
 use Rattle.unit_rule.proofs.Beginning.{first_beginning, second_beginning}
 use Rattle.unit_rule.specs.Rule.{Started, IsCards}
 use Rattle.unit_rule.specs.Marks.{UnitFollowsBook}

@@ -3,17 +3,17 @@ use Rattle.std.proofs.Common.{◌≡◌, ◌⊎◌, inl, inr, ⊎_elim, ℕ, ◌
 use Rattle.activity_codec.specs.declared.entries.Entry.{Entry}
 use Rattle.activity_codec.specs.declared.entries.Manual.{Manual}
 use Rattle.card_layout.specs.Application.{IsApplication}
-use Rattle.card_image.specs.Fields.{end_mark}
-use Rattle.card_image.specs.Own.{own_sizes, own_covered}
+use Rattle.card_validity.specs.card_image.Fields.{end_mark}
+use Rattle.card_validity.specs.card_image.Own.{own_sizes, own_covered}
 use Rattle.hand_model.specs.Holding.{LieBetween}
 use Rattle.hand_model.proofs.OfDay.{spans}
 use Rattle.hand_model.specs.Written.{Written, Hands}
 use Rattle.card_session.specs.Sessions.{Session, IsSession}
 use Rattle.card_by_hand.specs.First.{first_written, ComeFrom}
-use Rattle.card_string.specs.Carried.{StringFollowsEntries, IsFresh}
+use Rattle.unit_rule.specs.card_string.Carried.{StringFollowsEntries, IsFresh}
 use Rattle.card_session.specs.Overwriting.{BeginsBehind}
-use Rattle.card_string.specs.Since.{all_since, bound_since, counted_since, SitsSince}
-use Rattle.card_string.proofs.Since.{may_come}
+use Rattle.unit_rule.specs.card_string.Since.{all_since, bound_since, counted_since, SitsSince}
+use Rattle.unit_rule.proofs.card_string.Since.{may_come}
 use Rattle.device_calls.specs.OnCard.{CardMayTake, IsSittingSince}
 
 -- the first of them comes no later than the minute that they lie before

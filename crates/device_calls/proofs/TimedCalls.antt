@@ -9,11 +9,11 @@ use Rattle.tacho_types.specs.declared.texts.Registration.{Registration}
 use Rattle.card_layout.specs.declared.files.Application.{Application}
 use Rattle.card_layout.specs.Application.{IsApplication, application_of}
 use Rattle.card_layout.specs.Files.{files_of, image_size_of}
-use Rattle.card_image.specs.Fields.{last_use, vehicle_ring}
-use Rattle.card_image.specs.Beside.{HaveSameSizes}
-use Rattle.card_image.specs.Judging.{IsValid}
-use Rattle.card_image.specs.Own.{own_sizes}
-use Rattle.card_image.proofs.Beside.{last_use_same}
+use Rattle.card_validity.specs.card_image.Fields.{last_use, vehicle_ring}
+use Rattle.card_validity.specs.card_image.Beside.{HaveSameSizes}
+use Rattle.card_validity.specs.card_image.Judging.{IsValid}
+use Rattle.card_validity.specs.card_image.Own.{own_sizes}
+use Rattle.card_validity.proofs.card_image.Beside.{last_use_same}
 use Rattle.card_session.specs.Sessions.{Session, IsSession, book_of}
 use Rattle.card_session.specs.Books.{closed}
 use Rattle.card_session.specs.Moments.{IsBook, IsKeepMoment, IsCloseMoment}

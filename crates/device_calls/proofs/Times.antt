@@ -9,12 +9,12 @@ use Rattle.card_layout.specs.declared.files.Application.{Application}
 use Rattle.card_layout.specs.Application.{IsApplication}
 use Rattle.card_layout.specs.Files.{image_size_of}
 use Rattle.card_files.specs.declared.vehicle.Vehicle.{Vehicle}
-use Rattle.card_model.specs.Days.{Day}
-use Rattle.card_retention.specs.Shown.{is_open}
-use Rattle.gated_ring.specs.Ring.{PointsInside}
-use Rattle.card_image.specs.Fields.{vehicle_ring, last_use_of, last_use}
-use Rattle.card_image.specs.Beside.{HaveSameVehicles}
-use Rattle.card_image.proofs.Beside.{last_use_same}
+use Rattle.unit_rule.specs.card_model.Days.{Day}
+use Rattle.unit_rule.specs.card_retention.Shown.{is_open}
+use Rattle.card_session.specs.gated_ring.Ring.{PointsInside}
+use Rattle.card_validity.specs.card_image.Fields.{vehicle_ring, last_use_of, last_use}
+use Rattle.card_validity.specs.card_image.Beside.{HaveSameVehicles}
+use Rattle.card_validity.proofs.card_image.Beside.{last_use_same}
 use Rattle.card_session.specs.Vehicles.{Vehicles, last_use_in}
 use Rattle.card_session.specs.Books.{Book, mark_of, closed, closed_days, used, last_used, with_entry}
 use Rattle.card_session.specs.Sessions.{book_of}

@@ -11,23 +11,23 @@ use Rattle.tach_media.specs.Medium.{State}
 use Rattle.card_layout.specs.declared.files.Application.{Application}
 use Rattle.card_layout.specs.Application.{IsApplication}
 use Rattle.card_layout.specs.Files.{image_size_of}
-use Rattle.card_image.specs.Fields.{session_time}
-use Rattle.card_image.specs.Judging.{IsValid}
-use Rattle.card_image.specs.Own.{own_sizes, own_view}
-use Rattle.card_image.specs.View.{CardView, card_view}
+use Rattle.card_validity.specs.card_image.Fields.{session_time}
+use Rattle.card_validity.specs.card_image.Judging.{IsValid}
+use Rattle.card_validity.specs.card_image.Own.{own_sizes, own_view}
+use Rattle.card_validity.specs.card_image.View.{CardView, card_view}
 use Rattle.card_session.specs.Sessions.{Session, IsSession, newest_in, book_of}
 use Rattle.card_session.specs.Inserting.{IsCardInserted}
 use Rattle.card_session.proofs.Renewing.{closed_answered}
-use Rattle.unit_model.specs.Image.{last_kept}
-use Rattle.history_model.specs.Minutes.{HistoryMinute, card_history, up_to}
-use Rattle.history_model.specs.Presence.{Start, CardStart, card_start, expected_entries, trimmed_by, newest_by, newest_minute}
-use Rattle.history_model.specs.Book.{Book, all}
-use Rattle.history_model.proofs.Books.{all-none, up_to-whole}
-use Rattle.history_model.proofs.Filters.{filter-whole}
-use Rattle.device_rule.specs.Views.{UnitView, unit_view, row, owed, owed_in, newest_with, beyond}
-use Rattle.device_rule.specs.Rules.{Meets, Out, IsEntered}
-use Rattle.device_rule.proofs.Holding.{presence-tied}
-use Rattle.device_rule.proofs.Owing.{owed-new}
+use Rattle.unit_minutes.specs.unit_model.Image.{last_kept}
+use Rattle.unit_rule.specs.history_model.Minutes.{HistoryMinute, card_history, up_to}
+use Rattle.unit_rule.specs.history_model.Presence.{Start, CardStart, card_start, expected_entries, trimmed_by, newest_by, newest_minute}
+use Rattle.unit_rule.specs.history_model.Book.{Book, all}
+use Rattle.unit_rule.proofs.history_model.Books.{all-none, up_to-whole}
+use Rattle.unit_rule.proofs.history_model.Filters.{filter-whole}
+use Rattle.unit_rule.specs.device_rule.Views.{UnitView, unit_view, row, owed, owed_in, newest_with, beyond}
+use Rattle.unit_rule.specs.device_rule.Rules.{Meets, Out, IsEntered}
+use Rattle.unit_rule.proofs.device_rule.Holding.{presence-tied}
+use Rattle.unit_rule.proofs.device_rule.Owing.{owed-new}
 use Rattle.device_calls.specs.Rule.{Both, opened, number_of, card_seen, AnyString, CardHolds}
 use Rattle.device_calls.proofs.OnCard.{own-is, session-is}
 use Rattle.device_calls.proofs.Inserted.{beyond_open, beyond_shut}

@@ -3,9 +3,9 @@ use Rattle.std.proofs.Common.{List, []}
 use Rattle.activity_codec.specs.declared.entries.Entry.{Entry}
 use Rattle.trace_model.specs.declared.Card.{Card}
 use Rattle.tach_media.specs.Medium.{State}
-use Rattle.history_model.specs.Book.{Book, all}
-use Rattle.device_rule.specs.Rules.{Standing, Out}
-use Rattle.device_rule.proofs.Pairs.{meets-out}
+use Rattle.unit_rule.specs.history_model.Book.{Book, all}
+use Rattle.unit_rule.specs.device_rule.Rules.{Standing, Out}
+use Rattle.unit_rule.proofs.device_rule.Pairs.{meets-out}
 use Rattle.device_calls.specs.Rule.{Both, opened, AnyString, CardHolds}
 
 pub torn-out : (r : Both) (c : Card) (b : Book) (z : Standing) (d : List Entry) (U X : State) → CardHolds r c b z [] d U X → CardHolds r c b Out [] [] U X

@@ -3,14 +3,14 @@ use Rattle.std.proofs.Common.{◌≡◌, ℕ, ◌≤◌, Bool, true, false, None
 use Rattle.activity_codec.specs.declared.entries.Entry.{Entry}
 use Rattle.tach_media.specs.Medium.{State, IsCoherent, LeavesOnly}
 use Rattle.unit_rule.proofs.Moves.{ended}
-use Rattle.log_model.specs.declared.lines.Mark.{Mark}
-use Rattle.unit_model.specs.Days.{UnitMinute}
-use Rattle.unit_owed.specs.Rows.{IsPutting}
+use Rattle.unit_rule.specs.log_model.declared.lines.Mark.{Mark}
+use Rattle.unit_minutes.specs.unit_model.Days.{UnitMinute}
+use Rattle.unit_minutes.specs.unit_owed.Rows.{IsPutting}
 use Rattle.unit_minutes.specs.Keeping.{IsKept}
-use Rattle.history_model.specs.Minutes.{HistoryMinute}
-use Rattle.history_model.specs.Book.{Book}
-use Rattle.device_rule.specs.Filling.{seen_by_unit}
-use Rattle.run_unit_course.specs.Legs.{Travel}
+use Rattle.unit_rule.specs.history_model.Minutes.{HistoryMinute}
+use Rattle.unit_rule.specs.history_model.Book.{Book}
+use Rattle.unit_rule.specs.device_rule.Filling.{seen_by_unit}
+use Rattle.unit_rule.specs.run_unit_course.Legs.{Travel}
 use Rattle.unit_rule.specs.Rule.{Started}
 use Rattle.unit_rule.specs.Marks.{UnitFollowsBook}
 use Rattle.unit_rule.specs.Odometer.{HasTravelled, IsKeepingDays, odometer_by, odometer_after}

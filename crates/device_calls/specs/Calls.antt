@@ -8,24 +8,24 @@ use Rattle.card_by_hand.specs.Wider.{with_hands}
 use Rattle.card_commands.specs.Ports.{IsPort}
 use Rattle.card_layout.specs.declared.command.CardState.{CardState}
 use Rattle.card_layout.specs.declared.files.Application.{Application}
-use Rattle.card_retention.specs.Expected.{Counted, with_entry}
-use Rattle.card_retention.specs.Shown.{Bound}
+use Rattle.unit_rule.specs.card_retention.Expected.{Counted, with_entry}
+use Rattle.unit_rule.specs.card_retention.Shown.{Bound}
 use Rattle.card_session.specs.Overwriting.{and_entry}
 use Rattle.card_session.specs.Sessions.{IsSession, Session}
 use Rattle.card_session.specs.declared.session.Kept.{Kept}
 use Rattle.card_session.specs.declared.words.TheConstants.{LATEST_MINUTE}
-use Rattle.card_string.specs.Shows.{IsDone, IsFirstShown}
-use Rattle.device_rule.specs.Device.{LeavesViews}
-use Rattle.device_rule.specs.Filling.{GivesUpDay, KeepsMinute, seen_by_unit}
-use Rattle.device_rule.specs.Marked.{of_unit}
-use Rattle.device_rule.specs.Rules.{Fits, IsEntered, IsPresent, Out, Standing}
-use Rattle.device_rule.specs.Steps.{IsBeginning, IsKeeping, IsMending, IsPutting}
-use Rattle.device_rule.specs.Views.{other}
+use Rattle.unit_rule.specs.card_string.Shows.{IsDone, IsFirstShown}
+use Rattle.unit_rule.specs.device_rule.Device.{LeavesViews}
+use Rattle.unit_rule.specs.device_rule.Filling.{GivesUpDay, KeepsMinute, seen_by_unit}
+use Rattle.unit_rule.specs.device_rule.Marked.{of_unit}
+use Rattle.unit_rule.specs.device_rule.Rules.{Fits, IsEntered, IsPresent, Out, Standing}
+use Rattle.unit_rule.specs.device_rule.Steps.{IsBeginning, IsKeeping, IsMending, IsPutting}
+use Rattle.unit_rule.specs.device_rule.Views.{other}
 use Rattle.hand_model.specs.Holding.{Holding, LieBetween, begun_by}
-use Rattle.history_model.specs.Book.{Book}
-use Rattle.history_model.specs.Minutes.{HistoryMinute, on_card}
-use Rattle.log_model.specs.declared.lines.Mark.{Mark}
-use Rattle.run_unit_course.specs.Legs.{Travel}
+use Rattle.unit_rule.specs.history_model.Book.{Book}
+use Rattle.unit_rule.specs.history_model.Minutes.{HistoryMinute, on_card}
+use Rattle.unit_rule.specs.log_model.declared.lines.Mark.{Mark}
+use Rattle.unit_rule.specs.run_unit_course.Legs.{Travel}
 use Rattle.tach_media.specs.Medium.{HasCause, IsSettled, LeavesOnly, State, last_count, Unchanged, revivable}
 use Rattle.tach_media.specs.declared.fault.Failed.{Failed}
 use Rattle.tacho_types.specs.CardNumber.{card_number_bytes}
@@ -35,9 +35,9 @@ use Rattle.unit_minutes.specs.Kept.{kept_minute}
 use Rattle.unit_minutes.specs.Mends.{IsMending as IsMendingImage, notes_mended}
 use Rattle.unit_minutes.specs.declared.kept.KeptMinute.{KeptMinute}
 use Rattle.unit_minutes.specs.declared.notes.Notes.{Notes}
-use Rattle.unit_model.specs.Image.{IsUnit}
-use Rattle.unit_model.specs.declared.layout.TheConstants.{HIGHEST_ODOMETER, LAST_MINUTE}
-use Rattle.unit_owed.specs.Rows.{IsPutting as IsPuttingRow, IsRowAt, IsRowBeginning, IsRowBegun, IsRowFor}
+use Rattle.unit_minutes.specs.unit_model.Image.{IsUnit}
+use Rattle.unit_minutes.specs.unit_model.declared.layout.TheConstants.{HIGHEST_ODOMETER, LAST_MINUTE}
+use Rattle.unit_minutes.specs.unit_owed.Rows.{IsPutting as IsPuttingRow, IsRowAt, IsRowBeginning, IsRowBegun, IsRowFor}
 use Rattle.unit_rule.specs.Marks.{UnitFollowsBook}
 use Rattle.unit_rule.specs.Odometer.{HasTravelled, odometer_after, odometer_by}
 use Rattle.unit_rule.specs.Rule.{IsCards, Started, once_mended}
@@ -48,15 +48,15 @@ use Rattle.device_calls.specs.Rule.{IsRowTaken, IsTakenUp, card_seen, number_of,
 use Rattle.device_calls.specs.Travel.{HasGone}
 use Rattle.device_calls.specs.declared.entering.Entered.{Entered}
 use Rattle.device_calls.specs.declared.entering.NotEntered.{NotEntered}
-use Rattle.card_days.specs.Steps.{IsIdle}
+use Rattle.card_session.specs.card_days.Steps.{IsIdle}
 use Rattle.card_layout.specs.Application.{IsApplication}
 use Rattle.card_session.specs.Inserting.{AreOwed, MayInsert}
 use Rattle.card_validity.specs.Judged.{TellsSizes}
-use Rattle.card_model.specs.declared.lengths.TheConstants.{DAYS_MOST}
+use Rattle.unit_rule.specs.card_model.declared.lengths.TheConstants.{DAYS_MOST}
 use Rattle.card_files.specs.declared.card_event.CardEvent.{CardEvent}
 use Rattle.card_files.specs.Noting.{IsEventNoted, IsNotingEvent, IsNotingPlace, IsPlaceNoted}
 use Rattle.card_files.specs.Rings.{place_ring}
-use Rattle.gated_ring.specs.Ring.{PointsInside, pointer}
+use Rattle.card_session.specs.gated_ring.Ring.{PointsInside, pointer}
 use Rattle.tacho_types.specs.declared.places.PlaceEntry.{PlaceEntry}
 use Rattle.activity_codec.specs.declared.values.Activity.{Activity}
 use Rattle.card_session.specs.Cards.{IsCardClosed, IsCardClosing}

@@ -10,15 +10,15 @@ use Rattle.card_validity.specs.declared.fault.InsertFault.TheVariants as card
 use Rattle.card_validity.specs.declared.looking.CardLook.{CardLook}
 use Rattle.card_validity.specs.Judged.{IsLook}
 use Rattle.trace_model.specs.declared.Card.{Card}
-use Rattle.card_image.specs.Own.{own_sizes, own_number}
-use Rattle.card_model.specs.declared.lengths.TheConstants.{DAYS_MOST}
+use Rattle.card_validity.specs.card_image.Own.{own_sizes, own_number}
+use Rattle.unit_rule.specs.card_model.declared.lengths.TheConstants.{DAYS_MOST}
 use Rattle.device_calls.specs.Rule.{Both, number_of}
-use Rattle.card_image.specs.Fields.{card_number, end_mark, session_time}
-use Rattle.card_image.specs.Judging.{first_bad_file, IsValid}
-use Rattle.card_image.specs.View.{card_view}
+use Rattle.card_validity.specs.card_image.Fields.{card_number, end_mark, session_time}
+use Rattle.card_validity.specs.card_image.Judging.{first_bad_file, IsValid}
+use Rattle.card_validity.specs.card_image.View.{card_view}
 use Rattle.card_session.specs.Sessions.{Session, IsSession}
 use Rattle.card_session.specs.Inserting.{AreOwed, IsCardInserted, IsCardInserting, replayed_count}
-use Rattle.unit_owed.specs.Owed.{owed_to}
+use Rattle.unit_minutes.specs.unit_owed.Owed.{owed_to}
 use Rattle.device_calls.specs.declared.entering.Entered.{Entered}
 use Rattle.device_calls.specs.declared.entering.NotEntered.{NotEntered}
 use Rattle.device_calls.specs.declared.entering.NotEntered.TheVariants.{UnitFailed, CardFailed, NotValid, TimeOverlap}

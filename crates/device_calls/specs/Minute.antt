@@ -5,23 +5,23 @@ use Rattle.std.specs.Prelude.{option_to_list}
 use Rattle.activity_codec.specs.declared.entries.Entry.{Entry}
 use Rattle.activity_codec.specs.declared.entries.Manual.{Manual}
 use Rattle.trace_model.specs.declared.Card.{Card}
-use Rattle.run_model.specs.declared.Device.TheVariants.{Unit as Recorder}
+use Rattle.unit_rule.specs.run_model.declared.Device.TheVariants.{Unit as Recorder}
 use Rattle.tach_media.specs.Medium.{State}
-use Rattle.card_retention.specs.Expected.{Counted, with_entry}
-use Rattle.card_retention.specs.Shown.{Bound}
+use Rattle.unit_rule.specs.card_retention.Expected.{Counted, with_entry}
+use Rattle.unit_rule.specs.card_retention.Shown.{Bound}
 use Rattle.card_session.specs.Sessions.{Session}
 use Rattle.card_session.specs.Overwriting.{BeginsBehind, and_entry}
 use Rattle.card_by_hand.specs.First.{AreHandsOf, IsShutAt}
 use Rattle.card_by_hand.specs.Wider.{with_hands}
-use Rattle.card_string.specs.Carried.{IsFresh}
+use Rattle.unit_rule.specs.card_string.Carried.{IsFresh}
 use Rattle.unit_minutes.specs.declared.kept.KeptMinute.{KeptMinute}
 use Rattle.unit_minutes.specs.Kept.{kept_minute}
-use Rattle.log_model.specs.declared.lines.Mark.{Mark}
-use Rattle.history_model.specs.Minutes.{HistoryMinute, on_card}
-use Rattle.history_model.specs.Book.{Book, kept, broken}
-use Rattle.device_rule.specs.Filling.{seen_by_unit}
-use Rattle.device_rule.specs.Views.{other}
-use Rattle.device_rule.specs.Rules.{Standing, Out, In, Torn, IsPresent}
+use Rattle.unit_rule.specs.log_model.declared.lines.Mark.{Mark}
+use Rattle.unit_rule.specs.history_model.Minutes.{HistoryMinute, on_card}
+use Rattle.unit_rule.specs.history_model.Book.{Book, kept, broken}
+use Rattle.unit_rule.specs.device_rule.Filling.{seen_by_unit}
+use Rattle.unit_rule.specs.device_rule.Views.{other}
+use Rattle.unit_rule.specs.device_rule.Rules.{Standing, Out, In, Torn, IsPresent}
 use Rattle.unit_rule.specs.Rule.{Started, once_mended, IsCards}
 use Rattle.unit_rule.specs.Marks.{UnitFollowsBook}
 use Rattle.device_calls.specs.Rule.{Both, opened, number_of, CardHolds, CardRests}

@@ -5,19 +5,19 @@ use Rattle.activity_codec.specs.declared.entries.Manual.{Manual}
 use Rattle.trace_model.specs.declared.Card.{Card}
 use Rattle.tach_media.specs.Medium.{State}
 use Rattle.card_layout.specs.Application.{IsApplication}
-use Rattle.card_retention.specs.Expected.{Counted}
-use Rattle.card_retention.specs.Shown.{Bound}
-use Rattle.card_image.specs.Fields.{end_mark}
-use Rattle.card_image.specs.Own.{own_sizes, own_covered, most_slack}
+use Rattle.unit_rule.specs.card_retention.Expected.{Counted}
+use Rattle.unit_rule.specs.card_retention.Shown.{Bound}
+use Rattle.card_validity.specs.card_image.Fields.{end_mark}
+use Rattle.card_validity.specs.card_image.Own.{own_sizes, own_covered, most_slack}
 use Rattle.hand_model.specs.Holding.{Holding, of_day}
 use Rattle.card_by_hand.specs.First.{IsShutAt, ComeFrom}
 use Rattle.card_session.specs.Sessions.{Session, IsSession}
 use Rattle.card_session.specs.Overwriting.{BeginsBehind}
 use Rattle.hand_model.specs.Written.{Hands}
-use Rattle.card_string.specs.Carried.{StringFollowsEntries, IsFresh}
-use Rattle.card_string.specs.Since.{SitsSince}
-use Rattle.history_model.specs.Book.{Book}
-use Rattle.device_rule.specs.Rules.{In, Torn}
+use Rattle.unit_rule.specs.card_string.Carried.{StringFollowsEntries, IsFresh}
+use Rattle.unit_rule.specs.card_string.Since.{SitsSince}
+use Rattle.unit_rule.specs.history_model.Book.{Book}
+use Rattle.unit_rule.specs.device_rule.Rules.{In, Torn}
 use Rattle.device_calls.specs.Rule.{Both, CardHolds}
 
 -- The card goes by the session's sizes, and by what it keeps; and its string is carried so.

@@ -3,17 +3,17 @@ use Rattle.std.specs.Prelude.{◌≡◌, ◌≢◌, ℕ, suc, ◌<◌, Bool, tru
 use Rattle.activity_codec.specs.declared.entries.Entry.{Entry}
 use Rattle.trace_model.specs.declared.Card.{Card}
 use Rattle.trace_model.specs.declared.Card.TheVariants.{A, B}
-use Rattle.run_model.specs.declared.Device.TheVariants.{Unit as Recorder}
+use Rattle.unit_rule.specs.run_model.declared.Device.TheVariants.{Unit as Recorder}
 use Rattle.tach_media.specs.Medium.{State, last_count}
-use Rattle.log_model.specs.declared.lines.Mark.{Mark}
-use Rattle.history_model.specs.Minutes.{HistoryMinute, on_card}
-use Rattle.history_model.specs.Presence.{CardStart}
-use Rattle.history_model.specs.Book.{Book, kept, broken}
-use Rattle.card_image.specs.View.{CardView, Held}
-use Rattle.card_image.specs.Own.{own_view}
-use Rattle.device_rule.specs.Views.{UnitView, unit_view}
-use Rattle.device_rule.specs.Device.{Seen, seen}
-use Rattle.device_rule.specs.Rules.{Standing, In, Out, CardDark, CardRule}
+use Rattle.unit_rule.specs.log_model.declared.lines.Mark.{Mark}
+use Rattle.unit_rule.specs.history_model.Minutes.{HistoryMinute, on_card}
+use Rattle.unit_rule.specs.history_model.Presence.{CardStart}
+use Rattle.unit_rule.specs.history_model.Book.{Book, kept, broken}
+use Rattle.card_validity.specs.card_image.View.{CardView, Held}
+use Rattle.card_validity.specs.card_image.Own.{own_view}
+use Rattle.unit_rule.specs.device_rule.Views.{UnitView, unit_view}
+use Rattle.unit_rule.specs.device_rule.Device.{Seen, seen}
+use Rattle.unit_rule.specs.device_rule.Rules.{Standing, In, Out, CardDark, CardRule}
 use Rattle.unit_rule.specs.Rule.{Started, once_mended}
 use Rattle.unit_rule.specs.Marks.{UnitFollowsBook}
 

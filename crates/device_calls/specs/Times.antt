@@ -1,8 +1,8 @@
 -- The last use of a card, as calls on it leave it (profile): that of the start, or a whole minute.
 use Rattle.std.specs.Prelude.{◌≡◌, ◌⊎◌, ℕ, ◌*◌, List}
 use Rattle.tach_media.specs.Medium.{State}
-use Rattle.card_image.specs.Fields.{last_use}
-use Rattle.card_image.specs.Own.{own_sizes}
+use Rattle.card_validity.specs.card_image.Fields.{last_use}
+use Rattle.card_validity.specs.card_image.Own.{own_sizes}
 
 -- when the newest vehicle of a card was last used, by the sizes that it tells itself
 unfoldable pub own_use : List ℕ → ℕ

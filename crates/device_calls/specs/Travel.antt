@@ -1,9 +1,9 @@
 -- What the steps on the unit leave of its odometer.
 use Rattle.std.specs.Prelude.{◌≡◌, ℕ, Bool, false}
 use Rattle.tach_media.specs.Medium.{State}
-use Rattle.history_model.specs.Minutes.{HistoryMinute}
-use Rattle.history_model.specs.Book.{Book, kept, broken}
-use Rattle.run_unit_course.specs.Legs.{Travel, travelled, stranded}
+use Rattle.unit_rule.specs.history_model.Minutes.{HistoryMinute}
+use Rattle.unit_rule.specs.history_model.Book.{Book, kept, broken}
+use Rattle.unit_rule.specs.run_unit_course.Legs.{Travel, travelled, stranded}
 use Rattle.unit_rule.specs.Odometer.{HasTravelled}
 
 -- a minute was to be kept up to which so much was travelled: where that ended well it is travelled, and else it may be

@@ -3,7 +3,7 @@ ghost use Rattle.std.specs.Prelude.{◌≡◌, ◌≢◌, ◌≤◌, ◌<◌, �
 ghost use Rattle.std.specs.Prelude.{IfSome};
 ghost use Rattle.tach_media.specs.Medium.{Reads};
 ghost use Rattle.card_commands.specs.Ports.{IsPort};
-ghost use Rattle.card_image.specs.Judging.{first_bad_file};
+ghost use Rattle.card_validity.specs.card_image.Judging.{first_bad_file};
 ghost use Rattle.card_validity.specs.Faults.{IfNotValid, IfTimeOverlap, has_failed};
 ghost use Rattle.card_validity.specs.Judged.{TellsSizes, IsLook};
 ghost use Rattle.device_calls.specs.Calls.{CardStandsKept};

@@ -3,7 +3,7 @@ ghost use Rattle.std.specs.Prelude.{◌≡◌, ◌≤◌, ◌+◌, length, true,
 ghost use Rattle.std.specs.Prelude.{option_map};
 ghost use Rattle.tacho_types.specs.CardNumber.{card_number_bytes};
 ghost use Rattle.card_commands.specs.Ports.{IsPort};
-ghost use Rattle.card_model.specs.declared.lengths.TheConstants.{DAYS_MOST};
+ghost use Rattle.unit_rule.specs.card_model.declared.lengths.TheConstants.{DAYS_MOST};
 ghost use Rattle.card_validity.specs.Judged.{TellsSizes, IsLook};
 ghost use Rattle.device_calls.specs.Entering.{of_card, IsEntering, IsInsertedWith};
 ghost use Rattle.device_calls.specs.Calls.{CardStandsPutIn, IsRowTold, MayEnter, RulesEntering, UnitIsReady};

@@ -2,11 +2,11 @@
 ghost use Rattle.std.specs.Prelude.{◌≡◌, ◌≤◌, ◌+◌, ℕ, true, None, List, [], IfSome, is_some};
 ghost use Rattle.activity_codec.specs.Activity.{activity_of};
 ghost use Rattle.card_commands.specs.Ports.{IsPort};
-ghost use Rattle.card_image.specs.Own.{own_sizes};
+ghost use Rattle.card_validity.specs.card_image.Own.{own_sizes};
 ghost use Rattle.card_session.specs.Sessions.{IsSession};
-ghost use Rattle.log_model.specs.declared.lines.Mark.{Mark};
-ghost use Rattle.history_model.specs.Book.{Book};
-ghost use Rattle.device_rule.specs.Rules.{In, Out};
+ghost use Rattle.unit_rule.specs.log_model.declared.lines.Mark.{Mark};
+ghost use Rattle.unit_rule.specs.history_model.Book.{Book};
+ghost use Rattle.unit_rule.specs.device_rule.Rules.{In, Out};
 ghost use Rattle.unit_rule.specs.Rule.{Started};
 ghost use Rattle.unit_rule.specs.Marks.{UnitFollowsBook};
 ghost use Rattle.device_calls.specs.Calls.{CardStandsKept, ClosesOnCard};

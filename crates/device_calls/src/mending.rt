@@ -1,6 +1,6 @@
 //! The unit is mended at a power-on.
 ghost use Rattle.std.specs.Prelude.{IfSome, is_err};
-ghost use Rattle.unit_model.specs.Image.{IsUnit};
+ghost use Rattle.unit_minutes.specs.unit_model.Image.{IsUnit};
 ghost use Rattle.unit_minutes.specs.Mends.{IsMendable};
 ghost use Rattle.device_calls.specs.Calls.{LeavesMended, RulesMended, UnitStandsMended, UnitAnswersWithin};
 

@@ -3,13 +3,13 @@ ghost use Rattle.std.specs.Prelude.{◌≡◌, ◌≤◌, ◌<◌, ◌+◌, ◌*
 ghost use Rattle.std.specs.Prelude.{IfSome, length, is_some, is_err};
 ghost use Rattle.activity_codec.specs.declared.entries.Entry.{Entry};
 ghost use Rattle.trace_model.specs.declared.Card.{Card};
-ghost use Rattle.card_retention.specs.Expected.{Counted};
-ghost use Rattle.card_retention.specs.Shown.{Bound};
+ghost use Rattle.unit_rule.specs.card_retention.Expected.{Counted};
+ghost use Rattle.unit_rule.specs.card_retention.Shown.{Bound};
 ghost use Rattle.card_commands.specs.Ports.{IsPort};
 ghost use Rattle.card_session.specs.Sessions.{MayKeep};
-ghost use Rattle.log_model.specs.declared.lines.Mark.{Mark};
-ghost use Rattle.history_model.specs.Book.{Book};
-ghost use Rattle.device_rule.specs.Rules.{In};
+ghost use Rattle.unit_rule.specs.log_model.declared.lines.Mark.{Mark};
+ghost use Rattle.unit_rule.specs.history_model.Book.{Book};
+ghost use Rattle.unit_rule.specs.device_rule.Rules.{In};
 ghost use Rattle.unit_rule.specs.Rule.{Started};
 ghost use Rattle.unit_rule.specs.Marks.{UnitFollowsBook};
 ghost use Rattle.device_calls.specs.Rule.{Both, opened, CardHolds};

@@ -2,9 +2,9 @@
 ghost use Rattle.std.specs.Prelude.{◌≤◌, ◌<◌, OnOk, OnErr, IfSome, is_err};
 ghost use Rattle.tach_media.specs.Medium.{last_count};
 ghost use Rattle.tacho_types.specs.CardNumber.{card_number_bytes};
-ghost use Rattle.unit_owed.specs.Rows.{IsRowAt};
-ghost use Rattle.history_model.specs.Minutes.{HistoryMinute};
-ghost use Rattle.device_rule.specs.Rules.{Standing};
+ghost use Rattle.unit_minutes.specs.unit_owed.Rows.{IsRowAt};
+ghost use Rattle.unit_rule.specs.history_model.Minutes.{HistoryMinute};
+ghost use Rattle.unit_rule.specs.device_rule.Rules.{Standing};
 ghost use Rattle.device_calls.specs.Minute.{Known, known_after, AreBetween, SaysBoth, AreOwed, AreCutOff};
 ghost use Rattle.device_calls.specs.Calls.{MayBeCommitted, RulesOwingSome, UnitIsReady};
 ghost use Rattle.device_calls.specs.Calls.{UnitStandsCommitted, UnitStandsOwing};

@@ -14,3 +14,6 @@ pub mod Brought
 pub mod Overwriting
 pub mod Rows
 pub mod Staying
+pub use Rattle.card_model.proofs as card_model
+pub use Rattle.history_model.proofs as history_model
+pub use Rattle.unit_model.proofs as unit_model

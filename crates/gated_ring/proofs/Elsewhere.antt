@@ -1,7 +1,7 @@
 -- A write outside a ring's range changes nothing of the ring.
 use Rattle.std.proofs.Common.{◌≡◌, ◌⊎◌, inl, inr, ⊎_elim, ℕ, ◌+◌, ◌-◌, ◌<◌, ◌≤◌, Bool, cond, not, List, filter, map, Option, Some, None, sym, ◌∙◌, ap, subst, arith}
 use Rattle.std.specs.Prelude.{◌==◌}
-use Rattle.card_layout.specs.Images.{big_number}
+use Rattle.tach_media.specs.card_layout.Images.{big_number}
 use Rattle.tach_media.specs.Medium.{bytes_at, SameOutside}
 use Rattle.tach_media.proofs.Images.{part_before, part_after, part_in}
 use Rattle.gated_ring.specs.Ring.{Shape, IsShape, size_of, place_of, gate_of, pointer, PointsInside, is_there, entry_at, next, order, indices, ring_list, IsNewest, taken, IsDense}

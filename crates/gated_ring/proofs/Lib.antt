@@ -14,3 +14,5 @@ pub mod Putting
 pub mod Rows
 pub mod Steps
 pub mod Writing
+pub use Rattle.tach_media.proofs.card_layout as card_layout
+pub use Rattle.tach_media.proofs as tach_media

@@ -2,8 +2,8 @@
 use Rattle.std.proofs.Common.{◌≡◌, ◌≢◌, ◌⊎◌, inl, inr, ⊎_elim, ℕ, ◌+◌, ◌-◌, ◌<◌, ◌≤◌, Bool, true, false, not, cond, List, length, replicate, refl, ◌∙◌, ap, arith, length-drop}
 use Rattle.std.specs.Prelude.{◌==◌}
 use Rattle.std.specs.Int.{to_be_bytes, w32}
-use Rattle.card_layout.specs.Images.{big_number}
-use Rattle.card_layout.proofs.Spelled.{bytes_filled, number_put}
+use Rattle.tach_media.specs.card_layout.Images.{big_number}
+use Rattle.tach_media.proofs.card_layout.Spelled.{bytes_filled, number_put}
 use Rattle.std.proofs.lemmas.Bool.{cases_lt}
 use Rattle.tach_media.specs.Medium.{put, bytes_at, SameOutside, IsPartlyWritten}
 use Rattle.tach_media.proofs.Images.{put_outside, part_before, part_after, part_put, outside_wider, outside_then, outside_same}

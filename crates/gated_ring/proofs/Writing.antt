@@ -1,7 +1,7 @@
 -- The writes of one entry: its gate is shut, the bytes beside the gate, and the gate is opened.
 use Rattle.std.proofs.Common.{◌≡◌, ◌≢◌, inr, ℕ, ◌+◌, ◌-◌, ◌<◌, ◌≤◌, Bool, true, false, not, cond, List, ◌++◌, length, take, drop, replicate, refl, sym, ◌∙◌, ap, subst, arith, length-drop, take-append-drop}
 use Rattle.std.specs.Prelude.{◌==◌}
-use Rattle.card_layout.specs.Images.{big_number}
+use Rattle.tach_media.specs.card_layout.Images.{big_number}
 use Rattle.std.proofs.lemmas.Bool.Decides.{nat_tests}
 use Rattle.std.proofs.lemmas.List.{length-take-le, drop-take, drop-drop}
 use Rattle.tach_media.specs.Medium.{put, bytes_at, SameOutside, IsPartlyWritten}

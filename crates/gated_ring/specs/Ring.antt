@@ -3,7 +3,7 @@
 use Rattle.std.specs.Prelude.{◌≡◌, ◌⊎◌, ℕ, ◌+◌, ◌-◌, ◌*◌, ◌^◌, ◌<◌, ◌≤◌, Bool, not, ◌||◌, List, [], ◌∷◌, ◌++◌, length}
 use Rattle.std.specs.Prelude.{drop, map, filter, if◌then◌else◌, ◌==◌, true, Option, Some, None}
 use Rattle.std.specs.List.{range_with_len}
-pub use Rattle.card_layout.specs.Images.{number_at}
+pub use Rattle.tach_media.specs.card_layout.Images.{number_at}
 use Rattle.tach_media.specs.Medium.{State, bytes_at}
 
 -- where a ring begins, how wide an entry is, how many places there are, how wide the pointer is, and where the gate

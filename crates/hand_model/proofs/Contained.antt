@@ -3,9 +3,9 @@ use Rattle.std.proofs.Common.{◌≡◌, inl, inr, ⊎_elim, ℕ, ◌/◌, ◌<�
 use Rattle.std.specs.Prelude.{◌⊎◌, Contains}
 use Rattle.std.proofs.lemmas.List.Elements.{Contains-append_left, Contains-append_right, Contains-append_cases, Contains-push, Contains-push_cases}
 use Rattle.activity_codec.specs.declared.entries.Manual.{Manual}
-use Rattle.card_retention.specs.Expected.{WordDay}
-use Rattle.card_retention.specs.Retains.{is_day}
-use Rattle.card_retention.specs.ByHand.{hands_in}
+use Rattle.card_image.specs.card_retention.Expected.{WordDay}
+use Rattle.card_image.specs.card_retention.Retains.{is_day}
+use Rattle.card_image.specs.card_retention.ByHand.{hands_in}
 use Rattle.hand_model.specs.Written.{IsPartOf}
 
 none_there : (x : Manual) → Contains [] x → ⊥

@@ -4,17 +4,17 @@ use Rattle.std.specs.Prelude.{◌&&◌, nat_eq, nat_le}
 use Rattle.std.proofs.lemmas.Bool.{eq-eqb, eqb-true, leb-false, leb-true, le-leb, lt-leb}
 use Rattle.activity_codec.specs.Words.{word_minute}
 use Rattle.activity_codec.specs.declared.entries.Manual.{Manual}
-use Rattle.card_model.specs.Days.{Day, AreDays, IsDay, Ascend, last_word}
-use Rattle.card_model.specs.Changes.{with_newest, until, early, with_early, date_of, cut, trimmed}
-use Rattle.card_model.proofs.Ascending.{words_ascend, words_below, first_last}
+use Rattle.card_image.specs.card_model.Days.{Day, AreDays, IsDay, Ascend, last_word}
+use Rattle.card_image.specs.card_model.Changes.{with_newest, until, early, with_early, date_of, cut, trimmed}
+use Rattle.card_image.proofs.card_model.Ascending.{words_ascend, words_below, first_last}
 use Rattle.card_image.specs.Fields.{card_days}
 use Rattle.card_image.specs.Own.{own_sizes, own_view}
-use Rattle.card_retention.specs.Entries.{newest_word}
-use Rattle.card_retention.specs.Shown.{sizes}
-use Rattle.card_retention.specs.Retains.{is_day}
-use Rattle.card_retention.specs.ByHand.{hands_in}
-use Rattle.card_retention.proofs.ListTrims.{day_trimmed}
-use Rattle.card_retention.proofs.Newest.{word_late}
+use Rattle.card_image.specs.card_retention.Entries.{newest_word}
+use Rattle.card_image.specs.card_retention.Shown.{sizes}
+use Rattle.card_image.specs.card_retention.Retains.{is_day}
+use Rattle.card_image.specs.card_retention.ByHand.{hands_in}
+use Rattle.card_image.proofs.card_retention.ListTrims.{day_trimmed}
+use Rattle.card_image.proofs.card_retention.Newest.{word_late}
 use Rattle.hand_model.specs.Manual.{is_by_hand, tells_by_hand}
 use Rattle.hand_model.specs.AtStart.{marked_at, all_at, hands_at, AreFirst}
 use Rattle.hand_model.specs.Written.{IsPartOf}

@@ -6,3 +6,4 @@ pub mod Told
 pub mod Cuts
 pub mod Contained
 mod Rows
+pub use Rattle.card_image.proofs as card_image

@@ -4,14 +4,14 @@ use Rattle.std.specs.Prelude.{◌&&◌, nat_eq, nat_le}
 use Rattle.std.proofs.lemmas.Bool.Decides.{nat_tests}
 use Rattle.activity_codec.specs.Words.{word_minute}
 use Rattle.activity_codec.specs.declared.entries.Manual.{Manual}
-use Rattle.card_model.specs.Days.{Day, AreDays, Ascend}
-use Rattle.card_model.specs.Changes.{Remain}
-use Rattle.card_model.proofs.Ascending.{words_ascend}
-use Rattle.card_retention.specs.Expected.{WordDay}
-use Rattle.card_retention.specs.Shown.{sizes, size_day}
-use Rattle.card_retention.specs.Retains.{is_day}
-use Rattle.card_retention.specs.ByHand.{hands_in}
-use Rattle.card_retention.proofs.Listing.{day_not, is_day_append}
+use Rattle.card_image.specs.card_model.Days.{Day, AreDays, Ascend}
+use Rattle.card_image.specs.card_model.Changes.{Remain}
+use Rattle.card_image.proofs.card_model.Ascending.{words_ascend}
+use Rattle.card_image.specs.card_retention.Expected.{WordDay}
+use Rattle.card_image.specs.card_retention.Shown.{sizes, size_day}
+use Rattle.card_image.specs.card_retention.Retains.{is_day}
+use Rattle.card_image.specs.card_retention.ByHand.{hands_in}
+use Rattle.card_image.proofs.card_retention.Listing.{day_not, is_day_append}
 use Rattle.hand_model.specs.Manual.{is_by_hand, tells_by_hand}
 use Rattle.hand_model.specs.ByHand.{words_by_hand, by_hand_up_to, TellsHands, HandsUpTo, HandsBefore}
 

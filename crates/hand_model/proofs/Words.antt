@@ -7,8 +7,8 @@ use Rattle.activity_codec.specs.declared.entries.Entry.{Entry}
 use Rattle.activity_codec.specs.declared.words.Change.{Change}
 use Rattle.activity_codec.specs.Words.{activity_number, change_of, word_of, word_minute, word_slot, word_act, word_absent, word_crew}
 use Rattle.activity_codec.proofs.WordLemmas.{change_of-word_of}
-use Rattle.card_model.specs.Changes.{date_of}
-use Rattle.card_retention.specs.Entries.{told_by}
+use Rattle.card_image.specs.card_model.Changes.{date_of}
+use Rattle.card_image.specs.card_retention.Entries.{told_by}
 use Rattle.activity_codec.specs.declared.entries.Manual.{Manual}
 use Rattle.hand_model.specs.Manual.{manual_word, is_by_hand, tells_by_hand}
 

@@ -3,9 +3,9 @@ use Rattle.std.proofs.Common.{◌≡◌, inl, inr, ⊎_elim, ℕ, ◌/◌, ◌�
 use Rattle.std.proofs.lemmas.List.{append-nil}
 use Rattle.activity_codec.specs.declared.entries.Entry.{Entry}
 use Rattle.activity_codec.specs.declared.entries.Manual.{Manual}
-use Rattle.card_retention.specs.Expected.{WordDay, Counted}
-use Rattle.card_retention.specs.Retains.{is_day}
-use Rattle.card_retention.specs.ByHand.{hands_in}
+use Rattle.card_image.specs.card_retention.Expected.{WordDay, Counted}
+use Rattle.card_image.specs.card_retention.Retains.{is_day}
+use Rattle.card_image.specs.card_retention.ByHand.{hands_in}
 use Rattle.hand_model.specs.Holding.{LieBetween, AreOfDay}
 use Rattle.hand_model.specs.Written.{Written, Written.Minute, Written.ByHand, IsPartOf, Hands, Lie, Rises, GoesOnIn, IsUpTo, entries_of, hands_of, written_by, minutes_alone, with_written, counted_by, and_sure, and_given}
 

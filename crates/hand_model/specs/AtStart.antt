@@ -1,10 +1,10 @@
 -- The entries by hand of a card as a run finds it, and which of them an image may tell later (profile).
 use Rattle.std.specs.Prelude.{◌≡◌, ◌⊎◌, ℕ, ◌/◌, max, true, List, Contains, nat_eq, if◌then◌else◌}
 use Rattle.activity_codec.specs.declared.entries.Manual.{Manual}
-use Rattle.card_layout.specs.declared.files.Application.{Application}
-use Rattle.card_retention.specs.Entries.{newest_word}
-use Rattle.card_retention.specs.Shown.{sizes}
-use Rattle.card_retention.specs.Retains.{is_day}
+use Rattle.card_image.specs.card_layout.declared.files.Application.{Application}
+use Rattle.card_image.specs.card_retention.Entries.{newest_word}
+use Rattle.card_image.specs.card_retention.Shown.{sizes}
+use Rattle.card_image.specs.card_retention.Retains.{is_day}
 use Rattle.card_image.specs.Fields.{card_days}
 use Rattle.card_image.specs.Own.{own_sizes, own_view}
 use Rattle.hand_model.specs.ByHand.{by_hand_up_to, by_hand_in}

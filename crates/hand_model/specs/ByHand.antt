@@ -1,10 +1,10 @@
 -- The entries by hand that a card shows: of each word of its days that tells one, up to the end mark (profile).
 use Rattle.std.specs.Prelude.{◌≡◌, ℕ, ◌+◌, ◌/◌, ◌<◌, ◌≤◌, ◌&&◌, List, [], ◌∷◌, ◌++◌, nat_le, if◌then◌else◌}
 use Rattle.activity_codec.specs.Words.{word_minute}
-use Rattle.card_layout.specs.declared.files.Application.{Application}
-use Rattle.card_model.specs.Days.{Day}
-use Rattle.card_retention.specs.Shown.{sizes}
-use Rattle.card_retention.specs.ByHand.{hands_in}
+use Rattle.card_image.specs.card_layout.declared.files.Application.{Application}
+use Rattle.card_image.specs.card_model.Days.{Day}
+use Rattle.card_image.specs.card_retention.Shown.{sizes}
+use Rattle.card_image.specs.card_retention.ByHand.{hands_in}
 use Rattle.card_image.specs.Fields.{card_days, end_mark}
 use Rattle.activity_codec.specs.declared.entries.Manual.{Manual}
 use Rattle.hand_model.specs.Manual.{is_by_hand, tells_by_hand}

@@ -1,2 +1,2 @@
 -- The words of a card's days with entries by hand.
-pub use Rattle.card_retention.specs.ByHand.{with_by_hand, on_day, and_by_hand}
+pub use Rattle.card_image.specs.card_retention.ByHand.{with_by_hand, on_day, and_by_hand}

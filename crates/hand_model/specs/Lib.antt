@@ -4,3 +4,4 @@ pub mod Counted
 pub mod Holding
 pub mod Written
 pub mod AtStart
+pub use Rattle.card_image.specs as card_image

@@ -3,8 +3,8 @@
 use Rattle.std.specs.Prelude.{◌≡◌, ◌⊎◌, ℕ, ◌/◌, ◌<◌, ◌≤◌, List, [], ◌∷◌, ◌++◌, map, fold}
 use Rattle.activity_codec.specs.declared.entries.Entry.{Entry}
 use Rattle.activity_codec.specs.declared.entries.Manual.{Manual}
-use Rattle.card_retention.specs.Expected.{Counted, with_entry}
-use Rattle.card_retention.specs.ByHand.{with_by_hand}
+use Rattle.card_image.specs.card_retention.Expected.{Counted, with_entry}
+use Rattle.card_image.specs.card_retention.ByHand.{with_by_hand}
 
 -- ONE OF THEM
 pub data Written : Type 0 where

@@ -1,8 +1,8 @@
 ghost use Rattle.std.specs.Prelude.{◌≡◌, ◌<◌, ◌≤◌, ℕ, true, None, Some, List};
 ghost use Rattle.activity_codec.specs.Words.{word_absent, word_minute};
-ghost use Rattle.card_model.specs.Days.{Day, AreDays};
-ghost use Rattle.card_model.specs.Changes.{date_of, trimmed};
-ghost use Rattle.card_retention.specs.Entries.{told_by, newest_word};
+ghost use Rattle.card_image.specs.card_model.Days.{Day, AreDays};
+ghost use Rattle.card_image.specs.card_model.Changes.{date_of, trimmed};
+ghost use Rattle.card_image.specs.card_retention.Entries.{told_by, newest_word};
 ghost use Rattle.activity_codec.specs.declared.entries.Manual.{Manual};
 ghost use Rattle.hand_model.specs.Manual.{manual_word, is_by_hand, tells_by_hand};
 ghost use Rattle.hand_model.specs.ByHand.{TellsHands, HandsUpTo};

@@ -5,10 +5,10 @@ use Rattle.std.proofs.lemmas.List.Elements.{filter-append, filter_passes, All-co
 use Rattle.std.proofs.lemmas.List.{append-nil, append_cancel_left}
 use Rattle.std.proofs.lemmas.Grind.{flat_map-append}
 use Rattle.std.specs.Prelude.{option_to_list}
-use Rattle.activity_codec.specs.declared.entries.Entry.{Entry}
-use Rattle.activity_codec.specs.declared.values.Slot.{Slot}
-use Rattle.activity_codec.specs.declared.values.Slot.TheVariants.{Driver, CoDriver}
-use Rattle.trace_model.specs.declared.Card.{Card}
+use Rattle.log_model.specs.activity_codec.declared.entries.Entry.{Entry}
+use Rattle.log_model.specs.activity_codec.declared.values.Slot.{Slot}
+use Rattle.log_model.specs.activity_codec.declared.values.Slot.TheVariants.{Driver, CoDriver}
+use Rattle.log_model.specs.trace_model.declared.Card.{Card}
 use Rattle.log_model.specs.Slots.{same_card}
 use Rattle.history_model.specs.Minutes.{up_to, HistoryMinute, Seat, on_card, entry_in, is_crew, card_history}
 use Rattle.history_model.specs.Book.{Book, all, kept, broken, found, IsReached, IsNext, Rising, Between, Ordered, IsFork, IsMark}

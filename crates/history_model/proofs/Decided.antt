@@ -3,10 +3,10 @@ use Rattle.std.proofs.Common.{◌≡◌, ◌⊎◌, ⊎_elim, ℕ, ◌+◌, ◌/
 use Rattle.std.specs.Prelude.{find, option_to_list}
 use Rattle.std.proofs.lemmas.Bool.Decides.{nat_tests}
 use Rattle.std.proofs.lemmas.List.Elements.{All-contains, All-filter, All-contains_itself, Contains-append_left, Contains-append_right, Contains-push, Contains-push_cases, Contains-append_cases}
-use Rattle.trace_model.specs.Trace.{TraceSecond}
-use Rattle.minute_model.specs.declared.Rule.{Rule}
-use Rattle.minute_model.specs.declared.Minute.{Minute}
-use Rattle.minute_model.specs.Span.{AreNumbered}
+use Rattle.log_model.specs.trace_model.Trace.{TraceSecond}
+use Rattle.log_model.specs.minute_model.declared.Rule.{Rule}
+use Rattle.log_model.specs.minute_model.declared.Minute.{Minute}
+use Rattle.log_model.specs.minute_model.Span.{AreNumbered}
 use Rattle.log_model.specs.Log.{RunLog}
 use Rattle.log_model.specs.Course.{ToldSecond, went}
 use Rattle.log_model.specs.Spans.{spans_of, seconds_in, first_in, end_in, AreInOrder, AreApart}

@@ -3,14 +3,14 @@ use Rattle.std.proofs.Common.{◌≡◌, ℕ, suc, ◌+◌, ◌-◌, ◌*◌, �
 use Rattle.std.specs.List.{AllByRecursion}
 use Rattle.std.proofs.lemmas.List.{map-append}
 use Rattle.std.proofs.lemmas.List.Elements.{filter-append}
-use Rattle.minute_model.specs.declared.Rule.{Rule}
-use Rattle.minute_model.specs.declared.Rule.TheVariants.{Original, Amended}
-use Rattle.minute_model.specs.declared.Minute.{Minute}
-use Rattle.minute_model.specs.Second.{Second}
-use Rattle.minute_model.specs.Minute.{minutes_ahead, class_of}
-use Rattle.minute_model.specs.Span.{Span, end_of, fed, decided_in, ungiven_of, latest, AreSettled, AreNumbered, count_from}
-use Rattle.minute_model.proofs.Counted.{judged, decided-counted, decided-ended, decided-settled, settled-more}
-use Rattle.minute_model.proofs.Spans.{decided-fed_many}
+use Rattle.log_model.specs.minute_model.declared.Rule.{Rule}
+use Rattle.log_model.specs.minute_model.declared.Rule.TheVariants.{Original, Amended}
+use Rattle.log_model.specs.minute_model.declared.Minute.{Minute}
+use Rattle.log_model.specs.minute_model.Second.{Second}
+use Rattle.log_model.specs.minute_model.Minute.{minutes_ahead, class_of}
+use Rattle.log_model.specs.minute_model.Span.{Span, end_of, fed, decided_in, ungiven_of, latest, AreSettled, AreNumbered, count_from}
+use Rattle.log_model.proofs.minute_model.Counted.{judged, decided-counted, decided-ended, decided-settled, settled-more}
+use Rattle.log_model.proofs.minute_model.Spans.{decided-fed_many}
 use Rattle.log_model.specs.Course.{ToldSecond}
 use Rattle.log_model.specs.Spans.{seconds_in, first_in, end_in, AreApart}
 use Rattle.log_model.proofs.Spanning.{first-on}

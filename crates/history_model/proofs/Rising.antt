@@ -1,9 +1,9 @@
 -- The minutes of the history rise, and have ended.
 use Rattle.std.proofs.Common.{◌≡◌, ℕ, ◌+◌, ◌/◌, ◌-◌, ◌≤◌, Bool, true, false, cond, Option, Some, None, List, [], ◌∷◌, ◌++◌, zero, suc, map, filter, arith, nat_le}
-use Rattle.minute_model.specs.declared.Rule.{Rule}
-use Rattle.minute_model.specs.declared.Minute.{Minute}
-use Rattle.minute_model.specs.Span.{ungiven_of, count_from, AreNumbered}
-use Rattle.minute_model.proofs.Counted.{decided-minutes, ungiven-most}
+use Rattle.log_model.specs.minute_model.declared.Rule.{Rule}
+use Rattle.log_model.specs.minute_model.declared.Minute.{Minute}
+use Rattle.log_model.specs.minute_model.Span.{ungiven_of, count_from, AreNumbered}
+use Rattle.log_model.proofs.minute_model.Counted.{decided-minutes, ungiven-most}
 use Rattle.log_model.specs.Course.{ToldSecond}
 use Rattle.log_model.specs.Spans.{seconds_in, first_in, end_in, AreApart}
 use Rattle.history_model.specs.Minutes.{HistoryMinute}

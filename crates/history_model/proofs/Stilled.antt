@@ -4,13 +4,13 @@ use Rattle.std.specs.Prelude.{option_to_list, option_map, unwrap_or}
 use Rattle.std.specs.List.{AllByRecursion}
 use Rattle.std.proofs.lemmas.Bool.Decides.{nat_tests}
 use Rattle.std.proofs.lemmas.List.Elements.{filter-append}
-use Rattle.activity_codec.specs.declared.values.Slot.{Slot}
-use Rattle.activity_codec.specs.declared.values.Slot.TheVariants.{Driver, CoDriver}
-use Rattle.minute_model.specs.declared.Rule.{Rule}
-use Rattle.minute_model.specs.declared.Minute.{Minute}
-use Rattle.minute_model.specs.Second.{minute_of}
-use Rattle.minute_model.specs.Activity.{last}
-use Rattle.trace_model.specs.declared.Card.{Card}
+use Rattle.log_model.specs.activity_codec.declared.values.Slot.{Slot}
+use Rattle.log_model.specs.activity_codec.declared.values.Slot.TheVariants.{Driver, CoDriver}
+use Rattle.log_model.specs.minute_model.declared.Rule.{Rule}
+use Rattle.log_model.specs.minute_model.declared.Minute.{Minute}
+use Rattle.log_model.specs.minute_model.Second.{minute_of}
+use Rattle.log_model.specs.minute_model.Activity.{last}
+use Rattle.log_model.specs.trace_model.declared.Card.{Card}
 use Rattle.log_model.specs.Slots.{in_slot}
 use Rattle.log_model.specs.Course.{ToldSecond}
 use Rattle.history_model.specs.Minutes.{HistoryMinute}

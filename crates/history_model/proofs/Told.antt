@@ -1,10 +1,10 @@
 -- The laws of one second more, said of the seconds of a trace.
 use Rattle.std.proofs.Common.{◌≡◌, ◌⊎◌, inl, inr, ℕ, ◌+◌, ◌<◌, ◌≤◌, ◌/◌, Bool, true, false, ◌||◌, List, [], ◌∷◌, ◌++◌, All, length, refl, ap, sym, subst, ◌∙◌, arith, nat_lt}
 use Rattle.std.proofs.lemmas.Bool.Decides.{nat_tests}
-use Rattle.trace_model.specs.Trace.{TraceSecond}
-use Rattle.minute_model.specs.declared.Rule.{Rule}
-use Rattle.minute_model.specs.declared.Minute.{Minute}
-use Rattle.minute_model.specs.Span.{fed}
+use Rattle.log_model.specs.trace_model.Trace.{TraceSecond}
+use Rattle.log_model.specs.minute_model.declared.Rule.{Rule}
+use Rattle.log_model.specs.minute_model.declared.Minute.{Minute}
+use Rattle.log_model.specs.minute_model.Span.{fed}
 use Rattle.log_model.specs.Log.{RunLog}
 use Rattle.log_model.specs.Course.{ToldSecond, Went, went, second_told}
 use Rattle.log_model.specs.Spans.{spans_of, AreInOrder, AreApart}

@@ -1,11 +1,11 @@
 -- How the history grows from one second to the next (profile).
 use Rattle.std.specs.Prelude.{◌≡◌, ℕ, ◌+◌, ◌≤◌, Bool, true, false, Option, Some, List, [], ◌∷◌, ◌++◌, length, nat_lt}
 use Rattle.std.specs.Prelude.{unwrap_or}
-use Rattle.activity_codec.specs.declared.values.Slot.{Slot}
-use Rattle.activity_codec.specs.declared.values.Pick.{Pick}
-use Rattle.minute_model.specs.declared.Rule.{Rule}
-use Rattle.minute_model.specs.Activity.{last}
-use Rattle.minute_model.specs.Span.{Span, settled}
+use Rattle.log_model.specs.activity_codec.declared.values.Slot.{Slot}
+use Rattle.log_model.specs.activity_codec.declared.values.Pick.{Pick}
+use Rattle.log_model.specs.minute_model.declared.Rule.{Rule}
+use Rattle.log_model.specs.minute_model.Activity.{last}
+use Rattle.log_model.specs.minute_model.Span.{Span, settled}
 use Rattle.log_model.specs.Log.{RunLog}
 use Rattle.log_model.specs.Course.{ToldSecond}
 use Rattle.log_model.specs.Spans.{seconds_in, first_in}

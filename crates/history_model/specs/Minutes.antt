@@ -1,10 +1,10 @@
 -- A minute of the history, and what it says on a card (profile).
 use Rattle.std.specs.Prelude.{ℕ, Bool, ◌&&◌, Option, List, ◌++◌, map, filter, flat_map, nat_le, is_some, option_to_list}
-use Rattle.activity_codec.specs.declared.entries.Entry.{Entry}
-use Rattle.activity_codec.specs.declared.values.Activity.{Activity}
-use Rattle.activity_codec.specs.declared.values.Slot.{Slot}
-use Rattle.activity_codec.specs.declared.values.Slot.TheVariants.{Driver, CoDriver}
-use Rattle.trace_model.specs.declared.Card.{Card}
+use Rattle.log_model.specs.activity_codec.declared.entries.Entry.{Entry}
+use Rattle.log_model.specs.activity_codec.declared.values.Activity.{Activity}
+use Rattle.log_model.specs.activity_codec.declared.values.Slot.{Slot}
+use Rattle.log_model.specs.activity_codec.declared.values.Slot.TheVariants.{Driver, CoDriver}
+use Rattle.log_model.specs.trace_model.declared.Card.{Card}
 use Rattle.log_model.specs.Slots.{same_card}
 
 -- a slot in a minute: its activity, and the card that was present

@@ -2,12 +2,12 @@
 use Rattle.std.specs.Prelude.{ℕ, suc, ◌/◌, ◌%◌, max, Bool, false, not, ◌&&◌, Option, Some, None, List, ◌++◌, filter}
 use Rattle.std.specs.Prelude.{nat_eq, nat_lt, if◌then◌else◌, option_map, unwrap_or}
 use Rattle.std.specs.List.{list_any}
-use Rattle.activity_codec.specs.declared.entries.Entry.{Entry}
-use Rattle.activity_codec.specs.declared.values.Slot.{Slot}
-use Rattle.trace_model.specs.declared.Card.{Card}
-use Rattle.trace_model.specs.declared.Card.TheVariants.{A, B}
-use Rattle.minute_model.specs.Second.{minute_of}
-use Rattle.minute_model.specs.Activity.{last}
+use Rattle.log_model.specs.activity_codec.declared.entries.Entry.{Entry}
+use Rattle.log_model.specs.activity_codec.declared.values.Slot.{Slot}
+use Rattle.log_model.specs.trace_model.declared.Card.{Card}
+use Rattle.log_model.specs.trace_model.declared.Card.TheVariants.{A, B}
+use Rattle.log_model.specs.minute_model.Second.{minute_of}
+use Rattle.log_model.specs.minute_model.Activity.{last}
 use Rattle.log_model.specs.Slots.{Sitting, same_card, in_slot}
 use Rattle.log_model.specs.Course.{ToldSecond}
 use Rattle.history_model.specs.Minutes.{HistoryMinute, card_history}

@@ -1,9 +1,9 @@
 ghost use Rattle.std.specs.Prelude.{◌≡◌, ◌⊎◌, ◌+◌, ◌<◌, ◌≤◌, ◌/◌, true, false, None, ℕ, ◌++◌, ◌∷◌, List, [], All};
 ghost use Rattle.std.specs.Prelude.{length};
-ghost use Rattle.trace_model.specs.Trace.{TraceSecond};
-ghost use Rattle.minute_model.specs.declared.Rule.{Rule};
-ghost use Rattle.minute_model.specs.declared.Minute.{Minute};
-ghost use Rattle.minute_model.specs.Span.{fed};
+ghost use Rattle.log_model.specs.trace_model.Trace.{TraceSecond};
+ghost use Rattle.log_model.specs.minute_model.declared.Rule.{Rule};
+ghost use Rattle.log_model.specs.minute_model.declared.Minute.{Minute};
+ghost use Rattle.log_model.specs.minute_model.Span.{fed};
 ghost use Rattle.log_model.specs.Log.{RunLog};
 ghost use Rattle.log_model.specs.Course.{ToldSecond, went, second_told};
 ghost use Rattle.log_model.specs.Spans.{spans_of, end_in, AreInOrder, AreApart};

@@ -6,8 +6,8 @@ use Rattle.trace_model.specs.declared.Action.{Action}
 use Rattle.trace_model.specs.declared.Item.{Item}
 use Rattle.trace_model.specs.declared.Item.TheVariants.{Run, Off, Act}
 use Rattle.trace_model.specs.Trace.{TraceSecond, driven, dark, seconds_from, seconds_of}
-use Rattle.minute_model.specs.Span.{AreNumbered}
-use Rattle.minute_model.proofs.Numbered.{numbered-more}
+use Rattle.run_model.specs.minute_model.Span.{AreNumbered}
+use Rattle.run_model.proofs.minute_model.Numbered.{numbered-more}
 use Rattle.log_model.specs.Log.{RunLog}
 use Rattle.log_model.specs.Course.{ToldSecond, Went, Before, has_power, second_told, before_next, went_on, went, not_begun}
 use Rattle.log_model.specs.Spans.{go_on, spans_with, spans_of, seconds_in, first_in, end_in, AreInOrder, AreApart}

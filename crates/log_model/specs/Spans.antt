@@ -1,8 +1,8 @@
 -- The power spans of a run: seconds with power one after another, of which no one but the last is a cut's (profile).
 use Rattle.std.specs.Prelude.{◌≡◌, ℕ, ◌+◌, ◌<◌, ◌≤◌, List, [], ◌∷◌, ◌++◌, length, map, if◌then◌else◌, fold}
 use Rattle.trace_model.specs.Trace.{TraceSecond}
-use Rattle.minute_model.specs.Second.{Second}
-use Rattle.minute_model.specs.Span.{AreNumbered}
+use Rattle.run_model.specs.minute_model.Second.{Second}
+use Rattle.run_model.specs.minute_model.Span.{AreNumbered}
 use Rattle.log_model.specs.Course.{ToldSecond}
 
 -- the last span goes on

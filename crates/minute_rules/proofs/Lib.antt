@@ -8,3 +8,4 @@ pub mod Classing
 pub mod Giving
 pub mod GoingOn
 pub mod Parts
+pub use Rattle.minute_model.proofs as minute_model

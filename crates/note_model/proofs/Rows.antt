@@ -1,19 +1,19 @@
 -- Worked rows of the auxiliary records: a short drive with a card, and a run with a cut.
 use Rattle.std.proofs.Common.{◌≡◌, inl, inr, ℕ, true, false, cond, nat_eq, Option, None, Some, List, [], ◌∷◌, ◌++◌, map, refl}
-use Rattle.activity_codec.specs.declared.values.Slot.TheVariants.{Driver}
-use Rattle.trace_model.specs.declared.Card.{Card}
-use Rattle.trace_model.specs.declared.Card.TheVariants.{A}
-use Rattle.trace_model.specs.declared.Action.{Action}
-use Rattle.trace_model.specs.declared.Action.TheVariants.{Insert, Withdraw, Place}
-use Rattle.trace_model.specs.Trace.{TraceSecond}
-use Rattle.unit_model.specs.Ring.{Shape, taken}
-use Rattle.log_model.specs.declared.lines.Break.TheVariants.{Cut, Tear}
-use Rattle.log_model.specs.declared.lines.Find.{Find}
-use Rattle.log_model.specs.declared.lines.Verdict.{Verdict}
-use Rattle.log_model.specs.declared.lines.Verdict.TheVariants.{Accepted, TimeOverlap}
-use Rattle.log_model.specs.Log.{RunLog, cut_in, is_torn_in, found_in, kept_after}
-use Rattle.log_model.specs.Course.{Visit, went}
-use Rattle.log_model.specs.Spans.{spans_of}
+use Rattle.event_model.specs.activity_codec.declared.values.Slot.TheVariants.{Driver}
+use Rattle.event_model.specs.trace_model.declared.Card.{Card}
+use Rattle.event_model.specs.trace_model.declared.Card.TheVariants.{A}
+use Rattle.event_model.specs.trace_model.declared.Action.{Action}
+use Rattle.event_model.specs.trace_model.declared.Action.TheVariants.{Insert, Withdraw, Place}
+use Rattle.event_model.specs.trace_model.Trace.{TraceSecond}
+use Rattle.message_model.specs.unit_model.Ring.{Shape, taken}
+use Rattle.history_model.specs.log_model.declared.lines.Break.TheVariants.{Cut, Tear}
+use Rattle.history_model.specs.log_model.declared.lines.Find.{Find}
+use Rattle.history_model.specs.log_model.declared.lines.Verdict.{Verdict}
+use Rattle.history_model.specs.log_model.declared.lines.Verdict.TheVariants.{Accepted, TimeOverlap}
+use Rattle.history_model.specs.log_model.Log.{RunLog, cut_in, is_torn_in, found_in, kept_after}
+use Rattle.history_model.specs.log_model.Course.{Visit, went}
+use Rattle.history_model.specs.log_model.Spans.{spans_of}
 use Rattle.note_model.specs.Done.{done_of, has_failed_in}
 use Rattle.note_model.specs.Noted.{Accepts, Withdraws, Enters, notes_of, insertions_of}
 use Rattle.note_model.specs.Odometer.{driven_before, odometer_before}

@@ -1,9 +1,9 @@
 -- The seconds of a run went as its course tells them.
 use Rattle.std.proofs.Common.{◌≡◌, List, [], ◌∷◌, ◌++◌, map, fold, sym, ◌∙◌, append_assoc}
 use Rattle.std.proofs.lemmas.List.{append-nil}
-use Rattle.trace_model.specs.Trace.{TraceSecond}
-use Rattle.log_model.specs.Log.{RunLog}
-use Rattle.log_model.specs.Course.{Went, second_told, before_next, went_on, not_begun, went}
+use Rattle.event_model.specs.trace_model.Trace.{TraceSecond}
+use Rattle.history_model.specs.log_model.Log.{RunLog}
+use Rattle.history_model.specs.log_model.Course.{Went, second_told, before_next, went_on, not_begun, went}
 use Rattle.note_model.specs.Done.{Done, done_from, done_of}
 
 told_behind : (log : RunLog) (w : Went) (ss : List TraceSecond) → (fold (went_on log) w ss).told ≡ w.told ++ map (λ (d : Done). d.told) (done_from log w.before ss)

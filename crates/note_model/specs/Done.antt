@@ -2,13 +2,14 @@
 -- before and after it, and the slots behind the power-on and of the second itself, behind its actions (profile).
 use Rattle.std.specs.Prelude.{ℕ, ◌+◌, Bool, true, not, ◌&&◌, List, [], ◌∷◌, ◌++◌, is_some, nat_eq, if◌then◌else◌}
 use Rattle.std.specs.List.{list_any}
-use Rattle.trace_model.specs.declared.Action.{Action}
-use Rattle.trace_model.specs.Trace.{TraceSecond}
-use Rattle.log_model.specs.Log.{RunLog, In, cut_in}
-use Rattle.log_model.specs.Slots.{Slots, refusal}
-use Rattle.log_model.specs.Course.{Course, ToldSecond, Before, begins, acted, all_acted, both_told, unmoved, fresh}
-use Rattle.log_model.specs.Course.{has_power, second_told, before_next, not_begun}
-use Rattle.log_model.specs.Causes.{cuts, second_of}
+use Rattle.event_model.specs.trace_model.declared.Action.{Action}
+use Rattle.event_model.specs.trace_model.Trace.{TraceSecond}
+use Rattle.history_model.specs.log_model.Log.{RunLog, In, cut_in}
+use Rattle.history_model.specs.log_model.Slots.{Slots, refusal}
+use Rattle.history_model.specs.log_model.Course.{Course, ToldSecond, Before, begins, acted, all_acted, both_told}
+use Rattle.history_model.specs.log_model.Course.{unmoved, fresh}
+use Rattle.history_model.specs.log_model.Course.{has_power, second_told, before_next, not_begun}
+use Rattle.history_model.specs.log_model.Causes.{cuts, second_of}
 
 -- an action that was carried out: how many of its second came before it, and the slots before and after it
 pub record CarriedOut : Type 0 where

@@ -1,9 +1,9 @@
 -- When the events and faults of a run are noted on the unit, and which sessions of its cards were found open (profile).
 use Rattle.std.specs.Prelude.{◌≡◌, ℕ, ◌+◌, ◌||◌, true, List, Contains, nat_eq, if◌then◌else◌}
-use Rattle.trace_model.specs.declared.Card.{Card}
-use Rattle.log_model.specs.declared.lines.Verdict.{Verdict}
-use Rattle.log_model.specs.Log.{is_accepting}
-use Rattle.log_model.specs.Course.{ToldSecond, Visit}
+use Rattle.event_model.specs.trace_model.declared.Card.{Card}
+use Rattle.history_model.specs.log_model.declared.lines.Verdict.{Verdict}
+use Rattle.history_model.specs.log_model.Log.{is_accepting}
+use Rattle.history_model.specs.log_model.Course.{ToldSecond, Visit}
 use Rattle.event_model.specs.declared.kinds.TheConstants.{TIME_OVERLAP, DRIVING_WITHOUT_CARD, OVER_SPEEDING}
 use Rattle.event_model.specs.Events.{Event}
 

@@ -2,12 +2,12 @@
 use Rattle.std.specs.Prelude.{ℕ, ◌+◌, Bool, not, ◌&&◌, Option, Some, None, List, [], ◌∷◌, ◌++◌, map, filter, flat_map}
 use Rattle.std.specs.Prelude.{fold, is_some, if◌then◌else◌}
 use Rattle.std.specs.List.{list_any}
-use Rattle.activity_codec.specs.declared.values.Slot.{Slot}
-use Rattle.trace_model.specs.declared.Card.{Card}
-use Rattle.trace_model.specs.declared.Action.{Action}
-use Rattle.trace_model.specs.declared.Action.TheVariants.{Select, Insert, Withdraw, Tear, Place, Manual}
-use Rattle.log_model.specs.Log.{RunLog, Phase, In, same_phase, is_torn_in, is_accepting}
-use Rattle.log_model.specs.Slots.{Sitting, in_slot, same_card}
+use Rattle.event_model.specs.activity_codec.declared.values.Slot.{Slot}
+use Rattle.event_model.specs.trace_model.declared.Card.{Card}
+use Rattle.event_model.specs.trace_model.declared.Action.{Action}
+use Rattle.event_model.specs.trace_model.declared.Action.TheVariants.{Select, Insert, Withdraw, Tear, Place, Manual}
+use Rattle.history_model.specs.log_model.Log.{RunLog, Phase, In, same_phase, is_torn_in, is_accepting}
+use Rattle.history_model.specs.log_model.Slots.{Sitting, in_slot, same_card}
 use Rattle.note_model.specs.Done.{CarriedOut, Done}
 
 -- a card that was accepted

@@ -2,13 +2,13 @@
 use Rattle.std.specs.Prelude.{◌≡◌, ◌⊎◌, ℕ, ◌+◌, ◌*◌, ◌/◌, ◌<◌, ◌≤◌, min, Bool, false, Option, Some, None, List, [], ◌∷◌}
 use Rattle.std.specs.Prelude.{◌++◌, All, map, filter, sum, Contains, nat_eq, nat_lt, nat_le, if◌then◌else◌}
 use Rattle.std.specs.List.{list_any}
-use Rattle.minute_model.specs.declared.Rule.{Rule}
-use Rattle.minute_model.specs.declared.Minute.{Minute}
-use Rattle.minute_model.specs.Activity.{last}
-use Rattle.unit_model.specs.declared.layout.TheConstants.{HIGHEST_ODOMETER}
-use Rattle.log_model.specs.Log.{RunLog, kept_after}
-use Rattle.log_model.specs.Course.{ToldSecond}
-use Rattle.log_model.specs.Spans.{spans_of, seconds_in, first_in}
+use Rattle.message_model.specs.minute_model.declared.Rule.{Rule}
+use Rattle.message_model.specs.minute_model.declared.Minute.{Minute}
+use Rattle.message_model.specs.minute_model.Activity.{last}
+use Rattle.message_model.specs.unit_model.declared.layout.TheConstants.{HIGHEST_ODOMETER}
+use Rattle.history_model.specs.log_model.Log.{RunLog, kept_after}
+use Rattle.history_model.specs.log_model.Course.{ToldSecond}
+use Rattle.history_model.specs.log_model.Spans.{spans_of, seconds_in, first_in}
 use Rattle.history_model.specs.History.{settlings_of, decided_of, cut_second, limit_by}
 use Rattle.history_model.specs.Completeness.{deciding_of}
 use Rattle.note_model.specs.Done.{has_failed_in}

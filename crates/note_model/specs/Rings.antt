@@ -1,11 +1,11 @@
 -- What the rings of insertions and places of a unit show of a run (profile).
 use Rattle.std.specs.Prelude.{◌≡◌, ◌⊎◌, ℕ, ◌+◌, ◌<◌, ◌≤◌, Bool, true, false, not, Option, Some, None, List, [], ◌∷◌}
 use Rattle.std.specs.Prelude.{◌++◌, length, filter, if◌then◌else◌, Contains}
-use Rattle.card_layout.specs.Fields.{field_at, number_in}
-use Rattle.activity_codec.specs.Words.{slot_number}
-use Rattle.trace_model.specs.declared.Card.{Card}
-use Rattle.unit_model.specs.Ring.{Shape, PointsInside, indices, ring_list, taken, IsDense}
-use Rattle.log_model.specs.Log.{RunLog}
+use Rattle.message_model.specs.card_layout.Fields.{field_at, number_in}
+use Rattle.event_model.specs.activity_codec.Words.{slot_number}
+use Rattle.event_model.specs.trace_model.declared.Card.{Card}
+use Rattle.message_model.specs.unit_model.Ring.{Shape, PointsInside, indices, ring_list, taken, IsDense}
+use Rattle.history_model.specs.log_model.Log.{RunLog}
 use Rattle.message_model.specs.Records.{insertion_widths, place_widths}
 use Rattle.note_model.specs.Done.{has_failed_in}
 use Rattle.note_model.specs.Odometer.{SpanFrom, odometer_at}

@@ -3,11 +3,11 @@
 use Rattle.std.specs.Prelude.{◌≡◌, ℕ, ◌+◌, ◌-◌, ◌*◌, Bool, true, false, Option, Some, None, option_map, List, [], ◌∷◌}
 use Rattle.std.specs.Prelude.{length, map, slice_set, slice_index_or, replicate, nat_eq, if◌then◌else◌}
 use Rattle.std.specs.List.{range_with_len}
-use Rattle.card_layout.specs.Images.{bytes_at}
-use Rattle.card_layout.specs.Fields.{field_at, number_in, total_width}
-use Rattle.trace_model.specs.declared.Card.{Card}
-use Rattle.unit_model.specs.Ring.{Shape, entry_at}
-use Rattle.unit_model.specs.declared.layout.TheConstants.{EVENTS, OVERS, FAULTS}
+use Rattle.message_model.specs.card_layout.Images.{bytes_at}
+use Rattle.message_model.specs.card_layout.Fields.{field_at, number_in, total_width}
+use Rattle.event_model.specs.trace_model.declared.Card.{Card}
+use Rattle.message_model.specs.unit_model.Ring.{Shape, entry_at}
+use Rattle.message_model.specs.unit_model.declared.layout.TheConstants.{EVENTS, OVERS, FAULTS}
 use Rattle.event_model.specs.declared.kinds.TheConstants.{CARD_NOT_VALID, TIME_OVERLAP, DRIVING_WITHOUT_CARD}
 use Rattle.event_model.specs.declared.kinds.TheConstants.{INSERTION_WHILE_DRIVING, SESSION_NOT_CLOSED, OVER_SPEEDING}
 use Rattle.event_model.specs.declared.kinds.TheConstants.{CARD_FAULT, EVENT_PLACES}

@@ -2,7 +2,7 @@
 -- event is noted; or, where it is not sure, nothing has come of it, or the one place that it takes is empty.
 use Rattle.std.specs.Prelude.{◌≡◌, ◌⊎◌, ℕ, ◌+◌, ◌≤◌, min, Bool, true, false, Option, Some, None, List, [], ◌∷◌}
 use Rattle.std.specs.Prelude.{length, map, filter, slice_set, nat_eq, if◌then◌else◌}
-use Rattle.trace_model.specs.declared.Card.{Card}
+use Rattle.event_model.specs.trace_model.declared.Card.{Card}
 use Rattle.event_model.specs.Places.{place_of}
 use Rattle.event_model.specs.Events.{Event}
 use Rattle.note_model.specs.Tables.{held_in, held_of, IsNoted}

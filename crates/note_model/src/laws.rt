@@ -1,7 +1,7 @@
 ghost use Rattle.std.specs.Prelude.{◌≡◌, List, map};
-ghost use Rattle.trace_model.specs.Trace.{TraceSecond};
-ghost use Rattle.log_model.specs.Log.{RunLog};
-ghost use Rattle.log_model.specs.Course.{went};
+ghost use Rattle.event_model.specs.trace_model.Trace.{TraceSecond};
+ghost use Rattle.history_model.specs.log_model.Log.{RunLog};
+ghost use Rattle.history_model.specs.log_model.Course.{went};
 ghost use Rattle.note_model.specs.Done.{done_of};
 
 /// The seconds of a run that are looked at here went as its course tells them.

@@ -13,25 +13,25 @@ use Rattle.log_model.specs.declared.lines.SlotFault.{SlotFault}
 use Rattle.log_model.specs.Log.{RunLog, In, cut_in, is_torn_in, found_in}
 use Rattle.log_model.specs.Slots.{refusal}
 use Rattle.log_model.specs.Course.{Before, Course, went}
-use Rattle.card_slots.specs.Calls.{seat_in, card_in, logged}
-use Rattle.safety_model.specs.Safe.{Devices}
-use Rattle.run_rings.specs.Notes.{course_behind}
-use Rattle.run_course.specs.Moments.{and_break, and_refused}
-use Rattle.run_course.proofs.Lookups.{break-more, refusal-more}
-use Rattle.run_course.specs.Reached.{course_at}
-use Rattle.run_note_record.specs.Uses.{notes_now, uses_in}
-use Rattle.run_note_record.proofs.Exact.{fewer-none}
-use Rattle.run_note_record.proofs.SoFar.{left-itself, failed-more}
+use Rattle.run_minutes.specs.card_slots.Calls.{seat_in, card_in, logged}
+use Rattle.device_calls.specs.safety_model.Safe.{Devices}
+use Rattle.run_acts.specs.run_rings.Notes.{course_behind}
+use Rattle.run_acts.specs.run_course.Moments.{and_break, and_refused}
+use Rattle.run_acts.proofs.run_course.Lookups.{break-more, refusal-more}
+use Rattle.run_acts.specs.run_course.Reached.{course_at}
+use Rattle.run_acts.specs.run_note_record.Uses.{notes_now, uses_in}
+use Rattle.run_acts.proofs.run_note_record.Exact.{fewer-none}
+use Rattle.run_acts.proofs.run_note_record.SoFar.{left-itself, failed-more}
 use Rattle.run_minutes.specs.Keeping.{with_lines}
 use Rattle.run_outcome.specs.declared.outcome.Outcome.{Outcome}
-use Rattle.run_promise.specs.Origin.{Origin}
-use Rattle.run_record.specs.Within.{Beginning}
+use Rattle.run_minutes.specs.run_promise.Origin.{Origin}
+use Rattle.run_acts.specs.run_record.Within.{Beginning}
 use Rattle.run_acts.specs.declared.run.Run.{Run}
 use Rattle.run_acts.specs.Acting.{pulled_breaks}
 use Rattle.run_acts.specs.Recording.{log_of, values_of, RunWithin, RunGoesOn, IsNow}
 use Rattle.run_acts.specs.RunCards.{CardsBehind, CardsIn, CardsAction}
-use Rattle.run_unit_course.specs.Lines.{cut_at}
-use Rattle.run_note_record.specs.RingsSoFar.{GoesBehind}
+use Rattle.device_calls.specs.run_unit_course.Lines.{cut_at}
+use Rattle.run_acts.specs.run_note_record.RingsSoFar.{GoesBehind}
 use Rattle.run_acts.specs.RunRinged.{with_cut}
 use Rattle.run_acts.proofs.Asked.{pulls-one}
 use Rattle.run_acts.proofs.RingedSecond.{cut-is, here-append, power-here}

@@ -12,31 +12,31 @@ use Rattle.log_model.specs.declared.lines.SlotFault.{SlotFault}
 use Rattle.log_model.specs.Log.{RunLog, In}
 use Rattle.log_model.specs.Slots.{Slots, Sitting, refusal, in_slot, other_slot}
 use Rattle.log_model.specs.Course.{Visit, Before, Course, Moved, visits, card_in as card_of_sitting, with_slot, moved_by, answered, went}
-use Rattle.event_model.specs.Events.{Seen}
-use Rattle.card_slots.specs.Calls.{seat_in, card_in, logged}
-use Rattle.run_unit_course.specs.Lines.{cut_at}
-use Rattle.run_unit_course.specs.Followed.{Lost as IsLost}
-use Rattle.safety_model.specs.Safe.{Devices, breakdowns_of}
-use Rattle.unit_memory.specs.declared.memory.UnitFacts.{UnitFacts}
-use Rattle.run_events.specs.declared.watch.Watch.{Watch}
-use Rattle.run_events.specs.Shown.{all_sure}
-use Rattle.run_events.proofs.Shows.{nothing-more}
-use Rattle.run_course.specs.Reached.{course_at, moved_at, Reaches, IsTearAt}
-use Rattle.run_course.proofs.Reached.{action-reached}
-use Rattle.run_course.proofs.Moment.{reaches-of}
-use Rattle.run_course.specs.Moments.{and_break, and_refused}
-use Rattle.run_course.specs.Followed.{Progress}
-use Rattle.run_course.proofs.Lookups.{break-more}
+use Rattle.device_calls.specs.event_model.Events.{Seen}
+use Rattle.run_minutes.specs.card_slots.Calls.{seat_in, card_in, logged}
+use Rattle.device_calls.specs.run_unit_course.Lines.{cut_at}
+use Rattle.device_calls.specs.run_unit_course.Followed.{Lost as IsLost}
+use Rattle.device_calls.specs.safety_model.Safe.{Devices, breakdowns_of}
+use Rattle.run_minutes.specs.unit_memory.declared.memory.UnitFacts.{UnitFacts}
+use Rattle.run_acts.specs.run_events.declared.watch.Watch.{Watch}
+use Rattle.run_acts.specs.run_events.Shown.{all_sure}
+use Rattle.run_acts.proofs.run_events.Shows.{nothing-more}
+use Rattle.run_acts.specs.run_course.Reached.{course_at, moved_at, Reaches, IsTearAt}
+use Rattle.run_acts.proofs.run_course.Reached.{action-reached}
+use Rattle.run_acts.proofs.run_course.Moment.{reaches-of}
+use Rattle.run_acts.specs.run_course.Moments.{and_break, and_refused}
+use Rattle.run_acts.specs.run_course.Followed.{Progress}
+use Rattle.run_acts.proofs.run_course.Lookups.{break-more}
 use Rattle.run_outcome.specs.declared.outcome.Outcome.{Outcome}
-use Rattle.run_promise.specs.Origin.{Origin}
-use Rattle.run_promise.specs.Beside.{HaveLeftMore}
+use Rattle.run_minutes.specs.run_promise.Origin.{Origin}
+use Rattle.run_minutes.specs.run_promise.Beside.{HaveLeftMore}
 use Rattle.run_minutes.specs.Keeping.{with_lines}
-use Rattle.run_note_record.specs.Evented.{number_in, Evented}
-use Rattle.run_note_record.specs.Noting.{Acting, NotesThese}
-use Rattle.run_note_record.specs.EventsSoFar.{EventedNow}
-use Rattle.run_note_record.specs.Uses.{FindsNone}
-use Rattle.run_note_record.proofs.Adding.{call-notes}
-use Rattle.run_note_record.proofs.Passing.{refusal-adds, pull-adds}
+use Rattle.run_acts.specs.run_note_record.Evented.{number_in, Evented}
+use Rattle.run_acts.specs.run_note_record.Noting.{Acting, NotesThese}
+use Rattle.run_acts.specs.run_note_record.EventsSoFar.{EventedNow}
+use Rattle.run_acts.specs.run_note_record.Uses.{FindsNone}
+use Rattle.run_acts.proofs.run_note_record.Adding.{call-notes}
+use Rattle.run_acts.proofs.run_note_record.Passing.{refusal-adds, pull-adds}
 use Rattle.run_acts.specs.declared.run.Run.{Run}
 use Rattle.run_acts.specs.Power.{is_lit, cut_run}
 use Rattle.run_acts.specs.Acting.{pulled_run, pulled_breaks}

@@ -10,25 +10,25 @@ use Rattle.trace_model.specs.declared.Card.{Card}
 use Rattle.log_model.specs.declared.lines.SlotFault.{SlotFault}
 use Rattle.log_model.specs.Log.{In, RunLog}
 use Rattle.log_model.specs.Slots.{refusal, same_card}
-use Rattle.card_slots.specs.Calls.{logged, seat_in, card_in}
-use Rattle.card_slots.proofs.Refusing.{refuse-alike}
-use Rattle.run_unit_course.specs.Followed.{Lost as IsLost}
-use Rattle.unit_model.specs.Image.{odometer_at}
-use Rattle.unit_rule.specs.Odometer.{odometer_after}
-use Rattle.safety_model.specs.Safe.{Devices}
-use Rattle.run_course.proofs.Presence.{slots-agree}
-use Rattle.run_crew.specs.declared.cabin.Cabin.{Cabin}
-use Rattle.run_course.specs.Telling.{IsLeft}
+use Rattle.run_minutes.specs.card_slots.Calls.{logged, seat_in, card_in}
+use Rattle.run_minutes.proofs.card_slots.Refusing.{refuse-alike}
+use Rattle.device_calls.specs.run_unit_course.Followed.{Lost as IsLost}
+use Rattle.unit_minutes.specs.unit_model.Image.{odometer_at}
+use Rattle.device_calls.specs.unit_rule.Odometer.{odometer_after}
+use Rattle.device_calls.specs.safety_model.Safe.{Devices}
+use Rattle.run_acts.proofs.run_course.Presence.{slots-agree}
+use Rattle.run_acts.specs.run_crew.declared.cabin.Cabin.{Cabin}
+use Rattle.run_acts.specs.run_course.Telling.{IsLeft}
 use Rattle.run_outcome.specs.declared.outcome.Outcome.{Outcome}
 use Rattle.run_outcome.specs.Lines.{cut_at, Listed}
-use Rattle.run_promise.specs.Origin.{Origin, start_at}
+use Rattle.run_minutes.specs.run_promise.Origin.{Origin, start_at}
 use Rattle.run_minutes.specs.Books.{HaveTime}
 use Rattle.run_minutes.specs.Keeping.{with_lines}
-use Rattle.run_record.specs.Recorded.{Values, RecordBetweenSeconds}
-use Rattle.run_record.specs.Within.{Beginning, course_in, told_before, cut_values, passed_values, SecondGoesOn, AreAlike, IsAnswered, AnswersSo, stop_of as stop_of_session}
-use Rattle.run_record.proofs.Acting.{refusal-recorded, selection-recorded}
-use Rattle.run_record.proofs.ByHand.{hand-recorded}
-use Rattle.run_record.proofs.Cutting.{cut-recorded, recounted}
+use Rattle.run_acts.specs.run_record.Recorded.{Values, RecordBetweenSeconds}
+use Rattle.run_acts.specs.run_record.Within.{Beginning, course_in, told_before, cut_values, passed_values, SecondGoesOn, AreAlike, IsAnswered, AnswersSo, stop_of as stop_of_session}
+use Rattle.run_acts.proofs.run_record.Acting.{refusal-recorded, selection-recorded}
+use Rattle.run_acts.proofs.run_record.ByHand.{hand-recorded}
+use Rattle.run_acts.proofs.run_record.Cutting.{cut-recorded, recounted}
 use Rattle.run_acts.specs.declared.run.Run.{Run}
 use Rattle.run_acts.specs.Power.{is_lit, cut_run, with_cabin}
 use Rattle.run_acts.specs.Recording.{log_of, values_of, IsOrigin, RunWithin, RunCut, InSecondBy, InSecond, RunFails, RunGoesOn, IsNow}
@@ -38,7 +38,7 @@ use Rattle.recorder_with_cards.proofs.SlotLines.{whose, none-of-both, stops-hand
 use Rattle.log_model.specs.declared.lines.Refused.{Refused}
 use Rattle.log_model.specs.declared.lines.Mark.{Mark}
 use Rattle.log_model.specs.ByHand.{minute_on, stops, is_stop}
-use Rattle.run_course.specs.Moments.{and_refused}
+use Rattle.run_acts.specs.run_course.Moments.{and_refused}
 use Rattle.run_acts.specs.Closings.{notes_within}
 use Rattle.run_acts.specs.Truths.{truths_within, marked}
 use Rattle.run_acts.specs.Stays.{AllStay}
@@ -49,10 +49,10 @@ use Rattle.run_acts.proofs.ByHand.{holding-slots, holding-alike, cards-same, tak
 use Rattle.run_acts.proofs.HeldStays.{all-holding}
 use Rattle.std.specs.Prelude.{option_map}
 use Rattle.trace_model.specs.declared.Card.TheVariants.{A, B}
-use Rattle.run_crew.specs.declared.cards.Accepted.{Accepted}
-use Rattle.run_crew.specs.declared.cards.Cards.{Cards}
-use Rattle.run_crew.specs.Cards.{session_of}
-use Rattle.run_crew.proofs.Sessions.{session_set, session_apart}
+use Rattle.run_acts.specs.run_crew.declared.cards.Accepted.{Accepted}
+use Rattle.run_acts.specs.run_crew.declared.cards.Cards.{Cards}
+use Rattle.run_acts.specs.run_crew.Cards.{session_of}
+use Rattle.run_acts.proofs.run_crew.Sessions.{session_set, session_apart}
 
 -- ---- with power, or cut
 

@@ -17,35 +17,35 @@ use Rattle.log_model.specs.Log.{RunLog, In}
 use Rattle.log_model.specs.Slots.{refusal}
 use Rattle.log_model.specs.Course.{Before, Course, ToldSecond, went}
 use Rattle.log_model.specs.ByHand.{minute_on}
-use Rattle.card_slots.specs.Calls.{seat_in, card_in, logged}
-use Rattle.run_unit_course.specs.Lines.{cut_at}
-use Rattle.note_model.specs.Odometer.{SpanFrom}
-use Rattle.safety_model.specs.Safe.{Devices}
-use Rattle.run_rings.specs.Notes.{NotesMore, course_behind}
-use Rattle.run_rings.specs.Spans.{with_second}
-use Rattle.run_rings.proofs.Actions.{selections, pulls, entries, refusals}
-use Rattle.run_rings.proofs.Same.{rings-left}
+use Rattle.run_minutes.specs.card_slots.Calls.{seat_in, card_in, logged}
+use Rattle.device_calls.specs.run_unit_course.Lines.{cut_at}
+use Rattle.device_calls.specs.note_model.Odometer.{SpanFrom}
+use Rattle.device_calls.specs.safety_model.Safe.{Devices}
+use Rattle.run_acts.specs.run_rings.Notes.{NotesMore, course_behind}
+use Rattle.run_acts.specs.run_rings.Spans.{with_second}
+use Rattle.run_acts.proofs.run_rings.Actions.{selections, pulls, entries, refusals}
+use Rattle.run_acts.proofs.run_rings.Same.{rings-left}
 use Rattle.run_acts.proofs.NotesThen.{behind-refused}
-use Rattle.run_course.specs.Moments.{and_break, and_refused}
-use Rattle.run_course.specs.Reached.{course_at}
-use Rattle.run_course.specs.Telling.{IsLeft}
-use Rattle.unit_model.specs.Image.{odometer_at}
-use Rattle.unit_rule.specs.Odometer.{odometer_after}
+use Rattle.run_acts.specs.run_course.Moments.{and_break, and_refused}
+use Rattle.run_acts.specs.run_course.Reached.{course_at}
+use Rattle.run_acts.specs.run_course.Telling.{IsLeft}
+use Rattle.unit_minutes.specs.unit_model.Image.{odometer_at}
+use Rattle.device_calls.specs.unit_rule.Odometer.{odometer_after}
 use Rattle.run_minutes.specs.Keeping.{with_lines}
 use Rattle.run_outcome.specs.declared.outcome.Outcome.{Outcome}
-use Rattle.run_promise.specs.Origin.{Origin}
-use Rattle.run_crew.specs.Cabin.{torn_out}
-use Rattle.run_record.specs.Within.{Beginning}
-use Rattle.run_note_record.specs.Noting.{Acting}
-use Rattle.run_note_record.specs.EventsSoFar.{EventedNow}
-use Rattle.run_note_record.specs.RingsSoFar.{RingedBehind, RingedIn}
-use Rattle.run_note_record.specs.Steps.{GoesOnTo, nobody, spans_cut}
-use Rattle.run_note_record.specs.Stored.{StoresOn, StoresOff}
-use Rattle.run_note_record.specs.Sessions.{FailsIn}
-use Rattle.run_note_record.proofs.OnCards.{stay-itself}
-use Rattle.run_note_record.proofs.Sessions.{stay-may}
-use Rattle.run_note_record.proofs.SoFar.{left-itself}
-use Rattle.run_note_record.proofs.RingSteps.{passes}
+use Rattle.run_minutes.specs.run_promise.Origin.{Origin}
+use Rattle.run_acts.specs.run_crew.Cabin.{torn_out}
+use Rattle.run_acts.specs.run_record.Within.{Beginning}
+use Rattle.run_acts.specs.run_note_record.Noting.{Acting}
+use Rattle.run_acts.specs.run_note_record.EventsSoFar.{EventedNow}
+use Rattle.run_acts.specs.run_note_record.RingsSoFar.{RingedBehind, RingedIn}
+use Rattle.run_acts.specs.run_note_record.Steps.{GoesOnTo, nobody, spans_cut}
+use Rattle.run_acts.specs.run_note_record.Stored.{StoresOn, StoresOff}
+use Rattle.run_acts.specs.run_note_record.Sessions.{FailsIn}
+use Rattle.run_acts.proofs.run_note_record.OnCards.{stay-itself}
+use Rattle.run_acts.proofs.run_note_record.Sessions.{stay-may}
+use Rattle.run_acts.proofs.run_note_record.SoFar.{left-itself}
+use Rattle.run_acts.proofs.run_note_record.RingSteps.{passes}
 use Rattle.run_acts.specs.declared.run.Run.{Run}
 use Rattle.run_acts.specs.declared.run.Power.TheVariants.{Lit}
 use Rattle.run_acts.specs.Power.{with_cabin, cut_run}

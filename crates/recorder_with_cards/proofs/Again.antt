@@ -1,10 +1,10 @@
 -- With whatever a stop might have left a run begins again.
 use Rattle.std.proofs.Common.{◌≡◌, ℕ, List, Some, None, ◌<◌, All}
 use Rattle.std.proofs.lemmas.List.Elements.{All-from_get_or}
-use Rattle.card_layout.specs.Fields.{IsBytes}
+use Rattle.tach_media.specs.card_layout.Fields.{IsBytes}
 use Rattle.log_model.specs.declared.lines.Mark.{Mark}
-use Rattle.safety_model.specs.Recording.{Recording}
-use Rattle.safety_model.specs.Safe.{Devices, IsSafe, MayBegin}
+use Rattle.device_calls.specs.safety_model.Recording.{Recording}
+use Rattle.device_calls.specs.safety_model.Safe.{Devices, IsSafe, MayBegin}
 use Rattle.run_again.specs.Left.{HasTwoNumbers}
 use Rattle.run_again.proofs.Again.{begins_again}
 use Rattle.recorder_with_cards.specs.Ends.{opened_with, BeginsAgain}

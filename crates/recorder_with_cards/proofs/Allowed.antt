@@ -13,8 +13,8 @@ use Rattle.recorder_with_cards.specs.Acting.{put_count, refused_by, IsSelected, 
 use Rattle.log_model.specs.declared.lines.SlotFault.{SlotFault}
 use Rattle.log_model.specs.declared.lines.SlotFault.TheVariants.{Occupied, Elsewhere}
 use Rattle.log_model.specs.Slots.{Slots, refusal, other_slot, holds}
-use Rattle.card_slots.specs.declared.seats.Seat.{Seat}
-use Rattle.card_slots.specs.Calls.{Seats, seat_in, is_card, logged, sitting_of}
+use Rattle.run_minutes.specs.card_slots.declared.seats.Seat.{Seat}
+use Rattle.run_minutes.specs.card_slots.Calls.{Seats, seat_in, is_card, logged, sitting_of}
 
 nothing-there : (seat : Option Seat) (slot : Slot) (rest : Option SlotFault) → cond (is_some (sitting_of seat)) (Some (Occupied slot)) rest ≡ None → seat ≡ None
 nothing-there None slot rest is = refl

@@ -6,15 +6,15 @@ use Rattle.trace_model.specs.Trace.{TraceSecond}
 use Rattle.log_model.specs.Course.{ToldSecond}
 use Rattle.log_model.specs.declared.lines.Mark.{Mark}
 use Rattle.tacho_types.specs.declared.texts.Registration.{Registration}
-use Rattle.safety_model.specs.Safe.{Devices}
-use Rattle.run_unit_course.specs.Followed.{UnitPower, Lit as IsLit, Due as IsDue, Lost as IsLost}
-use Rattle.run_crew.specs.declared.cards.Accepted.{Accepted}
-use Rattle.run_crew.specs.Cards.{session_of}
-use Rattle.run_crew.specs.Cabin.{CabinIsSound}
+use Rattle.device_calls.specs.safety_model.Safe.{Devices}
+use Rattle.device_calls.specs.run_unit_course.Followed.{UnitPower, Lit as IsLit, Due as IsDue, Lost as IsLost}
+use Rattle.run_acts.specs.run_crew.declared.cards.Accepted.{Accepted}
+use Rattle.run_acts.specs.run_crew.Cards.{session_of}
+use Rattle.run_acts.specs.run_crew.Cabin.{CabinIsSound}
 use Rattle.run_outcome.specs.declared.outcome.Outcome.{Outcome}
-use Rattle.run_promise.specs.Origin.{Origin}
-use Rattle.run_promise.specs.Between.{RunLedger}
-use Rattle.run_record.specs.Recorded.{IsHeldBy, carried}
+use Rattle.run_minutes.specs.run_promise.Origin.{Origin}
+use Rattle.run_minutes.specs.run_promise.Between.{RunLedger}
+use Rattle.run_acts.specs.run_record.Recorded.{IsHeldBy, carried}
 use Rattle.run_acts.specs.declared.run.Run.{Run}
 use Rattle.run_acts.specs.declared.run.Power.{Power}
 use Rattle.run_acts.specs.declared.run.Power.TheVariants.{Lit, Due, Lost}
@@ -23,8 +23,8 @@ use Rattle.run_acts.specs.Closings.{Spell}
 use Rattle.run_acts.specs.Truths.{Truths, past_of, truths_by, marked}
 use Rattle.run_acts.specs.Stays.{Stay, Shown, after_stay, sits_in, as_noted, AreOwed, Whose, Both, Only, owed_by, IsTrueOf}
 use Rattle.run_acts.proofs.SeatsThen.{sits-in-one}
-use Rattle.unit_model.specs.Image.{odometer_at}
-use Rattle.safety_model.specs.Recording.{Recording, brought, start_of}
+use Rattle.unit_minutes.specs.unit_model.Image.{odometer_at}
+use Rattle.device_calls.specs.safety_model.Recording.{Recording, brought, start_of}
 use Rattle.recorder_with_cards.specs.Stays.{IsClosedSo, IsCountedSo, IsAcknowledgedSo}
 use Rattle.run_acts.specs.Owed.{IsOwed}
 

@@ -1,14 +1,14 @@
 -- A span that begins at a power-on.
 use Rattle.std.proofs.Common.{◌≡◌, ℕ, ◌-◌, Option, Some, None, refl, subst, arith}
 use Rattle.trace_model.specs.declared.Card.{Card}
-use Rattle.minute_model.specs.declared.Rule.{Rule}
-use Rattle.minute_model.specs.Span.{begin}
+use Rattle.minute_rules.specs.minute_model.declared.Rule.{Rule}
+use Rattle.minute_rules.specs.minute_model.Span.{begin}
 use Rattle.minute_rules.specs.Kept.{CountsSpan, Kept as Minutes}
-use Rattle.card_slots.specs.declared.seats.Seat.{Seat}
-use Rattle.run_crew.specs.declared.cards.Accepted.{Accepted}
-use Rattle.run_crew.specs.declared.cards.Cards.{Cards}
-use Rattle.run_crew.specs.Cards.{session_of}
-use Rattle.run_crew.specs.Cabin.{AnswersTo, SeatAnswers}
+use Rattle.run_minutes.specs.card_slots.declared.seats.Seat.{Seat}
+use Rattle.run_acts.specs.run_crew.declared.cards.Accepted.{Accepted}
+use Rattle.run_acts.specs.run_crew.declared.cards.Cards.{Cards}
+use Rattle.run_acts.specs.run_crew.Cards.{session_of}
+use Rattle.run_acts.specs.run_crew.Cabin.{AnswersTo, SeatAnswers}
 use Rattle.run_acts.proofs.Kept.{owing-is}
 use Rattle.recorder_with_cards.specs.Accepting.{IsBare}
 

@@ -2,24 +2,24 @@
 use Rattle.std.proofs.Common.{◌≡◌, ◌∙◌, ◌-◌, ◌/◌, ◌%◌, ◌≤◌, Bool, true, false, cond, nat_eq, List, [], refl, ap, sym, subst}
 use Rattle.trace_model.specs.Trace.{TraceSecond}
 use Rattle.tach_media.specs.Medium.{State}
-use Rattle.card_layout.specs.declared.command.CardState.{CardState}
+use Rattle.tach_media.specs.card_layout.declared.command.CardState.{CardState}
 use Rattle.log_model.specs.Log.{RunLog, In}
 use Rattle.log_model.specs.Course.{ToldSecond, went}
-use Rattle.event_model.specs.Events.{Seen, seen_of, seen_spans}
-use Rattle.run_unit_course.specs.Turn.{begins_with}
-use Rattle.unit_memory.specs.declared.memory.UnitFacts.{UnitFacts}
-use Rattle.safety_model.specs.Safe.{Devices}
-use Rattle.run_course.specs.Followed.{Progress}
-use Rattle.run_course.proofs.Told.{lit-told}
-use Rattle.run_events.specs.Seconds.{last_of}
+use Rattle.device_calls.specs.event_model.Events.{Seen, seen_of, seen_spans}
+use Rattle.device_calls.specs.run_unit_course.Turn.{begins_with}
+use Rattle.run_minutes.specs.unit_memory.declared.memory.UnitFacts.{UnitFacts}
+use Rattle.device_calls.specs.safety_model.Safe.{Devices}
+use Rattle.run_acts.specs.run_course.Followed.{Progress}
+use Rattle.run_acts.proofs.run_course.Told.{lit-told}
+use Rattle.run_acts.specs.run_events.Seconds.{last_of}
 use Rattle.run_outcome.specs.declared.outcome.Outcome.{Outcome}
-use Rattle.run_promise.specs.Origin.{Origin}
-use Rattle.run_record.specs.Recorded.{progress}
-use Rattle.run_note_record.specs.Evented.{EventedBy}
-use Rattle.run_note_record.specs.Noting.{Acting, stage_of}
-use Rattle.run_note_record.specs.EventsSoFar.{BeginsNow, EventedNow}
-use Rattle.run_note_record.proofs.Adding.{second-begins_now, power-now, starts-now}
-use Rattle.run_events.specs.declared.watch.Watch.{Watch}
+use Rattle.run_minutes.specs.run_promise.Origin.{Origin}
+use Rattle.run_acts.specs.run_record.Recorded.{progress}
+use Rattle.run_acts.specs.run_note_record.Evented.{EventedBy}
+use Rattle.run_acts.specs.run_note_record.Noting.{Acting, stage_of}
+use Rattle.run_acts.specs.run_note_record.EventsSoFar.{BeginsNow, EventedNow}
+use Rattle.run_acts.proofs.run_note_record.Adding.{second-begins_now, power-now, starts-now}
+use Rattle.run_acts.specs.run_events.declared.watch.Watch.{Watch}
 use Rattle.run_acts.specs.declared.run.Run.{Run}
 use Rattle.run_acts.specs.declared.run.Power.TheVariants.{Lit}
 use Rattle.run_acts.specs.Power.{over_by, minute_over}

@@ -3,21 +3,21 @@ use Rattle.std.proofs.Common.{◌≡◌, ◌∙◌, ℕ, ◌-◌, ◌/◌, ◌%�
 use Rattle.trace_model.specs.declared.Card.{Card}
 use Rattle.trace_model.specs.Trace.{TraceSecond}
 use Rattle.tach_media.specs.Medium.{State}
-use Rattle.card_layout.specs.declared.command.CardState.{CardState}
+use Rattle.tach_media.specs.card_layout.declared.command.CardState.{CardState}
 use Rattle.log_model.specs.Log.{RunLog}
 use Rattle.log_model.specs.Course.{ToldSecond, Before, has_power, second_told, went}
-use Rattle.run_unit_course.specs.Followed.{UnitPower, Lit as IsLitBy, Due as IsDueBy, Lost as IsLostBy}
-use Rattle.safety_model.specs.Safe.{Devices}
-use Rattle.run_course.specs.Followed.{IsSupplied, PowerGoesOn}
-use Rattle.run_course.proofs.Told.{going-power}
+use Rattle.device_calls.specs.run_unit_course.Followed.{UnitPower, Lit as IsLitBy, Due as IsDueBy, Lost as IsLostBy}
+use Rattle.device_calls.specs.safety_model.Safe.{Devices}
+use Rattle.run_acts.specs.run_course.Followed.{IsSupplied, PowerGoesOn}
+use Rattle.run_acts.proofs.run_course.Told.{going-power}
 use Rattle.run_outcome.specs.declared.outcome.Outcome.{Outcome}
-use Rattle.run_promise.specs.Origin.{Origin}
-use Rattle.run_rings.specs.Spans.{with_second}
-use Rattle.run_note_record.specs.Ringed.{Seating}
-use Rattle.run_note_record.specs.RingsSoFar.{RingedBehind, IsSecond, RingedIn}
-use Rattle.run_note_record.specs.Stored.{StoresOn, Stores}
-use Rattle.run_note_record.proofs.SoFar.{second-begins}
-use Rattle.run_note_record.proofs.Bases.{stored-next}
+use Rattle.run_minutes.specs.run_promise.Origin.{Origin}
+use Rattle.run_acts.specs.run_rings.Spans.{with_second}
+use Rattle.run_acts.specs.run_note_record.Ringed.{Seating}
+use Rattle.run_acts.specs.run_note_record.RingsSoFar.{RingedBehind, IsSecond, RingedIn}
+use Rattle.run_acts.specs.run_note_record.Stored.{StoresOn, Stores}
+use Rattle.run_acts.proofs.run_note_record.SoFar.{second-begins}
+use Rattle.run_acts.proofs.run_note_record.Bases.{stored-next}
 use Rattle.run_acts.specs.declared.run.Run.{Run}
 use Rattle.run_acts.specs.declared.run.Power.{Power}
 use Rattle.run_acts.specs.declared.run.Power.TheVariants.{Lit}

@@ -14,8 +14,8 @@ use Rattle.log_model.specs.Log.{RunLog, Phase}
 use Rattle.log_model.specs.Slots.{same_card}
 use Rattle.log_model.specs.Course.{ToldSecond, Visit}
 use Rattle.log_model.specs.Causes.{HasCauses, RoseBy, cuts, tears, places, visit_places, in_the_slot, torn_of, cards_torn}
-use Rattle.safety_model.specs.Recording.{Recording, told_of}
-use Rattle.safety_model.specs.Safe.{Devices, card_of, breakdowns_of}
+use Rattle.device_calls.specs.safety_model.Recording.{Recording, told_of}
+use Rattle.device_calls.specs.safety_model.Safe.{Devices, card_of, breakdowns_of}
 use Rattle.recorder_with_cards.specs.Breakdowns.{BreakdownsAreTold, BreakdownsAreCounted}
 
 -- a count below its last value rose by so many at least

@@ -18,20 +18,20 @@ use Rattle.log_model.specs.declared.lines.SlotFault.{SlotFault}
 use Rattle.log_model.specs.Log.{RunLog, Phase, In, cut_in}
 use Rattle.log_model.specs.Slots.{Slots, Sitting, same_card, holds, refusal}
 use Rattle.log_model.specs.Course.{ToldSecond, Visit, Before, Course, Moved, Went, card_in, visits, slot_told, both_told, unmoved, moved_by, answered, begins, is_settling, acted, all_acted, fresh, second_told, went_on, not_begun, went}
-use Rattle.event_model.specs.Events.{course_by}
-use Rattle.safety_model.specs.Recording.{card_image}
-use Rattle.safety_model.specs.Cards.{entered as often_entered}
-use Rattle.run_course.specs.Lines.{times_of}
-use Rattle.run_course.specs.Reached.{course_at}
-use Rattle.run_course.proofs.Reached.{at-by}
-use Rattle.run_devices.specs.Told.{arranged}
+use Rattle.device_calls.specs.event_model.Events.{course_by}
+use Rattle.device_calls.specs.safety_model.Recording.{card_image}
+use Rattle.device_calls.specs.safety_model.Cards.{entered as often_entered}
+use Rattle.run_acts.specs.run_course.Lines.{times_of}
+use Rattle.run_acts.specs.run_course.Reached.{course_at}
+use Rattle.run_acts.proofs.run_course.Reached.{at-by}
+use Rattle.run_minutes.specs.run_devices.Told.{arranged}
 use Rattle.run_outcome.specs.declared.outcome.Outcome.{Outcome}
-use Rattle.run_promise.specs.Origin.{Origin}
-use Rattle.run_promise.specs.Ends.{recording_by}
-use Rattle.run_promise.proofs.Beside.{before-next}
-use Rattle.run_promise.proofs.Unentered.{IsOut, StaysOut, stays-out, others-told, entered-then}
-use Rattle.run_record.specs.Within.{course_in, MayBeWrittenSo, RecordInSecond}
-use Rattle.run_note_record.specs.Opened.{came_in, puts_in, times_put, HasComeBefore}
+use Rattle.run_minutes.specs.run_promise.Origin.{Origin}
+use Rattle.run_minutes.specs.run_promise.Ends.{recording_by}
+use Rattle.run_minutes.proofs.run_promise.Beside.{before-next}
+use Rattle.run_minutes.proofs.run_promise.Unentered.{IsOut, StaysOut, stays-out, others-told, entered-then}
+use Rattle.run_acts.specs.run_record.Within.{course_in, MayBeWrittenSo, RecordInSecond}
+use Rattle.run_acts.specs.run_note_record.Opened.{came_in, puts_in, times_put, HasComeBefore}
 use Rattle.run_minutes.specs.declared.keeper.Keeper.{Keeper}
 use Rattle.run_insertion.specs.declared.lines.Entering.{Entering}
 use Rattle.run_acts.specs.Entered.{values_with, MayJudge}

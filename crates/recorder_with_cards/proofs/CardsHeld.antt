@@ -3,24 +3,24 @@ use Rattle.std.proofs.Common.{◌≡◌, ◌∙◌, ℕ, ◌<◌, Bool, true, fa
 use Rattle.std.proofs.Math.Seq.{take-append_seam}
 use Rattle.trace_model.specs.declared.Action.{Action}
 use Rattle.trace_model.specs.Trace.{TraceSecond}
-use Rattle.minute_model.specs.declared.Minute.{Minute}
-use Rattle.event_model.specs.Events.{Seen, seen_of, seen_spans, last_number}
+use Rattle.minute_rules.specs.minute_model.declared.Minute.{Minute}
+use Rattle.device_calls.specs.event_model.Events.{Seen, seen_of, seen_spans, last_number}
 use Rattle.log_model.specs.declared.lines.Break.{Break}
 use Rattle.log_model.specs.Log.{RunLog, Phase, kept_after}
 use Rattle.log_model.specs.Course.{Visit, Went}
 use Rattle.std.specs.List.{AllByRecursion}
-use Rattle.note_model.specs.Done.{done_by}
-use Rattle.note_model.specs.Noted.{Note, noted_in}
-use Rattle.safety_model.specs.Safe.{Devices}
-use Rattle.run_events.specs.Seconds.{gap_by}
-use Rattle.run_events.proofs.Later.{seen-same}
-use Rattle.run_note_record.specs.Uses.{notes_now, uses_in}
-use Rattle.run_note_record.proofs.Noted.{notes-alike}
-use Rattle.run_rings.specs.Notes.{course_behind}
-use Rattle.run_promise.specs.Origin.{Origin}
+use Rattle.device_calls.specs.note_model.Done.{done_by}
+use Rattle.device_calls.specs.note_model.Noted.{Note, noted_in}
+use Rattle.device_calls.specs.safety_model.Safe.{Devices}
+use Rattle.run_acts.specs.run_events.Seconds.{gap_by}
+use Rattle.run_acts.proofs.run_events.Later.{seen-same}
+use Rattle.run_acts.specs.run_note_record.Uses.{notes_now, uses_in}
+use Rattle.run_acts.proofs.run_note_record.Noted.{notes-alike}
+use Rattle.run_acts.specs.run_rings.Notes.{course_behind}
+use Rattle.run_minutes.specs.run_promise.Origin.{Origin}
 use Rattle.run_outcome.specs.declared.outcome.Outcome.{Outcome}
-use Rattle.run_record.specs.Recorded.{Values}
-use Rattle.run_record.specs.Within.{RecordInSecond}
+use Rattle.run_acts.specs.run_record.Recorded.{Values}
+use Rattle.run_acts.specs.run_record.Within.{RecordInSecond}
 use Rattle.run_acts.specs.declared.run.Run.{Run}
 use Rattle.run_acts.specs.Power.{is_lit}
 use Rattle.run_acts.specs.OnCards.{MetSecond, as_accepted, met_behind, met_seconds}

@@ -5,10 +5,10 @@ use Rattle.activity_codec.specs.declared.values.Slot.TheVariants.{Driver, CoDriv
 use Rattle.trace_model.specs.declared.Card.{Card}
 use Rattle.trace_model.specs.declared.Card.TheVariants.{A, B}
 use Rattle.log_model.specs.Slots.{same_card, other_slot}
-use Rattle.device_rule.specs.Views.{other}
-use Rattle.card_slots.specs.declared.seats.Seat.{Seat}
-use Rattle.card_slots.specs.Calls.{Seats, seat_in, card_in, is_card}
-use Rattle.card_layout.specs.declared.files.Application.{Application}
+use Rattle.device_calls.specs.device_rule.Views.{other}
+use Rattle.run_minutes.specs.card_slots.declared.seats.Seat.{Seat}
+use Rattle.run_minutes.specs.card_slots.Calls.{Seats, seat_in, card_in, is_card}
+use Rattle.tach_media.specs.card_layout.declared.files.Application.{Application}
 use Rattle.tacho_types.specs.declared.texts.Registration.{Registration}
 use Rattle.tach_media.specs.Medium.{State}
 use Rattle.run_outcome.specs.declared.outcome.Outcome.{Outcome}
@@ -18,11 +18,11 @@ use Rattle.run_insertion.specs.declared.lines.Entering.{Entering}
 use Rattle.run_insertion.specs.Entering.{Ending, Unfit, Ahead, Fell, Unasked, Unnoted, Seated, Lost, Way, Unread, Unsized, Judged, breaks_by, cabin_by, noted_by, and_one, ending_of, measured}
 use Rattle.run_insertion.specs.Entered.{IsEnding, IsWay, IsLeft}
 use Rattle.run_insertion.specs.declared.waking.TheConstants.{UNTOLD}
-use Rattle.hand_model.specs.Holding.{none_held}
-use Rattle.run_crew.specs.declared.cards.Accepted.{Accepted}
-use Rattle.run_crew.specs.declared.cabin.Cabin.{Cabin}
-use Rattle.run_crew.specs.Cards.{known_of, session_of}
-use Rattle.run_crew.specs.Cabin.{CabinIsSound, SeatAnswers, AnswersTo, AreTwo, torn_out, slot_with, left_from, with_accepted, with_sizes_of}
+use Rattle.device_calls.specs.hand_model.Holding.{none_held}
+use Rattle.run_acts.specs.run_crew.declared.cards.Accepted.{Accepted}
+use Rattle.run_acts.specs.run_crew.declared.cabin.Cabin.{Cabin}
+use Rattle.run_acts.specs.run_crew.Cards.{known_of, session_of}
+use Rattle.run_acts.specs.run_crew.Cabin.{CabinIsSound, SeatAnswers, AnswersTo, AreTwo, torn_out, slot_with, left_from, with_accepted, with_sizes_of}
 use Rattle.tacho_types.specs.declared.card_number.FullCardNumber.{FullCardNumber}
 use Rattle.run_acts.specs.Room.{bare_count, falls_of}
 use Rattle.run_acts.proofs.Torn.{torn-past, torn-minute, torn-falls, sitting-falls}

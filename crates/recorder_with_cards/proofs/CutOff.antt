@@ -2,19 +2,19 @@
 use Rattle.std.proofs.Common.{◌≡◌, ℕ, suc, true, List, [], ◌∷◌, ◌++◌, length, refl, subst}
 use Rattle.trace_model.specs.Trace.{TraceSecond}
 use Rattle.log_model.specs.Log.{In}
-use Rattle.run_unit_course.specs.Followed.{Lost}
-use Rattle.run_unit_course.specs.Lines.{cut_at}
-use Rattle.safety_model.specs.Safe.{Devices}
-use Rattle.run_crew.specs.Cabin.{with_power_lost}
-use Rattle.run_course.specs.Moments.{and_break}
+use Rattle.device_calls.specs.run_unit_course.Followed.{Lost}
+use Rattle.device_calls.specs.run_unit_course.Lines.{cut_at}
+use Rattle.device_calls.specs.safety_model.Safe.{Devices}
+use Rattle.run_acts.specs.run_crew.Cabin.{with_power_lost}
+use Rattle.run_acts.specs.run_course.Moments.{and_break}
 use Rattle.run_outcome.specs.declared.outcome.Outcome.{Outcome}
-use Rattle.run_promise.specs.Origin.{Origin}
-use Rattle.run_record.specs.Recorded.{RecordBetweenSeconds}
-use Rattle.run_record.specs.Within.{cut_values}
+use Rattle.run_minutes.specs.run_promise.Origin.{Origin}
+use Rattle.run_acts.specs.run_record.Recorded.{RecordBetweenSeconds}
+use Rattle.run_acts.specs.run_record.Within.{cut_values}
 use Rattle.run_acts.specs.declared.run.Run.{Run}
 use Rattle.run_acts.specs.Power.{cut_run}
 use Rattle.run_acts.specs.Recording.{IsOrigin, log_of, values_of, RunCut}
-use Rattle.run_note_record.specs.Uses.{vehicle_in}
+use Rattle.run_acts.specs.run_note_record.Uses.{vehicle_in}
 use Rattle.recorder_with_cards.specs.Acting.{cut_breaks}
 use Rattle.run_acts.proofs.AllStay.{no-cut}
 

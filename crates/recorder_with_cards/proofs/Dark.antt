@@ -2,7 +2,7 @@
 use Rattle.std.proofs.Common.{◌≡◌, ◌∙◌, ℕ, ◌+◌, ◌-◌, ◌/◌, ◌<◌, ◌≤◌, Bool, true, false, Option, [], ◌∷◌, length, refl, ap, arith}
 use Rattle.trace_model.specs.declared.Card.{Card}
 use Rattle.log_model.specs.declared.lines.Break.{Break}
-use Rattle.run_crew.specs.Cabin.{CabinIsSound}
+use Rattle.run_acts.specs.run_crew.Cabin.{CabinIsSound}
 use Rattle.run_outcome.specs.Lines.{Listed, cut_at}
 use Rattle.run_outcome.specs.declared.outcome.Outcome.{Outcome}
 use Rattle.run_minutes.specs.Keeping.{with_lines}

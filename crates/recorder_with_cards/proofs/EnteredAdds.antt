@@ -9,12 +9,12 @@ use Rattle.activity_codec.specs.Activity.{same_slot}
 use Rattle.trace_model.specs.declared.Card.{Card}
 use Rattle.trace_model.specs.declared.Action.{Action}
 use Rattle.trace_model.specs.Trace.{TraceSecond}
-use Rattle.run_model.specs.declared.Device.{Device}
-use Rattle.run_model.specs.declared.Device.TheVariants.{Unit as Recorder}
+use Rattle.log_model.specs.run_model.declared.Device.{Device}
+use Rattle.log_model.specs.run_model.declared.Device.TheVariants.{Unit as Recorder}
 use Rattle.log_model.specs.Causes.{RoseBy}
-use Rattle.run_unit_course.specs.Lines.{cut_at}
-use Rattle.run_unit_course.specs.Followed.{Lost as IsLost}
-use Rattle.run_promise.specs.Beside.{HaveLeftMore}
+use Rattle.device_calls.specs.run_unit_course.Lines.{cut_at}
+use Rattle.device_calls.specs.run_unit_course.Followed.{Lost as IsLost}
+use Rattle.run_minutes.specs.run_promise.Beside.{HaveLeftMore}
 use Rattle.log_model.specs.declared.lines.Break.{Break}
 use Rattle.log_model.specs.declared.lines.Break.TheVariants.{Tear}
 use Rattle.log_model.specs.declared.lines.Find.{Find}
@@ -23,50 +23,50 @@ use Rattle.log_model.specs.declared.lines.Verdict.TheVariants as verdict
 use Rattle.log_model.specs.Log.{RunLog, Phase, In, same_phase, phase_of, is_torn_in, found_in, is_accepting}
 use Rattle.log_model.specs.Slots.{Slots, Sitting, in_slot, other_slot}
 use Rattle.log_model.specs.Course.{ToldSecond, Visit, Course, Before, card_in, with_slot, visits, went}
-use Rattle.event_model.specs.declared.kinds.TheConstants.{CARD_NOT_VALID, TIME_OVERLAP, INSERTION_WHILE_DRIVING, SESSION_NOT_CLOSED, CARD_FAULT}
-use Rattle.event_model.specs.Events.{Event, Crew, crew_of, with_card, noted_with}
-use Rattle.card_layout.specs.declared.files.Application.{Application}
-use Rattle.card_image.specs.Fields.{session_time}
-use Rattle.card_image.specs.Own.{own_sizes}
-use Rattle.card_validity.specs.declared.looking.CardLook.{CardLook}
-use Rattle.card_validity.specs.Judged.{IsLook}
-use Rattle.safety_model.specs.Recording.{card_image}
-use Rattle.safety_model.specs.Safe.{Devices, card_of}
-use Rattle.run_promise.specs.Found.{found_of}
-use Rattle.unit_events.specs.Shown.{all_kinds}
-use Rattle.run_course.specs.Moments.{and_break, and_find, finds_here}
-use Rattle.run_course.specs.Within.{IsFoundOf}
-use Rattle.run_course.proofs.Lookups.{find-more}
-use Rattle.run_course.proofs.Moments.{later-lines}
-use Rattle.run_course.specs.Followed.{Progress}
-use Rattle.run_course.specs.Moment.{Moment}
-use Rattle.run_course.specs.Telling.{IsMore, IsLeft, IsOneOut, BrokeDown, WaitBut}
-use Rattle.run_course.proofs.Telling.{card-torn, card-judged}
-use Rattle.run_course.specs.Reached.{Reaches, moved_with, course_at, moved_at, IsTearAt, IsFindAt}
-use Rattle.run_course.proofs.Reached.{lines-reached}
-use Rattle.run_course.proofs.Lines.{who-sits, find-seen}
-use Rattle.run_events.specs.Shown.{by_kind, none_sure}
-use Rattle.run_events.proofs.Shows.{moment-first}
-use Rattle.run_promise.specs.Origin.{Origin}
-use Rattle.run_note_record.specs.Opened.{session_in, HasComeBefore}
-use Rattle.run_note_record.specs.Evented.{number_in, NotesMore, Evented}
-use Rattle.run_note_record.specs.Uses.{FindsMore}
-use Rattle.run_note_record.specs.Noting.{Ended, NotesThese}
-use Rattle.run_note_record.specs.EventsSoFar.{puts_into, Adds, EventedNow, NotesUnsure, BeginsNow, AreBare, ComesInTurn, IsOpenWith, stage_in, fault_with, judged_with, crew_at}
-use Rattle.run_note_record.proofs.Cutting.{failure-cuts}
-use Rattle.run_note_record.proofs.Adding.{call-notes, steps-follow, adds-nothing, adds-as}
-use Rattle.run_note_record.proofs.Falling.{tear-adds}
-use Rattle.run_note_record.proofs.Finding.{find-adds}
-use Rattle.run_note_record.proofs.Tearing.{and-none, slot-apart}
-use Rattle.run_note_record.proofs.EventsWaking.{waking-tear_adds}
-use Rattle.run_note_record.proofs.Noting.{by-more}
+use Rattle.device_calls.specs.event_model.declared.kinds.TheConstants.{CARD_NOT_VALID, TIME_OVERLAP, INSERTION_WHILE_DRIVING, SESSION_NOT_CLOSED, CARD_FAULT}
+use Rattle.device_calls.specs.event_model.Events.{Event, Crew, crew_of, with_card, noted_with}
+use Rattle.tach_media.specs.card_layout.declared.files.Application.{Application}
+use Rattle.device_calls.specs.card_image.Fields.{session_time}
+use Rattle.device_calls.specs.card_image.Own.{own_sizes}
+use Rattle.device_calls.specs.card_validity.declared.looking.CardLook.{CardLook}
+use Rattle.device_calls.specs.card_validity.Judged.{IsLook}
+use Rattle.device_calls.specs.safety_model.Recording.{card_image}
+use Rattle.device_calls.specs.safety_model.Safe.{Devices, card_of}
+use Rattle.run_minutes.specs.run_promise.Found.{found_of}
+use Rattle.run_acts.specs.unit_events.Shown.{all_kinds}
+use Rattle.run_acts.specs.run_course.Moments.{and_break, and_find, finds_here}
+use Rattle.run_acts.specs.run_course.Within.{IsFoundOf}
+use Rattle.run_acts.proofs.run_course.Lookups.{find-more}
+use Rattle.run_acts.proofs.run_course.Moments.{later-lines}
+use Rattle.run_acts.specs.run_course.Followed.{Progress}
+use Rattle.run_acts.specs.run_course.Moment.{Moment}
+use Rattle.run_acts.specs.run_course.Telling.{IsMore, IsLeft, IsOneOut, BrokeDown, WaitBut}
+use Rattle.run_acts.proofs.run_course.Telling.{card-torn, card-judged}
+use Rattle.run_acts.specs.run_course.Reached.{Reaches, moved_with, course_at, moved_at, IsTearAt, IsFindAt}
+use Rattle.run_acts.proofs.run_course.Reached.{lines-reached}
+use Rattle.run_acts.proofs.run_course.Lines.{who-sits, find-seen}
+use Rattle.run_acts.specs.run_events.Shown.{by_kind, none_sure}
+use Rattle.run_acts.proofs.run_events.Shows.{moment-first}
+use Rattle.run_minutes.specs.run_promise.Origin.{Origin}
+use Rattle.run_acts.specs.run_note_record.Opened.{session_in, HasComeBefore}
+use Rattle.run_acts.specs.run_note_record.Evented.{number_in, NotesMore, Evented}
+use Rattle.run_acts.specs.run_note_record.Uses.{FindsMore}
+use Rattle.run_acts.specs.run_note_record.Noting.{Ended, NotesThese}
+use Rattle.run_acts.specs.run_note_record.EventsSoFar.{puts_into, Adds, EventedNow, NotesUnsure, BeginsNow, AreBare, ComesInTurn, IsOpenWith, stage_in, fault_with, judged_with, crew_at}
+use Rattle.run_acts.proofs.run_note_record.Cutting.{failure-cuts}
+use Rattle.run_acts.proofs.run_note_record.Adding.{call-notes, steps-follow, adds-nothing, adds-as}
+use Rattle.run_acts.proofs.run_note_record.Falling.{tear-adds}
+use Rattle.run_acts.proofs.run_note_record.Finding.{find-adds}
+use Rattle.run_acts.proofs.run_note_record.Tearing.{and-none, slot-apart}
+use Rattle.run_acts.proofs.run_note_record.EventsWaking.{waking-tear_adds}
+use Rattle.run_acts.proofs.run_note_record.Noting.{by-more}
 use Rattle.run_minutes.specs.Keeping.{tear_of}
 use Rattle.run_insertion.specs.declared.lines.Entering.{Entering}
 use Rattle.run_insertion.specs.Entered.{IsFound}
 use Rattle.run_insertion.specs.Entering.{Ending, Unfit, Ahead, Fell, Unasked, Unnoted, Seated, Lost, find_of, finds_by, breaks_by, falls_of}
 use Rattle.run_acts.specs.NotedEvents.{AreTold, NotesSo}
 use Rattle.run_acts.specs.ActsEvented.{IsFailing}
-use Rattle.run_crew.specs.declared.cabin.Cabin.{Cabin}
+use Rattle.run_acts.specs.run_crew.declared.cabin.Cabin.{Cabin}
 use Rattle.run_insertion.specs.Noted.{UnitNote, Inserts, BeginsRow, Tells, notes_by}
 use Rattle.recorder_with_cards.specs.EnteredEvents.{events_in}
 use Rattle.recorder_with_cards.specs.EnteredTold.{TellEvents, moving_events, unclosed_events, events_by, IsLow, AreNamed}

@@ -1,25 +1,25 @@
 -- The insertion of a card that is accepted tells its newest vehicle entry, as an image of it does that a stop may leave.
-use Rattle.card_image.specs.View.{card_view}
+use Rattle.device_calls.specs.card_image.View.{card_view}
 use Rattle.std.proofs.Common.{◌≡◌, ◌∙◌, ℕ, ◌^◌, ◌<◌, Bool, false, Option, Some, None, List, [], ◌∷◌, length, refl, ap, sym, subst, arith}
 use Rattle.tach_media.specs.Medium.{State}
 use Rattle.tacho_types.specs.declared.texts.Registration.{Registration}
-use Rattle.card_layout.specs.declared.files.Application.{Application}
-use Rattle.card_files.specs.declared.vehicle.Vehicle.{Vehicle}
-use Rattle.card_image.specs.Fields.{newest_vehicle}
-use Rattle.card_image.specs.Own.{own_sizes, IsOwnValid}
-use Rattle.card_validity.specs.declared.looking.CardLook.{CardLook}
-use Rattle.card_session.specs.Sessions.{book_of}
-use Rattle.message_model.specs.Records.{insertion_ring}
-use Rattle.unit_notes.specs.Entries.{insertion_bytes}
-use Rattle.unit_notes.specs.Fields.{InsertionFits}
-use Rattle.unit_notes.proofs.EntryFields.{tells_insertion}
-use Rattle.run_promise.specs.Found.{CardFound}
+use Rattle.tach_media.specs.card_layout.declared.files.Application.{Application}
+use Rattle.device_calls.specs.card_files.declared.vehicle.Vehicle.{Vehicle}
+use Rattle.device_calls.specs.card_image.Fields.{newest_vehicle}
+use Rattle.device_calls.specs.card_image.Own.{own_sizes, IsOwnValid}
+use Rattle.device_calls.specs.card_validity.declared.looking.CardLook.{CardLook}
+use Rattle.device_calls.specs.card_session.Sessions.{book_of}
+use Rattle.run_acts.specs.message_model.Records.{insertion_ring}
+use Rattle.run_acts.specs.unit_notes.Entries.{insertion_bytes}
+use Rattle.run_acts.specs.unit_notes.Fields.{InsertionFits}
+use Rattle.run_acts.proofs.unit_notes.EntryFields.{tells_insertion}
+use Rattle.run_minutes.specs.run_promise.Found.{CardFound}
 use Rattle.run_insertion.specs.declared.lines.Entering.{Entering}
 use Rattle.run_insertion.specs.Entering.{Way, Unread, Unsized, Judged, Unfit, Ahead, Fell, Unasked, Unnoted, Seated, Lost, ending_of, previous_of, previous_time_of, insertion_of}
 use Rattle.run_insertion.specs.Entered.{FitsInsertion, IsWay, IsFoundIn}
 use Rattle.run_acts.specs.Comings.{VehicleTold, told_in, told_of, TellMore}
 use Rattle.run_acts.proofs.Comings.{leaves-more, insertion-more}
-use Rattle.run_devices.proofs.OnCards.{valid-own}
+use Rattle.run_minutes.proofs.run_devices.OnCards.{valid-own}
 use Rattle.run_acts.proofs.EnteredStays.{TellsBy}
 use Rattle.recorder_with_cards.specs.EnteredRings.{InsertsAt, WritesBy}
 use Rattle.recorder_with_cards.proofs.EnteredHolder.{previous-long, previous-low}

@@ -10,29 +10,29 @@ use Rattle.tach_media.specs.Medium.{State}
 use Rattle.tach_media.proofs.Runs.{at_image}
 use Rattle.tacho_types.specs.declared.texts.Registration.{Registration}
 use Rattle.minute_rules.specs.Kept.{Kept}
-use Rattle.card_layout.specs.declared.files.Application.{Application}
-use Rattle.card_image.specs.Fields.{current_use, session_time}
-use Rattle.card_image.specs.Own.{own_sizes, IsOwnValid}
-use Rattle.card_files.specs.declared.card_event.CardEvent.{CardEvent}
-use Rattle.card_files.specs.declared.current_use.CurrentUse.{CurrentUse}
-use Rattle.card_session.specs.Inserting.{unclosed}
-use Rattle.event_model.specs.declared.kinds.TheConstants.{INSERTION_WHILE_DRIVING, SESSION_NOT_CLOSED, POWER_INTERRUPTION}
-use Rattle.device_rule.specs.Views.{other}
+use Rattle.tach_media.specs.card_layout.declared.files.Application.{Application}
+use Rattle.device_calls.specs.card_image.Fields.{current_use, session_time}
+use Rattle.device_calls.specs.card_image.Own.{own_sizes, IsOwnValid}
+use Rattle.device_calls.specs.card_files.declared.card_event.CardEvent.{CardEvent}
+use Rattle.device_calls.specs.card_files.declared.current_use.CurrentUse.{CurrentUse}
+use Rattle.device_calls.specs.card_session.Inserting.{unclosed}
+use Rattle.device_calls.specs.event_model.declared.kinds.TheConstants.{INSERTION_WHILE_DRIVING, SESSION_NOT_CLOSED, POWER_INTERRUPTION}
+use Rattle.device_calls.specs.device_rule.Views.{other}
 use Rattle.log_model.specs.declared.lines.Find.{Find}
 use Rattle.log_model.specs.declared.lines.Verdict.{Verdict}
 use Rattle.log_model.specs.declared.lines.Verdict.TheVariants as verdict
 use Rattle.log_model.specs.Log.{RunLog, In, is_torn_in, found_in}
 use Rattle.log_model.specs.Slots.{same_card}
 use Rattle.log_model.specs.Course.{Visit}
-use Rattle.safety_model.specs.Recording.{card_image}
-use Rattle.run_promise.specs.Found.{found_of}
-use Rattle.run_devices.specs.Told.{arranged}
+use Rattle.device_calls.specs.safety_model.Recording.{card_image}
+use Rattle.run_minutes.specs.run_promise.Found.{found_of}
+use Rattle.run_minutes.specs.run_devices.Told.{arranged}
 use Rattle.run_outcome.specs.declared.outcome.Outcome.{Outcome}
-use Rattle.run_promise.specs.Origin.{Origin}
-use Rattle.run_promise.specs.Beside.{HaveLeftMore}
-use Rattle.run_promise.specs.Whole.{NothingFailed}
-use Rattle.run_note_record.specs.Evented.{images_in}
-use Rattle.run_note_record.specs.Uses.{uses_from, insertions_at, notes_now, uses_in, use_now}
+use Rattle.run_minutes.specs.run_promise.Origin.{Origin}
+use Rattle.run_minutes.specs.run_promise.Beside.{HaveLeftMore}
+use Rattle.run_minutes.specs.run_promise.Whole.{NothingFailed}
+use Rattle.run_acts.specs.run_note_record.Evented.{images_in}
+use Rattle.run_acts.specs.run_note_record.Uses.{uses_from, insertions_at, notes_now, uses_in, use_now}
 use Rattle.run_minutes.specs.declared.keeper.Keeper.{Keeper}
 use Rattle.run_minutes.specs.declared.keeper.Moment.{Moment as KeepingAt}
 use Rattle.run_minutes.specs.Keeping.{tear_of}
@@ -44,7 +44,7 @@ use Rattle.run_insertion.specs.CardEvents.{events_in, all_noted, AreBeingNoted, 
 use Rattle.run_insertion.specs.CardBrought.{moving_on, brought_on, is_cut_short, BringsOnCard}
 use Rattle.run_insertion.proofs.CardBrought.{IsSitting, shows-first}
 use Rattle.run_insertion.proofs.MayBe.{being-may}
-use Rattle.run_record.specs.Within.{RecordInSecond}
+use Rattle.run_acts.specs.run_record.Within.{RecordInSecond}
 use Rattle.run_acts.specs.Closings.{notes_within}
 use Rattle.run_acts.specs.Entered.{values_with, MayJudge, HasGone, AreSound}
 use Rattle.run_acts.specs.Recording.{IsOrigin, log_of}

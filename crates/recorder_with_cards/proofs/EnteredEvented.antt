@@ -12,33 +12,33 @@ use Rattle.tacho_types.specs.declared.card_number.FullCardNumber.{FullCardNumber
 use Rattle.tacho_types.specs.declared.texts.Registration.{Registration}
 use Rattle.tacho_types.specs.CardNumber.{card_number_bytes}
 use Rattle.minute_rules.specs.Kept.{Kept}
-use Rattle.card_layout.specs.declared.files.Application.{Application}
-use Rattle.card_image.specs.Own.{IsOwnValid}
+use Rattle.tach_media.specs.card_layout.declared.files.Application.{Application}
+use Rattle.device_calls.specs.card_image.Own.{IsOwnValid}
 use Rattle.log_model.specs.Log.{RunLog, In}
-use Rattle.device_rule.specs.Rules.{Out}
+use Rattle.device_calls.specs.device_rule.Rules.{Out}
 use Rattle.log_model.specs.Slots.{Slots, in_slot}
 use Rattle.log_model.specs.Course.{ToldSecond, Visit, Course, went}
-use Rattle.event_model.specs.declared.kinds.TheConstants.{CARD_FAULT, INSERTION_WHILE_DRIVING, SESSION_NOT_CLOSED}
-use Rattle.event_model.specs.Events.{Event, Crew, accepted_card, with_card, noted_with}
-use Rattle.event_model.specs.Events as events
-use Rattle.card_slots.specs.declared.seats.Seat.{Seat}
-use Rattle.card_slots.specs.Calls.{is_card}
-use Rattle.safety_model.specs.Recording.{card_image}
-use Rattle.safety_model.specs.Safe.{Devices, card_of, breakdowns_of}
-use Rattle.run_crew.specs.declared.cabin.Cabin.{Cabin}
-use Rattle.run_crew.specs.declared.cards.Cards.{Cards}
-use Rattle.run_crew.specs.Cards.{known_of, with_sizes, accepted_number}
-use Rattle.run_crew.specs.Cabin.{CabinIsSound, with_sizes_of, number_of_seat, crew_of}
-use Rattle.run_events.specs.Entries.{number_or_no_card, IsCrewOf}
-use Rattle.run_promise.specs.Found.{Found, found_of}
-use Rattle.run_promise.specs.Between.{RunLedger}
-use Rattle.run_course.specs.Reached.{Reaches}
-use Rattle.run_course.specs.Telling.{BrokeDown, IsLeft}
-use Rattle.run_course.proofs.Moment.{reaches-of}
-use Rattle.run_devices.specs.Told.{arranged, with_standing}
+use Rattle.device_calls.specs.event_model.declared.kinds.TheConstants.{CARD_FAULT, INSERTION_WHILE_DRIVING, SESSION_NOT_CLOSED}
+use Rattle.device_calls.specs.event_model.Events.{Event, Crew, accepted_card, with_card, noted_with}
+use Rattle.device_calls.specs.event_model.Events as events
+use Rattle.run_minutes.specs.card_slots.declared.seats.Seat.{Seat}
+use Rattle.run_minutes.specs.card_slots.Calls.{is_card}
+use Rattle.device_calls.specs.safety_model.Recording.{card_image}
+use Rattle.device_calls.specs.safety_model.Safe.{Devices, card_of, breakdowns_of}
+use Rattle.run_acts.specs.run_crew.declared.cabin.Cabin.{Cabin}
+use Rattle.run_acts.specs.run_crew.declared.cards.Cards.{Cards}
+use Rattle.run_acts.specs.run_crew.Cards.{known_of, with_sizes, accepted_number}
+use Rattle.run_acts.specs.run_crew.Cabin.{CabinIsSound, with_sizes_of, number_of_seat, crew_of}
+use Rattle.run_acts.specs.run_events.Entries.{number_or_no_card, IsCrewOf}
+use Rattle.run_minutes.specs.run_promise.Found.{Found, found_of}
+use Rattle.run_minutes.specs.run_promise.Between.{RunLedger}
+use Rattle.run_acts.specs.run_course.Reached.{Reaches}
+use Rattle.run_acts.specs.run_course.Telling.{BrokeDown, IsLeft}
+use Rattle.run_acts.proofs.run_course.Moment.{reaches-of}
+use Rattle.run_minutes.specs.run_devices.Told.{arranged, with_standing}
 use Rattle.run_outcome.specs.declared.outcome.Outcome.{Outcome}
-use Rattle.run_promise.specs.Origin.{Origin, start_at}
-use Rattle.run_promise.specs.Beside.{HaveLeftMore}
+use Rattle.run_minutes.specs.run_promise.Origin.{Origin, start_at}
+use Rattle.run_minutes.specs.run_promise.Beside.{HaveLeftMore}
 use Rattle.run_minutes.specs.declared.keeper.Keeper.{Keeper}
 use Rattle.run_minutes.specs.declared.keeper.Moment.{Moment as KeepingAt}
 use Rattle.run_insertion.specs.declared.lines.Entering.{Entering}
@@ -46,11 +46,11 @@ use Rattle.run_insertion.specs.Entering.{Ending, Unfit, Ahead, Fell, Unasked, Un
 use Rattle.run_insertion.specs.Entered.{IsFoundIn, IsWay}
 use Rattle.run_insertion.specs.Noted.{notes_by}
 use Rattle.run_insertion.specs.Told.{IsToldOf}
-use Rattle.run_record.specs.Recorded.{Values}
-use Rattle.run_record.specs.Within.{RecordInSecond, course_in, told_before}
-use Rattle.run_note_record.specs.Opened.{HasComeBefore}
-use Rattle.run_note_record.specs.Evented.{number_in}
-use Rattle.run_note_record.specs.EventsSoFar.{EventedNow, BeginsNow, stage_in}
+use Rattle.run_acts.specs.run_record.Recorded.{Values}
+use Rattle.run_acts.specs.run_record.Within.{RecordInSecond, course_in, told_before}
+use Rattle.run_acts.specs.run_note_record.Opened.{HasComeBefore}
+use Rattle.run_acts.specs.run_note_record.Evented.{number_in}
+use Rattle.run_acts.specs.run_note_record.EventsSoFar.{EventedNow, BeginsNow, stage_in}
 use Rattle.run_acts.specs.Closings.{notes_within}
 use Rattle.run_acts.specs.Entered.{values_with, MayJudge, HasGone, AreSound}
 use Rattle.run_acts.specs.EventCrews.{AreKnownBy}

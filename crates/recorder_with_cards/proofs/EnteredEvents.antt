@@ -2,15 +2,15 @@
 use Rattle.std.proofs.Common.{◌≡◌, ◌∙◌, ◌⊎◌, ⊎_elim, ℕ, Bool, true, false, not, Option, Some, None, IfSome, is_some, List, [], ◌∷◌, length, refl, ap, sym, subst, arith}
 use Rattle.trace_model.specs.declared.Card.{Card}
 use Rattle.tach_media.specs.Medium.{State, IsCoherent}
-use Rattle.event_model.specs.Events.{Event}
-use Rattle.unit_model.specs.Image.{IsUnit}
-use Rattle.run_promise.specs.Between.{devices}
-use Rattle.run_note_record.specs.Evented.{number_in}
+use Rattle.device_calls.specs.event_model.Events.{Event}
+use Rattle.unit_minutes.specs.unit_model.Image.{IsUnit}
+use Rattle.run_minutes.specs.run_promise.Between.{devices}
+use Rattle.run_acts.specs.run_note_record.Evented.{number_in}
 use Rattle.run_insertion.specs.Noted.{UnitNote, Inserts, BeginsRow, Tells, IsOnUnit, IsComing, AreDone, HasNoted}
 use Rattle.recorder_with_cards.specs.EnteredTold.{TellEvents}
 use Rattle.run_acts.specs.NotedEvents.{AreTold, NotesEvents}
-use Rattle.run_events.specs.Shown.{by_kind}
-use Rattle.run_events.proofs.Shows.{nothing-of}
+use Rattle.run_acts.specs.run_events.Shown.{by_kind}
+use Rattle.run_acts.proofs.run_events.Shows.{nothing-of}
 use Rattle.run_acts.proofs.NotedEvents.{same-says}
 use Rattle.recorder_with_cards.specs.EnteredEvents.{events_in}
 use Rattle.recorder_with_cards.proofs.EnteredTold.{told-shown, told-coming}

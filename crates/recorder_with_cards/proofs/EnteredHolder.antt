@@ -4,9 +4,9 @@ use Rattle.std.proofs.Common.{◌≡◌, ◌∙◌, ◌⊎◌, inl, inr, ⊎_eli
 use Rattle.std.proofs.lemmas.Bool.{cases_lt}
 use Rattle.std.proofs.lemmas.List.{get_or_past, length-take, length-drop}
 use Rattle.std.proofs.lemmas.List.Elements.{All-get_or, All-take, All-drop}
-use Rattle.card_layout.specs.Fields.{IsBytes, field_at}
-use Rattle.card_layout.proofs.Cuts.{IsBytes-drop, IsBytes-take}
-use Rattle.card_layout.proofs.Numbers.{big_bytes-big_number}
+use Rattle.tach_media.specs.card_layout.Fields.{IsBytes, field_at}
+use Rattle.tach_media.proofs.card_layout.Cuts.{IsBytes-drop, IsBytes-take}
+use Rattle.tach_media.proofs.card_layout.Numbers.{big_bytes-big_number}
 use Rattle.activity_codec.specs.declared.values.Slot.{Slot}
 use Rattle.activity_codec.specs.declared.values.Slot.TheVariants.{Driver, CoDriver}
 use Rattle.activity_codec.specs.Words.{slot_number as slot_told}
@@ -14,28 +14,28 @@ use Rattle.trace_model.specs.declared.Card.{Card}
 use Rattle.trace_model.specs.Trace.{TraceSecond}
 use Rattle.tacho_types.specs.CardNumber.{card_number_bytes}
 use Rattle.tacho_types.specs.Numbers.{time_bytes, time_of}
-use Rattle.card_layout.specs.declared.files.Application.{Application}
-use Rattle.card_layout.specs.Files.{place_of, size_of}
-use Rattle.card_files.specs.declared.vehicle.Vehicle.{Vehicle}
-use Rattle.card_image.specs.Fields.{file, file_bytes, newest_vehicle}
-use Rattle.card_image.specs.Own.{own_sizes, IsOwnValid}
-use Rattle.card_validity.specs.declared.looking.CardLook.{CardLook}
-use Rattle.card_validity.specs.Judged.{IsLook, identification_field}
+use Rattle.tach_media.specs.card_layout.declared.files.Application.{Application}
+use Rattle.tach_media.specs.card_layout.Files.{place_of, size_of}
+use Rattle.device_calls.specs.card_files.declared.vehicle.Vehicle.{Vehicle}
+use Rattle.device_calls.specs.card_image.Fields.{file, file_bytes, newest_vehicle}
+use Rattle.device_calls.specs.card_image.Own.{own_sizes, IsOwnValid}
+use Rattle.device_calls.specs.card_validity.declared.looking.CardLook.{CardLook}
+use Rattle.device_calls.specs.card_validity.Judged.{IsLook, identification_field}
 use Rattle.log_model.specs.Log.{RunLog}
 use Rattle.log_model.specs.Course.{ToldSecond}
-use Rattle.unit_notes.specs.Fields.{InsertionFits}
-use Rattle.unit_notes.specs.Entries.{insertion_bytes}
-use Rattle.note_model.specs.Odometer.{SpanFrom, odometer_at}
-use Rattle.note_model.specs.Noted.{Acceptance}
-use Rattle.safety_model.specs.Recording.{Recording, card_image}
-use Rattle.safety_model.specs.Safe.{Devices, card_of}
-use Rattle.safety_model.specs.Side.{identification_widths, TellsVehicle}
-use Rattle.run_promise.specs.Found.{found_of}
-use Rattle.run_devices.specs.Strung.{identification_of, HasSameHolder}
-use Rattle.run_promise.specs.Origin.{Origin}
-use Rattle.run_note_record.specs.Opened.{HasComeBefore}
-use Rattle.run_note_record.specs.Ringed.{Since, holder_in, TellsIn, IsInsertionIn}
-use Rattle.run_note_record.proofs.Bytes.{IsInsertionTold, insertion-is}
+use Rattle.run_acts.specs.unit_notes.Fields.{InsertionFits}
+use Rattle.run_acts.specs.unit_notes.Entries.{insertion_bytes}
+use Rattle.device_calls.specs.note_model.Odometer.{SpanFrom, odometer_at}
+use Rattle.device_calls.specs.note_model.Noted.{Acceptance}
+use Rattle.device_calls.specs.safety_model.Recording.{Recording, card_image}
+use Rattle.device_calls.specs.safety_model.Safe.{Devices, card_of}
+use Rattle.device_calls.specs.safety_model.Side.{identification_widths, TellsVehicle}
+use Rattle.run_minutes.specs.run_promise.Found.{found_of}
+use Rattle.run_minutes.specs.run_devices.Strung.{identification_of, HasSameHolder}
+use Rattle.run_minutes.specs.run_promise.Origin.{Origin}
+use Rattle.run_acts.specs.run_note_record.Opened.{HasComeBefore}
+use Rattle.run_acts.specs.run_note_record.Ringed.{Since, holder_in, TellsIn, IsInsertionIn}
+use Rattle.run_acts.proofs.run_note_record.Bytes.{IsInsertionTold, insertion-is}
 use Rattle.run_insertion.specs.declared.lines.Entering.{Entering}
 use Rattle.run_insertion.specs.Entering.{slot_number, previous_of, previous_time_of, insertion_of}
 use Rattle.run_insertion.specs.Entered.{FitsInsertion}

@@ -13,10 +13,10 @@ use Rattle.log_model.specs.Causes.{second_of}
 use Rattle.log_model.specs.Log.{RunLog, In, same_phase, phase_of, cut_in, tears_here, is_torn_in, found_in}
 use Rattle.log_model.specs.Slots.{other_slot}
 use Rattle.log_model.specs.Course.{begins}
-use Rattle.run_course.specs.Moments.{and_break, and_find, finds_here}
-use Rattle.run_course.proofs.Lookups.{break-more, find-more}
-use Rattle.run_note_record.proofs.Tearing.{and-none, slot-apart}
-use Rattle.run_rings.specs.Notes.{TellSameTo}
+use Rattle.run_acts.specs.run_course.Moments.{and_break, and_find, finds_here}
+use Rattle.run_acts.proofs.run_course.Lookups.{break-more, find-more}
+use Rattle.run_acts.proofs.run_note_record.Tearing.{and-none, slot-apart}
+use Rattle.run_acts.specs.run_rings.Notes.{TellSameTo}
 use Rattle.run_minutes.specs.Keeping.{tear_of}
 use Rattle.run_insertion.specs.declared.lines.Entering.{Entering}
 use Rattle.run_insertion.specs.Entering.{Ending, Unfit, Ahead, Fell, Unasked, Unnoted, Seated, Lost, find_of, finds_by, breaks_by}

@@ -7,16 +7,16 @@ use Rattle.trace_model.specs.declared.Card.TheVariants.{A, B}
 use Rattle.tacho_types.specs.CardNumber.{card_number_bytes}
 use Rattle.tacho_types.specs.declared.card_number.FullCardNumber.{FullCardNumber}
 use Rattle.log_model.specs.Slots.{same_card, other_slot}
-use Rattle.event_model.specs.Events as events
-use Rattle.card_slots.specs.declared.seats.Seat.{Seat}
-use Rattle.card_slots.specs.Calls.{seat_in, is_card}
-use Rattle.hand_model.specs.Holding.{none_held}
-use Rattle.run_crew.specs.declared.cabin.Cabin.{Cabin}
-use Rattle.run_crew.specs.declared.cards.Accepted.{Accepted}
-use Rattle.run_crew.specs.declared.cards.Cards.{Cards}
-use Rattle.run_crew.specs.Cards.{known_of, with_session, with_number, accepted_number}
-use Rattle.run_crew.specs.Cabin.{with_accepted, number_of_seat, slot_with, left_from, torn_out, crew_of}
-use Rattle.run_events.specs.Entries.{number_or_no_card, IsCrewOf}
+use Rattle.device_calls.specs.event_model.Events as events
+use Rattle.run_minutes.specs.card_slots.declared.seats.Seat.{Seat}
+use Rattle.run_minutes.specs.card_slots.Calls.{seat_in, is_card}
+use Rattle.device_calls.specs.hand_model.Holding.{none_held}
+use Rattle.run_acts.specs.run_crew.declared.cabin.Cabin.{Cabin}
+use Rattle.run_acts.specs.run_crew.declared.cards.Accepted.{Accepted}
+use Rattle.run_acts.specs.run_crew.declared.cards.Cards.{Cards}
+use Rattle.run_acts.specs.run_crew.Cards.{known_of, with_session, with_number, accepted_number}
+use Rattle.run_acts.specs.run_crew.Cabin.{with_accepted, number_of_seat, slot_with, left_from, torn_out, crew_of}
+use Rattle.run_acts.specs.run_events.Entries.{number_or_no_card, IsCrewOf}
 use Rattle.run_acts.specs.NotedEvents.{AreTold}
 use Rattle.run_insertion.specs.declared.lines.Entering.{Entering}
 use Rattle.run_insertion.specs.Entering.{Ending, Unfit, Ahead, Fell, Unasked, Unnoted, Seated, Lost, and_one}

@@ -1,7 +1,7 @@
 -- A card is judged: the places of each card stay as they are, whatever becomes of it, and its vehicle entries are measured.
 use Rattle.std.proofs.Common.{◌≡◌, ◌≢◌, ◌∙◌, ◌⊎◌, inl, inr, ⊎_elim, ℕ, ◌+◌, ◌<◌, ◌≤◌, ◌^◌, Bool, true, None, List, [], ◌∷◌, ◌++◌, filter, length, take, drop, refl, sym, ap, subst, arith}
 use Rattle.std.proofs.lemmas.List.{take-take, drop-take, take_at, length-take-le, length-append}
-use Rattle.card_layout.proofs.Images.{part_before}
+use Rattle.tach_media.proofs.card_layout.Images.{part_before}
 use Rattle.activity_codec.specs.declared.values.Activity.TheVariants.{Rest}
 use Rattle.activity_codec.specs.declared.entries.Entry.{Entry}
 use Rattle.trace_model.specs.declared.Card.{Card}
@@ -11,48 +11,48 @@ use Rattle.tach_media.specs.Medium.{State, bytes_at, put}
 use Rattle.tacho_types.specs.declared.texts.Registration.{Registration}
 use Rattle.tacho_types.specs.Numbers.{time_bytes}
 use Rattle.minute_rules.specs.Kept.{Kept}
-use Rattle.card_layout.specs.declared.files.Application.{Application}
-use Rattle.card_layout.specs.declared.files.TheConstants.{LARGEST_IMAGE}
-use Rattle.card_layout.specs.Application.{IsApplication}
-use Rattle.card_layout.specs.Files.{files_of, place_of, image_size_of}
-use Rattle.card_layout.proofs.Sizes.{largest_image}
-use Rattle.gated_ring.specs.Ring.{size_of as ring_size}
-use Rattle.card_files.specs.Rings.{file, place_ring}
-use Rattle.card_model.specs.Days.{Day}
-use Rattle.card_image.specs.Own.{own_sizes, IsOwnValid}
-use Rattle.card_session.specs.Vehicles.{Vehicles}
-use Rattle.card_session.specs.Books.{closed}
-use Rattle.card_session.specs.Cards.{IsCard}
-use Rattle.card_session.specs.Sessions.{book_of}
-use Rattle.card_session.specs.Moments.{IsBook, IsCloseMoment}
-use Rattle.card_session.specs.Inserting.{repaired, IsRepairMoment, During, IsStill, IsRepaired, IsRepairing, IsNoted, IsNoting, IsShut, IsShutting, IsEnded, IsEnding, IsOpening, IsCardInserting, timed, registered}
-use Rattle.card_session.proofs.Ends.{inserted_moment}
-use Rattle.card_session.proofs.InsertingUse.{use_inside}
-use Rattle.card_session.proofs.InsertingAgain.{inserting_keeps}
+use Rattle.tach_media.specs.card_layout.declared.files.Application.{Application}
+use Rattle.tach_media.specs.card_layout.declared.files.TheConstants.{LARGEST_IMAGE}
+use Rattle.tach_media.specs.card_layout.Application.{IsApplication}
+use Rattle.tach_media.specs.card_layout.Files.{files_of, place_of, image_size_of}
+use Rattle.tach_media.proofs.card_layout.Sizes.{largest_image}
+use Rattle.unit_minutes.specs.gated_ring.Ring.{size_of as ring_size}
+use Rattle.device_calls.specs.card_files.Rings.{file, place_ring}
+use Rattle.device_calls.specs.card_model.Days.{Day}
+use Rattle.device_calls.specs.card_image.Own.{own_sizes, IsOwnValid}
+use Rattle.device_calls.specs.card_session.Vehicles.{Vehicles}
+use Rattle.device_calls.specs.card_session.Books.{closed}
+use Rattle.device_calls.specs.card_session.Cards.{IsCard}
+use Rattle.device_calls.specs.card_session.Sessions.{book_of}
+use Rattle.device_calls.specs.card_session.Moments.{IsBook, IsCloseMoment}
+use Rattle.device_calls.specs.card_session.Inserting.{repaired, IsRepairMoment, During, IsStill, IsRepaired, IsRepairing, IsNoted, IsNoting, IsShut, IsShutting, IsEnded, IsEnding, IsOpening, IsCardInserting, timed, registered}
+use Rattle.device_calls.proofs.card_session.Ends.{inserted_moment}
+use Rattle.device_calls.proofs.card_session.InsertingUse.{use_inside}
+use Rattle.device_calls.proofs.card_session.InsertingAgain.{inserting_keeps}
 use Rattle.device_calls.specs.Entering.{owed_on}
-use Rattle.device_rule.specs.Views.{other}
+use Rattle.device_calls.specs.device_rule.Views.{other}
 use Rattle.log_model.specs.declared.lines.Verdict.{Verdict}
 use Rattle.log_model.specs.Log.{RunLog, In, found_in, is_accepting}
 use Rattle.log_model.specs.Slots.{same_card}
 use Rattle.log_model.specs.Course.{Visit}
-use Rattle.note_model.specs.Odometer.{SpanFrom}
-use Rattle.safety_model.specs.Recording.{card_image}
-use Rattle.run_promise.specs.Found.{found_of}
-use Rattle.run_devices.specs.Told.{arranged}
-use Rattle.run_devices.specs.Measured.{GoesMeasured}
-use Rattle.run_devices.proofs.Holders.{event-places, noted-places, card-places}
-use Rattle.run_devices.proofs.Measured.{goes-itself, goes-then, bytes-go, inserting-goes, event-vehicles, noted-vehicles}
-use Rattle.run_devices.specs.Sessions.{SessionGoes}
-use Rattle.run_devices.proofs.Sessions.{session-itself, session-then, session-more, inserting-session, event-session, noted-session}
+use Rattle.device_calls.specs.note_model.Odometer.{SpanFrom}
+use Rattle.device_calls.specs.safety_model.Recording.{card_image}
+use Rattle.run_minutes.specs.run_promise.Found.{found_of}
+use Rattle.run_minutes.specs.run_devices.Told.{arranged}
+use Rattle.run_minutes.specs.run_devices.Measured.{GoesMeasured}
+use Rattle.run_minutes.proofs.run_devices.Holders.{event-places, noted-places, card-places}
+use Rattle.run_minutes.proofs.run_devices.Measured.{goes-itself, goes-then, bytes-go, inserting-goes, event-vehicles, noted-vehicles}
+use Rattle.run_minutes.specs.run_devices.Sessions.{SessionGoes}
+use Rattle.run_minutes.proofs.run_devices.Sessions.{session-itself, session-then, session-more, inserting-session, event-session, noted-session}
 use Rattle.run_outcome.specs.declared.outcome.Outcome.{Outcome}
-use Rattle.run_promise.specs.Origin.{Origin}
-use Rattle.run_note_record.specs.OnCards.{has_call_failed_in, HasSamePlaces, LeavesPlaces, PlacesStay, IsReading, GoesByReadings, VehiclesGo, SessionsGo, CardsGo}
+use Rattle.run_minutes.specs.run_promise.Origin.{Origin}
+use Rattle.run_acts.specs.run_note_record.OnCards.{has_call_failed_in, HasSamePlaces, LeavesPlaces, PlacesStay, IsReading, GoesByReadings, VehiclesGo, SessionsGo, CardsGo}
 use Rattle.run_minutes.specs.declared.keeper.Keeper.{Keeper}
 use Rattle.run_insertion.specs.declared.lines.Entering.{Entering}
 use Rattle.run_insertion.specs.Entering.{Ending, Unfit, Ahead, Fell, Unasked, Unnoted, Seated, Lost, Way, Unread, Unsized, Judged, ending_of}
 use Rattle.run_insertion.specs.Noted.{CardNote, PutIn, Shows, IsOnCard, IsComingOnCard, AreBeingDone, AreComingOnCard, card_notes_by}
 use Rattle.run_insertion.specs.Entered.{IsFoundIn}
-use Rattle.run_record.specs.Within.{RecordInSecond}
+use Rattle.run_acts.specs.run_record.Within.{RecordInSecond}
 use Rattle.run_acts.specs.Entered.{values_with, MayJudge, HasGone, AreSound}
 use Rattle.run_acts.specs.Recording.{IsOrigin, log_of}
 use Rattle.run_acts.specs.RunCards.{sizes_in}

@@ -8,49 +8,49 @@ use Rattle.tach_media.specs.Medium.{State}
 use Rattle.tacho_types.specs.CardNumber.{card_number_bytes}
 use Rattle.tacho_types.specs.declared.card_number.FullCardNumber.{FullCardNumber}
 use Rattle.minute_rules.specs.Kept.{Kept}
-use Rattle.card_layout.specs.declared.files.Application.{Application}
-use Rattle.card_layout.specs.declared.files.TheConstants.{LARGEST_IMAGE}
-use Rattle.card_image.specs.Own.{own_sizes, IsOwnValid}
-use Rattle.card_validity.specs.declared.looking.CardLook.{CardLook}
-use Rattle.card_validity.specs.Judged.{IsLook}
-use Rattle.device_rule.specs.Rules.{Out}
+use Rattle.tach_media.specs.card_layout.declared.files.Application.{Application}
+use Rattle.tach_media.specs.card_layout.declared.files.TheConstants.{LARGEST_IMAGE}
+use Rattle.device_calls.specs.card_image.Own.{own_sizes, IsOwnValid}
+use Rattle.device_calls.specs.card_validity.declared.looking.CardLook.{CardLook}
+use Rattle.device_calls.specs.card_validity.Judged.{IsLook}
+use Rattle.device_calls.specs.device_rule.Rules.{Out}
 use Rattle.log_model.specs.declared.lines.Find.{Find}
 use Rattle.log_model.specs.declared.lines.Verdict.{Verdict}
 use Rattle.log_model.specs.declared.lines.Verdict.TheVariants as verdict
 use Rattle.log_model.specs.Log.{RunLog, In, cut_in, found_in}
 use Rattle.log_model.specs.Slots.{other_slot}
 use Rattle.log_model.specs.Course.{Visit, went}
-use Rattle.unit_notes.specs.Entries.{insertion_bytes}
-use Rattle.note_model.specs.Odometer.{SpanFrom}
-use Rattle.note_model.specs.Noted.{Acceptance}
-use Rattle.safety_model.specs.Recording.{card_image}
-use Rattle.safety_model.specs.Safe.{Devices}
-use Rattle.hand_model.specs.Holding.{none_held}
-use Rattle.run_crew.specs.declared.cards.Accepted.{Accepted}
-use Rattle.run_crew.specs.declared.cards.Cards.{Cards}
-use Rattle.run_crew.specs.declared.cabin.Cabin.{Cabin}
-use Rattle.run_crew.specs.Cards.{session_of}
-use Rattle.run_crew.specs.Cabin.{torn_out, with_accepted, with_sizes_of}
-use Rattle.run_note_record.specs.Opened.{HasComeBefore}
+use Rattle.run_acts.specs.unit_notes.Entries.{insertion_bytes}
+use Rattle.device_calls.specs.note_model.Odometer.{SpanFrom}
+use Rattle.device_calls.specs.note_model.Noted.{Acceptance}
+use Rattle.device_calls.specs.safety_model.Recording.{card_image}
+use Rattle.device_calls.specs.safety_model.Safe.{Devices}
+use Rattle.device_calls.specs.hand_model.Holding.{none_held}
+use Rattle.run_acts.specs.run_crew.declared.cards.Accepted.{Accepted}
+use Rattle.run_acts.specs.run_crew.declared.cards.Cards.{Cards}
+use Rattle.run_acts.specs.run_crew.declared.cabin.Cabin.{Cabin}
+use Rattle.run_acts.specs.run_crew.Cards.{session_of}
+use Rattle.run_acts.specs.run_crew.Cabin.{torn_out, with_accepted, with_sizes_of}
+use Rattle.run_acts.specs.run_note_record.Opened.{HasComeBefore}
 use Rattle.recorder_with_cards.proofs.CameFirst.{came-first}
-use Rattle.run_promise.specs.Found.{found_of}
-use Rattle.run_promise.specs.Between.{RunLedger}
-use Rattle.run_devices.specs.Strung.{HasSameHolder}
-use Rattle.run_rings.specs.Notes.{TellSameTo}
-use Rattle.run_devices.specs.Told.{arranged, with_standing}
+use Rattle.run_minutes.specs.run_promise.Found.{found_of}
+use Rattle.run_minutes.specs.run_promise.Between.{RunLedger}
+use Rattle.run_minutes.specs.run_devices.Strung.{HasSameHolder}
+use Rattle.run_acts.specs.run_rings.Notes.{TellSameTo}
+use Rattle.run_minutes.specs.run_devices.Told.{arranged, with_standing}
 use Rattle.run_outcome.specs.declared.outcome.Outcome.{Outcome}
-use Rattle.run_promise.specs.Origin.{Origin}
-use Rattle.run_promise.specs.Beside.{HaveLeftMore}
-use Rattle.run_note_record.specs.Ringed.{Seating, one_behind, Since, since_in}
-use Rattle.run_note_record.specs.OnCards.{has_call_failed_in, CardsGo}
-use Rattle.run_note_record.specs.RingsSoFar.{AreFewer}
+use Rattle.run_minutes.specs.run_promise.Origin.{Origin}
+use Rattle.run_minutes.specs.run_promise.Beside.{HaveLeftMore}
+use Rattle.run_acts.specs.run_note_record.Ringed.{Seating, one_behind, Since, since_in}
+use Rattle.run_acts.specs.run_note_record.OnCards.{has_call_failed_in, CardsGo}
+use Rattle.run_acts.specs.run_note_record.RingsSoFar.{AreFewer}
 use Rattle.run_minutes.specs.declared.keeper.Keeper.{Keeper}
 use Rattle.run_minutes.specs.declared.keeper.Moment.{Moment as KeepingAt}
 use Rattle.run_insertion.specs.declared.lines.Entering.{Entering}
 use Rattle.run_insertion.specs.Entering.{Ending, Unfit, Ahead, Fell, Unasked, Unnoted, Seated, Lost, Way, Unread, Unsized, Judged, ending_of, sizes_by, measured, cabin_by, noted_by, and_one, insertion_of, find_of, finds_by}
 use Rattle.run_insertion.specs.Entered.{FitsInsertion, IsFoundIn, IsWay}
 use Rattle.run_insertion.specs.Told.{IsToldOf}
-use Rattle.run_record.specs.Within.{RecordInSecond}
+use Rattle.run_acts.specs.run_record.Within.{RecordInSecond}
 use Rattle.run_acts.specs.Entered.{values_with, MayJudge, HasGone, AreSound}
 use Rattle.run_acts.specs.Recording.{IsOrigin, log_of}
 use Rattle.run_acts.specs.Ringing.{seating_of}

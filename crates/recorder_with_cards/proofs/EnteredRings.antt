@@ -4,20 +4,20 @@ use Rattle.std.specs.Prelude.{nat_eq, nat_lt}
 use Rattle.std.specs.List.{AllByRecursion}
 use Rattle.tach_media.specs.Medium.{State, IsCoherent, HasCause}
 use Rattle.tach_media.proofs.Runs.{at_image}
-use Rattle.gated_ring.specs.Ring.{PointsInside, taken}
-use Rattle.message_model.specs.Records.{insertion_ring}
-use Rattle.unit_notes.specs.declared.insertion.Insertion.{Insertion}
-use Rattle.unit_notes.specs.Entries.{insertion_bytes}
-use Rattle.run_crew.specs.declared.cabin.Cabin.{Cabin}
-use Rattle.run_devices.proofs.Parts.{told-one}
+use Rattle.unit_minutes.specs.gated_ring.Ring.{PointsInside, taken}
+use Rattle.run_acts.specs.message_model.Records.{insertion_ring}
+use Rattle.run_acts.specs.unit_notes.declared.insertion.Insertion.{Insertion}
+use Rattle.run_acts.specs.unit_notes.Entries.{insertion_bytes}
+use Rattle.run_acts.specs.run_crew.declared.cabin.Cabin.{Cabin}
+use Rattle.run_minutes.proofs.run_devices.Parts.{told-one}
 use Rattle.run_minutes.specs.declared.keeper.Keeper.{Keeper}
 use Rattle.run_outcome.specs.declared.outcome.Outcome.{Outcome}
 use Rattle.run_insertion.specs.declared.lines.Entering.{Entering}
 use Rattle.run_insertion.specs.Entering.{Ending, Way, Unread, Unsized, Judged, Unfit, Ahead, Fell, Unasked, Unnoted, Seated, Lost, ending_of, insertion_of, seated, measured}
 use Rattle.run_insertion.specs.Noted.{AreDone, AreBeingDone, HasNoted, UnitNote, Inserts, BeginsRow, Tells, IsOnUnit, IsComing, fault_of, moving_notes, unclosed_notes, notes_with, row_of}
 use Rattle.run_insertion.specs.Entered.{IsPlace, HasEntered}
-use Rattle.run_note_record.specs.Ringed.{HasSameRings, LeavesRings, WritesImages, Around, MayBeAdded}
-use Rattle.run_rings.proofs.Same.{same-rings, then-same, outside-both, table-outside, rings-then}
+use Rattle.run_acts.specs.run_note_record.Ringed.{HasSameRings, LeavesRings, WritesImages, Around, MayBeAdded}
+use Rattle.run_acts.proofs.run_rings.Same.{same-rings, then-same, outside-both, table-outside, rings-then}
 use Rattle.run_acts.proofs.Ringing.{added-moment, leaves-writes}
 use Rattle.recorder_with_cards.specs.EnteredRings.{InsertsAt, WritesBy, AcceptWrites}
 

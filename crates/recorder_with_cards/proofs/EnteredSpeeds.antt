@@ -2,12 +2,12 @@
 use Rattle.std.proofs.Common.{◌≡◌, ◌∙◌, ◌+◌, ◌≤◌, inl, inr, ℕ, Bool, List, [], ◌∷◌, take, drop, sym, ap, arith}
 use Rattle.std.proofs.lemmas.List.{drop-drop}
 use Rattle.tach_media.specs.Medium.{State, IsCoherent, LeavesOnly, Unchanged}
-use Rattle.unit_notes.specs.Entries.{fault_bytes}
+use Rattle.run_acts.specs.unit_notes.Entries.{fault_bytes}
 use Rattle.unit_minutes.specs.Mends.{IsMending}
 use Rattle.unit_minutes.specs.declared.notes.Notes.{Notes}
-use Rattle.run_speeds.specs.Speeds.{HasSameSpeeds, LeavesSpeeds}
-use Rattle.run_speeds.proofs.Leaving.{leaves-moments, same-before}
-use Rattle.run_events.proofs.NoteSpeeds.{same-speeds, speeds-then, event-speeds, noted-speeds, insertion-speeds}
+use Rattle.run_acts.specs.run_speeds.Speeds.{HasSameSpeeds, LeavesSpeeds}
+use Rattle.run_acts.proofs.run_speeds.Leaving.{leaves-moments, same-before}
+use Rattle.run_acts.proofs.run_events.NoteSpeeds.{same-speeds, speeds-then, event-speeds, noted-speeds, insertion-speeds}
 use Rattle.run_insertion.specs.Noted.{AreDone, AreBeingDone, HasNoted, UnitNote, Inserts, BeginsRow, Tells, IsOnUnit, IsComing}
 
 -- ---- the notes of a card that enters

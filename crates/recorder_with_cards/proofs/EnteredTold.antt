@@ -2,25 +2,25 @@
 use Rattle.std.proofs.Common.{◌≡◌, ◌≢◌, inl, inr, ℕ, ◌+◌, ◌^◌, ◌<◌, Bool, true, false, cond, not, nat_lt, nat_eq, Some, List, [], ◌∷◌, ◌++◌, length, Contains, refl, ap, sym, subst, ◌∙◌, arith}
 use Rattle.std.proofs.lemmas.Bool.{eq-eqb}
 use Rattle.std.proofs.lemmas.Bool.Decides.{nat_tests}
-use Rattle.card_layout.specs.Images.{SameOutside}
+use Rattle.tach_media.specs.card_layout.Images.{SameOutside}
 use Rattle.trace_model.specs.declared.Card.{Card}
 use Rattle.log_model.specs.declared.lines.Verdict.TheVariants.{Accepted}
 use Rattle.log_model.specs.Course.{Visit}
-use Rattle.event_model.specs.declared.kinds.TheConstants.{CARD_NOT_VALID, TIME_OVERLAP, INSERTION_WHILE_DRIVING, SESSION_NOT_CLOSED, CARD_FAULT, OVER_SPEEDING}
-use Rattle.event_model.specs.Events.{Event, Crew, Seen, Tearing, number_of, noted_with, crew_judged}
-use Rattle.unit_notes.specs.declared.unit_event.UnitEvent.{UnitEvent}
-use Rattle.unit_notes.specs.Entries.{fault_bytes}
-use Rattle.unit_notes.specs.Noting.{IsEventNoted, IsNotingEvent}
-use Rattle.unit_events.specs.Shown.{all_kinds}
-use Rattle.run_events.specs.Shown.{by_kind, none_sure, all_sure, ShowsEvents, AreNumbers, SaysNothing}
-use Rattle.run_events.specs.Running.{judged_notes}
-use Rattle.run_events.proofs.Shows.{more-then, moment-first, moment-then, nothing-more, nothing-of}
-use Rattle.run_events.proofs.Frames.{event-more, event-coming, between-nothing}
-use Rattle.run_events.proofs.Turned.{says-same}
-use Rattle.run_crew.specs.declared.cabin.Cabin.{Cabin}
-use Rattle.run_crew.specs.declared.cards.Crew.{Crew as Numbers}
-use Rattle.run_crew.specs.Cabin.{torn_out, crew_of}
-use Rattle.run_events.specs.Entries.{IsCrewOf, entry_of}
+use Rattle.device_calls.specs.event_model.declared.kinds.TheConstants.{CARD_NOT_VALID, TIME_OVERLAP, INSERTION_WHILE_DRIVING, SESSION_NOT_CLOSED, CARD_FAULT, OVER_SPEEDING}
+use Rattle.device_calls.specs.event_model.Events.{Event, Crew, Seen, Tearing, number_of, noted_with, crew_judged}
+use Rattle.run_acts.specs.unit_notes.declared.unit_event.UnitEvent.{UnitEvent}
+use Rattle.run_acts.specs.unit_notes.Entries.{fault_bytes}
+use Rattle.run_acts.specs.unit_notes.Noting.{IsEventNoted, IsNotingEvent}
+use Rattle.run_acts.specs.unit_events.Shown.{all_kinds}
+use Rattle.run_acts.specs.run_events.Shown.{by_kind, none_sure, all_sure, ShowsEvents, AreNumbers, SaysNothing}
+use Rattle.run_acts.specs.run_events.Running.{judged_notes}
+use Rattle.run_acts.proofs.run_events.Shows.{more-then, moment-first, moment-then, nothing-more, nothing-of}
+use Rattle.run_acts.proofs.run_events.Frames.{event-more, event-coming, between-nothing}
+use Rattle.run_acts.proofs.run_events.Turned.{says-same}
+use Rattle.run_acts.specs.run_crew.declared.cabin.Cabin.{Cabin}
+use Rattle.run_acts.specs.run_crew.declared.cards.Crew.{Crew as Numbers}
+use Rattle.run_acts.specs.run_crew.Cabin.{torn_out, crew_of}
+use Rattle.run_acts.specs.run_events.Entries.{IsCrewOf, entry_of}
 use Rattle.run_insertion.specs.declared.lines.Entering.{Entering}
 use Rattle.run_insertion.specs.Entering.{Ending, Unfit, Ahead, Fell, Unasked, Unnoted, Seated, Lost, seated}
 use Rattle.run_insertion.specs.Noted.{AreDone, AreBeingDone, UnitNote, Inserts, BeginsRow, Tells, IsOnUnit, IsComing, event_of, fault_of, moving_notes, unclosed_notes, notes_by}

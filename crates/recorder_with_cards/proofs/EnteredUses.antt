@@ -8,13 +8,13 @@ use Rattle.activity_codec.specs.Activity.{same_slot}
 use Rattle.trace_model.specs.declared.Card.{Card}
 use Rattle.trace_model.specs.Trace.{TraceSecond}
 use Rattle.tacho_types.specs.declared.texts.Registration.{Registration}
-use Rattle.card_layout.specs.Application.{place_of_field}
-use Rattle.card_layout.specs.declared.files.Application.{Application}
-use Rattle.card_image.specs.Fields.{current_use, session_time}
-use Rattle.card_image.specs.Own.{own_sizes, IsOwnValid}
-use Rattle.card_validity.specs.declared.looking.CardLook.{CardLook}
-use Rattle.card_validity.specs.Judged.{IsLook}
-use Rattle.card_files.specs.declared.current_use.CurrentUse.{CurrentUse}
+use Rattle.tach_media.specs.card_layout.Application.{place_of_field}
+use Rattle.tach_media.specs.card_layout.declared.files.Application.{Application}
+use Rattle.device_calls.specs.card_image.Fields.{current_use, session_time}
+use Rattle.device_calls.specs.card_image.Own.{own_sizes, IsOwnValid}
+use Rattle.device_calls.specs.card_validity.declared.looking.CardLook.{CardLook}
+use Rattle.device_calls.specs.card_validity.Judged.{IsLook}
+use Rattle.device_calls.specs.card_files.declared.current_use.CurrentUse.{CurrentUse}
 use Rattle.log_model.specs.declared.lines.Break.{Break}
 use Rattle.log_model.specs.declared.lines.Find.{Find}
 use Rattle.log_model.specs.declared.lines.Verdict.{Verdict}
@@ -22,23 +22,23 @@ use Rattle.log_model.specs.declared.lines.Verdict.TheVariants as verdict
 use Rattle.log_model.specs.Log.{RunLog, Phase, In, same_phase, found_in, is_accepting}
 use Rattle.log_model.specs.Slots.{same_card}
 use Rattle.log_model.specs.Course.{Visit, has_power, went}
-use Rattle.note_model.specs.Noted.{Note}
-use Rattle.safety_model.specs.Recording.{card_image}
-use Rattle.safety_model.specs.Safe.{Devices, card_of}
-use Rattle.run_course.specs.Moments.{and_find}
-use Rattle.run_course.proofs.Lookups.{find-more}
-use Rattle.run_course.specs.Reached.{IsFindAt, moved_at}
-use Rattle.run_crew.specs.Cards.{session_of}
-use Rattle.run_promise.specs.Origin.{Origin}
-use Rattle.run_promise.specs.Whole.{NothingFailed}
-use Rattle.run_note_record.specs.Uses.{uses_from, inserted, insertions_at, times_of, notes_now, vehicle_in, uses_in, use_now, FindsMore}
-use Rattle.run_note_record.proofs.Uses.{times-append, card-is, card-turned}
+use Rattle.device_calls.specs.note_model.Noted.{Note}
+use Rattle.device_calls.specs.safety_model.Recording.{card_image}
+use Rattle.device_calls.specs.safety_model.Safe.{Devices, card_of}
+use Rattle.run_acts.specs.run_course.Moments.{and_find}
+use Rattle.run_acts.proofs.run_course.Lookups.{find-more}
+use Rattle.run_acts.specs.run_course.Reached.{IsFindAt, moved_at}
+use Rattle.run_acts.specs.run_crew.Cards.{session_of}
+use Rattle.run_minutes.specs.run_promise.Origin.{Origin}
+use Rattle.run_minutes.specs.run_promise.Whole.{NothingFailed}
+use Rattle.run_acts.specs.run_note_record.Uses.{uses_from, inserted, insertions_at, times_of, notes_now, vehicle_in, uses_in, use_now, FindsMore}
+use Rattle.run_acts.proofs.run_note_record.Uses.{times-append, card-is, card-turned}
 use Rattle.run_insertion.specs.declared.lines.Entering.{Entering}
 use Rattle.run_insertion.specs.Entering.{Ending, Unfit, Ahead, Fell, Unasked, Unnoted, Seated, Lost, Way, Unread, Unsized, Judged, ending_of, find_of, APPLICATION_FILE}
 use Rattle.run_insertion.specs.Entered.{IsFound, IsFoundIn}
-use Rattle.run_record.specs.Recorded.{Values}
-use Rattle.run_record.specs.Within.{RecordInSecond}
-use Rattle.run_record.specs.Judging.{IsNext}
+use Rattle.run_acts.specs.run_record.Recorded.{Values}
+use Rattle.run_acts.specs.run_record.Within.{RecordInSecond}
+use Rattle.run_acts.specs.run_record.Judging.{IsNext}
 use Rattle.run_acts.specs.Closings.{notes_within}
 use Rattle.run_acts.specs.Recording.{IsOrigin}
 use Rattle.run_acts.specs.RunCards.{sizes_in}

@@ -7,44 +7,44 @@ use Rattle.activity_codec.specs.declared.values.Slot.TheVariants.{Driver, CoDriv
 use Rattle.trace_model.specs.declared.Card.{Card}
 use Rattle.trace_model.specs.declared.Card.TheVariants.{A, B}
 use Rattle.trace_model.specs.Trace.{TraceSecond}
-use Rattle.event_model.specs.Events.{Crew, Seen, Tearing, seen_by, seen_of, seen_spans, noted_with, accepted_card, accepted_at, first_card, standing, torn_at}
+use Rattle.device_calls.specs.event_model.Events.{Crew, Seen, Tearing, seen_by, seen_of, seen_spans, noted_with, accepted_card, accepted_at, first_card, standing, torn_at}
 use Rattle.log_model.specs.declared.lines.Verdict.{Verdict}
 use Rattle.log_model.specs.Log.{RunLog, In, is_torn_in, found_in, is_accepting}
 use Rattle.log_model.specs.Slots.{Sitting, in_slot, same_card}
 use Rattle.log_model.specs.Course.{Course, Visit, has_power, went}
-use Rattle.note_model.specs.Done.{course_powered, has_failed_in}
-use Rattle.card_slots.specs.declared.seats.Seat.{Seat}
-use Rattle.card_slots.specs.Calls.{seat_in, card_in, is_card as sits_card}
-use Rattle.safety_model.specs.Safe.{Devices, card_of}
-use Rattle.run_crew.specs.declared.cards.Cards.{Cards}
-use Rattle.run_crew.specs.declared.cards.Accepted.{Accepted}
-use Rattle.run_crew.specs.Cards.{session_of}
-use Rattle.run_crew.specs.Cabin.{CabinIsSound, SeatAnswers, AnswersTo}
-use Rattle.run_course.specs.Presence.{SitsAs, IsNewest}
-use Rattle.history_model.specs.Minutes.{HistoryMinute}
-use Rattle.history_model.specs.Presence.{Start}
-use Rattle.card_slots.specs.Kept.{Kept}
-use Rattle.run_course.specs.Reached.{IsUpTo}
+use Rattle.device_calls.specs.note_model.Done.{course_powered, has_failed_in}
+use Rattle.run_minutes.specs.card_slots.declared.seats.Seat.{Seat}
+use Rattle.run_minutes.specs.card_slots.Calls.{seat_in, card_in, is_card as sits_card}
+use Rattle.device_calls.specs.safety_model.Safe.{Devices, card_of}
+use Rattle.run_acts.specs.run_crew.declared.cards.Cards.{Cards}
+use Rattle.run_acts.specs.run_crew.declared.cards.Accepted.{Accepted}
+use Rattle.run_acts.specs.run_crew.Cards.{session_of}
+use Rattle.run_acts.specs.run_crew.Cabin.{CabinIsSound, SeatAnswers, AnswersTo}
+use Rattle.run_acts.specs.run_course.Presence.{SitsAs, IsNewest}
+use Rattle.device_calls.specs.history_model.Minutes.{HistoryMinute}
+use Rattle.device_calls.specs.history_model.Presence.{Start}
+use Rattle.run_minutes.specs.card_slots.Kept.{Kept}
+use Rattle.run_acts.specs.run_course.Reached.{IsUpTo}
 use Rattle.run_outcome.specs.declared.outcome.Outcome.{Outcome}
-use Rattle.run_promise.specs.Origin.{Origin, start_at}
-use Rattle.run_record.specs.Within.{told_before, course_in}
-use Rattle.run_record.proofs.Pulling.{sitting-now}
-use Rattle.run_record.proofs.Seats.{seat-tells}
-use Rattle.run_note_record.specs.Evented.{images_in}
-use Rattle.run_note_record.specs.EventsSoFar.{AreBare, interruption}
-use Rattle.run_note_record.specs.Uses.{notes_now, uses_in}
-use Rattle.run_note_record.proofs.Brought.{found-now}
-use Rattle.run_note_record.proofs.Stood.{acceptance, stands-as, accepted-as, accepted-are}
+use Rattle.run_minutes.specs.run_promise.Origin.{Origin, start_at}
+use Rattle.run_acts.specs.run_record.Within.{told_before, course_in}
+use Rattle.run_acts.proofs.run_record.Pulling.{sitting-now}
+use Rattle.run_acts.proofs.run_record.Seats.{seat-tells}
+use Rattle.run_acts.specs.run_note_record.Evented.{images_in}
+use Rattle.run_acts.specs.run_note_record.EventsSoFar.{AreBare, interruption}
+use Rattle.run_acts.specs.run_note_record.Uses.{notes_now, uses_in}
+use Rattle.run_acts.proofs.run_note_record.Brought.{found-now}
+use Rattle.run_acts.proofs.run_note_record.Stood.{acceptance, stands-as, accepted-as, accepted-are}
 use Rattle.run_acts.specs.declared.run.Run.{Run}
 use Rattle.run_acts.specs.Recording.{log_of, values_of, RunWithin}
 use Rattle.tacho_types.specs.declared.texts.Registration.{Registration}
-use Rattle.card_image.specs.Own.{IsOwnValid}
-use Rattle.card_files.specs.declared.card_event.CardEvent.{CardEvent}
-use Rattle.event_model.specs.declared.entries.Span.{Span}
-use Rattle.event_model.specs.declared.kinds.TheConstants.{POWER_INTERRUPTION}
-use Rattle.safety_model.specs.Recording.{card_image}
-use Rattle.run_events.specs.Seconds.{gap_before}
-use Rattle.run_promise.specs.Beside.{HaveLeftMore}
+use Rattle.device_calls.specs.card_image.Own.{IsOwnValid}
+use Rattle.device_calls.specs.card_files.declared.card_event.CardEvent.{CardEvent}
+use Rattle.device_calls.specs.event_model.declared.entries.Span.{Span}
+use Rattle.device_calls.specs.event_model.declared.kinds.TheConstants.{POWER_INTERRUPTION}
+use Rattle.device_calls.specs.safety_model.Recording.{card_image}
+use Rattle.run_acts.specs.run_events.Seconds.{gap_before}
+use Rattle.run_minutes.specs.run_promise.Beside.{HaveLeftMore}
 use Rattle.run_acts.specs.CardNotes.{NotesOn, NotesOnCards, gap_on}
 use Rattle.run_acts.specs.OnCards.{is_card, has_card, as_accepted, enters, falls, gap_entry, gaps_on}
 use Rattle.run_acts.specs.RunCards.{vehicle_in, sizes_in, so_far, seen_behind, gap_behind, CardsIn, CardsWaking}

@@ -6,45 +6,45 @@ use Rattle.activity_codec.specs.declared.values.Slot.TheVariants.{Driver, CoDriv
 use Rattle.trace_model.specs.declared.Card.{Card}
 use Rattle.trace_model.specs.declared.Card.TheVariants.{A, B}
 use Rattle.trace_model.specs.Trace.{TraceSecond}
-use Rattle.card_image.specs.Own.{IsOwnValid}
+use Rattle.device_calls.specs.card_image.Own.{IsOwnValid}
 use Rattle.log_model.specs.declared.lines.Break.{Break}
 use Rattle.log_model.specs.declared.lines.Break.TheVariants.{Tear}
 use Rattle.log_model.specs.Log.{RunLog, In}
 use Rattle.log_model.specs.Slots.{Slots, Sitting, in_slot}
 use Rattle.log_model.specs.Course.{Before, Course, ToldSecond, went}
-use Rattle.event_model.specs.declared.kinds.TheConstants.{POWER_INTERRUPTION, CARD_FAULT}
-use Rattle.event_model.specs.declared.entries.Span.{Span}
-use Rattle.event_model.specs.Spans.{gap_of}
-use Rattle.event_model.specs.Events.{Event, Crew, Seen, crew_of as sitting_crew, accepted_card, noted_with, with_card, seen_of, seen_spans}
-use Rattle.unit_notes.specs.declared.unit_event.UnitEvent.{UnitEvent}
-use Rattle.safety_model.specs.Safe.{Devices, breakdowns_of}
-use Rattle.card_slots.specs.Calls.{Seats, seat_in, card_in, is_card}
-use Rattle.run_crew.specs.declared.cabin.Cabin.{Cabin}
-use Rattle.run_crew.specs.declared.cards.Cards.{Cards}
-use Rattle.run_crew.specs.Cards.{session_of, with_session}
-use Rattle.run_crew.specs.Cabin.{CabinIsSound, left_from, torn_out, crew_of}
-use Rattle.run_events.specs.Entries.{IsCrewOf}
-use Rattle.run_course.specs.Followed.{Progress}
-use Rattle.run_course.specs.Moments.{and_break}
-use Rattle.run_course.specs.Reached.{course_at, Reaches, IsTearAt}
-use Rattle.run_course.proofs.Lines.{who-sits, tear-seen}
-use Rattle.run_course.proofs.Moment.{reaches-of}
+use Rattle.device_calls.specs.event_model.declared.kinds.TheConstants.{POWER_INTERRUPTION, CARD_FAULT}
+use Rattle.device_calls.specs.event_model.declared.entries.Span.{Span}
+use Rattle.device_calls.specs.event_model.Spans.{gap_of}
+use Rattle.device_calls.specs.event_model.Events.{Event, Crew, Seen, crew_of as sitting_crew, accepted_card, noted_with, with_card, seen_of, seen_spans}
+use Rattle.run_acts.specs.unit_notes.declared.unit_event.UnitEvent.{UnitEvent}
+use Rattle.device_calls.specs.safety_model.Safe.{Devices, breakdowns_of}
+use Rattle.run_minutes.specs.card_slots.Calls.{Seats, seat_in, card_in, is_card}
+use Rattle.run_acts.specs.run_crew.declared.cabin.Cabin.{Cabin}
+use Rattle.run_acts.specs.run_crew.declared.cards.Cards.{Cards}
+use Rattle.run_acts.specs.run_crew.Cards.{session_of, with_session}
+use Rattle.run_acts.specs.run_crew.Cabin.{CabinIsSound, left_from, torn_out, crew_of}
+use Rattle.run_acts.specs.run_events.Entries.{IsCrewOf}
+use Rattle.run_acts.specs.run_course.Followed.{Progress}
+use Rattle.run_acts.specs.run_course.Moments.{and_break}
+use Rattle.run_acts.specs.run_course.Reached.{course_at, Reaches, IsTearAt}
+use Rattle.run_acts.proofs.run_course.Lines.{who-sits, tear-seen}
+use Rattle.run_acts.proofs.run_course.Moment.{reaches-of}
 use Rattle.run_outcome.specs.Lines.{Listed}
 use Rattle.run_outcome.specs.declared.outcome.Outcome.{Outcome}
-use Rattle.run_promise.specs.Origin.{Origin, start_at}
-use Rattle.run_promise.specs.Beside.{HaveLeftMore}
+use Rattle.run_minutes.specs.run_promise.Origin.{Origin, start_at}
+use Rattle.run_minutes.specs.run_promise.Beside.{HaveLeftMore}
 use Rattle.run_minutes.specs.Keeping.{Fell, tear_of}
 use Rattle.run_minutes.proofs.Fates.{no-lines}
-use Rattle.run_record.specs.Within.{told_before}
-use Rattle.run_record.proofs.Pulling.{sitting-now}
-use Rattle.run_record.proofs.Seats.{card-seated}
-use Rattle.run_note_record.specs.Evented.{number_in}
-use Rattle.run_note_record.specs.Noting.{Waking, Acting}
-use Rattle.run_note_record.specs.EventsSoFar.{Adds, EventedNow, BeginsNow, AreBare, FallsAt, crew_at, fault_with, interruption}
-use Rattle.run_note_record.specs.Kept.{interruption_of}
-use Rattle.run_note_record.proofs.Adding.{call-notes}
-use Rattle.run_note_record.proofs.Cutting.{failure-cuts}
-use Rattle.run_note_record.proofs.EventsWaking.{interruption-adds}
+use Rattle.run_acts.specs.run_record.Within.{told_before}
+use Rattle.run_acts.proofs.run_record.Pulling.{sitting-now}
+use Rattle.run_acts.proofs.run_record.Seats.{card-seated}
+use Rattle.run_acts.specs.run_note_record.Evented.{number_in}
+use Rattle.run_acts.specs.run_note_record.Noting.{Waking, Acting}
+use Rattle.run_acts.specs.run_note_record.EventsSoFar.{Adds, EventedNow, BeginsNow, AreBare, FallsAt, crew_at, fault_with, interruption}
+use Rattle.run_acts.specs.run_note_record.Kept.{interruption_of}
+use Rattle.run_acts.proofs.run_note_record.Adding.{call-notes}
+use Rattle.run_acts.proofs.run_note_record.Cutting.{failure-cuts}
+use Rattle.run_acts.proofs.run_note_record.EventsWaking.{interruption-adds}
 use Rattle.run_acts.specs.declared.run.Run.{Run}
 use Rattle.run_acts.specs.Acting.{IsNotedOn, IsNotedIn, now_moment}
 use Rattle.run_acts.specs.Noting.{GapReach, NoGap, UnitFailed, DriverFell, BothSlots, AreGapEvents, fall_events, gap_event}

@@ -6,14 +6,14 @@ use Rattle.std.proofs.lemmas.Bool.Decides.{nat_tests}
 use Rattle.trace_model.specs.declared.Card.{Card}
 use Rattle.tach_media.specs.Medium.{State}
 use Rattle.tacho_types.specs.declared.texts.Registration.{Registration}
-use Rattle.card_layout.specs.declared.files.Application.{Application}
-use Rattle.card_files.specs.declared.card_event.CardEvent.{CardEvent}
-use Rattle.event_model.specs.declared.entries.Span.{Span}
-use Rattle.event_model.specs.declared.kinds.TheConstants.{INSERTION_WHILE_DRIVING, SESSION_NOT_CLOSED, POWER_INTERRUPTION}
-use Rattle.event_model.specs.Events.{Event, Seen, number_of}
+use Rattle.tach_media.specs.card_layout.declared.files.Application.{Application}
+use Rattle.device_calls.specs.card_files.declared.card_event.CardEvent.{CardEvent}
+use Rattle.device_calls.specs.event_model.declared.entries.Span.{Span}
+use Rattle.device_calls.specs.event_model.declared.kinds.TheConstants.{INSERTION_WHILE_DRIVING, SESSION_NOT_CLOSED, POWER_INTERRUPTION}
+use Rattle.device_calls.specs.event_model.Events.{Event, Seen, number_of}
 use Rattle.log_model.specs.Log.{RunLog}
-use Rattle.note_model.specs.Done.{has_failed_in}
-use Rattle.run_crew.specs.declared.cards.Accepted.{Accepted}
+use Rattle.device_calls.specs.note_model.Done.{has_failed_in}
+use Rattle.run_acts.specs.run_crew.declared.cards.Accepted.{Accepted}
 use Rattle.run_insertion.specs.CardEvents.{events_in, all_noted, MayBeNoted, of_type, ShowsThese, ShowsMore}
 use Rattle.run_insertion.proofs.MayBe.{being-may, all-may}
 use Rattle.run_acts.specs.CardNotes.{NotesOn, gap_on}

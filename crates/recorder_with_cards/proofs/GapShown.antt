@@ -7,46 +7,46 @@ use Rattle.activity_codec.specs.declared.values.Slot.TheVariants.{Driver, CoDriv
 use Rattle.trace_model.specs.declared.Card.{Card}
 use Rattle.trace_model.specs.declared.Card.TheVariants.{A, B}
 use Rattle.trace_model.specs.Trace.{TraceSecond}
-use Rattle.event_model.specs.declared.entries.Span.{Span}
-use Rattle.event_model.specs.Events.{Crew, Seen, seen_of, seen_spans}
-use Rattle.event_model.specs.Spans.{gap_of}
+use Rattle.device_calls.specs.event_model.declared.entries.Span.{Span}
+use Rattle.device_calls.specs.event_model.Events.{Crew, Seen, seen_of, seen_spans}
+use Rattle.device_calls.specs.event_model.Spans.{gap_of}
 use Rattle.log_model.specs.declared.lines.Break.{Break}
 use Rattle.log_model.specs.declared.lines.Find.{Find}
 use Rattle.log_model.specs.Causes.{second_of}
 use Rattle.log_model.specs.Log.{RunLog, Phase, In, cut_in, is_torn_in, found_in, tears_here}
 use Rattle.log_model.specs.Slots.{in_slot, same_card}
 use Rattle.log_model.specs.Course.{fresh, unmoved, went}
-use Rattle.note_model.specs.Done.{has_failed_in}
-use Rattle.card_slots.specs.Calls.{seat_in, card_in}
+use Rattle.device_calls.specs.note_model.Done.{has_failed_in}
+use Rattle.run_minutes.specs.card_slots.Calls.{seat_in, card_in}
 use Rattle.tacho_types.specs.declared.texts.Registration.{Registration}
-use Rattle.safety_model.specs.Safe.{Devices, card_of}
-use Rattle.run_unit_course.specs.Followed.{UnitPower, MayPower}
-use Rattle.run_unit_course.specs.Lines.{cut_at}
-use Rattle.run_crew.specs.declared.cards.Cards.{Cards}
-use Rattle.run_crew.specs.declared.cards.Accepted.{Accepted}
-use Rattle.run_crew.specs.declared.cabin.Cabin.{Cabin}
-use Rattle.run_crew.specs.Cards.{session_of, with_session}
-use Rattle.run_crew.specs.Cabin.{CabinIsSound}
-use Rattle.run_course.specs.Followed.{Progress, BookFollowsRun}
-use Rattle.run_course.specs.Moments.{and_break}
-use Rattle.run_course.specs.Seconds.{GoesOnBy}
-use Rattle.run_course.proofs.Lookups.{break-more}
+use Rattle.device_calls.specs.safety_model.Safe.{Devices, card_of}
+use Rattle.device_calls.specs.run_unit_course.Followed.{UnitPower, MayPower}
+use Rattle.device_calls.specs.run_unit_course.Lines.{cut_at}
+use Rattle.run_acts.specs.run_crew.declared.cards.Cards.{Cards}
+use Rattle.run_acts.specs.run_crew.declared.cards.Accepted.{Accepted}
+use Rattle.run_acts.specs.run_crew.declared.cabin.Cabin.{Cabin}
+use Rattle.run_acts.specs.run_crew.Cards.{session_of, with_session}
+use Rattle.run_acts.specs.run_crew.Cabin.{CabinIsSound}
+use Rattle.run_acts.specs.run_course.Followed.{Progress, BookFollowsRun}
+use Rattle.run_acts.specs.run_course.Moments.{and_break}
+use Rattle.run_acts.specs.run_course.Seconds.{GoesOnBy}
+use Rattle.run_acts.proofs.run_course.Lookups.{break-more}
 use Rattle.run_minutes.specs.Keeping.{with_lines, tear_of}
 use Rattle.run_minutes.specs.declared.keeper.Moment.{Moment}
 use Rattle.run_outcome.specs.Lines.{Listed}
 use Rattle.run_outcome.specs.declared.outcome.Outcome.{Outcome}
-use Rattle.run_promise.specs.Origin.{Origin, rule_of, start_at, first_of}
-use Rattle.run_promise.specs.Beside.{HaveLeftMore}
-use Rattle.run_promise.specs.Seconds.{found_again}
-use Rattle.run_record.specs.Recorded.{Values, RecordBetweenSeconds, progress}
-use Rattle.run_record.proofs.Pulling.{sitting-now}
-use Rattle.run_record.proofs.Seats.{card-seated}
-use Rattle.run_note_record.specs.Evented.{NotesNothing, Evented}
-use Rattle.run_note_record.specs.EventsSoFar.{AreBare, interruption}
-use Rattle.run_note_record.specs.Kept.{interruption_of}
-use Rattle.run_note_record.proofs.Exact.{fewer-none}
-use Rattle.run_note_record.specs.RingsSoFar.{HasMoreBreaks}
-use Rattle.run_note_record.proofs.SoFar.{failed-more}
+use Rattle.run_minutes.specs.run_promise.Origin.{Origin, rule_of, start_at, first_of}
+use Rattle.run_minutes.specs.run_promise.Beside.{HaveLeftMore}
+use Rattle.run_minutes.specs.run_promise.Seconds.{found_again}
+use Rattle.run_acts.specs.run_record.Recorded.{Values, RecordBetweenSeconds, progress}
+use Rattle.run_acts.proofs.run_record.Pulling.{sitting-now}
+use Rattle.run_acts.proofs.run_record.Seats.{card-seated}
+use Rattle.run_acts.specs.run_note_record.Evented.{NotesNothing, Evented}
+use Rattle.run_acts.specs.run_note_record.EventsSoFar.{AreBare, interruption}
+use Rattle.run_acts.specs.run_note_record.Kept.{interruption_of}
+use Rattle.run_acts.proofs.run_note_record.Exact.{fewer-none}
+use Rattle.run_acts.specs.run_note_record.RingsSoFar.{HasMoreBreaks}
+use Rattle.run_acts.proofs.run_note_record.SoFar.{failed-more}
 use Rattle.run_acts.specs.declared.run.Run.{Run}
 use Rattle.run_acts.specs.Acting.{IsNotedIn, now_moment}
 use Rattle.run_acts.specs.Noting.{GapReach, NoGap, UnitFailed, DriverFell, BothSlots, IsGapNoted}

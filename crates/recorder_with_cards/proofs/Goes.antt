@@ -3,22 +3,22 @@ use Rattle.std.proofs.Common.{◌≡◌, ◌∙◌, ◌⊎◌, inl, inr, ℕ, �
 use Rattle.std.specs.List.{slice_get}
 use Rattle.trace_model.specs.declared.Card.{Card}
 use Rattle.trace_model.specs.declared.Card.TheVariants.{A, B}
-use Rattle.device_rule.specs.Views.{other}
+use Rattle.device_calls.specs.device_rule.Views.{other}
 use Rattle.tach_media.specs.Medium.{State}
-use Rattle.card_layout.specs.declared.command.CardState.{CardState}
-use Rattle.card_slots.specs.declared.seats.Ended.{Ended}
-use Rattle.card_slots.specs.declared.seats.Present.{Present}
-use Rattle.card_slots.specs.Kept.{Kept as Slots}
-use Rattle.run_crew.specs.declared.cards.Accepted.{Accepted}
-use Rattle.run_crew.specs.declared.cards.Cards.{Cards}
-use Rattle.run_crew.specs.declared.cards.Known.{Known}
-use Rattle.run_crew.specs.Cards.{known_of, session_of}
-use Rattle.run_crew.specs.Cabin.{KnowsEnded}
+use Rattle.tach_media.specs.card_layout.declared.command.CardState.{CardState}
+use Rattle.run_minutes.specs.card_slots.declared.seats.Ended.{Ended}
+use Rattle.run_minutes.specs.card_slots.declared.seats.Present.{Present}
+use Rattle.run_minutes.specs.card_slots.Kept.{Kept as Slots}
+use Rattle.run_acts.specs.run_crew.declared.cards.Accepted.{Accepted}
+use Rattle.run_acts.specs.run_crew.declared.cards.Cards.{Cards}
+use Rattle.run_acts.specs.run_crew.declared.cards.Known.{Known}
+use Rattle.run_acts.specs.run_crew.Cards.{known_of, session_of}
+use Rattle.run_acts.specs.run_crew.Cabin.{KnowsEnded}
 use Rattle.run_minutes.specs.Keeping.{CardMayBeCalled, HasItsRow, HaveRows}
 use Rattle.run_insertion.specs.declared.lines.Entering.{Entering}
 use Rattle.run_insertion.specs.Entering.{Ending, Unfit, Ahead, Fell, Unasked, Unnoted, Seated, Lost, finds_by}
-use Rattle.card_slots.specs.declared.seats.Seat.{Seat}
-use Rattle.card_slots.specs.Calls.{card_in}
+use Rattle.run_minutes.specs.card_slots.declared.seats.Seat.{Seat}
+use Rattle.run_minutes.specs.card_slots.Calls.{card_in}
 use Rattle.run_acts.specs.Going.{CardAt}
 use Rattle.run_acts.specs.Room.{bare_count}
 use Rattle.run_acts.proofs.Kept.{present-went}

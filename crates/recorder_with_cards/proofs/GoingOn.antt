@@ -4,27 +4,27 @@ use Rattle.trace_model.specs.declared.Card.{Card}
 use Rattle.trace_model.specs.declared.Card.TheVariants.{A, B}
 use Rattle.trace_model.specs.Trace.{TraceSecond}
 use Rattle.tach_media.specs.Medium.{State}
-use Rattle.card_layout.specs.declared.command.CardState.{CardState}
-use Rattle.minute_model.specs.Span.{Span, end_of, ungiven_of}
+use Rattle.tach_media.specs.card_layout.declared.command.CardState.{CardState}
+use Rattle.minute_rules.specs.minute_model.Span.{Span, end_of, ungiven_of}
 use Rattle.minute_rules.specs.Kept.{CountsSpan, Kept as Minutes}
 use Rattle.log_model.specs.Log.{In}
 use Rattle.log_model.specs.Course.{ToldSecond}
-use Rattle.history_model.specs.Presence.{card_start}
-use Rattle.run_unit_course.specs.Followed.{UnitPower, Lit as IsLitBy, Due as IsDueBy, Lost as IsLostBy}
-use Rattle.run_unit_course.specs.Turn.{span_at, begins_with}
-use Rattle.unit_model.specs.Image.{odometer_at}
-use Rattle.unit_rule.specs.Odometer.{odometer_after}
-use Rattle.safety_model.specs.Safe.{Devices}
-use Rattle.run_promise.specs.Found.{found_of}
-use Rattle.run_crew.specs.declared.cabin.Cabin.{Cabin}
-use Rattle.run_crew.specs.Cabin.{CabinIsSound, with_minute_ended}
+use Rattle.device_calls.specs.history_model.Presence.{card_start}
+use Rattle.device_calls.specs.run_unit_course.Followed.{UnitPower, Lit as IsLitBy, Due as IsDueBy, Lost as IsLostBy}
+use Rattle.device_calls.specs.run_unit_course.Turn.{span_at, begins_with}
+use Rattle.unit_minutes.specs.unit_model.Image.{odometer_at}
+use Rattle.device_calls.specs.unit_rule.Odometer.{odometer_after}
+use Rattle.device_calls.specs.safety_model.Safe.{Devices}
+use Rattle.run_minutes.specs.run_promise.Found.{found_of}
+use Rattle.run_acts.specs.run_crew.declared.cabin.Cabin.{Cabin}
+use Rattle.run_acts.specs.run_crew.Cabin.{CabinIsSound, with_minute_ended}
 use Rattle.run_outcome.specs.declared.outcome.TheConstants.{MOST_OWED}
 use Rattle.run_outcome.specs.declared.outcome.Outcome.{Outcome}
-use Rattle.run_promise.specs.Origin.{Origin, rule_of, start_at}
-use Rattle.history_model.specs.Book.{Book}
-use Rattle.run_record.specs.Recorded.{progress, RecordBetweenSeconds}
-use Rattle.run_record.specs.Within.{Beginning, SecondGoesOn, begun_behind, undecided_from}
-use Rattle.run_record.proofs.Beginning.{second-begins, minute-over}
+use Rattle.run_minutes.specs.run_promise.Origin.{Origin, rule_of, start_at}
+use Rattle.device_calls.specs.history_model.Book.{Book}
+use Rattle.run_acts.specs.run_record.Recorded.{progress, RecordBetweenSeconds}
+use Rattle.run_acts.specs.run_record.Within.{Beginning, SecondGoesOn, begun_behind, undecided_from}
+use Rattle.run_acts.proofs.run_record.Beginning.{second-begins, minute-over}
 use Rattle.run_acts.specs.declared.run.Run.{Run}
 use Rattle.run_acts.specs.declared.run.Power.{Power}
 use Rattle.run_acts.specs.declared.run.Power.TheVariants.{Lit}
@@ -32,12 +32,12 @@ use Rattle.run_acts.specs.Power.{is_lit, has_power, over_by, minute_over}
 use Rattle.run_acts.specs.Going.{first_second, RunHasPowerAllSeated}
 use Rattle.run_acts.specs.Room.{finds_due, bare_seats, HasRoom}
 use Rattle.run_acts.specs.Recording.{log_of, IsOrigin, Supplies, values_of, RunRecorded, RunWithin}
-use Rattle.run_note_record.specs.Uses.{vehicle_in}
+use Rattle.run_acts.specs.run_note_record.Uses.{vehicle_in}
 use Rattle.run_acts.proofs.Kept.{owing-sum}
-use Rattle.minute_model.proofs.Counted.{ahead-most}
+use Rattle.minute_rules.proofs.minute_model.Counted.{ahead-most}
 use Rattle.recorder_with_cards.proofs.AwakeRooms.{is-due}
-use Rattle.note_model.specs.Noted.{Note}
-use Rattle.run_note_record.specs.Ringed.{notes_in}
+use Rattle.device_calls.specs.note_model.Noted.{Note}
+use Rattle.run_acts.specs.run_note_record.Ringed.{notes_in}
 use Rattle.run_acts.specs.Closings.{notes_within}
 use Rattle.run_acts.specs.Truths.{truths_of, truths_within, marked}
 use Rattle.run_acts.specs.Stays.{AllStay}

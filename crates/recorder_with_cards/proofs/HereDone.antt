@@ -7,7 +7,7 @@ use Rattle.trace_model.specs.declared.Action.{Action}
 use Rattle.trace_model.specs.declared.Action.TheVariants.{Select, Insert, Withdraw, Tear, Place, Manual}
 use Rattle.log_model.specs.declared.lines.Break.{Break}
 use Rattle.log_model.specs.Causes.{second_of}
-use Rattle.card_slots.specs.Calls.{seat_in, card_in}
+use Rattle.run_minutes.specs.card_slots.Calls.{seat_in, card_in}
 use Rattle.run_outcome.specs.Lines.{Listed}
 use Rattle.run_outcome.specs.declared.outcome.Outcome.{Outcome}
 use Rattle.run_minutes.specs.declared.keeper.Moment.{Moment}

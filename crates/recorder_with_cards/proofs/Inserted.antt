@@ -7,8 +7,8 @@ use Rattle.trace_model.specs.declared.Card.{Card}
 use Rattle.trace_model.specs.declared.Action.{Action}
 use Rattle.trace_model.specs.declared.Action.TheVariants.{Insert}
 use Rattle.trace_model.specs.Trace.{TraceSecond}
-use Rattle.minute_model.specs.declared.Minute.{Minute}
-use Rattle.minute_model.specs.Span.{Span, settled, decided_in, travelled_of}
+use Rattle.minute_rules.specs.minute_model.declared.Minute.{Minute}
+use Rattle.minute_rules.specs.minute_model.Span.{Span, settled, decided_in, travelled_of}
 use Rattle.minute_rules.specs.Kept.{CountsSpan}
 use Rattle.log_model.specs.declared.lines.Break.{Break}
 use Rattle.activity_codec.specs.Activity.{same_slot}
@@ -16,30 +16,30 @@ use Rattle.log_model.specs.Log.{In, found_in}
 use Rattle.log_model.specs.Slots.{refusal, other_slot, same_card}
 use Rattle.log_model.specs.Course.{Visit, ToldSecond}
 use Rattle.log_model.specs.ByHand.{by_slots}
-use Rattle.unit_model.specs.Image.{odometer_at}
-use Rattle.unit_rule.specs.Odometer.{odometer_by, odometer_after}
-use Rattle.note_model.specs.Odometer.{SpanFrom}
-use Rattle.safety_model.specs.Safe.{Devices}
-use Rattle.card_slots.specs.Calls.{Seats, seat_in, is_card, logged}
-use Rattle.run_course.specs.Moment.{entering_by}
+use Rattle.unit_minutes.specs.unit_model.Image.{odometer_at}
+use Rattle.device_calls.specs.unit_rule.Odometer.{odometer_by, odometer_after}
+use Rattle.device_calls.specs.note_model.Odometer.{SpanFrom}
+use Rattle.device_calls.specs.safety_model.Safe.{Devices}
+use Rattle.run_minutes.specs.card_slots.Calls.{Seats, seat_in, is_card, logged}
+use Rattle.run_acts.specs.run_course.Moment.{entering_by}
 use Rattle.run_outcome.specs.declared.outcome.Outcome.{Outcome}
-use Rattle.run_rings.specs.Spans.{with_second}
-use Rattle.run_note_record.specs.Ringed.{since_in}
-use Rattle.run_note_record.specs.OnCards.{CardsStay}
-use Rattle.run_promise.specs.Origin.{Origin}
+use Rattle.run_acts.specs.run_rings.Spans.{with_second}
+use Rattle.run_acts.specs.run_note_record.Ringed.{since_in}
+use Rattle.run_acts.specs.run_note_record.OnCards.{CardsStay}
+use Rattle.run_minutes.specs.run_promise.Origin.{Origin}
 use Rattle.run_minutes.specs.declared.keeper.Moment.{Moment}
 use Rattle.run_minutes.specs.Books.{HaveTime}
 use Rattle.run_minutes.specs.Keeping.{Fate, Still, Has, Fell, breaks_by, tear_of}
 use Rattle.run_minutes.specs.Minutes.{KeepingState, AreKept, none, more}
-use Rattle.run_record.specs.Within.{Beginning}
-use Rattle.run_record.specs.Taking.{IsPutIntoSlot, AreTearsAt, MayBeJudged}
-use Rattle.run_record.proofs.Putting.{card-put, entered-next}
+use Rattle.run_acts.specs.run_record.Within.{Beginning}
+use Rattle.run_acts.specs.run_record.Taking.{IsPutIntoSlot, AreTearsAt, MayBeJudged}
+use Rattle.run_acts.proofs.run_record.Putting.{card-put, entered-next}
 use Rattle.run_acts.specs.declared.run.Run.{Run}
-use Rattle.run_crew.specs.Cabin.{SitsThere, CabinIsSound, with_card_in}
-use Rattle.run_crew.specs.Cards.{session_of}
-use Rattle.run_crew.specs.declared.cards.Accepted.{Accepted}
-use Rattle.note_model.specs.Noted.{Note}
-use Rattle.card_slots.specs.declared.seats.Seat.{Seat}
+use Rattle.run_acts.specs.run_crew.Cabin.{SitsThere, CabinIsSound, with_card_in}
+use Rattle.run_acts.specs.run_crew.Cards.{session_of}
+use Rattle.run_acts.specs.run_crew.declared.cards.Accepted.{Accepted}
+use Rattle.device_calls.specs.note_model.Noted.{Note}
+use Rattle.run_minutes.specs.card_slots.declared.seats.Seat.{Seat}
 use Rattle.run_acts.specs.Closings.{spells_of, last_slot, notes_within}
 use Rattle.run_acts.specs.Truths.{truths_within, marked}
 use Rattle.run_acts.specs.Stays.{sits_in, IsPlaced, AllStay}
@@ -47,8 +47,8 @@ use Rattle.run_acts.proofs.AllStay.{Moves, moves-bare, moves-same, placed-bare, 
 use Rattle.run_acts.proofs.SeatsThen.{same-as, put-other, filled-slot}
 use Rattle.run_acts.proofs.NotesThen.{put-now}
 use Rattle.recorder_with_cards.proofs.Allowed.{insert-empty, insert-elsewhere}
-use Rattle.run_note_record.specs.Noting.{Acting}
-use Rattle.run_note_record.specs.EventsSoFar.{EventedNow, puts_into}
+use Rattle.run_acts.specs.run_note_record.Noting.{Acting}
+use Rattle.run_acts.specs.run_note_record.EventsSoFar.{EventedNow, puts_into}
 use Rattle.run_acts.specs.Acting.{IsSettled, IsBareIn, told_of}
 use Rattle.run_acts.specs.Evented.{EventsGoOn, EventsSettling, IsUntold}
 use Rattle.run_acts.specs.Recording.{log_of, values_of, RunWithin, RunFails, GoesOnOrFails, IsNow}
@@ -59,7 +59,7 @@ use Rattle.recorder_with_cards.specs.JudgedRings.{RingsJudged, IsJudgedInRings, 
 use Rattle.recorder_with_cards.specs.JudgedCards.{CardsJudged, IsJudgedOnCards}
 use Rattle.run_acts.specs.RunCards.{vehicle_in, PlacesSettling}
 use Rattle.run_acts.specs.RunRinged.{AreSpansNow}
-use Rattle.unit_memory.specs.declared.memory.UnitFacts.{UnitFacts}
+use Rattle.run_minutes.specs.unit_memory.declared.memory.UnitFacts.{UnitFacts}
 use Rattle.recorder_with_cards.proofs.Staying.{settled-watched}
 use Rattle.recorder_with_cards.proofs.ActsRecorded.{refuses}
 use Rattle.recorder_with_cards.proofs.Resumed.{judged-as}

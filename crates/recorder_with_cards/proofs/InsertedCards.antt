@@ -9,31 +9,31 @@ use Rattle.trace_model.specs.declared.Action.{Action}
 use Rattle.trace_model.specs.declared.Action.TheVariants.{Insert}
 use Rattle.trace_model.specs.declared.Card.{Card}
 use Rattle.trace_model.specs.Trace.{TraceSecond}
-use Rattle.card_files.specs.declared.card_event.CardEvent.{CardEvent}
-use Rattle.card_files.specs.declared.current_use.CurrentUse.{CurrentUse}
-use Rattle.event_model.specs.declared.kinds.TheConstants.{INSERTION_WHILE_DRIVING, SESSION_NOT_CLOSED, POWER_INTERRUPTION}
-use Rattle.event_model.specs.Events.{Seen, number_of}
+use Rattle.device_calls.specs.card_files.declared.card_event.CardEvent.{CardEvent}
+use Rattle.device_calls.specs.card_files.declared.current_use.CurrentUse.{CurrentUse}
+use Rattle.device_calls.specs.event_model.declared.kinds.TheConstants.{INSERTION_WHILE_DRIVING, SESSION_NOT_CLOSED, POWER_INTERRUPTION}
+use Rattle.device_calls.specs.event_model.Events.{Seen, number_of}
 use Rattle.log_model.specs.declared.lines.Break.{Break}
 use Rattle.log_model.specs.declared.lines.SlotFault.{SlotFault}
 use Rattle.log_model.specs.declared.lines.Verdict.{Verdict}
 use Rattle.log_model.specs.Log.{RunLog, Phase, In, cut_in, is_torn_in, found_in, is_accepting}
 use Rattle.log_model.specs.Slots.{Sitting, in_slot, refusal, same_card}
 use Rattle.log_model.specs.Course.{Course, Before, Moved, Visit, visits, leaves, with_slot, carried_out, answered, moved_by, slot_told, both_told, begins, acted, card_in, went}
-use Rattle.safety_model.specs.Safe.{Devices, card_of}
+use Rattle.device_calls.specs.safety_model.Safe.{Devices, card_of}
 use Rattle.run_outcome.specs.declared.outcome.Outcome.{Outcome}
-use Rattle.note_model.specs.Done.{has_failed_in}
-use Rattle.run_promise.specs.Origin.{Origin}
-use Rattle.run_promise.specs.Beside.{HaveLeftMore}
-use Rattle.run_promise.specs.Whole.{NothingFailed}
-use Rattle.run_note_record.specs.Evented.{images_in}
-use Rattle.run_note_record.specs.Uses.{notes_now, uses_in}
-use Rattle.run_note_record.proofs.Exact.{fewer-none, no-cut}
+use Rattle.device_calls.specs.note_model.Done.{has_failed_in}
+use Rattle.run_minutes.specs.run_promise.Origin.{Origin}
+use Rattle.run_minutes.specs.run_promise.Beside.{HaveLeftMore}
+use Rattle.run_minutes.specs.run_promise.Whole.{NothingFailed}
+use Rattle.run_acts.specs.run_note_record.Evented.{images_in}
+use Rattle.run_acts.specs.run_note_record.Uses.{notes_now, uses_in}
+use Rattle.run_acts.proofs.run_note_record.Exact.{fewer-none, no-cut}
 use Rattle.run_insertion.specs.CardEvents.{events_in}
-use Rattle.run_rings.specs.Notes.{TellSameTo, course_behind}
-use Rattle.run_note_record.specs.RingsSoFar.{HasMoreBreaks}
-use Rattle.run_note_record.specs.Steps.{GoesOnTo, IsCutIn}
-use Rattle.run_note_record.proofs.SoFar.{failed-more}
-use Rattle.run_record.specs.Within.{course_in}
+use Rattle.run_acts.specs.run_rings.Notes.{TellSameTo, course_behind}
+use Rattle.run_acts.specs.run_note_record.RingsSoFar.{HasMoreBreaks}
+use Rattle.run_acts.specs.run_note_record.Steps.{GoesOnTo, IsCutIn}
+use Rattle.run_acts.proofs.run_note_record.SoFar.{failed-more}
+use Rattle.run_acts.specs.run_record.Within.{course_in}
 use Rattle.run_acts.specs.declared.run.Run.{Run}
 use Rattle.run_acts.specs.Recording.{log_of, values_of, RunWithin}
 use Rattle.run_acts.specs.RunRinged.{with_cut}

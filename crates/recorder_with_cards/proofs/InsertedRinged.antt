@@ -6,32 +6,32 @@ use Rattle.trace_model.specs.declared.Action.{Action}
 use Rattle.trace_model.specs.declared.Action.TheVariants.{Insert}
 use Rattle.trace_model.specs.declared.Card.{Card}
 use Rattle.trace_model.specs.Trace.{TraceSecond}
-use Rattle.minute_model.specs.Span.{travelled_of}
+use Rattle.minute_rules.specs.minute_model.Span.{travelled_of}
 use Rattle.log_model.specs.declared.lines.Break.{Break}
 use Rattle.log_model.specs.declared.lines.Verdict.{Verdict}
 use Rattle.log_model.specs.Log.{RunLog, In, cut_in, found_in, is_accepting}
 use Rattle.log_model.specs.Slots.{refusal}
 use Rattle.log_model.specs.Course.{ToldSecond, Before, Visit, begins, went}
-use Rattle.note_model.specs.Odometer.{SpanFrom}
-use Rattle.note_model.specs.Noted.{Acceptance, Note, Accepts}
-use Rattle.safety_model.specs.Safe.{Devices}
-use Rattle.unit_rule.specs.Odometer.{odometer_by}
+use Rattle.device_calls.specs.note_model.Odometer.{SpanFrom}
+use Rattle.device_calls.specs.note_model.Noted.{Acceptance, Note, Accepts}
+use Rattle.device_calls.specs.safety_model.Safe.{Devices}
+use Rattle.device_calls.specs.unit_rule.Odometer.{odometer_by}
 use Rattle.run_outcome.specs.declared.outcome.Outcome.{Outcome}
-use Rattle.run_unit_course.specs.Lines.{cut_at}
-use Rattle.run_promise.specs.Origin.{Origin}
-use Rattle.run_promise.specs.Beside.{HaveLeftMore}
-use Rattle.run_rings.specs.Notes.{TellSameTo, NotesMore, accepts_by, course_behind}
-use Rattle.run_rings.specs.Spans.{with_second}
-use Rattle.run_rings.proofs.Actions.{insertions}
-use Rattle.run_note_record.specs.Ringed.{StaysInRings, since_in}
-use Rattle.run_note_record.specs.OnCards.{CardsStay}
-use Rattle.run_note_record.specs.Sessions.{FailsIn}
-use Rattle.run_note_record.proofs.Sessions.{stay-may}
-use Rattle.run_note_record.specs.RingsSoFar.{RingedBehind, RingedIn, AreFewer, HasMoreBreaks}
-use Rattle.run_note_record.specs.Steps.{GoesOnTo, IsCutIn, nobody, spans_cut}
-use Rattle.run_note_record.proofs.SoFar.{go-on-in}
-use Rattle.run_note_record.proofs.RingSteps.{passes, action-cut, card-accepted, acceptance-is-cut}
-use Rattle.run_record.specs.Within.{Beginning, course_in}
+use Rattle.device_calls.specs.run_unit_course.Lines.{cut_at}
+use Rattle.run_minutes.specs.run_promise.Origin.{Origin}
+use Rattle.run_minutes.specs.run_promise.Beside.{HaveLeftMore}
+use Rattle.run_acts.specs.run_rings.Notes.{TellSameTo, NotesMore, accepts_by, course_behind}
+use Rattle.run_acts.specs.run_rings.Spans.{with_second}
+use Rattle.run_acts.proofs.run_rings.Actions.{insertions}
+use Rattle.run_acts.specs.run_note_record.Ringed.{StaysInRings, since_in}
+use Rattle.run_acts.specs.run_note_record.OnCards.{CardsStay}
+use Rattle.run_acts.specs.run_note_record.Sessions.{FailsIn}
+use Rattle.run_acts.proofs.run_note_record.Sessions.{stay-may}
+use Rattle.run_acts.specs.run_note_record.RingsSoFar.{RingedBehind, RingedIn, AreFewer, HasMoreBreaks}
+use Rattle.run_acts.specs.run_note_record.Steps.{GoesOnTo, IsCutIn, nobody, spans_cut}
+use Rattle.run_acts.proofs.run_note_record.SoFar.{go-on-in}
+use Rattle.run_acts.proofs.run_note_record.RingSteps.{passes, action-cut, card-accepted, acceptance-is-cut}
+use Rattle.run_acts.specs.run_record.Within.{Beginning, course_in}
 use Rattle.run_acts.specs.declared.run.Run.{Run}
 use Rattle.run_acts.specs.Recording.{log_of, values_of, RunWithin}
 use Rattle.run_acts.specs.RunRinged.{seats_of, IsLastFrom, AreSpansNow, RingsWithin, with_cut, RingsGoOn}

@@ -6,23 +6,23 @@ use Rattle.trace_model.specs.Trace.{TraceSecond}
 use Rattle.tach_media.specs.Medium.{State, IsCoherent, last_count}
 use Rattle.log_model.specs.Log.{In}
 use Rattle.log_model.specs.Course.{Visit}
-use Rattle.unit_rule.specs.Rule.{Started}
-use Rattle.unit_rule.specs.Odometer.{odometer_after}
-use Rattle.safety_model.specs.Safe.{Devices}
-use Rattle.run_devices.specs.Told.{arranged}
+use Rattle.device_calls.specs.unit_rule.Rule.{Started}
+use Rattle.device_calls.specs.unit_rule.Odometer.{odometer_after}
+use Rattle.device_calls.specs.safety_model.Safe.{Devices}
+use Rattle.run_minutes.specs.run_devices.Told.{arranged}
 use Rattle.run_outcome.specs.declared.outcome.Outcome.{Outcome}
-use Rattle.run_promise.specs.Origin.{Origin}
+use Rattle.run_minutes.specs.run_promise.Origin.{Origin}
 use Rattle.run_minutes.specs.Books.{HaveTime}
 use Rattle.run_acts.specs.Entered.{IsFoundBy, GoesOnOrIsCut}
-use Rattle.run_record.specs.Within.{Beginning}
+use Rattle.run_acts.specs.run_record.Within.{Beginning}
 use Rattle.run_acts.specs.declared.run.Run.{Run}
 use Rattle.run_acts.specs.declared.run.Power.TheVariants.{Lit}
 use Rattle.run_acts.specs.Recording.{log_of, IsOrigin, values_of, RunWithin}
-use Rattle.unit_memory.specs.declared.memory.UnitFacts.{UnitFacts}
+use Rattle.run_minutes.specs.unit_memory.declared.memory.UnitFacts.{UnitFacts}
 use Rattle.activity_codec.specs.declared.values.Slot.{Slot}
-use Rattle.unit_model.specs.Image.{IsUnit, odometer_at}
-use Rattle.unit_notes.specs.declared.unit_event.UnitEvent.{UnitEvent}
-use Rattle.run_promise.specs.Between.{devices}
+use Rattle.unit_minutes.specs.unit_model.Image.{IsUnit, odometer_at}
+use Rattle.run_acts.specs.unit_notes.declared.unit_event.UnitEvent.{UnitEvent}
+use Rattle.run_minutes.specs.run_promise.Between.{devices}
 use Rattle.run_minutes.specs.declared.keeper.Moment.{Moment}
 use Rattle.run_insertion.specs.declared.lines.Entering.{Entering}
 use Rattle.run_insertion.specs.Entering.{Way, ending_of, measured}

@@ -3,15 +3,15 @@ use Rattle.std.proofs.Common.{◌≡◌, ◌⊎◌, inl, inr, ⊎_elim, ℕ, Lis
 use Rattle.trace_model.specs.declared.Card.{Card}
 use Rattle.log_model.specs.declared.lines.Verdict.{Verdict}
 use Rattle.log_model.specs.Log.{RunLog, is_accepting}
-use Rattle.note_model.specs.Odometer.{SpanFrom}
-use Rattle.note_model.specs.Noted.{Acceptance}
-use Rattle.safety_model.specs.Safe.{Devices}
-use Rattle.run_promise.specs.Origin.{Origin}
-use Rattle.run_note_record.specs.OnCards.{CardsGo}
-use Rattle.run_note_record.specs.RingsSoFar.{HasMoreBreaks}
-use Rattle.run_note_record.specs.Sessions.{FailsIn, OpensIn}
-use Rattle.run_note_record.proofs.OnCards.{call-failed-more}
-use Rattle.run_note_record.proofs.Sessions.{go-more}
+use Rattle.device_calls.specs.note_model.Odometer.{SpanFrom}
+use Rattle.device_calls.specs.note_model.Noted.{Acceptance}
+use Rattle.device_calls.specs.safety_model.Safe.{Devices}
+use Rattle.run_minutes.specs.run_promise.Origin.{Origin}
+use Rattle.run_acts.specs.run_note_record.OnCards.{CardsGo}
+use Rattle.run_acts.specs.run_note_record.RingsSoFar.{HasMoreBreaks}
+use Rattle.run_acts.specs.run_note_record.Sessions.{FailsIn, OpensIn}
+use Rattle.run_acts.proofs.run_note_record.OnCards.{call-failed-more}
+use Rattle.run_acts.proofs.run_note_record.Sessions.{go-more}
 use Rattle.recorder_with_cards.specs.JudgedRings.{JudgesIn}
 
 module _ (o : Origin) (spans : List SpanFrom) (d e : Devices) (log later : RunLog) (more : HasMoreBreaks log later) (a : Acceptance) (vs : List Verdict) (cards : CardsGo o spans (JudgesIn log a vs) d e) where

@@ -4,8 +4,8 @@ use Rattle.std.specs.Prelude.{IfSome, is_some, unwrap_or}
 use Rattle.std.specs.List.{AllByRecursion}
 use Rattle.std.proofs.lemmas.List.{same_from_push, map-append}
 use Rattle.trace_model.specs.Trace.{TraceSecond}
-use Rattle.minute_model.specs.Activity.{last}
-use Rattle.minute_model.proofs.Ranges.{last-push}
+use Rattle.minute_rules.specs.minute_model.Activity.{last}
+use Rattle.minute_rules.proofs.minute_model.Ranges.{last-push}
 use Rattle.log_model.specs.declared.lines.Break.{Break}
 use Rattle.log_model.specs.declared.lines.Break.TheVariants.{Cut, Tear}
 use Rattle.log_model.specs.Log.{RunLog, kept_by, kept_after}
@@ -13,21 +13,21 @@ use Rattle.log_model.specs.Course.{ToldSecond, Went, second_told, went}
 use Rattle.log_model.specs.Spans.{go_on, spans_with, spans_of, first_in}
 use Rattle.log_model.proofs.Growth.{went-more}
 use Rattle.log_model.proofs.Spanning.{spans-more, spans-new, spans-on}
-use Rattle.history_model.specs.History.{cut_second}
-use Rattle.note_model.specs.Done.{has_failed_in}
-use Rattle.note_model.specs.Odometer.{SpanFrom}
-use Rattle.safety_model.specs.Safe.{Devices}
-use Rattle.run_unit_course.specs.Lines.{log_of, tells_cut}
-use Rattle.run_unit_course.specs.Followed.{UnitPower, Lit as IsLit, Due as IsDue, Lost as IsLost}
-use Rattle.run_promise.specs.Origin.{Origin}
-use Rattle.run_promise.specs.Ends.{AreFound}
-use Rattle.run_note_record.specs.Stored.{IsFoundEnd, IsOpenEnd, StoresOn, StoresOff, Stores}
+use Rattle.device_calls.specs.history_model.History.{cut_second}
+use Rattle.device_calls.specs.note_model.Done.{has_failed_in}
+use Rattle.device_calls.specs.note_model.Odometer.{SpanFrom}
+use Rattle.device_calls.specs.safety_model.Safe.{Devices}
+use Rattle.device_calls.specs.run_unit_course.Lines.{log_of, tells_cut}
+use Rattle.device_calls.specs.run_unit_course.Followed.{UnitPower, Lit as IsLit, Due as IsDue, Lost as IsLost}
+use Rattle.run_minutes.specs.run_promise.Origin.{Origin}
+use Rattle.run_minutes.specs.run_promise.Ends.{AreFound}
+use Rattle.run_acts.specs.run_note_record.Stored.{IsFoundEnd, IsOpenEnd, StoresOn, StoresOff, Stores}
 use Rattle.run_outcome.specs.declared.outcome.Outcome.{Outcome}
 use Rattle.run_acts.specs.declared.run.Run.{Run}
 use Rattle.run_acts.specs.declared.run.Power.{Power}
 use Rattle.run_acts.specs.declared.run.Power.TheVariants.{Lit, Due, Lost}
 use Rattle.run_acts.specs.Power.{is_lit}
-use Rattle.run_record.specs.Recorded.{RecordBetweenSeconds}
+use Rattle.run_acts.specs.run_record.Recorded.{RecordBetweenSeconds}
 use Rattle.run_acts.specs.Recording.{log_of as log_in, values_of, Supplies, RunRecorded}
 use Rattle.recorder_with_cards.specs.KeptAfter.{WasKept, IsFoundAfter, AreFoundAfter}
 

@@ -1,22 +1,22 @@
 -- What the last-kept minutes of the unit's images tell, by the book that follows the history.
 use Rattle.std.proofs.Common.{ℕ, ◌+◌, ◌≤◌, All, Option, Some, None, List, [], ◌∷◌, ◌++◌, Contains, refl, subst}
 use Rattle.std.proofs.lemmas.List.Elements.{All-contains}
-use Rattle.run_model.specs.declared.Device.TheVariants.{Unit as Recorder}
+use Rattle.log_model.specs.run_model.declared.Device.TheVariants.{Unit as Recorder}
 use Rattle.tach_media.specs.Medium.{State}
-use Rattle.unit_model.specs.Days.{ShownDay}
-use Rattle.unit_model.specs.Image.{last_kept}
+use Rattle.unit_minutes.specs.unit_model.Days.{ShownDay}
+use Rattle.unit_minutes.specs.unit_model.Image.{last_kept}
 use Rattle.log_model.specs.declared.lines.Mark.{Mark}
-use Rattle.history_model.specs.Minutes.{HistoryMinute}
-use Rattle.history_model.specs.Book.{Book, IsNext, IsMark, Follows}
-use Rattle.device_rule.specs.Views.{unit_view}
-use Rattle.device_rule.specs.Rules.{Showed}
-use Rattle.device_rule.specs.Filling.{FillsDays}
-use Rattle.safety_model.specs.Recording.{MayCome}
-use Rattle.safety_model.specs.Unit.{UnitShows, UnitSafe, marks_of}
-use Rattle.safety_model.proofs.Giving.{passed-reached}
-use Rattle.unit_rule.specs.Rule.{Started}
-use Rattle.unit_rule.specs.Marks.{MarkIsKept, UnitFollowsBook}
-use Rattle.unit_rule.proofs.Moves.{shown-last, shown-days}
+use Rattle.device_calls.specs.history_model.Minutes.{HistoryMinute}
+use Rattle.device_calls.specs.history_model.Book.{Book, IsNext, IsMark, Follows}
+use Rattle.device_calls.specs.device_rule.Views.{unit_view}
+use Rattle.device_calls.specs.device_rule.Rules.{Showed}
+use Rattle.device_calls.specs.device_rule.Filling.{FillsDays}
+use Rattle.device_calls.specs.safety_model.Recording.{MayCome}
+use Rattle.device_calls.specs.safety_model.Unit.{UnitShows, UnitSafe, marks_of}
+use Rattle.device_calls.proofs.safety_model.Giving.{passed-reached}
+use Rattle.device_calls.specs.unit_rule.Rule.{Started}
+use Rattle.device_calls.specs.unit_rule.Marks.{MarkIsKept, UnitFollowsBook}
+use Rattle.device_calls.proofs.unit_rule.Moves.{shown-last, shown-days}
 use Rattle.recorder_with_cards.specs.LastKept.{TellsLast}
 
 -- an image shows the start and minutes of the history, none of them later than its last-kept minute, which is the start's or that of one of them

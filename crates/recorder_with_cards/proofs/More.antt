@@ -3,8 +3,8 @@ use Rattle.std.proofs.Common.{◌⊎◌, ⊎_elim, ℕ, ◌≤◌, Bool, true, f
 use Rattle.activity_codec.specs.declared.values.Slot.{Slot}
 use Rattle.activity_codec.specs.declared.values.Slot.TheVariants.{Driver, CoDriver}
 use Rattle.trace_model.specs.declared.Card.{Card}
-use Rattle.minute_model.specs.declared.Minute.{Minute}
-use Rattle.card_slots.specs.declared.seats.Present.{Present}
+use Rattle.minute_rules.specs.minute_model.declared.Minute.{Minute}
+use Rattle.run_minutes.specs.card_slots.declared.seats.Present.{Present}
 use Rattle.run_outcome.specs.declared.outcome.Outcome.{Outcome}
 use Rattle.run_minutes.specs.declared.keeper.Moment.{Moment}
 use Rattle.run_minutes.specs.Keeping.{breaks_by, with_lines}

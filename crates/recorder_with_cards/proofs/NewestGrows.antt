@@ -5,25 +5,25 @@ use Rattle.std.proofs.lemmas.List.Elements.{All-nil, All-cons, All-head, All-tai
 use Rattle.activity_codec.specs.declared.entries.Entry.{Entry}
 use Rattle.trace_model.specs.declared.Card.{Card}
 use Rattle.log_model.specs.Spans.{AreInOrder}
-use Rattle.minute_model.specs.Activity.{last}
-use Rattle.unit_model.specs.Image.{last_kept}
-use Rattle.card_image.specs.Own.{own_view}
-use Rattle.history_model.specs.Minutes.{HistoryMinute, card_history, on_card}
-use Rattle.history_model.specs.Growth.{Rises}
-use Rattle.history_model.specs.Presence.{CardStart, Start, card_start, closed_at, newest_by, newest_minute}
-use Rattle.history_model.proofs.Books.{history-append, history-one, history-none, on_card-minute}
-use Rattle.history_model.proofs.Filters.{all-front, all-back}
-use Rattle.history_model.proofs.Told.{rises}
-use Rattle.device_rule.proofs.Pairs.{last-append, closed-from}
-use Rattle.unit_rule.proofs.Moves.{shown-last}
-use Rattle.safety_model.specs.Recording.{Recording, card_image, brought, start_of, unit_seen, history_of, told_of}
-use Rattle.run_promise.proofs.Beyond.{Splits, splits, rises-above}
-use Rattle.run_promise.proofs.Behind.{owed-until, own-marked}
-use Rattle.run_promise.proofs.CardEnd.{started}
-use Rattle.run_promise.proofs.Present.{bound, history-later}
+use Rattle.minute_rules.specs.minute_model.Activity.{last}
+use Rattle.unit_minutes.specs.unit_model.Image.{last_kept}
+use Rattle.device_calls.specs.card_image.Own.{own_view}
+use Rattle.device_calls.specs.history_model.Minutes.{HistoryMinute, card_history, on_card}
+use Rattle.device_calls.specs.history_model.Growth.{Rises}
+use Rattle.device_calls.specs.history_model.Presence.{CardStart, Start, card_start, closed_at, newest_by, newest_minute}
+use Rattle.device_calls.proofs.history_model.Books.{history-append, history-one, history-none, on_card-minute}
+use Rattle.device_calls.proofs.history_model.Filters.{all-front, all-back}
+use Rattle.device_calls.proofs.history_model.Told.{rises}
+use Rattle.device_calls.proofs.device_rule.Pairs.{last-append, closed-from}
+use Rattle.device_calls.proofs.unit_rule.Moves.{shown-last}
+use Rattle.device_calls.specs.safety_model.Recording.{Recording, card_image, brought, start_of, unit_seen, history_of, told_of}
+use Rattle.run_minutes.proofs.run_promise.Beyond.{Splits, splits, rises-above}
+use Rattle.run_minutes.proofs.run_promise.Behind.{owed-until, own-marked}
+use Rattle.run_minutes.proofs.run_promise.CardEnd.{started}
+use Rattle.run_minutes.proofs.run_promise.Present.{bound, history-later}
 use Rattle.run_acts.proofs.EnteredNewest.{trimmed-most, closed-up, history-low}
-use Rattle.run_record.specs.HeldHands.{IsKnown}
-use Rattle.safety_model.specs.ByHand.{IsNoLater}
+use Rattle.run_acts.specs.run_record.HeldHands.{IsKnown}
+use Rattle.device_calls.specs.safety_model.ByHand.{IsNoLater}
 
 -- ---- what each minute says on a card
 

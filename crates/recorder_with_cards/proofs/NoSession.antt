@@ -4,11 +4,11 @@ use Rattle.activity_codec.specs.declared.values.Slot.{Slot}
 use Rattle.activity_codec.specs.declared.values.Slot.TheVariants.{Driver, CoDriver}
 use Rattle.trace_model.specs.declared.Card.{Card}
 use Rattle.log_model.specs.Slots.{other_slot}
-use Rattle.card_slots.specs.Calls.{seat_in, is_card}
-use Rattle.run_crew.specs.declared.cards.Accepted.{Accepted}
-use Rattle.run_crew.specs.declared.cabin.Cabin.{Cabin}
-use Rattle.run_crew.specs.Cards.{session_of}
-use Rattle.run_crew.specs.Cabin.{AnswersTo, SeatAnswers, CabinIsSound}
+use Rattle.run_minutes.specs.card_slots.Calls.{seat_in, is_card}
+use Rattle.run_acts.specs.run_crew.declared.cards.Accepted.{Accepted}
+use Rattle.run_acts.specs.run_crew.declared.cabin.Cabin.{Cabin}
+use Rattle.run_acts.specs.run_crew.Cards.{session_of}
+use Rattle.run_acts.specs.run_crew.Cabin.{AnswersTo, SeatAnswers, CabinIsSound}
 use Rattle.recorder_with_cards.proofs.Comes.{elsewhere-of}
 
 bare-answers : (from : ℕ) (o : Option Accepted) → AnswersTo from None o → o ≡ None

@@ -6,29 +6,29 @@ use Rattle.activity_codec.specs.declared.values.Slot.{Slot}
 use Rattle.activity_codec.specs.declared.values.Slot.TheVariants.{Driver, CoDriver}
 use Rattle.trace_model.specs.declared.Card.{Card}
 use Rattle.trace_model.specs.Trace.{TraceSecond}
-use Rattle.minute_model.specs.declared.Rule.{Rule}
-use Rattle.history_model.specs.Presence.{Start}
-use Rattle.event_model.specs.Events.{Seen, number_of, seen_of, seen_spans, last_number, first_card}
+use Rattle.minute_rules.specs.minute_model.declared.Rule.{Rule}
+use Rattle.device_calls.specs.history_model.Presence.{Start}
+use Rattle.device_calls.specs.event_model.Events.{Seen, number_of, seen_of, seen_spans, last_number, first_card}
 use Rattle.log_model.specs.Log.{RunLog, Keeping, cut_in, is_torn_in, kept_after, is_accepting}
 use Rattle.log_model.specs.Slots.{same_card}
 use Rattle.log_model.specs.Course.{ToldSecond, Course, Visit, Went, has_power, second_told, went, leaves, visits, slot_told, both_told, unmoved, all_acted, cut_told, lit_course}
-use Rattle.note_model.specs.Done.{course_powered}
-use Rattle.run_unit_course.specs.Lines.{cut_at}
-use Rattle.run_unit_course.specs.Followed.{Lit}
-use Rattle.safety_model.specs.Safe.{Devices, card_of}
-use Rattle.run_course.specs.Moments.{and_break}
-use Rattle.run_course.specs.Followed.{Progress, BookFollowsRun, HadActions}
-use Rattle.run_course.proofs.Lookups.{break-more}
-use Rattle.run_course.proofs.Told.{lit-told}
-use Rattle.run_promise.specs.Origin.{Origin}
-use Rattle.run_events.specs.Seconds.{gap_by, seen_next}
-use Rattle.run_events.specs.Choice.{AreEarlier}
-use Rattle.run_events.proofs.Later.{told-number, seen-same}
-use Rattle.run_note_record.proofs.Brought.{lit-course, told-speed}
-use Rattle.run_note_record.specs.Uses.{notes_in, uses_in}
-use Rattle.run_note_record.proofs.Lines.{early}
-use Rattle.run_note_record.proofs.Exact.{fewer-none}
-use Rattle.run_note_record.proofs.SoFar.{failed-more}
+use Rattle.device_calls.specs.note_model.Done.{course_powered}
+use Rattle.device_calls.specs.run_unit_course.Lines.{cut_at}
+use Rattle.device_calls.specs.run_unit_course.Followed.{Lit}
+use Rattle.device_calls.specs.safety_model.Safe.{Devices, card_of}
+use Rattle.run_acts.specs.run_course.Moments.{and_break}
+use Rattle.run_acts.specs.run_course.Followed.{Progress, BookFollowsRun, HadActions}
+use Rattle.run_acts.proofs.run_course.Lookups.{break-more}
+use Rattle.run_acts.proofs.run_course.Told.{lit-told}
+use Rattle.run_minutes.specs.run_promise.Origin.{Origin}
+use Rattle.run_acts.specs.run_events.Seconds.{gap_by, seen_next}
+use Rattle.run_acts.specs.run_events.Choice.{AreEarlier}
+use Rattle.run_acts.proofs.run_events.Later.{told-number, seen-same}
+use Rattle.run_acts.proofs.run_note_record.Brought.{lit-course, told-speed}
+use Rattle.run_acts.specs.run_note_record.Uses.{notes_in, uses_in}
+use Rattle.run_acts.proofs.run_note_record.Lines.{early}
+use Rattle.run_acts.proofs.run_note_record.Exact.{fewer-none}
+use Rattle.run_acts.proofs.run_note_record.SoFar.{failed-more}
 use Rattle.run_acts.specs.OnCards.{MetSecond, as_accepted, accepted_in, gaps_on, torn_times, met_behind, met_seconds, met_next}
 use Rattle.run_acts.specs.RunCards.{vehicle_in, sizes_in, CardShown, CardsBehind}
 use Rattle.run_acts.proofs.OnCards.{still-same}

@@ -6,10 +6,10 @@ use Rattle.std.proofs.lemmas.Bool.Decides.{nat_tests}
 use Rattle.std.proofs.lemmas.List.Elements.{All-nil, All-cons}
 use Rattle.trace_model.specs.declared.Card.{Card}
 use Rattle.trace_model.specs.Trace.{TraceSecond}
-use Rattle.minute_model.specs.Second.{Second}
-use Rattle.minute_model.specs.declared.Rule.{Rule}
-use Rattle.history_model.specs.Presence.{Start}
-use Rattle.unit_model.specs.declared.layout.TheConstants.{HIGHEST_ODOMETER}
+use Rattle.minute_rules.specs.minute_model.Second.{Second}
+use Rattle.minute_rules.specs.minute_model.declared.Rule.{Rule}
+use Rattle.device_calls.specs.history_model.Presence.{Start}
+use Rattle.unit_minutes.specs.unit_model.declared.layout.TheConstants.{HIGHEST_ODOMETER}
 use Rattle.log_model.specs.declared.lines.Break.{Break}
 use Rattle.log_model.specs.Log.{RunLog, In, cut_in, is_torn_in}
 use Rattle.log_model.specs.Same.{SameAt}
@@ -17,38 +17,38 @@ use Rattle.log_model.specs.Spans.{seconds_in, AreInOrder}
 use Rattle.log_model.specs.Course.{ToldSecond, Before, Went, begins, has_power, second_told, went}
 use Rattle.log_model.proofs.Growth.{went-more}
 use Rattle.log_model.proofs.Spanning.{order-parts}
-use Rattle.note_model.specs.Odometer.{SpanFrom, odometer_before, has_second, odometer_at}
-use Rattle.note_model.specs.Noted.{Note}
-use Rattle.unit_rule.specs.Odometer.{odometer_by}
-use Rattle.run_unit_course.specs.Lines.{cut_at}
-use Rattle.run_unit_course.specs.Followed.{Lit}
-use Rattle.run_unit_course.specs.Turn.{cut_last}
-use Rattle.run_unit_course.proofs.Spans.{cut_spans, cut-spans-last}
-use Rattle.safety_model.specs.Safe.{Devices}
-use Rattle.run_course.specs.Moments.{and_break}
-use Rattle.run_course.specs.Followed.{Progress, BookFollowsRun, HadActions}
-use Rattle.run_course.proofs.Lookups.{break-more}
-use Rattle.run_course.proofs.Logs.{other-number, all-before, same-at, went-later}
-use Rattle.run_course.proofs.Steps.{spans-cut, cut-parts}
-use Rattle.run_course.proofs.Told.{told-lit}
-use Rattle.event_model.specs.Events.{Seen}
-use Rattle.run_events.specs.Running.{IsCutOff}
-use Rattle.run_events.proofs.Offs.{seen-off}
-use Rattle.run_note_record.proofs.Opened.{come-as}
-use Rattle.run_rings.specs.Notes.{notes_to, TellSameTo}
-use Rattle.run_rings.specs.Spans.{AreBefore, AreAllBefore}
-use Rattle.run_rings.proofs.Notes.{later-lines, second-noted}
-use Rattle.run_rings.proofs.Same.{rings-left}
-use Rattle.run_promise.specs.Origin.{Origin}
-use Rattle.run_note_record.specs.Ringed.{Seating, Ringed, notes_in, noted_next, since_behind}
-use Rattle.run_note_record.specs.OnCards.{IsReading}
-use Rattle.run_note_record.specs.RingsSoFar.{AreEarlier, RingedBehind, AreFewer}
-use Rattle.run_note_record.proofs.Noted.{second-notes}
-use Rattle.run_note_record.specs.Sessions.{IsBrokenSince}
-use Rattle.run_note_record.proofs.OnCards.{call-failed-more, stay-itself}
-use Rattle.run_note_record.proofs.Sessions.{stay-may}
-use Rattle.run_note_record.proofs.Rings.{fewer-sit, rings-stay, come-before}
-use Rattle.run_note_record.proofs.SoFar.{failed-more, goes-alike, left-itself}
+use Rattle.device_calls.specs.note_model.Odometer.{SpanFrom, odometer_before, has_second, odometer_at}
+use Rattle.device_calls.specs.note_model.Noted.{Note}
+use Rattle.device_calls.specs.unit_rule.Odometer.{odometer_by}
+use Rattle.device_calls.specs.run_unit_course.Lines.{cut_at}
+use Rattle.device_calls.specs.run_unit_course.Followed.{Lit}
+use Rattle.device_calls.specs.run_unit_course.Turn.{cut_last}
+use Rattle.device_calls.proofs.run_unit_course.Spans.{cut_spans, cut-spans-last}
+use Rattle.device_calls.specs.safety_model.Safe.{Devices}
+use Rattle.run_acts.specs.run_course.Moments.{and_break}
+use Rattle.run_acts.specs.run_course.Followed.{Progress, BookFollowsRun, HadActions}
+use Rattle.run_acts.proofs.run_course.Lookups.{break-more}
+use Rattle.run_acts.proofs.run_course.Logs.{other-number, all-before, same-at, went-later}
+use Rattle.run_acts.proofs.run_course.Steps.{spans-cut, cut-parts}
+use Rattle.run_acts.proofs.run_course.Told.{told-lit}
+use Rattle.device_calls.specs.event_model.Events.{Seen}
+use Rattle.run_acts.specs.run_events.Running.{IsCutOff}
+use Rattle.run_acts.proofs.run_events.Offs.{seen-off}
+use Rattle.run_acts.proofs.run_note_record.Opened.{come-as}
+use Rattle.run_acts.specs.run_rings.Notes.{notes_to, TellSameTo}
+use Rattle.run_acts.specs.run_rings.Spans.{AreBefore, AreAllBefore}
+use Rattle.run_acts.proofs.run_rings.Notes.{later-lines, second-noted}
+use Rattle.run_acts.proofs.run_rings.Same.{rings-left}
+use Rattle.run_minutes.specs.run_promise.Origin.{Origin}
+use Rattle.run_acts.specs.run_note_record.Ringed.{Seating, Ringed, notes_in, noted_next, since_behind}
+use Rattle.run_acts.specs.run_note_record.OnCards.{IsReading}
+use Rattle.run_acts.specs.run_note_record.RingsSoFar.{AreEarlier, RingedBehind, AreFewer}
+use Rattle.run_acts.proofs.run_note_record.Noted.{second-notes}
+use Rattle.run_acts.specs.run_note_record.Sessions.{IsBrokenSince}
+use Rattle.run_acts.proofs.run_note_record.OnCards.{call-failed-more, stay-itself}
+use Rattle.run_acts.proofs.run_note_record.Sessions.{stay-may}
+use Rattle.run_acts.proofs.run_note_record.Rings.{fewer-sit, rings-stay, come-before}
+use Rattle.run_acts.proofs.run_note_record.SoFar.{failed-more, goes-alike, left-itself}
 use Rattle.run_acts.specs.Truths.{Grow, truths_of}
 use Rattle.run_acts.proofs.TruthsThen.{truths-end}
 

@@ -3,8 +3,8 @@ use Rattle.std.proofs.Common.{ℕ, ◌-◌}
 use Rattle.activity_codec.specs.declared.values.Slot.{Slot}
 use Rattle.activity_codec.specs.declared.values.Pick.{Pick}
 use Rattle.tach_media.specs.Medium.{State}
-use Rattle.card_layout.specs.declared.command.CardState.{CardState}
-use Rattle.minute_model.specs.Span.{picked}
+use Rattle.tach_media.specs.card_layout.declared.command.CardState.{CardState}
+use Rattle.minute_rules.specs.minute_model.Span.{picked}
 use Rattle.minute_rules.specs.Kept.{CountsSpan, Kept as Minutes}
 use Rattle.run_acts.specs.declared.run.Run.{Run}
 use Rattle.run_acts.specs.Going.{RunHasPowerAllSeated}

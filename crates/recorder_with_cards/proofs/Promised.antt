@@ -6,87 +6,87 @@ use Rattle.tacho_types.specs.declared.texts.Registration.{Registration}
 use Rattle.trace_model.specs.declared.Item.{Item}
 use Rattle.trace_model.specs.Trace.{TraceSecond, seconds_of}
 use Rattle.tach_media.specs.Medium.{State, IsCoherent, last_count}
-use Rattle.card_layout.specs.declared.files.Fid.{Fid}
-use Rattle.card_layout.specs.Application.{IsApplication}
-use Rattle.card_layout.proofs.Sizes.{largest_image}
-use Rattle.card_model.specs.Days.{AreDays}
-use Rattle.card_image.specs.Fields.{card_days, vehicle_ring}
-use Rattle.card_image.specs.Own.{own_view, own_sizes, own_number, own_covered, own_bad_file, IsOwnValid}
-use Rattle.card_validity.proofs.Copies.{place_shape}
-use Rattle.gated_ring.specs.Ring.{PointsInside}
+use Rattle.tach_media.specs.card_layout.declared.files.Fid.{Fid}
+use Rattle.tach_media.specs.card_layout.Application.{IsApplication}
+use Rattle.tach_media.proofs.card_layout.Sizes.{largest_image}
+use Rattle.device_calls.specs.card_model.Days.{AreDays}
+use Rattle.device_calls.specs.card_image.Fields.{card_days, vehicle_ring}
+use Rattle.device_calls.specs.card_image.Own.{own_view, own_sizes, own_number, own_covered, own_bad_file, IsOwnValid}
+use Rattle.device_calls.proofs.card_validity.Copies.{place_shape}
+use Rattle.unit_minutes.specs.gated_ring.Ring.{PointsInside}
 use Rattle.device_calls.proofs.Passed.{valid-passes, pointer-passes}
 use Rattle.device_calls.specs.Times.{IsTimed}
-use Rattle.card_layout.specs.declared.command.CardState.{CardState}
+use Rattle.tach_media.specs.card_layout.declared.command.CardState.{CardState}
 use Rattle.tacho_types.specs.declared.card_number.FullCardNumber.{FullCardNumber}
 use Rattle.tacho_types.specs.CardNumber.{card_number_bytes, card_number_of}
 use Rattle.log_model.specs.Log.{RunLog, is_accepting}
 use Rattle.log_model.specs.Course.{went}
 use Rattle.log_model.specs.Spans.{spans_of}
-use Rattle.note_model.specs.Done.{done_of}
-use Rattle.note_model.specs.Noted.{Note, notes_of}
-use Rattle.note_model.specs.Odometer.{MayStore, HaveBases}
-use Rattle.history_model.specs.Book.{not_begun}
-use Rattle.run_record.proofs.Stopped.{stopped-weaker}
-use Rattle.run_record.specs.HeldHands.{IsKnown}
+use Rattle.device_calls.specs.note_model.Done.{done_of}
+use Rattle.device_calls.specs.note_model.Noted.{Note, notes_of}
+use Rattle.device_calls.specs.note_model.Odometer.{MayStore, HaveBases}
+use Rattle.device_calls.specs.history_model.Book.{not_begun}
+use Rattle.run_acts.proofs.run_record.Stopped.{stopped-weaker}
+use Rattle.run_acts.specs.run_record.HeldHands.{IsKnown}
 use Rattle.recorder_with_cards.proofs.NewestGrows.{known-grows}
-use Rattle.device_rule.specs.Rules.{Out}
-use Rattle.run_unit_course.specs.Followed.{UnitPower, Lit as IsLit, Due as IsDue, Lost as IsLost}
-use Rattle.run_unit_course.specs.Legs.{not_travelled}
-use Rattle.unit_model.specs.declared.layout.TheConstants.{HIGHEST_ODOMETER}
-use Rattle.unit_model.specs.Image.{IsUnit, recorded, last_kept, odometer_at}
-use Rattle.unit_model.specs.Decoding.{Decodes}
-use Rattle.unit_model.proofs.Sized.{unit_sized}
-use Rattle.unit_rule.specs.Odometer.{HasTravelled}
-use Rattle.unit_rule.specs.Rule.{started, IsCards}
-use Rattle.unit_rule.specs.OtherRows.{valid_number}
-use Rattle.unit_rule.proofs.OtherRows.{valid-number, keeps-rows}
-use Rattle.unit_rule.proofs.Travelling.{travelled-opened}
+use Rattle.device_calls.specs.device_rule.Rules.{Out}
+use Rattle.device_calls.specs.run_unit_course.Followed.{UnitPower, Lit as IsLit, Due as IsDue, Lost as IsLost}
+use Rattle.device_calls.specs.run_unit_course.Legs.{not_travelled}
+use Rattle.unit_minutes.specs.unit_model.declared.layout.TheConstants.{HIGHEST_ODOMETER}
+use Rattle.unit_minutes.specs.unit_model.Image.{IsUnit, recorded, last_kept, odometer_at}
+use Rattle.unit_minutes.specs.unit_model.Decoding.{Decodes}
+use Rattle.unit_minutes.proofs.unit_model.Sized.{unit_sized}
+use Rattle.device_calls.specs.unit_rule.Odometer.{HasTravelled}
+use Rattle.device_calls.specs.unit_rule.Rule.{started, IsCards}
+use Rattle.device_calls.specs.unit_rule.OtherRows.{valid_number}
+use Rattle.device_calls.proofs.unit_rule.OtherRows.{valid-number, keeps-rows}
+use Rattle.device_calls.proofs.unit_rule.Travelling.{travelled-opened}
 use Rattle.unit_minutes.proofs.Beside.{passes_beside}
-use Rattle.unit_memory.specs.declared.memory.UnitFacts.{UnitFacts}
-use Rattle.safety_model.specs.Recording.{Recording, card_image, brought, history_of, lost_of, start_of}
-use Rattle.safety_model.specs.Unit.{UnitSafe, marks_of}
-use Rattle.safety_model.specs.Safe.{Devices, card_of, breakdowns_of}
-use Rattle.card_slots.specs.Kept.{nothing_yet}
-use Rattle.run_crew.specs.declared.cards.Accepted.{Accepted}
-use Rattle.run_crew.specs.declared.cards.Known.{Known}
-use Rattle.run_crew.specs.declared.cards.Cards.{Cards}
-use Rattle.run_crew.specs.Cards.{known_of as known_in, session_of}
-use Rattle.run_promise.specs.Found.{Found, found_of}
-use Rattle.run_promise.specs.Between.{RunLedger, LedgerStands, IsFound, devices}
-use Rattle.run_promise.specs.Opening.{BeginsAs, carried_first}
-use Rattle.run_promise.proofs.End.{lit-carried}
-use Rattle.run_promise.specs.Accounts.{so_far}
-use Rattle.run_course.specs.Telling.{IsMore}
-use Rattle.run_devices.specs.Told.{AreFoundCards, CardHoldsStringUnpowered, DevicesUnpowered}
-use Rattle.run_devices.proofs.Known.{word-covered}
-use Rattle.run_devices.proofs.Opened.{opened-wait, opened-powerless}
-use Rattle.run_promise.specs.Origin.{Origin, rule_of, start_at}
-use Rattle.run_promise.specs.Ends.{HandsBeside, EndsRun}
-use Rattle.run_promise.specs.Seconds.{empty_log}
-use Rattle.run_promise.proofs.RecordEnds.{ends-run}
-use Rattle.event_model.specs.Events.{Seen, seen_of}
-use Rattle.run_note_record.specs.Evented.{images_in, Evented}
-use Rattle.run_note_record.specs.Uses.{uses_from, vehicle_of, use_in, insertions_on, uses_in}
-use Rattle.run_note_record.proofs.Ends.{nothing-noted, events-shown}
-use Rattle.run_note_record.specs.OnCards.{places_in, HasPlaces, GoesByReadings}
-use Rattle.run_note_record.specs.Ringed.{Seating, Ringed, notes_in, since_behind}
-use Rattle.run_note_record.specs.RingsSoFar.{AreEarlier, RingedBehind}
-use Rattle.run_note_record.specs.Stored.{StoresOff, Stores}
-use Rattle.run_note_record.proofs.Rings.{none-noted, fewer-sit}
-use Rattle.run_note_record.proofs.Shown.{rings-shown, places-shown}
-use Rattle.run_note_record.proofs.Bases.{stored-start}
-use Rattle.run_record.specs.Recorded.{Values, progress, carried, AreThere, IsHeldBy, RecordBetweenSeconds}
-use Rattle.run_record.proofs.Going.{begun-recorded}
+use Rattle.run_minutes.specs.unit_memory.declared.memory.UnitFacts.{UnitFacts}
+use Rattle.device_calls.specs.safety_model.Recording.{Recording, card_image, brought, history_of, lost_of, start_of}
+use Rattle.device_calls.specs.safety_model.Unit.{UnitSafe, marks_of}
+use Rattle.device_calls.specs.safety_model.Safe.{Devices, card_of, breakdowns_of}
+use Rattle.run_minutes.specs.card_slots.Kept.{nothing_yet}
+use Rattle.run_acts.specs.run_crew.declared.cards.Accepted.{Accepted}
+use Rattle.run_acts.specs.run_crew.declared.cards.Known.{Known}
+use Rattle.run_acts.specs.run_crew.declared.cards.Cards.{Cards}
+use Rattle.run_acts.specs.run_crew.Cards.{known_of as known_in, session_of}
+use Rattle.run_minutes.specs.run_promise.Found.{Found, found_of}
+use Rattle.run_minutes.specs.run_promise.Between.{RunLedger, LedgerStands, IsFound, devices}
+use Rattle.run_minutes.specs.run_promise.Opening.{BeginsAs, carried_first}
+use Rattle.run_minutes.proofs.run_promise.End.{lit-carried}
+use Rattle.run_minutes.specs.run_promise.Accounts.{so_far}
+use Rattle.run_acts.specs.run_course.Telling.{IsMore}
+use Rattle.run_minutes.specs.run_devices.Told.{AreFoundCards, CardHoldsStringUnpowered, DevicesUnpowered}
+use Rattle.run_minutes.proofs.run_devices.Known.{word-covered}
+use Rattle.run_minutes.proofs.run_devices.Opened.{opened-wait, opened-powerless}
+use Rattle.run_minutes.specs.run_promise.Origin.{Origin, rule_of, start_at}
+use Rattle.run_minutes.specs.run_promise.Ends.{HandsBeside, EndsRun}
+use Rattle.run_minutes.specs.run_promise.Seconds.{empty_log}
+use Rattle.run_minutes.proofs.run_promise.RecordEnds.{ends-run}
+use Rattle.device_calls.specs.event_model.Events.{Seen, seen_of}
+use Rattle.run_acts.specs.run_note_record.Evented.{images_in, Evented}
+use Rattle.run_acts.specs.run_note_record.Uses.{uses_from, vehicle_of, use_in, insertions_on, uses_in}
+use Rattle.run_acts.proofs.run_note_record.Ends.{nothing-noted, events-shown}
+use Rattle.run_acts.specs.run_note_record.OnCards.{places_in, HasPlaces, GoesByReadings}
+use Rattle.run_acts.specs.run_note_record.Ringed.{Seating, Ringed, notes_in, since_behind}
+use Rattle.run_acts.specs.run_note_record.RingsSoFar.{AreEarlier, RingedBehind}
+use Rattle.run_acts.specs.run_note_record.Stored.{StoresOff, Stores}
+use Rattle.run_acts.proofs.run_note_record.Rings.{none-noted, fewer-sit}
+use Rattle.run_acts.proofs.run_note_record.Shown.{rings-shown, places-shown}
+use Rattle.run_acts.proofs.run_note_record.Bases.{stored-start}
+use Rattle.run_acts.specs.run_record.Recorded.{Values, progress, carried, AreThere, IsHeldBy, RecordBetweenSeconds}
+use Rattle.run_acts.proofs.run_record.Going.{begun-recorded}
 use Rattle.run_opening.specs.Begun.{Begin, found_in, known_of, RunIsOpened}
 use Rattle.run_opening.specs.Cards.{IsFoundOn, number_by}
 use Rattle.run_opening.specs.declared.opening.Opened.{Opened}
 use Rattle.run_opening.proofs.Told.{valid-known}
 use Rattle.run_outcome.specs.declared.outcome.Outcome.{Outcome}
-use Rattle.speed_model.specs.declared.block.Block.{Block}
-use Rattle.run_speeds.specs.Speeds.{HasSpeeds}
-use Rattle.run_speeds.specs.Spans.{is_sure_block}
-use Rattle.run_speeds.proofs.Speeds.{speeds-begin}
-use Rattle.run_speeds.proofs.Spans.{no-blocks}
+use Rattle.run_acts.specs.speed_model.declared.block.Block.{Block}
+use Rattle.run_acts.specs.run_speeds.Speeds.{HasSpeeds}
+use Rattle.run_acts.specs.run_speeds.Spans.{is_sure_block}
+use Rattle.run_acts.proofs.run_speeds.Speeds.{speeds-begin}
+use Rattle.run_acts.proofs.run_speeds.Spans.{no-blocks}
 use Rattle.run_acts.specs.declared.run.Run.{Run}
 use Rattle.run_acts.specs.declared.run.Power.{Power}
 use Rattle.run_acts.specs.declared.run.Power.TheVariants.{Lit, Due}
@@ -111,7 +111,7 @@ use Rattle.recorder_with_cards.proofs.Written.{are-written, keep-holders, keep-v
 use Rattle.recorder_with_cards.specs.Placed.{ShowsPlaces}
 use Rattle.recorder_with_cards.specs.Measured.{MeasuresVehicles}
 use Rattle.recorder_with_cards.specs.Sessions.{TellsSession}
-use Rattle.run_note_record.specs.Sessions.{MayTell, session_told}
+use Rattle.run_acts.specs.run_note_record.Sessions.{MayTell, session_told}
 use Rattle.recorder_with_cards.proofs.KeptAfter.{end-kept}
 use Rattle.recorder_with_cards.specs.LastKept.{TellsLast}
 use Rattle.recorder_with_cards.proofs.LastKept.{safe-last}
@@ -124,8 +124,8 @@ use Rattle.run_acts.proofs.ToldLines.{OfOne, told-of}
 use Rattle.run_acts.proofs.SeatsThen.{same-itself}
 use Rattle.recorder_with_cards.specs.Stays.{NothingFailedOn}
 use Rattle.recorder_with_cards.proofs.AtEnd.{noted-at-end, sits-at-end, words-so, odometers-so, owes-so, acknowledged-so}
-use Rattle.run_promise.specs.Whole.{IsUntorn}
-use Rattle.run_crew.specs.Cabin.{CabinIsSound}
+use Rattle.run_minutes.specs.run_promise.Whole.{IsUntorn}
+use Rattle.run_acts.specs.run_crew.Cabin.{CabinIsSound}
 use Rattle.std.specs.Prelude.{filter, option_to_list, ◌++◌}
 use Rattle.std.proofs.Common.{append_assoc}
 use Rattle.log_model.specs.Causes.{tears, device_of}
@@ -135,12 +135,12 @@ use Rattle.log_model.specs.declared.lines.Refused.{Refused}
 use Rattle.run_acts.proofs.Stays.{stays-start}
 use Rattle.run_acts.proofs.AllStay.{placed-bare, all-of}
 use Rattle.run_acts.specs.Owed.{IsOwed}
-use Rattle.run_record.proofs.HandsFold.{hands-end}
-use Rattle.safety_model.specs.ByHand.{IsStoppedBy, IsNoLater}
-use Rattle.safety_model.specs.Hands.{sessions_in}
-use Rattle.run_record.specs.Handed.{done_for, asked_for}
+use Rattle.run_acts.proofs.run_record.HandsFold.{hands-end}
+use Rattle.device_calls.specs.safety_model.ByHand.{IsStoppedBy, IsNoLater}
+use Rattle.device_calls.specs.safety_model.Hands.{sessions_in}
+use Rattle.run_acts.specs.run_record.Handed.{done_for, asked_for}
 use Rattle.std.proofs.lemmas.List.Elements.{All-contains}
-use Rattle.hand_model.specs.Written.{no_hands}
+use Rattle.device_calls.specs.hand_model.Written.{no_hands}
 
 -- what holds of either card
 pub both : (P : Card → Type 0) → P A → P B → (c : Card) → P c

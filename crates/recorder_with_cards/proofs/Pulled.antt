@@ -4,12 +4,12 @@ use Rattle.activity_codec.specs.declared.values.Slot.{Slot}
 use Rattle.trace_model.specs.declared.Card.{Card}
 use Rattle.trace_model.specs.declared.Card.TheVariants.{A, B}
 use Rattle.tach_media.specs.Medium.{State}
-use Rattle.card_layout.specs.declared.command.CardState.{CardState}
-use Rattle.minute_model.specs.Span.{ungiven_of}
-use Rattle.card_slots.specs.Calls.{seat_in, card_in}
-use Rattle.run_crew.specs.declared.cards.Cards.{Cards}
-use Rattle.run_crew.specs.Cards.{with_session}
-use Rattle.run_crew.specs.Cabin.{CabinIsSound, torn_out}
+use Rattle.tach_media.specs.card_layout.declared.command.CardState.{CardState}
+use Rattle.minute_rules.specs.minute_model.Span.{ungiven_of}
+use Rattle.run_minutes.specs.card_slots.Calls.{seat_in, card_in}
+use Rattle.run_acts.specs.run_crew.declared.cards.Cards.{Cards}
+use Rattle.run_acts.specs.run_crew.Cards.{with_session}
+use Rattle.run_acts.specs.run_crew.Cabin.{CabinIsSound, torn_out}
 use Rattle.run_outcome.specs.declared.outcome.Outcome.{Outcome}
 use Rattle.run_minutes.specs.declared.keeper.Moment.{Moment}
 use Rattle.run_minutes.specs.Keeping.{CardMayBeCalled, with_lines}

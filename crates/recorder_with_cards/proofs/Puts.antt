@@ -4,13 +4,13 @@ use Rattle.activity_codec.specs.declared.values.Slot.{Slot}
 use Rattle.activity_codec.specs.declared.values.Slot.TheVariants.{Driver, CoDriver}
 use Rattle.trace_model.specs.declared.Card.{Card}
 use Rattle.tach_media.specs.Medium.{State}
-use Rattle.card_layout.specs.declared.command.CardState.{CardState}
-use Rattle.minute_model.specs.Span.{ungiven_of}
-use Rattle.card_slots.specs.declared.seats.Seat.{Seat}
-use Rattle.card_slots.specs.Calls.{seat_in}
-use Rattle.run_crew.specs.declared.cabin.Cabin.{Cabin}
-use Rattle.run_crew.specs.Cards.{session_of}
-use Rattle.run_crew.specs.Cabin.{CabinIsSound, with_card_in}
+use Rattle.tach_media.specs.card_layout.declared.command.CardState.{CardState}
+use Rattle.minute_rules.specs.minute_model.Span.{ungiven_of}
+use Rattle.run_minutes.specs.card_slots.declared.seats.Seat.{Seat}
+use Rattle.run_minutes.specs.card_slots.Calls.{seat_in}
+use Rattle.run_acts.specs.run_crew.declared.cabin.Cabin.{Cabin}
+use Rattle.run_acts.specs.run_crew.Cards.{session_of}
+use Rattle.run_acts.specs.run_crew.Cabin.{CabinIsSound, with_card_in}
 use Rattle.run_minutes.proofs.Seats.{sessions-none}
 use Rattle.run_outcome.specs.declared.outcome.Outcome.{Outcome}
 use Rattle.run_acts.specs.declared.run.Run.{Run}

@@ -5,34 +5,34 @@ use Rattle.trace_model.specs.Trace.{TraceSecond}
 use Rattle.tach_media.specs.Medium.{State, IsCoherent, LeavesOnly, Unchanged}
 use Rattle.log_model.specs.declared.lines.Break.{Break}
 use Rattle.log_model.specs.Course.{went}
-use Rattle.history_model.specs.Book.{all, IsMark}
-use Rattle.device_rule.specs.Views.{unit_view}
-use Rattle.unit_model.specs.Image.{last_kept, odometer_at}
-use Rattle.unit_model.specs.Decoding.{Check, checks, first_failing, first_bad_place, Decodes}
-use Rattle.unit_model.specs.Versions.{rule_by, rule_of}
-use Rattle.unit_memory.specs.declared.memory.UnitFacts.{UnitFacts}
-use Rattle.unit_memory.specs.Identified.{AreFacts}
-use Rattle.minute_model.specs.declared.Rule.{Rule}
-use Rattle.run_unit_course.specs.Followed.{UnitPower, MayPower, Lit as IsLit, Due as IsDue, Lost as IsLost}
-use Rattle.safety_model.specs.Unit.{issued_bytes}
-use Rattle.unit_rule.proofs.Moves.{shown-last}
-use Rattle.unit_rule.proofs.Travelling.{travelled-read}
-use Rattle.safety_model.specs.Safe.{Devices, breakdowns_of}
-use Rattle.run_promise.specs.Between.{RunLedger, devices}
-use Rattle.run_course.specs.Followed.{Progress}
-use Rattle.run_devices.proofs.Power.{unread-powerless}
+use Rattle.device_calls.specs.history_model.Book.{all, IsMark}
+use Rattle.device_calls.specs.device_rule.Views.{unit_view}
+use Rattle.unit_minutes.specs.unit_model.Image.{last_kept, odometer_at}
+use Rattle.unit_minutes.specs.unit_model.Decoding.{Check, checks, first_failing, first_bad_place, Decodes}
+use Rattle.unit_minutes.specs.unit_model.Versions.{rule_by, rule_of}
+use Rattle.run_minutes.specs.unit_memory.declared.memory.UnitFacts.{UnitFacts}
+use Rattle.run_minutes.specs.unit_memory.Identified.{AreFacts}
+use Rattle.minute_rules.specs.minute_model.declared.Rule.{Rule}
+use Rattle.device_calls.specs.run_unit_course.Followed.{UnitPower, MayPower, Lit as IsLit, Due as IsDue, Lost as IsLost}
+use Rattle.device_calls.specs.safety_model.Unit.{issued_bytes}
+use Rattle.device_calls.proofs.unit_rule.Moves.{shown-last}
+use Rattle.device_calls.proofs.unit_rule.Travelling.{travelled-read}
+use Rattle.device_calls.specs.safety_model.Safe.{Devices, breakdowns_of}
+use Rattle.run_minutes.specs.run_promise.Between.{RunLedger, devices}
+use Rattle.run_acts.specs.run_course.Followed.{Progress}
+use Rattle.run_minutes.proofs.run_devices.Power.{unread-powerless}
 use Rattle.run_outcome.specs.Lines.{Listed, found_from}
 use Rattle.run_outcome.specs.declared.outcome.Outcome.{Outcome}
-use Rattle.run_promise.specs.Origin.{Origin}
-use Rattle.run_promise.specs.Beside.{TellsMore, cards_of, HaveLeftMore}
-use Rattle.run_promise.specs.Ends.{AreVerdicts, AreSpared}
-use Rattle.run_promise.proofs.Seconds.{more-recorded}
-use Rattle.run_promise.proofs.Beside.{found-tells, idle-verdicts, idle-spared, kept-later}
-use Rattle.run_record.specs.Recorded.{Values, progress, carried, RecordUnpowered, IsHeldBy, RecordBetweenSeconds}
-use Rattle.run_record.specs.Powering.{GoOn, read_values}
-use Rattle.run_record.proofs.Powering.{off-of}
-use Rattle.run_record.proofs.Known.{before-due}
-use Rattle.run_record.proofs.Calls.{goes-on}
+use Rattle.run_minutes.specs.run_promise.Origin.{Origin}
+use Rattle.run_minutes.specs.run_promise.Beside.{TellsMore, cards_of, HaveLeftMore}
+use Rattle.run_minutes.specs.run_promise.Ends.{AreVerdicts, AreSpared}
+use Rattle.run_minutes.proofs.run_promise.Seconds.{more-recorded}
+use Rattle.run_minutes.proofs.run_promise.Beside.{found-tells, idle-verdicts, idle-spared, kept-later}
+use Rattle.run_acts.specs.run_record.Recorded.{Values, progress, carried, RecordUnpowered, IsHeldBy, RecordBetweenSeconds}
+use Rattle.run_acts.specs.run_record.Powering.{GoOn, read_values}
+use Rattle.run_acts.proofs.run_record.Powering.{off-of}
+use Rattle.run_acts.proofs.run_record.Known.{before-due}
+use Rattle.run_acts.proofs.run_record.Calls.{goes-on}
 use Rattle.run_acts.specs.declared.run.Run.{Run}
 use Rattle.run_acts.specs.declared.run.Power.{Power}
 use Rattle.run_acts.specs.declared.run.Power.TheVariants.{Lit, Due, Lost}

@@ -10,9 +10,9 @@ use Rattle.trace_model.specs.declared.Card.TheVariants.{A, B}
 use Rattle.trace_model.specs.Trace.{TraceSecond}
 use Rattle.tach_media.specs.Medium.{State, IsCoherent, LeavesOnly, Unchanged, HasCause}
 use Rattle.tach_media.proofs.Runs.{starts}
-use Rattle.minute_model.specs.declared.Rule.{Rule}
-use Rattle.unit_model.specs.Versions.{rule_of as unit_rule}
-use Rattle.safety_model.proofs.Issued.{issued-rule}
+use Rattle.minute_rules.specs.minute_model.declared.Rule.{Rule}
+use Rattle.unit_minutes.specs.unit_model.Versions.{rule_of as unit_rule}
+use Rattle.device_calls.proofs.safety_model.Issued.{issued-rule}
 use Rattle.minute_rules.specs.Kept.{CountsSpan}
 use Rattle.log_model.specs.declared.lines.Find.{Find}
 use Rattle.log_model.specs.declared.lines.Mark.{Mark}
@@ -21,76 +21,76 @@ use Rattle.log_model.specs.Log.{RunLog, In, found_in}
 use Rattle.log_model.specs.Slots.{Slots, Sitting}
 use Rattle.log_model.specs.Spans.{spans_of}
 use Rattle.log_model.specs.Course.{Visit, Went, went, fresh, visits, card_in as card_of_sitting}
-use Rattle.history_model.specs.Minutes.{HistoryMinute}
-use Rattle.history_model.specs.Presence.{Start}
-use Rattle.history_model.specs.Book.{Book, found}
-use Rattle.device_rule.specs.Rules.{Standing}
-use Rattle.unit_model.specs.declared.layout.TheConstants.{HIGHEST_ODOMETER}
-use Rattle.unit_model.specs.Image.{last_kept, odometer_at}
+use Rattle.device_calls.specs.history_model.Minutes.{HistoryMinute}
+use Rattle.device_calls.specs.history_model.Presence.{Start}
+use Rattle.device_calls.specs.history_model.Book.{Book, found}
+use Rattle.device_calls.specs.device_rule.Rules.{Standing}
+use Rattle.unit_minutes.specs.unit_model.declared.layout.TheConstants.{HIGHEST_ODOMETER}
+use Rattle.unit_minutes.specs.unit_model.Image.{last_kept, odometer_at}
 use Rattle.unit_minutes.specs.declared.notes.Notes.{Notes}
 use Rattle.unit_minutes.specs.Image.{Agrees, IsFoundBy}
 use Rattle.unit_minutes.specs.Mends.{IsMending}
-use Rattle.run_unit_course.specs.Lines.{found_from}
-use Rattle.run_unit_course.specs.Followed.{UnitPower, MayPower}
-use Rattle.run_unit_course.specs.Legs.{Travel, resumed}
-use Rattle.run_unit_course.specs.Turn.{span_at}
-use Rattle.unit_rule.specs.Rule.{Started}
-use Rattle.unit_rule.specs.Marks.{UnitFollowsBook}
-use Rattle.unit_rule.specs.Odometer.{odometer_by, odometer_after, ShowsOdometer, HasTravelled}
-use Rattle.unit_rule.proofs.Travelling.{odometer-sum}
+use Rattle.device_calls.specs.run_unit_course.Lines.{found_from}
+use Rattle.device_calls.specs.run_unit_course.Followed.{UnitPower, MayPower}
+use Rattle.device_calls.specs.run_unit_course.Legs.{Travel, resumed}
+use Rattle.device_calls.specs.run_unit_course.Turn.{span_at}
+use Rattle.device_calls.specs.unit_rule.Rule.{Started}
+use Rattle.device_calls.specs.unit_rule.Marks.{UnitFollowsBook}
+use Rattle.device_calls.specs.unit_rule.Odometer.{odometer_by, odometer_after, ShowsOdometer, HasTravelled}
+use Rattle.device_calls.proofs.unit_rule.Travelling.{odometer-sum}
 use Rattle.device_calls.specs.Rule.{Both, CardRests, IsTakenUp, IsHeldMended}
-use Rattle.note_model.specs.Odometer.{SpanFrom}
-use Rattle.safety_model.specs.Safe.{Devices, card_of, breakdowns_of}
-use Rattle.card_slots.specs.declared.seats.Seat.{Seat}
-use Rattle.card_slots.specs.Calls.{card_in}
-use Rattle.card_slots.specs.Kept.{Kept}
-use Rattle.run_crew.specs.declared.cabin.Cabin.{Cabin}
-use Rattle.run_promise.specs.Between.{devices}
-use Rattle.run_course.specs.Moments.{and_find}
-use Rattle.run_course.specs.Presence.{SitsAs}
-use Rattle.run_course.specs.Followed.{Progress, BookFollowsRun}
-use Rattle.run_course.proofs.Logs.{found_log}
-use Rattle.run_course.specs.Telling.{IsMore}
-use Rattle.run_note_record.specs.Stored.{StandsOn, StoresOff}
-use Rattle.run_note_record.proofs.Bases.{stays-stored}
-use Rattle.run_promise.specs.Beside.{HaveLeftMore}
-use Rattle.run_promise.specs.Seconds.{found_again}
-use Rattle.run_promise.proofs.Seconds.{found-recorded}
-use Rattle.run_model.specs.declared.Device.TheVariants.{Unit as Recorder}
+use Rattle.device_calls.specs.note_model.Odometer.{SpanFrom}
+use Rattle.device_calls.specs.safety_model.Safe.{Devices, card_of, breakdowns_of}
+use Rattle.run_minutes.specs.card_slots.declared.seats.Seat.{Seat}
+use Rattle.run_minutes.specs.card_slots.Calls.{card_in}
+use Rattle.run_minutes.specs.card_slots.Kept.{Kept}
+use Rattle.run_acts.specs.run_crew.declared.cabin.Cabin.{Cabin}
+use Rattle.run_minutes.specs.run_promise.Between.{devices}
+use Rattle.run_acts.specs.run_course.Moments.{and_find}
+use Rattle.run_acts.specs.run_course.Presence.{SitsAs}
+use Rattle.run_acts.specs.run_course.Followed.{Progress, BookFollowsRun}
+use Rattle.run_acts.proofs.run_course.Logs.{found_log}
+use Rattle.run_acts.specs.run_course.Telling.{IsMore}
+use Rattle.run_acts.specs.run_note_record.Stored.{StandsOn, StoresOff}
+use Rattle.run_acts.proofs.run_note_record.Bases.{stays-stored}
+use Rattle.run_minutes.specs.run_promise.Beside.{HaveLeftMore}
+use Rattle.run_minutes.specs.run_promise.Seconds.{found_again}
+use Rattle.run_minutes.proofs.run_promise.Seconds.{found-recorded}
+use Rattle.log_model.specs.run_model.declared.Device.TheVariants.{Unit as Recorder}
 use Rattle.log_model.specs.Causes.{RoseBy}
 use Rattle.run_outcome.specs.declared.outcome.Outcome.{Outcome}
-use Rattle.run_promise.specs.Origin.{Origin, rule_of, start_at, first_of}
+use Rattle.run_minutes.specs.run_promise.Origin.{Origin, rule_of, start_at, first_of}
 use Rattle.run_minutes.specs.declared.keeper.Keeper.{Keeper}
 use Rattle.run_minutes.specs.declared.keeper.Moment.{Moment}
 use Rattle.run_minutes.specs.Books.{HaveTime}
 use Rattle.run_insertion.specs.declared.lines.Entering.{Entering}
 use Rattle.run_insertion.specs.Entering.{Ending, Unfit, Ahead, Fell, Unasked, Unnoted, Seated, Lost, ending_of, find_of, finds_by}
-use Rattle.run_record.specs.Recorded.{Values, progress, carried, slots_of, RecordUnpowered, RecordBetweenSeconds}
-use Rattle.run_record.specs.Within.{Beginning, RecordAtFailure}
-use Rattle.run_record.specs.Powering.{odometer_found, counted_from, read_values, begun_values, begun_again, IsBack, IsOnlyRead}
-use Rattle.run_record.specs.Waking.{IsWaking, both_slots}
-use Rattle.run_record.proofs.Powering.{off-of, power-wakes, mending-fails}
-use Rattle.run_record.proofs.Calls.{is-back, only-read}
-use Rattle.run_record.proofs.Waking.{but-first, next-waking, find-other}
+use Rattle.run_acts.specs.run_record.Recorded.{Values, progress, carried, slots_of, RecordUnpowered, RecordBetweenSeconds}
+use Rattle.run_acts.specs.run_record.Within.{Beginning, RecordAtFailure}
+use Rattle.run_acts.specs.run_record.Powering.{odometer_found, counted_from, read_values, begun_values, begun_again, IsBack, IsOnlyRead}
+use Rattle.run_acts.specs.run_record.Waking.{IsWaking, both_slots}
+use Rattle.run_acts.proofs.run_record.Powering.{off-of, power-wakes, mending-fails}
+use Rattle.run_acts.proofs.run_record.Calls.{is-back, only-read}
+use Rattle.run_acts.proofs.run_record.Waking.{but-first, next-waking, find-other}
 use Rattle.run_acts.specs.declared.run.Run.{Run}
 use Rattle.run_acts.specs.declared.run.Power.TheVariants.{Lit}
 use Rattle.run_acts.specs.Power.{IsSpanBegun, is_lit}
 use Rattle.run_acts.specs.Recording.{IsOrigin, log_of, values_of, RunWithin, ComesPower, GoesOnOrCut, GoesOnOrFails}
-use Rattle.run_note_record.specs.Uses.{vehicle_in}
+use Rattle.run_acts.specs.run_note_record.Uses.{vehicle_in}
 use Rattle.run_acts.proofs.NoteRecorded.{same-course}
 use Rattle.run_acts.proofs.Stored.{stored-back}
 use Rattle.recorder_with_cards.specs.Accepting.{IsBare, IsAnew}
 use Rattle.recorder_with_cards.specs.Judged.{moment_in, RunNext, RunBehind, JudgedTo, JudgesAnew}
 use Rattle.recorder_with_cards.proofs.Read.{unit-tells, unit-issued, image-of, at-image}
 use Rattle.recorder_with_cards.proofs.StoredCalls.{mend-stays}
-use Rattle.note_model.specs.Noted.{Note}
-use Rattle.run_note_record.specs.Ringed.{notes_in}
+use Rattle.device_calls.specs.note_model.Noted.{Note}
+use Rattle.run_acts.specs.run_note_record.Ringed.{notes_in}
 use Rattle.run_acts.specs.Closings.{spells_of, notes_within}
-use Rattle.run_crew.specs.declared.cards.Accepted.{Accepted}
-use Rattle.run_crew.specs.Cards.{session_of}
+use Rattle.run_acts.specs.run_crew.declared.cards.Accepted.{Accepted}
+use Rattle.run_acts.specs.run_crew.Cards.{session_of}
 use Rattle.run_acts.specs.Truths.{Grow, truths_of, truths_within, marked}
 use Rattle.run_acts.specs.Stays.{sits_in, AllStay}
-use Rattle.run_rings.proofs.Same.{rings-moments, behind-same}
+use Rattle.run_acts.proofs.run_rings.Same.{rings-moments, behind-same}
 use Rattle.run_acts.proofs.Comings.{leaves-more}
 use Rattle.run_acts.proofs.AllStay.{all-unit, all-of, all-noted, all-true, all-second, found-on}
 use Rattle.run_acts.proofs.NotesThen.{notes-wake, notes-found, went-found}

@@ -11,16 +11,16 @@ use Rattle.log_model.specs.declared.lines.Break.TheVariants.{Tear}
 use Rattle.log_model.specs.declared.lines.Refused.{Refused}
 use Rattle.log_model.specs.Log.{RunLog, In, cut_in, is_torn_in, found_in, tears_here}
 use Rattle.log_model.specs.Course.{Before, begins, all_acted}
-use Rattle.note_model.specs.Done.{course_powered}
-use Rattle.safety_model.specs.Safe.{Devices}
-use Rattle.run_course.specs.Moments.{and_break}
-use Rattle.run_course.proofs.Lookups.{break-more, refusal-more}
-use Rattle.run_course.specs.Reached.{course_at}
-use Rattle.run_course.proofs.Reached.{at-by}
+use Rattle.device_calls.specs.note_model.Done.{course_powered}
+use Rattle.device_calls.specs.safety_model.Safe.{Devices}
+use Rattle.run_acts.specs.run_course.Moments.{and_break}
+use Rattle.run_acts.proofs.run_course.Lookups.{break-more, refusal-more}
+use Rattle.run_acts.specs.run_course.Reached.{course_at}
+use Rattle.run_acts.proofs.run_course.Reached.{at-by}
 use Rattle.run_outcome.specs.declared.outcome.Outcome.{Outcome}
-use Rattle.run_promise.specs.Origin.{Origin}
-use Rattle.run_rings.specs.Notes.{TellSameTo, course_behind}
-use Rattle.run_note_record.specs.Steps.{GoesOnTo}
+use Rattle.run_minutes.specs.run_promise.Origin.{Origin}
+use Rattle.run_acts.specs.run_rings.Notes.{TellSameTo, course_behind}
+use Rattle.run_acts.specs.run_note_record.Steps.{GoesOnTo}
 use Rattle.run_acts.specs.declared.run.Run.{Run}
 use Rattle.run_acts.specs.Power.{is_lit}
 use Rattle.run_acts.specs.Recording.{log_of}

@@ -6,28 +6,28 @@ use Rattle.std.proofs.Math.Seq.{take-append_seam}
 use Rattle.std.proofs.lemmas.Bool.Decides.{nat_tests}
 use Rattle.trace_model.specs.declared.Action.{Action}
 use Rattle.trace_model.specs.Trace.{TraceSecond}
-use Rattle.minute_model.specs.declared.Minute.{Minute}
+use Rattle.minute_rules.specs.minute_model.declared.Minute.{Minute}
 use Rattle.log_model.specs.declared.lines.Break.{Break}
 use Rattle.log_model.specs.declared.lines.Find.{Find}
 use Rattle.log_model.specs.Causes.{second_of}
 use Rattle.log_model.specs.Log.{RunLog, Phase, In, cut_in}
 use Rattle.log_model.specs.Course.{Before, Visit, begins, all_acted}
-use Rattle.note_model.specs.Done.{course_powered}
-use Rattle.safety_model.specs.Safe.{Devices}
-use Rattle.run_unit_course.specs.Lines.{cut_at}
-use Rattle.run_course.specs.Moments.{SameUpTo}
-use Rattle.run_course.specs.Seconds.{GoesOnBy}
-use Rattle.run_course.proofs.Moments.{later-lines}
-use Rattle.run_course.proofs.Steps.{went-same_}
-use Rattle.run_course.specs.Reached.{course_at}
-use Rattle.run_course.proofs.Reached.{at-by}
-use Rattle.run_promise.specs.Origin.{Origin, rule_of, start_at, first_of}
-use Rattle.run_rings.specs.Notes.{TellSameTo, course_behind}
-use Rattle.run_note_record.specs.RingsSoFar.{GoesBehind, HasMoreBreaks}
-use Rattle.run_note_record.specs.Steps.{GoesOnTo, IsCutIn}
-use Rattle.run_note_record.proofs.Lines.{same-before}
-use Rattle.run_record.specs.Recorded.{Values}
-use Rattle.run_record.specs.Within.{RecordInSecond}
+use Rattle.device_calls.specs.note_model.Done.{course_powered}
+use Rattle.device_calls.specs.safety_model.Safe.{Devices}
+use Rattle.device_calls.specs.run_unit_course.Lines.{cut_at}
+use Rattle.run_acts.specs.run_course.Moments.{SameUpTo}
+use Rattle.run_acts.specs.run_course.Seconds.{GoesOnBy}
+use Rattle.run_acts.proofs.run_course.Moments.{later-lines}
+use Rattle.run_acts.proofs.run_course.Steps.{went-same_}
+use Rattle.run_acts.specs.run_course.Reached.{course_at}
+use Rattle.run_acts.proofs.run_course.Reached.{at-by}
+use Rattle.run_minutes.specs.run_promise.Origin.{Origin, rule_of, start_at, first_of}
+use Rattle.run_acts.specs.run_rings.Notes.{TellSameTo, course_behind}
+use Rattle.run_acts.specs.run_note_record.RingsSoFar.{GoesBehind, HasMoreBreaks}
+use Rattle.run_acts.specs.run_note_record.Steps.{GoesOnTo, IsCutIn}
+use Rattle.run_acts.proofs.run_note_record.Lines.{same-before}
+use Rattle.run_acts.specs.run_record.Recorded.{Values}
+use Rattle.run_acts.specs.run_record.Within.{RecordInSecond}
 use Rattle.run_acts.specs.RunRinged.{with_cut}
 use Rattle.run_acts.proofs.RingedSecond.{cut-is, cut-torn, cut-found, cut-failed, power-here}
 use Rattle.recorder_with_cards.specs.JudgedRings.{TellsHere}

@@ -8,7 +8,7 @@ use Rattle.run_acts.specs.declared.run.Power.TheVariants.{Lit, Lost}
 use Rattle.run_acts.specs.Power.{is_lit}
 use Rattle.run_acts.specs.Room.{waiting, falls_of, finds_due, cuts_within, HasRoomFrom, HasRoomWithin, Takes}
 use Rattle.tach_media.specs.Medium.{State}
-use Rattle.card_layout.specs.declared.command.CardState.{CardState}
+use Rattle.tach_media.specs.card_layout.declared.command.CardState.{CardState}
 use Rattle.run_acts.specs.Going.{RunHasPowerAllSeated}
 use Rattle.run_acts.proofs.Kept.{owing-sum}
 use Rattle.run_acts.proofs.Torn.{bare-two}

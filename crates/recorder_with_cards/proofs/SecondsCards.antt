@@ -5,30 +5,30 @@ use Rattle.trace_model.specs.Trace.{TraceSecond, driven, dark}
 use Rattle.log_model.specs.declared.lines.Refused.{Refused}
 use Rattle.log_model.specs.Log.{RunLog, In}
 use Rattle.log_model.specs.Course.{Before, Went, has_power, went}
-use Rattle.run_unit_course.specs.Followed.{UnitPower, Lit as IsLit, Due as IsDue, Lost as IsLost}
-use Rattle.run_unit_course.specs.Lines.{cut_at}
-use Rattle.unit_memory.specs.declared.memory.UnitFacts.{UnitFacts}
-use Rattle.safety_model.specs.Safe.{Devices}
-use Rattle.run_course.specs.Moments.{and_break}
-use Rattle.run_course.specs.Followed.{Progress, BookFollowsRun, IsSupplied}
-use Rattle.run_course.specs.Seconds.{GoesOnBy}
-use Rattle.run_course.proofs.Logs.{went-refused}
-use Rattle.run_course.proofs.Steps.{with-supply}
-use Rattle.run_course.proofs.Told.{lost-dark, lit-power}
+use Rattle.device_calls.specs.run_unit_course.Followed.{UnitPower, Lit as IsLit, Due as IsDue, Lost as IsLost}
+use Rattle.device_calls.specs.run_unit_course.Lines.{cut_at}
+use Rattle.run_minutes.specs.unit_memory.declared.memory.UnitFacts.{UnitFacts}
+use Rattle.device_calls.specs.safety_model.Safe.{Devices}
+use Rattle.run_acts.specs.run_course.Moments.{and_break}
+use Rattle.run_acts.specs.run_course.Followed.{Progress, BookFollowsRun, IsSupplied}
+use Rattle.run_acts.specs.run_course.Seconds.{GoesOnBy}
+use Rattle.run_acts.proofs.run_course.Logs.{went-refused}
+use Rattle.run_acts.proofs.run_course.Steps.{with-supply}
+use Rattle.run_acts.proofs.run_course.Told.{lost-dark, lit-power}
 use Rattle.run_outcome.specs.declared.outcome.Outcome.{Outcome}
 use Rattle.run_outcome.specs.Lines.{Listed}
 use Rattle.log_model.specs.declared.lines.Break.{Break}
 use Rattle.log_model.specs.ByHand.{by_slots}
 use Rattle.run_minutes.specs.Keeping.{with_lines}
 use Rattle.run_minutes.proofs.Fates.{no-lines}
-use Rattle.run_promise.specs.Origin.{Origin, rule_of, start_at, first_of}
-use Rattle.run_record.specs.Recorded.{progress}
-use Rattle.run_note_record.proofs.Lines.{early-before}
-use Rattle.run_note_record.proofs.Unlit.{acted-last, off-last, behind-more}
+use Rattle.run_minutes.specs.run_promise.Origin.{Origin, rule_of, start_at, first_of}
+use Rattle.run_acts.specs.run_record.Recorded.{progress}
+use Rattle.run_acts.proofs.run_note_record.Lines.{early-before}
+use Rattle.run_acts.proofs.run_note_record.Unlit.{acted-last, off-last, behind-more}
 use Rattle.run_acts.specs.declared.run.Run.{Run}
 use Rattle.run_acts.specs.declared.run.Power.{Power}
 use Rattle.run_acts.specs.declared.run.Power.TheVariants.{Lit, Due, Lost}
-use Rattle.run_crew.specs.Cabin.{CabinIsSound}
+use Rattle.run_acts.specs.run_crew.Cabin.{CabinIsSound}
 use Rattle.run_acts.specs.Power.{is_lit, has_power as has_by, over_by, darkened, off_run, off_cut, passed}
 use Rattle.run_acts.specs.Going.{first_second}
 use Rattle.run_acts.specs.Recording.{log_of, values_of, Supplies, RunRecorded}

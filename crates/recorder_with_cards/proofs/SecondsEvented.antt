@@ -7,21 +7,21 @@ use Rattle.log_model.specs.declared.lines.Break.{Break}
 use Rattle.log_model.specs.declared.lines.Refused.{Refused}
 use Rattle.log_model.specs.ByHand.{by_slots}
 use Rattle.log_model.specs.Log.{RunLog}
-use Rattle.run_unit_course.specs.Followed.{UnitPower, IsDark, Lit as IsLit, Due as IsDue, Lost as IsLost}
-use Rattle.safety_model.specs.Safe.{Devices}
-use Rattle.run_course.specs.Followed.{Progress}
+use Rattle.device_calls.specs.run_unit_course.Followed.{UnitPower, IsDark, Lit as IsLit, Due as IsDue, Lost as IsLost}
+use Rattle.device_calls.specs.safety_model.Safe.{Devices}
+use Rattle.run_acts.specs.run_course.Followed.{Progress}
 use Rattle.run_outcome.specs.declared.outcome.Outcome.{Outcome}
 use Rattle.run_outcome.specs.Lines.{Listed}
 use Rattle.run_minutes.specs.Keeping.{with_lines}
-use Rattle.run_promise.specs.Origin.{Origin}
-use Rattle.run_record.specs.Recorded.{progress}
-use Rattle.run_note_record.specs.Evented.{Evented}
-use Rattle.run_note_record.proofs.Unlit.{dark-seconds, off-line, off-line_cuts}
-use Rattle.unit_memory.specs.declared.memory.UnitFacts.{UnitFacts}
+use Rattle.run_minutes.specs.run_promise.Origin.{Origin}
+use Rattle.run_acts.specs.run_record.Recorded.{progress}
+use Rattle.run_acts.specs.run_note_record.Evented.{Evented}
+use Rattle.run_acts.proofs.run_note_record.Unlit.{dark-seconds, off-line, off-line_cuts}
+use Rattle.run_minutes.specs.unit_memory.declared.memory.UnitFacts.{UnitFacts}
 use Rattle.run_acts.specs.declared.run.Run.{Run}
 use Rattle.run_acts.specs.declared.run.Power.{Power}
 use Rattle.run_acts.specs.declared.run.Power.TheVariants.{Lit, Due, Lost}
-use Rattle.run_crew.specs.Cabin.{CabinIsSound}
+use Rattle.run_acts.specs.run_crew.Cabin.{CabinIsSound}
 use Rattle.run_acts.specs.Power.{is_lit, has_power, darkened, off_run, off_cut, passed}
 use Rattle.run_acts.specs.Recording.{log_of, values_of, Supplies, RunRecorded}
 use Rattle.run_acts.specs.Evented.{RunEvented, LastAt}

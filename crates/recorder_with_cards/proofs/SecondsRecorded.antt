@@ -11,16 +11,16 @@ use Rattle.log_model.specs.declared.lines.Break.{Break}
 use Rattle.log_model.specs.declared.lines.Refused.{Refused}
 use Rattle.log_model.specs.declared.lines.SlotFault.{SlotFault}
 use Rattle.log_model.specs.declared.lines.SlotFault.TheVariants.{NoPower}
-use Rattle.run_unit_course.specs.Followed.{UnitPower, Lit as IsLit, Due as IsDue, Lost as IsLost}
-use Rattle.safety_model.specs.Safe.{Devices}
+use Rattle.device_calls.specs.run_unit_course.Followed.{UnitPower, Lit as IsLit, Due as IsDue, Lost as IsLost}
+use Rattle.device_calls.specs.safety_model.Safe.{Devices}
 use Rattle.run_opening.specs.declared.fault.RunFault.{RunFault}
 use Rattle.run_outcome.specs.declared.outcome.Outcome.{Outcome}
 use Rattle.run_outcome.specs.Lines.{Listed, cut_at}
 use Rattle.run_minutes.specs.Keeping.{with_lines}
-use Rattle.run_promise.specs.Origin.{Origin, rule_of, start_at, first_of}
-use Rattle.run_record.specs.Recorded.{RecordBetweenSeconds, progress, Values}
-use Rattle.run_record.specs.Going.{off_values}
-use Rattle.run_record.proofs.Going.{dark-recorded, off-recorded, off-cut-recorded}
+use Rattle.run_minutes.specs.run_promise.Origin.{Origin, rule_of, start_at, first_of}
+use Rattle.run_acts.specs.run_record.Recorded.{RecordBetweenSeconds, progress, Values}
+use Rattle.run_acts.specs.run_record.Going.{off_values}
+use Rattle.run_acts.proofs.run_record.Going.{dark-recorded, off-recorded, off-cut-recorded}
 use Rattle.run_acts.specs.declared.run.Run.{Run}
 use Rattle.run_acts.specs.declared.run.Power.{Power}
 use Rattle.run_acts.specs.declared.run.Power.TheVariants.{Lit, Due, Lost}
@@ -28,20 +28,20 @@ use Rattle.run_acts.specs.Power.{is_lit, has_power, darkened, off_run, off_cut, 
 use Rattle.run_acts.specs.Going.{largest_number}
 use Rattle.run_acts.specs.Turning.{IsTurnOf}
 use Rattle.run_acts.specs.Recording.{log_of, values_of, Supplies, RunRecorded}
-use Rattle.run_note_record.specs.Uses.{vehicle_in}
+use Rattle.run_acts.specs.run_note_record.Uses.{vehicle_in}
 use Rattle.recorder_with_cards.specs.Acting.{AreActed}
 use Rattle.recorder_with_cards.specs.Recorded.{Inside, Between, actions_in, HasBegunBy, HasRunBy}
 use Rattle.recorder_with_cards.proofs.Waiting.{most-actions}
 use Rattle.trace_model.specs.declared.Card.{Card}
 use Rattle.trace_model.specs.declared.Card.TheVariants.{A, B}
-use Rattle.run_crew.specs.Cards.{session_of}
-use Rattle.run_crew.specs.Cabin.{CabinIsSound, with_power_lost}
+use Rattle.run_acts.specs.run_crew.Cards.{session_of}
+use Rattle.run_acts.specs.run_crew.Cabin.{CabinIsSound, with_power_lost}
 use Rattle.log_model.specs.Causes.{refusals_at, refusal_told}
 use Rattle.log_model.specs.Course.{ToldSecond, went, without_power}
 use Rattle.log_model.specs.ByHand.{by_slots}
 use Rattle.log_model.specs.Log.{RunLog}
-use Rattle.note_model.specs.Noted.{Note}
-use Rattle.run_note_record.specs.Ringed.{notes_in}
+use Rattle.device_calls.specs.note_model.Noted.{Note}
+use Rattle.run_acts.specs.run_note_record.Ringed.{notes_in}
 use Rattle.run_acts.specs.Closings.{spells_of}
 use Rattle.run_acts.specs.Truths.{truths_of, marked}
 use Rattle.run_acts.specs.Stays.{sits_in, AllStay}

@@ -11,33 +11,33 @@ use Rattle.log_model.specs.Log.{RunLog}
 use Rattle.log_model.specs.Same.{SameAt}
 use Rattle.log_model.specs.Course.{ToldSecond, Went, has_power, went}
 use Rattle.log_model.specs.ByHand.{by_slots}
-use Rattle.note_model.specs.Odometer.{SpanFrom}
-use Rattle.run_unit_course.specs.Followed.{UnitPower, Lit as IsLit, Due as IsDue, Lost as IsLost}
-use Rattle.run_unit_course.specs.Lines.{cut_at}
-use Rattle.run_unit_course.specs.Turn.{cut_last}
-use Rattle.safety_model.specs.Safe.{Devices}
-use Rattle.run_course.specs.Moments.{and_break}
-use Rattle.run_course.specs.Followed.{Progress, BookFollowsRun, IsLost as HasLost}
-use Rattle.run_course.proofs.Dark.{lost-are-told}
-use Rattle.run_course.proofs.Logs.{refused-at, went-refused}
-use Rattle.run_course.proofs.Steps.{with-supply}
-use Rattle.run_course.proofs.Told.{lost-dark}
+use Rattle.device_calls.specs.note_model.Odometer.{SpanFrom}
+use Rattle.device_calls.specs.run_unit_course.Followed.{UnitPower, Lit as IsLit, Due as IsDue, Lost as IsLost}
+use Rattle.device_calls.specs.run_unit_course.Lines.{cut_at}
+use Rattle.device_calls.specs.run_unit_course.Turn.{cut_last}
+use Rattle.device_calls.specs.safety_model.Safe.{Devices}
+use Rattle.run_acts.specs.run_course.Moments.{and_break}
+use Rattle.run_acts.specs.run_course.Followed.{Progress, BookFollowsRun, IsLost as HasLost}
+use Rattle.run_acts.proofs.run_course.Dark.{lost-are-told}
+use Rattle.run_acts.proofs.run_course.Logs.{refused-at, went-refused}
+use Rattle.run_acts.proofs.run_course.Steps.{with-supply}
+use Rattle.run_acts.proofs.run_course.Told.{lost-dark}
 use Rattle.run_outcome.specs.declared.outcome.Outcome.{Outcome}
 use Rattle.run_outcome.specs.Lines.{Listed}
 use Rattle.run_minutes.specs.Keeping.{with_lines}
 use Rattle.run_minutes.proofs.Fates.{no-lines}
-use Rattle.run_promise.specs.Origin.{Origin, rule_of, start_at, first_of}
-use Rattle.run_record.specs.Recorded.{progress}
-use Rattle.run_note_record.proofs.Unlit.{acted-last, off-last, behind-more}
-use Rattle.run_note_record.specs.Ringed.{Seating}
-use Rattle.run_note_record.specs.RingsSoFar.{RingedBehind, GoesBehind}
-use Rattle.run_note_record.specs.Stored.{StoresOff, Stores}
-use Rattle.run_note_record.proofs.SoFar.{dark-ends}
-use Rattle.run_note_record.proofs.Bases.{stored-dark}
+use Rattle.run_minutes.specs.run_promise.Origin.{Origin, rule_of, start_at, first_of}
+use Rattle.run_acts.specs.run_record.Recorded.{progress}
+use Rattle.run_acts.proofs.run_note_record.Unlit.{acted-last, off-last, behind-more}
+use Rattle.run_acts.specs.run_note_record.Ringed.{Seating}
+use Rattle.run_acts.specs.run_note_record.RingsSoFar.{RingedBehind, GoesBehind}
+use Rattle.run_acts.specs.run_note_record.Stored.{StoresOff, Stores}
+use Rattle.run_acts.proofs.run_note_record.SoFar.{dark-ends}
+use Rattle.run_acts.proofs.run_note_record.Bases.{stored-dark}
 use Rattle.run_acts.specs.declared.run.Run.{Run}
 use Rattle.run_acts.specs.declared.run.Power.{Power}
 use Rattle.run_acts.specs.declared.run.Power.TheVariants.{Lit, Due, Lost}
-use Rattle.run_crew.specs.Cabin.{CabinIsSound}
+use Rattle.run_acts.specs.run_crew.Cabin.{CabinIsSound}
 use Rattle.run_acts.specs.Power.{is_lit, has_power as has_by, darkened, off_run, off_cut, passed}
 use Rattle.run_acts.specs.Recording.{log_of, values_of, Supplies, RunRecorded}
 use Rattle.run_acts.specs.RunRinged.{seats_of, RunRinged}

@@ -4,8 +4,8 @@ use Rattle.std.proofs.lemmas.Bool.Decides.{nat_tests}
 use Rattle.log_model.specs.Course.{begins}
 use Rattle.log_model.specs.Log.{RunLog, In, same_phase, cut_in}
 use Rattle.log_model.specs.declared.lines.Break.{Break}
-use Rattle.run_rings.specs.Notes.{TellSameTo}
-use Rattle.run_note_record.specs.RingsSoFar.{HasMoreBreaks}
+use Rattle.run_acts.specs.run_rings.Notes.{TellSameTo}
+use Rattle.run_acts.specs.run_note_record.RingsSoFar.{HasMoreBreaks}
 use Rattle.run_acts.proofs.RingedLines.{AreTears, TellsBeside, tears-beside}
 use Rattle.run_acts.proofs.RingedSecond.{tears-here_}
 use Rattle.recorder_with_cards.specs.JudgedRings.{TellsHere}

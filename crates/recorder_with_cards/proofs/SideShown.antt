@@ -1,15 +1,15 @@
 -- An image that shows the events, the rings and the odometer of a recording shows its auxiliary records.
 use Rattle.std.proofs.Common.{ℕ, List}
-use Rattle.gated_ring.specs.Ring.{PointsInside}
-use Rattle.message_model.specs.Records.{insertion_ring, unit_place_ring, speed_ring}
-use Rattle.unit_model.specs.Decoding.{Decodes}
-use Rattle.unit_model.specs.Image.{last_kept, odometer_at}
+use Rattle.unit_minutes.specs.gated_ring.Ring.{PointsInside}
+use Rattle.run_acts.specs.message_model.Records.{insertion_ring, unit_place_ring, speed_ring}
+use Rattle.unit_minutes.specs.unit_model.Decoding.{Decodes}
+use Rattle.unit_minutes.specs.unit_model.Image.{last_kept, odometer_at}
 use Rattle.unit_minutes.proofs.Beside.{passes_beside}
-use Rattle.note_model.specs.Odometer.{SpanFrom, AreSpansFrom, MayStore}
-use Rattle.safety_model.specs.Recording.{Recording, told_of}
-use Rattle.safety_model.specs.Safe.{Devices}
-use Rattle.run_note_record.specs.Evented.{ShowsEventsOf}
-use Rattle.run_note_record.specs.Ringed.{ShowsRingsOf}
+use Rattle.device_calls.specs.note_model.Odometer.{SpanFrom, AreSpansFrom, MayStore}
+use Rattle.device_calls.specs.safety_model.Recording.{Recording, told_of}
+use Rattle.device_calls.specs.safety_model.Safe.{Devices}
+use Rattle.run_acts.specs.run_note_record.Evented.{ShowsEventsOf}
+use Rattle.run_acts.specs.run_note_record.Ringed.{ShowsRingsOf}
 use Rattle.recorder_with_cards.specs.Side.{ShowsSide}
 
 -- the pointers of a unit that decodes point inside its rings

@@ -4,26 +4,26 @@ use Rattle.std.specs.Prelude.{not, nat_lt, option_map}
 use Rattle.std.proofs.lemmas.List.Elements.{filter-append}
 use Rattle.trace_model.specs.declared.Action.{Action}
 use Rattle.trace_model.specs.declared.Action.TheVariants.{Select, Insert, Withdraw, Tear, Place, Manual}
-use Rattle.hand_model.specs.declared.held.EnterFault.{EnterFault}
-use Rattle.hand_model.specs.declared.held.EnterFault.TheVariants as enter
-use Rattle.hand_model.specs.Holding.{stopped_by}
+use Rattle.device_calls.specs.hand_model.declared.held.EnterFault.{EnterFault}
+use Rattle.device_calls.specs.hand_model.declared.held.EnterFault.TheVariants as enter
+use Rattle.device_calls.specs.hand_model.Holding.{stopped_by}
 use Rattle.log_model.specs.declared.lines.Refused.{Refused}
 use Rattle.log_model.specs.declared.lines.SlotFault.{SlotFault}
 use Rattle.log_model.specs.declared.lines.SlotFault.TheVariants.{Moving, Empty, Occupied, NoCard, Elsewhere, NoPower}
 use Rattle.log_model.specs.Slots.{Slots, refusal, in_slot, other_slot, holds, is_accepted}
 use Rattle.log_model.specs.ByHand.{is_stop, by_slots, stops, minute_on}
 use Rattle.log_model.specs.Log.{RunLog}
-use Rattle.run_course.specs.Moments.{and_refused}
+use Rattle.run_acts.specs.run_course.Moments.{and_refused}
 use Rattle.run_minutes.specs.Keeping.{with_lines}
 use Rattle.run_outcome.specs.declared.outcome.Outcome.{Outcome}
-use Rattle.run_crew.specs.declared.cards.Accepted.{Accepted}
+use Rattle.run_acts.specs.run_crew.declared.cards.Accepted.{Accepted}
 use Rattle.run_acts.specs.ByHand.{stop_in, session_in, stop_by, or_else, stopped_in}
 use Rattle.run_acts.specs.declared.run.Run.{Run}
 use Rattle.run_acts.specs.Recording.{log_of, values_of}
-use Rattle.card_slots.specs.Calls.{logged}
+use Rattle.run_minutes.specs.card_slots.Calls.{logged}
 use Rattle.activity_codec.specs.declared.values.Pick.{Pick}
 use Rattle.activity_codec.specs.declared.values.Slot.{Slot}
-use Rattle.run_record.specs.Within.{stop_told}
+use Rattle.run_acts.specs.run_record.Within.{stop_told}
 
 -- ---- whose refusal it is
 

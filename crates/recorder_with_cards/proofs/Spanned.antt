@@ -5,15 +5,15 @@ use Rattle.std.specs.List.{AllByRecursion}
 use Rattle.activity_codec.specs.declared.values.Slot.{Slot}
 use Rattle.activity_codec.specs.declared.values.Slot.TheVariants.{Driver, CoDriver}
 use Rattle.trace_model.specs.Trace.{TraceSecond}
-use Rattle.run_model.specs.declared.Device.{Device}
+use Rattle.log_model.specs.run_model.declared.Device.{Device}
 use Rattle.log_model.specs.declared.lines.Break.{Break}
 use Rattle.log_model.specs.declared.lines.Break.TheVariants.{Cut, Tear}
 use Rattle.log_model.specs.Log.{RunLog, Phase, phase_of}
 use Rattle.log_model.specs.Causes.{is_cut, has_failed, second_of, tears, places, visit_places, in_the_slot, pulled_of, torn_of}
 use Rattle.log_model.specs.Course.{ToldSecond, Before, Went, has_power, second_told, before_next, went_on, not_begun, went}
-use Rattle.event_model.specs.Events.{Seen, Watched, seen_by, watched_on, seen_of, seen_on, seen_with, seen_spans}
-use Rattle.run_course.specs.Caused.{AreCaused}
-use Rattle.run_course.proofs.Told.{told-lit}
+use Rattle.device_calls.specs.event_model.Events.{Seen, Watched, seen_by, watched_on, seen_of, seen_on, seen_with, seen_spans}
+use Rattle.run_acts.specs.run_course.Caused.{AreCaused}
+use Rattle.run_acts.proofs.run_course.Told.{told-lit}
 
 -- ---- seconds without power
 pub record IsDarkSecond (t : ToldSecond) : Type 0 where

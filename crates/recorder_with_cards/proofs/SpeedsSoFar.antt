@@ -15,40 +15,40 @@ use Rattle.log_model.specs.Causes.{second_of, is_cut, has_failed}
 use Rattle.log_model.specs.Log.{RunLog, cut_in}
 use Rattle.log_model.specs.Slots.{refusal}
 use Rattle.log_model.specs.Course.{Before, has_power, went}
-use Rattle.note_model.specs.Done.{has_failed_in}
-use Rattle.event_model.specs.Spans.{SpeedSecond, gap_of}
-use Rattle.event_model.specs.declared.entries.Span.{Span}
-use Rattle.card_slots.specs.Calls.{logged, seat_in, card_in}
-use Rattle.safety_model.specs.Safe.{Devices}
-use Rattle.speed_model.specs.declared.block.Block.{Block}
-use Rattle.speed_model.specs.Blocks.{blocks_of, blocks_in}
-use Rattle.speed_store.specs.Feeding as minute
-use Rattle.speed_store.proofs.Feeding.{given-at, time-at}
-use Rattle.unit_notes.specs.declared.unit_event.UnitEvent.{UnitEvent}
-use Rattle.run_unit_course.specs.Lines.{log_of as log_with, cut_at, found_from}
-use Rattle.run_unit_course.specs.Followed.{UnitPower, Lit as IsLit, Due as IsDue, Lost as IsLost}
-use Rattle.run_unit_course.proofs.Lines.{cut-found}
-use Rattle.run_course.specs.Moments.{and_break}
-use Rattle.run_course.specs.Followed.{BookFollowsRun, Comes, IsSupplied}
-use Rattle.run_course.proofs.Lookups.{cut-by}
-use Rattle.run_course.proofs.Logs.{cut-rest, other-number}
-use Rattle.run_course.proofs.Told.{lit-power, comes-power}
+use Rattle.device_calls.specs.note_model.Done.{has_failed_in}
+use Rattle.device_calls.specs.event_model.Spans.{SpeedSecond, gap_of}
+use Rattle.device_calls.specs.event_model.declared.entries.Span.{Span}
+use Rattle.run_minutes.specs.card_slots.Calls.{logged, seat_in, card_in}
+use Rattle.device_calls.specs.safety_model.Safe.{Devices}
+use Rattle.run_acts.specs.speed_model.declared.block.Block.{Block}
+use Rattle.run_acts.specs.speed_model.Blocks.{blocks_of, blocks_in}
+use Rattle.run_acts.specs.speed_store.Feeding as minute
+use Rattle.run_acts.proofs.speed_store.Feeding.{given-at, time-at}
+use Rattle.run_acts.specs.unit_notes.declared.unit_event.UnitEvent.{UnitEvent}
+use Rattle.device_calls.specs.run_unit_course.Lines.{log_of as log_with, cut_at, found_from}
+use Rattle.device_calls.specs.run_unit_course.Followed.{UnitPower, Lit as IsLit, Due as IsDue, Lost as IsLost}
+use Rattle.device_calls.proofs.run_unit_course.Lines.{cut-found}
+use Rattle.run_acts.specs.run_course.Moments.{and_break}
+use Rattle.run_acts.specs.run_course.Followed.{BookFollowsRun, Comes, IsSupplied}
+use Rattle.run_acts.proofs.run_course.Lookups.{cut-by}
+use Rattle.run_acts.proofs.run_course.Logs.{cut-rest, other-number}
+use Rattle.run_acts.proofs.run_course.Told.{lit-power, comes-power}
 use Rattle.run_outcome.specs.Lines.{Listed}
 use Rattle.run_outcome.specs.declared.outcome.Outcome.{Outcome}
 use Rattle.run_minutes.specs.declared.keeper.Moment.{Moment}
 use Rattle.run_minutes.specs.Keeping.{with_lines}
-use Rattle.run_promise.specs.Origin.{Origin, rule_of, start_at, first_of}
+use Rattle.run_minutes.specs.run_promise.Origin.{Origin, rule_of, start_at, first_of}
 use Rattle.run_insertion.specs.declared.lines.Entering.{Entering}
-use Rattle.run_note_record.proofs.SoFar.{failed-more}
-use Rattle.run_note_record.proofs.Bases.{failed-here}
-use Rattle.run_note_record.proofs.RingsWaking.{still-failed}
-use Rattle.run_record.specs.Recorded.{progress}
-use Rattle.run_speeds.specs.Speeds.{LeavesSpeeds}
-use Rattle.run_speeds.specs.Spans.{speed_spans, blocks_by, last_speeds, speeds_before}
-use Rattle.run_speeds.proofs.Leaving.{leaves-then}
-use Rattle.run_speeds.proofs.Blocks.{carries-unsure}
-use Rattle.run_speeds.proofs.Spans.{grown, before-them, grown-blocks, no-block, one-block, as-speed, speeds-lit, IsAlike, alike-power, SameCut, same-power, cuts-before}
-use Rattle.run_events.specs.declared.watch.Watch.{Watch}
+use Rattle.run_acts.proofs.run_note_record.SoFar.{failed-more}
+use Rattle.run_acts.proofs.run_note_record.Bases.{failed-here}
+use Rattle.run_acts.proofs.run_note_record.RingsWaking.{still-failed}
+use Rattle.run_acts.specs.run_record.Recorded.{progress}
+use Rattle.run_acts.specs.run_speeds.Speeds.{LeavesSpeeds}
+use Rattle.run_acts.specs.run_speeds.Spans.{speed_spans, blocks_by, last_speeds, speeds_before}
+use Rattle.run_acts.proofs.run_speeds.Leaving.{leaves-then}
+use Rattle.run_acts.proofs.run_speeds.Blocks.{carries-unsure}
+use Rattle.run_acts.proofs.run_speeds.Spans.{grown, before-them, grown-blocks, no-block, one-block, as-speed, speeds-lit, IsAlike, alike-power, SameCut, same-power, cuts-before}
+use Rattle.run_acts.specs.run_events.declared.watch.Watch.{Watch}
 use Rattle.run_acts.specs.declared.run.Run.{Run}
 use Rattle.run_acts.specs.declared.run.Power.{Power}
 use Rattle.run_acts.specs.declared.run.Power.TheVariants.{Lit, Due, Lost}

@@ -10,23 +10,23 @@ use Rattle.log_model.specs.Course.{Went, went}
 use Rattle.log_model.specs.Spans.{AreInOrder}
 use Rattle.log_model.proofs.Spanning.{order-parts}
 use Rattle.log_model.specs.ByHand.{by_slots}
-use Rattle.event_model.specs.Spans.{SpeedSecond}
-use Rattle.speed_model.specs.Blocks.{blocks_in}
-use Rattle.safety_model.specs.Safe.{Devices}
-use Rattle.run_unit_course.specs.Lines.{cut_at}
-use Rattle.run_unit_course.specs.Followed.{UnitPower, Lit as IsLit, Due as IsDue, Lost as IsLost}
-use Rattle.run_course.specs.Moments.{and_break}
-use Rattle.run_course.specs.Followed.{BookFollowsRun, IsSupplied, IsLost as HasLost, HadActions, IsLastOf}
-use Rattle.run_course.proofs.Logs.{went-refused}
-use Rattle.run_promise.specs.Origin.{Origin, rule_of, start_at, first_of}
+use Rattle.device_calls.specs.event_model.Spans.{SpeedSecond}
+use Rattle.run_acts.specs.speed_model.Blocks.{blocks_in}
+use Rattle.device_calls.specs.safety_model.Safe.{Devices}
+use Rattle.device_calls.specs.run_unit_course.Lines.{cut_at}
+use Rattle.device_calls.specs.run_unit_course.Followed.{UnitPower, Lit as IsLit, Due as IsDue, Lost as IsLost}
+use Rattle.run_acts.specs.run_course.Moments.{and_break}
+use Rattle.run_acts.specs.run_course.Followed.{BookFollowsRun, IsSupplied, IsLost as HasLost, HadActions, IsLastOf}
+use Rattle.run_acts.proofs.run_course.Logs.{went-refused}
+use Rattle.run_minutes.specs.run_promise.Origin.{Origin, rule_of, start_at, first_of}
 use Rattle.run_outcome.specs.Lines.{Listed}
 use Rattle.run_outcome.specs.declared.outcome.Outcome.{Outcome}
 use Rattle.run_minutes.specs.Keeping.{with_lines}
 use Rattle.run_minutes.proofs.Fates.{no-lines}
-use Rattle.run_record.specs.Recorded.{progress}
-use Rattle.run_speeds.specs.Spans.{speeds_of, speed_spans, blocks_by}
-use Rattle.run_speeds.proofs.Leaving.{leaves-none}
-use Rattle.run_speeds.proofs.Spans.{speeds-dark, last-same, SameCut, cuts-before}
+use Rattle.run_acts.specs.run_record.Recorded.{progress}
+use Rattle.run_acts.specs.run_speeds.Spans.{speeds_of, speed_spans, blocks_by}
+use Rattle.run_acts.proofs.run_speeds.Leaving.{leaves-none}
+use Rattle.run_acts.proofs.run_speeds.Spans.{speeds-dark, last-same, SameCut, cuts-before}
 use Rattle.run_acts.specs.declared.run.Run.{Run}
 use Rattle.run_acts.specs.declared.run.Power.{Power}
 use Rattle.run_acts.specs.declared.run.Power.TheVariants.{Lit, Due, Lost}

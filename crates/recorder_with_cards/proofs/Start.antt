@@ -9,10 +9,10 @@ use Rattle.log_model.specs.declared.lines.Mark.{Mark}
 use Rattle.log_model.specs.declared.lines.Break.{Break}
 use Rattle.log_model.specs.declared.lines.Find.{Find}
 use Rattle.log_model.specs.declared.lines.Refused.{Refused}
-use Rattle.card_slots.specs.Kept.{nothing_yet}
-use Rattle.run_crew.specs.declared.cards.Cards.{Cards}
-use Rattle.run_crew.specs.declared.cabin.Cabin.{Cabin}
-use Rattle.run_crew.specs.Cards.{session_of}
+use Rattle.run_minutes.specs.card_slots.Kept.{nothing_yet}
+use Rattle.run_acts.specs.run_crew.declared.cards.Cards.{Cards}
+use Rattle.run_acts.specs.run_crew.declared.cabin.Cabin.{Cabin}
+use Rattle.run_acts.specs.run_crew.Cards.{session_of}
 use Rattle.run_minutes.specs.Keeping.{tears_of}
 use Rattle.run_outcome.specs.Lines.{Listed}
 use Rattle.run_outcome.specs.declared.outcome.Outcome.{Outcome}

@@ -4,8 +4,8 @@ use Rattle.activity_codec.specs.declared.values.Slot.{Slot}
 use Rattle.trace_model.specs.declared.Card.{Card}
 use Rattle.trace_model.specs.declared.Action.{Action}
 use Rattle.trace_model.specs.declared.Action.TheVariants.{Select, Insert, Withdraw, Tear, Place, Manual}
-use Rattle.minute_model.specs.declared.Minute.{Minute}
-use Rattle.card_slots.specs.Calls.{seat_in, card_in}
+use Rattle.minute_rules.specs.minute_model.declared.Minute.{Minute}
+use Rattle.run_minutes.specs.card_slots.Calls.{seat_in, card_in}
 use Rattle.log_model.specs.declared.lines.Break.{Break}
 use Rattle.run_outcome.specs.Lines.{Listed}
 use Rattle.run_outcome.specs.declared.outcome.Outcome.{Outcome}

@@ -1,12 +1,12 @@
 -- Calls that store nothing: reading the unit, and mending it.
 use Rattle.std.proofs.Common.{◌≡◌, ◌⊎◌, ⊎_elim, List, ℕ, refl}
 use Rattle.tach_media.specs.Medium.{IsCoherent, LeavesOnly, Unchanged}
-use Rattle.unit_model.specs.Image.{last_kept, odometer_at}
+use Rattle.unit_minutes.specs.unit_model.Image.{last_kept, odometer_at}
 use Rattle.unit_minutes.specs.declared.notes.Notes.{Notes}
 use Rattle.unit_minutes.specs.Mends.{IsMending}
-use Rattle.unit_rule.proofs.Mending.{mending-odometer}
-use Rattle.safety_model.specs.Safe.{Devices}
-use Rattle.run_note_record.proofs.Bases.{StaysStored}
+use Rattle.device_calls.proofs.unit_rule.Mending.{mending-odometer}
+use Rattle.device_calls.specs.safety_model.Safe.{Devices}
+use Rattle.run_acts.proofs.run_note_record.Bases.{StaysStored}
 
 moments-stored : (d e : Devices) (R : List ℕ → List ℕ → Type 0) → IsCoherent d.unit → LeavesOnly d.unit e.unit R → ((x c : List ℕ) → R x c → (odometer_at c ≡ odometer_at x) × (last_kept c ≡ last_kept x)) → StaysStored d e
 moments-stored d e R whole run same = record {

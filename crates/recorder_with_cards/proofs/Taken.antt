@@ -2,7 +2,7 @@
 use Rattle.std.proofs.Common.{◌≡◌, ◌∙◌, inl, inr, ℕ, ◌+◌, ◌-◌, ◌<◌, ◌≤◌, Option, Some, None, [], ◌∷◌, length, refl, ap, arith, length-append}
 use Rattle.activity_codec.specs.declared.values.Slot.{Slot}
 use Rattle.trace_model.specs.declared.Card.{Card}
-use Rattle.run_crew.specs.Cabin.{CabinIsSound}
+use Rattle.run_acts.specs.run_crew.Cabin.{CabinIsSound}
 use Rattle.run_minutes.specs.declared.keeper.Moment.{Moment}
 use Rattle.run_minutes.specs.Keeping.{with_lines}
 use Rattle.run_minutes.proofs.Counts.{lines-length}

@@ -1,5 +1,5 @@
 -- What time is left behind a call was left before it: no clock falls.
-use Rattle.safety_model.specs.Safe.{Devices}
+use Rattle.device_calls.specs.safety_model.Safe.{Devices}
 use Rattle.run_minutes.specs.Books.{HaveTime}
 use Rattle.run_minutes.specs.Later.{AreAfter, AreLater}
 use Rattle.run_minutes.proofs.DecidedBooked.{time-before}

@@ -7,20 +7,20 @@ use Rattle.trace_model.specs.declared.Card.{Card}
 use Rattle.tach_media.specs.Medium.{State, LeavesOnly, IsCoherent, Unchanged}
 use Rattle.unit_minutes.specs.declared.notes.Notes.{Notes}
 use Rattle.unit_minutes.specs.Mends.{IsMending}
-use Rattle.unit_notes.specs.declared.unit_event.UnitEvent.{UnitEvent}
-use Rattle.safety_model.specs.Safe.{Devices}
-use Rattle.card_slots.specs.Calls.{seat_in, card_in}
-use Rattle.run_promise.specs.Between.{devices}
-use Rattle.unit_events.proofs.EventFrames.{slots-keeps}
-use Rattle.run_events.specs.Shown.{none_sure, SaysNothing}
-use Rattle.run_events.proofs.Frames.{keeps-nothing}
-use Rattle.run_events.proofs.Shows.{nothing-more}
-use Rattle.run_note_record.specs.Evented.{number_in}
+use Rattle.run_acts.specs.unit_notes.declared.unit_event.UnitEvent.{UnitEvent}
+use Rattle.device_calls.specs.safety_model.Safe.{Devices}
+use Rattle.run_minutes.specs.card_slots.Calls.{seat_in, card_in}
+use Rattle.run_minutes.specs.run_promise.Between.{devices}
+use Rattle.run_acts.proofs.unit_events.EventFrames.{slots-keeps}
+use Rattle.run_acts.specs.run_events.Shown.{none_sure, SaysNothing}
+use Rattle.run_acts.proofs.run_events.Frames.{keeps-nothing}
+use Rattle.run_acts.proofs.run_events.Shows.{nothing-more}
+use Rattle.run_acts.specs.run_note_record.Evented.{number_in}
 use Rattle.run_acts.specs.NotedEvents.{NotesEvents}
 use Rattle.run_acts.proofs.NotedEvents.{quiet-noted, then-noted}
 use Rattle.run_minutes.specs.declared.keeper.Moment.{Moment}
 use Rattle.log_model.specs.declared.lines.Break.{Break}
-use Rattle.run_unit_course.specs.Lines.{found_from}
+use Rattle.device_calls.specs.run_unit_course.Lines.{found_from}
 use Rattle.run_outcome.specs.Lines.{Listed}
 use Rattle.run_outcome.specs.declared.outcome.Outcome.{Outcome}
 use Rattle.run_acts.specs.declared.run.Run.{Run}

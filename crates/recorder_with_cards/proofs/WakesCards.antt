@@ -7,8 +7,8 @@ use Rattle.trace_model.specs.declared.Card.{Card}
 use Rattle.trace_model.specs.declared.Card.TheVariants.{A, B}
 use Rattle.trace_model.specs.Trace.{TraceSecond}
 use Rattle.tach_media.specs.Medium.{State}
-use Rattle.minute_model.specs.declared.Minute.{Minute}
-use Rattle.event_model.specs.Events.{Seen, seen_of, seen_spans}
+use Rattle.minute_rules.specs.minute_model.declared.Minute.{Minute}
+use Rattle.device_calls.specs.event_model.Events.{Seen, seen_of, seen_spans}
 use Rattle.log_model.specs.declared.lines.Break.{Break}
 use Rattle.log_model.specs.Causes.{second_of}
 use Rattle.log_model.specs.Log.{RunLog, Phase, In, cut_in, is_torn_in, found_in}
@@ -16,28 +16,28 @@ use Rattle.log_model.specs.Same.{SameAt}
 use Rattle.log_model.specs.Spans.{AreInOrder}
 use Rattle.log_model.specs.Slots.{in_slot}
 use Rattle.log_model.specs.Course.{Visit, has_power, fresh, unmoved, went}
-use Rattle.card_slots.specs.Calls.{card_in}
-use Rattle.run_unit_course.specs.Lines.{cut_at}
-use Rattle.safety_model.specs.Safe.{Devices}
-use Rattle.run_course.specs.Followed.{Progress, BookFollowsRun, Comes}
-use Rattle.run_course.specs.Seconds.{GoesOnBy}
-use Rattle.run_course.proofs.Logs.{all-before, found_log, same-found, kept-found}
-use Rattle.run_events.specs.Gaps.{AreKnownGaps}
-use Rattle.run_events.proofs.Later.{seen-same}
-use Rattle.run_note_record.specs.Uses.{notes_in, uses_in}
-use Rattle.run_note_record.proofs.Lines.{early-before}
-use Rattle.run_note_record.proofs.Noted.{notes-alike}
-use Rattle.run_note_record.proofs.Exact.{no-cut, found-none}
+use Rattle.run_minutes.specs.card_slots.Calls.{card_in}
+use Rattle.device_calls.specs.run_unit_course.Lines.{cut_at}
+use Rattle.device_calls.specs.safety_model.Safe.{Devices}
+use Rattle.run_acts.specs.run_course.Followed.{Progress, BookFollowsRun, Comes}
+use Rattle.run_acts.specs.run_course.Seconds.{GoesOnBy}
+use Rattle.run_acts.proofs.run_course.Logs.{all-before, found_log, same-found, kept-found}
+use Rattle.run_acts.specs.run_events.Gaps.{AreKnownGaps}
+use Rattle.run_acts.proofs.run_events.Later.{seen-same}
+use Rattle.run_acts.specs.run_note_record.Uses.{notes_in, uses_in}
+use Rattle.run_acts.proofs.run_note_record.Lines.{early-before}
+use Rattle.run_acts.proofs.run_note_record.Noted.{notes-alike}
+use Rattle.run_acts.proofs.run_note_record.Exact.{no-cut, found-none}
 use Rattle.run_outcome.specs.declared.outcome.Outcome.{Outcome}
 use Rattle.run_minutes.specs.declared.keeper.Moment.{Moment}
 use Rattle.run_minutes.specs.Books.{HaveTime}
-use Rattle.run_promise.specs.Origin.{Origin, rule_of, start_at, first_of}
-use Rattle.run_promise.specs.Between.{devices}
-use Rattle.run_note_record.proofs.SoFar.{failed-more, left-itself}
-use Rattle.run_note_record.proofs.RingsWaking.{still-failed}
-use Rattle.run_record.specs.Recorded.{Values}
-use Rattle.run_record.specs.Within.{Beginning, RecordInSecond}
-use Rattle.run_record.specs.Waking.{both_slots}
+use Rattle.run_minutes.specs.run_promise.Origin.{Origin, rule_of, start_at, first_of}
+use Rattle.run_minutes.specs.run_promise.Between.{devices}
+use Rattle.run_acts.proofs.run_note_record.SoFar.{failed-more, left-itself}
+use Rattle.run_acts.proofs.run_note_record.RingsWaking.{still-failed}
+use Rattle.run_acts.specs.run_record.Recorded.{Values}
+use Rattle.run_acts.specs.run_record.Within.{Beginning, RecordInSecond}
+use Rattle.run_acts.specs.run_record.Waking.{both_slots}
 use Rattle.run_acts.specs.declared.run.Run.{Run}
 use Rattle.run_acts.specs.Recording.{log_of, values_of}
 use Rattle.run_acts.specs.RunRinged.{with_cut}

@@ -9,32 +9,32 @@ use Rattle.std.proofs.lemmas.List.Folds.{list_any-append}
 use Rattle.std.proofs.lemmas.Grind.{flat_map-append}
 use Rattle.trace_model.specs.declared.Item.{Item}
 use Rattle.trace_model.specs.Trace.{TraceSecond}
-use Rattle.minute_model.specs.declared.Rule.{Rule}
-use Rattle.minute_model.specs.declared.Minute.{Minute}
-use Rattle.minute_model.specs.Activity.{last as last_told}
+use Rattle.minute_rules.specs.minute_model.declared.Rule.{Rule}
+use Rattle.minute_rules.specs.minute_model.declared.Minute.{Minute}
+use Rattle.minute_rules.specs.minute_model.Activity.{last as last_told}
 use Rattle.log_model.specs.Log.{RunLog}
 use Rattle.log_model.specs.Course.{ToldSecond, went}
 use Rattle.log_model.specs.Spans.{spans_of, AreInOrder}
-use Rattle.history_model.specs.Minutes.{HistoryMinute}
-use Rattle.history_model.specs.Presence.{Start}
-use Rattle.history_model.specs.History.{decided_of, span_minutes, limited_to, cut_second, limit_by, any_long, limit_of, lost_minute, unit_history, lost_by, with_lost}
-use Rattle.history_model.specs.Growth.{Rises, closed_limit}
+use Rattle.device_calls.specs.history_model.Minutes.{HistoryMinute}
+use Rattle.device_calls.specs.history_model.Presence.{Start}
+use Rattle.device_calls.specs.history_model.History.{decided_of, span_minutes, limited_to, cut_second, limit_by, any_long, limit_of, lost_minute, unit_history, lost_by, with_lost}
+use Rattle.device_calls.specs.history_model.Growth.{Rises, closed_limit}
 use Rattle.log_model.proofs.Spanning.{seconds-order}
-use Rattle.history_model.proofs.Told.{rises}
-use Rattle.history_model.proofs.Decided.{decided-after, nothing-was-lost}
-use Rattle.unit_model.specs.declared.layout.TheConstants.{DAY_SLOTS, HIGHEST_ODOMETER}
-use Rattle.unit_model.specs.Days.{UnitMinute, ShownDay, StoredDay, day_of, minute_at, minutes_shown, day_shown, days_shown, padded, with_minute, day_from, filled, newest_days, minutes_of}
-use Rattle.unit_model.specs.Image.{last_kept, odometer_at, recorded, unit_days}
+use Rattle.device_calls.proofs.history_model.Told.{rises}
+use Rattle.device_calls.proofs.history_model.Decided.{decided-after, nothing-was-lost}
+use Rattle.unit_minutes.specs.unit_model.declared.layout.TheConstants.{DAY_SLOTS, HIGHEST_ODOMETER}
+use Rattle.unit_minutes.specs.unit_model.Days.{UnitMinute, ShownDay, StoredDay, day_of, minute_at, minutes_shown, day_shown, days_shown, padded, with_minute, day_from, filled, newest_days, minutes_of}
+use Rattle.unit_minutes.specs.unit_model.Image.{last_kept, odometer_at, recorded, unit_days}
 use Rattle.log_model.specs.Causes.{cuts}
-use Rattle.device_rule.specs.Filling.{seen_by_unit, filled_with}
-use Rattle.run_unit_course.specs.Followed.{IsKnown}
-use Rattle.run_unit_course.specs.Legs.{kilometres_of, AreWhole, whole_legs}
-use Rattle.run_unit_course.proofs.Legs.{legs-whole, short-decides}
-use Rattle.unit_rule.specs.Odometer.{OdometerSafe}
-use Rattle.safety_model.specs.Recording.{Recording, start_of, told_of, history_of}
-use Rattle.safety_model.specs.Unit.{HasEachDecided, IsFilled}
-use Rattle.safety_model.specs.Safe.{Devices}
-use Rattle.run_promise.specs.Days.{IsBegunIn}
+use Rattle.device_calls.specs.device_rule.Filling.{seen_by_unit, filled_with}
+use Rattle.device_calls.specs.run_unit_course.Followed.{IsKnown}
+use Rattle.device_calls.specs.run_unit_course.Legs.{kilometres_of, AreWhole, whole_legs}
+use Rattle.device_calls.proofs.run_unit_course.Legs.{legs-whole, short-decides}
+use Rattle.device_calls.specs.unit_rule.Odometer.{OdometerSafe}
+use Rattle.device_calls.specs.safety_model.Recording.{Recording, start_of, told_of, history_of}
+use Rattle.device_calls.specs.safety_model.Unit.{HasEachDecided, IsFilled}
+use Rattle.device_calls.specs.safety_model.Safe.{Devices}
+use Rattle.run_minutes.specs.run_promise.Days.{IsBegunIn}
 use Rattle.run_outcome.specs.declared.outcome.Outcome.{Outcome}
 use Rattle.run_acts.specs.Recording.{log_of}
 use Rattle.recorder_with_cards.specs.Ends.{recording_of, EndsTrace}

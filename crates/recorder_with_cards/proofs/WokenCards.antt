@@ -7,29 +7,29 @@ use Rattle.activity_codec.specs.declared.values.Slot.TheVariants.{Driver, CoDriv
 use Rattle.trace_model.specs.declared.Card.{Card}
 use Rattle.trace_model.specs.Trace.{TraceSecond}
 use Rattle.tacho_types.specs.declared.texts.Registration.{Registration}
-use Rattle.card_files.specs.declared.card_event.CardEvent.{CardEvent}
-use Rattle.event_model.specs.declared.kinds.TheConstants.{INSERTION_WHILE_DRIVING, SESSION_NOT_CLOSED, POWER_INTERRUPTION}
-use Rattle.event_model.specs.Events.{Event, Seen, seen_of, seen_spans, seen_by, noted_with, last_number, first_card, standing}
+use Rattle.device_calls.specs.card_files.declared.card_event.CardEvent.{CardEvent}
+use Rattle.device_calls.specs.event_model.declared.kinds.TheConstants.{INSERTION_WHILE_DRIVING, SESSION_NOT_CLOSED, POWER_INTERRUPTION}
+use Rattle.device_calls.specs.event_model.Events.{Event, Seen, seen_of, seen_spans, seen_by, noted_with, last_number, first_card, standing}
 use Rattle.log_model.specs.declared.lines.Verdict.{Verdict}
 use Rattle.log_model.specs.Log.{RunLog, Phase, In, cut_in, is_torn_in, found_in, kept_after, tears_here}
 use Rattle.log_model.specs.Slots.{Sitting, in_slot, same_card, other_slot}
 use Rattle.log_model.specs.Course.{Course, Visit, Before, has_power, lit_course, went}
-use Rattle.event_model.specs.declared.entries.Span.{Span}
-use Rattle.event_model.specs.Spans.{gap_of}
-use Rattle.run_events.specs.Seconds.{gap_before}
-use Rattle.run_note_record.proofs.Brought.{lit-course}
+use Rattle.device_calls.specs.event_model.declared.entries.Span.{Span}
+use Rattle.device_calls.specs.event_model.Spans.{gap_of}
+use Rattle.run_acts.specs.run_events.Seconds.{gap_before}
+use Rattle.run_acts.proofs.run_note_record.Brought.{lit-course}
 use Rattle.run_insertion.specs.CardEvents.{events_in}
-use Rattle.note_model.specs.Done.{has_failed_in, course_powered}
-use Rattle.safety_model.specs.Safe.{Devices}
+use Rattle.device_calls.specs.note_model.Done.{has_failed_in, course_powered}
+use Rattle.device_calls.specs.safety_model.Safe.{Devices}
 use Rattle.run_outcome.specs.declared.outcome.Outcome.{Outcome}
-use Rattle.run_promise.specs.Origin.{Origin}
-use Rattle.run_promise.specs.Whole.{NothingFailed}
-use Rattle.run_note_record.specs.Evented.{images_in}
-use Rattle.run_note_record.specs.Uses.{notes_now, uses_in}
-use Rattle.run_note_record.proofs.Exact.{fewer-none, no-cut}
-use Rattle.run_note_record.specs.RingsSoFar.{HasMoreBreaks}
-use Rattle.run_note_record.specs.Waking.{NoneFound, IsFoundAnew}
-use Rattle.run_note_record.proofs.SoFar.{left-itself, failed-more}
+use Rattle.run_minutes.specs.run_promise.Origin.{Origin}
+use Rattle.run_minutes.specs.run_promise.Whole.{NothingFailed}
+use Rattle.run_acts.specs.run_note_record.Evented.{images_in}
+use Rattle.run_acts.specs.run_note_record.Uses.{notes_now, uses_in}
+use Rattle.run_acts.proofs.run_note_record.Exact.{fewer-none, no-cut}
+use Rattle.run_acts.specs.run_note_record.RingsSoFar.{HasMoreBreaks}
+use Rattle.run_acts.specs.run_note_record.Waking.{NoneFound, IsFoundAnew}
+use Rattle.run_acts.proofs.run_note_record.SoFar.{left-itself, failed-more}
 use Rattle.run_acts.specs.Recording.{log_of}
 use Rattle.run_acts.specs.RunRinged.{with_cut}
 use Rattle.run_acts.specs.OnCards.{is_card, has_card, as_accepted, events_by, gap_entry, gaps_on, enters, falls, may_note, is_sure_in, torn_times}

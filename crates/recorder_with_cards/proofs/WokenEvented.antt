@@ -5,57 +5,57 @@ use Rattle.activity_codec.specs.declared.values.Slot.{Slot}
 use Rattle.activity_codec.specs.declared.values.Slot.TheVariants.{Driver, CoDriver}
 use Rattle.trace_model.specs.declared.Card.{Card}
 use Rattle.trace_model.specs.Trace.{TraceSecond}
-use Rattle.minute_model.specs.declared.Rule.{Rule}
+use Rattle.minute_rules.specs.minute_model.declared.Rule.{Rule}
 use Rattle.log_model.specs.declared.lines.Break.{Break}
 use Rattle.log_model.specs.Log.{RunLog, In}
 use Rattle.log_model.specs.Slots.{is_accepted}
 use Rattle.log_model.specs.Course.{Visit, Went, fresh, went}
-use Rattle.event_model.specs.Events.{Crew, Seen, crew_of as sitting_crew, seen_of, seen_spans}
-use Rattle.event_model.specs.Spans.{gap_of}
-use Rattle.unit_notes.specs.declared.unit_event.UnitEvent.{UnitEvent}
+use Rattle.device_calls.specs.event_model.Events.{Crew, Seen, crew_of as sitting_crew, seen_of, seen_spans}
+use Rattle.device_calls.specs.event_model.Spans.{gap_of}
+use Rattle.run_acts.specs.unit_notes.declared.unit_event.UnitEvent.{UnitEvent}
 use Rattle.unit_minutes.specs.declared.notes.Notes.{Notes}
-use Rattle.run_unit_course.specs.Lines.{cut_at, found_from}
-use Rattle.run_unit_course.specs.Followed.{UnitPower, Due, Lit, Lost as IsLost, MayPower, IsDark}
-use Rattle.safety_model.specs.Safe.{Devices, breakdowns_of}
-use Rattle.card_slots.specs.Calls.{seat_in, card_in}
-use Rattle.run_crew.specs.Cabin.{CabinIsSound}
-use Rattle.run_course.specs.Followed.{Progress, BookFollowsRun}
-use Rattle.run_course.specs.Moments.{and_break}
-use Rattle.run_course.specs.Seconds.{GoesOnBy}
-use Rattle.run_course.proofs.Logs.{went-found}
-use Rattle.run_course.proofs.Told.{lit-told}
-use Rattle.run_course.specs.Moment.{goes_on}
-use Rattle.run_course.specs.Reached.{course_at}
-use Rattle.run_course.proofs.Moment.{moment-begins}
-use Rattle.run_course.proofs.Reached.{nothing-told}
-use Rattle.run_events.specs.Shown.{none_sure, SaysNothing}
-use Rattle.run_events.specs.Seconds.{span_before, seen_next}
-use Rattle.run_events.proofs.Shows.{nothing-more}
+use Rattle.device_calls.specs.run_unit_course.Lines.{cut_at, found_from}
+use Rattle.device_calls.specs.run_unit_course.Followed.{UnitPower, Due, Lit, Lost as IsLost, MayPower, IsDark}
+use Rattle.device_calls.specs.safety_model.Safe.{Devices, breakdowns_of}
+use Rattle.run_minutes.specs.card_slots.Calls.{seat_in, card_in}
+use Rattle.run_acts.specs.run_crew.Cabin.{CabinIsSound}
+use Rattle.run_acts.specs.run_course.Followed.{Progress, BookFollowsRun}
+use Rattle.run_acts.specs.run_course.Moments.{and_break}
+use Rattle.run_acts.specs.run_course.Seconds.{GoesOnBy}
+use Rattle.run_acts.proofs.run_course.Logs.{went-found}
+use Rattle.run_acts.proofs.run_course.Told.{lit-told}
+use Rattle.run_acts.specs.run_course.Moment.{goes_on}
+use Rattle.run_acts.specs.run_course.Reached.{course_at}
+use Rattle.run_acts.proofs.run_course.Moment.{moment-begins}
+use Rattle.run_acts.proofs.run_course.Reached.{nothing-told}
+use Rattle.run_acts.specs.run_events.Shown.{none_sure, SaysNothing}
+use Rattle.run_acts.specs.run_events.Seconds.{span_before, seen_next}
+use Rattle.run_acts.proofs.run_events.Shows.{nothing-more}
 use Rattle.run_outcome.specs.Lines.{Listed}
 use Rattle.run_outcome.specs.declared.outcome.Outcome.{Outcome}
-use Rattle.run_promise.specs.Origin.{Origin, rule_of, start_at, first_of}
-use Rattle.run_promise.specs.Beside.{HaveLeftMore}
-use Rattle.run_promise.specs.Seconds.{found_again}
+use Rattle.run_minutes.specs.run_promise.Origin.{Origin, rule_of, start_at, first_of}
+use Rattle.run_minutes.specs.run_promise.Beside.{HaveLeftMore}
+use Rattle.run_minutes.specs.run_promise.Seconds.{found_again}
 use Rattle.run_minutes.specs.declared.keeper.Moment.{Moment}
 use Rattle.run_minutes.specs.declared.keeper.Keeper.{Keeper}
 use Rattle.run_minutes.specs.Books.{HaveTime}
-use Rattle.run_record.specs.Recorded.{Values, progress, carried, RecordUnpowered, RecordBetweenSeconds}
-use Rattle.run_record.specs.Within.{Beginning}
-use Rattle.run_record.specs.Waking.{both_slots}
-use Rattle.run_record.proofs.Powering.{off-of}
-use Rattle.run_note_record.specs.Evented.{number_in, limit_in, NotesNothing, Evented}
-use Rattle.run_note_record.specs.Noting.{Stage, Waking, Acting}
-use Rattle.run_note_record.specs.EventsSoFar.{EventedNow, BeginsNow, AreBare, ComesInTurn, interruption}
-use Rattle.run_note_record.specs.Kept.{interruption_of}
-use Rattle.run_note_record.proofs.Adding.{adds-nothing, second-begins_now, power-now, starts-now}
-use Rattle.run_note_record.proofs.Cutting.{failure-cuts}
-use Rattle.run_note_record.proofs.Kept.{interruption-found, no-break_no-span}
-use Rattle.run_note_record.proofs.Seconds.{events-found}
+use Rattle.run_acts.specs.run_record.Recorded.{Values, progress, carried, RecordUnpowered, RecordBetweenSeconds}
+use Rattle.run_acts.specs.run_record.Within.{Beginning}
+use Rattle.run_acts.specs.run_record.Waking.{both_slots}
+use Rattle.run_acts.proofs.run_record.Powering.{off-of}
+use Rattle.run_acts.specs.run_note_record.Evented.{number_in, limit_in, NotesNothing, Evented}
+use Rattle.run_acts.specs.run_note_record.Noting.{Stage, Waking, Acting}
+use Rattle.run_acts.specs.run_note_record.EventsSoFar.{EventedNow, BeginsNow, AreBare, ComesInTurn, interruption}
+use Rattle.run_acts.specs.run_note_record.Kept.{interruption_of}
+use Rattle.run_acts.proofs.run_note_record.Adding.{adds-nothing, second-begins_now, power-now, starts-now}
+use Rattle.run_acts.proofs.run_note_record.Cutting.{failure-cuts}
+use Rattle.run_acts.proofs.run_note_record.Kept.{interruption-found, no-break_no-span}
+use Rattle.run_acts.proofs.run_note_record.Seconds.{events-found}
 use Rattle.run_acts.specs.declared.run.Run.{Run}
 use Rattle.run_acts.specs.NotedEvents.{NotesEvents}
 use Rattle.run_acts.specs.Acting.{IsNotedIn, now_moment}
 use Rattle.run_acts.specs.Noting.{GapReach, NoGap, UnitFailed, DriverFell, BothSlots, IsGapNoted, AreGapEvents}
-use Rattle.event_model.specs.declared.entries.Span.{Span}
+use Rattle.device_calls.specs.event_model.declared.entries.Span.{Span}
 use Rattle.run_acts.specs.Power.{IsSpanBegun, cut_run}
 use Rattle.run_minutes.specs.Keeping.{with_lines}
 use Rattle.run_acts.specs.Recording.{IsOrigin, log_of, RunWithin, RunCut, GoesOnOrFails}

@@ -11,58 +11,58 @@ use Rattle.trace_model.specs.Trace.{TraceSecond}
 use Rattle.tach_media.specs.Medium.{State, IsCoherent, LeavesOnly, Unchanged}
 use Rattle.unit_minutes.specs.declared.notes.Notes.{Notes}
 use Rattle.unit_minutes.specs.Mends.{IsMending}
-use Rattle.minute_model.specs.Span.{travelled_of}
+use Rattle.minute_rules.specs.minute_model.Span.{travelled_of}
 use Rattle.log_model.specs.declared.lines.Verdict.{Verdict}
 use Rattle.log_model.specs.Log.{RunLog, Phase, In, cut_in, is_torn_in, found_in, is_accepting}
 use Rattle.log_model.specs.Slots.{Slots, Sitting, in_slot, other_slot}
 use Rattle.log_model.specs.Course.{Course, fresh, unmoved, with_slot, ToldSecond, Before, Moved, Visit, Went, visits, leaves, slot_told, both_told, has_power, went, second_told}
-use Rattle.note_model.specs.Odometer.{SpanFrom}
-use Rattle.note_model.specs.Noted.{Acceptance}
-use Rattle.card_image.specs.Own.{own_sizes}
-use Rattle.safety_model.specs.Recording.{card_image}
-use Rattle.safety_model.specs.Safe.{Devices}
-use Rattle.unit_rule.specs.Odometer.{odometer_by, odometer_after}
-use Rattle.run_unit_course.specs.Lines.{cut_at}
-use Rattle.card_slots.specs.Calls.{card_in}
-use Rattle.run_devices.proofs.Measured.{goes-itself}
-use Rattle.run_promise.specs.Between.{devices}
-use Rattle.run_course.specs.Followed.{Progress, BookFollowsRun, Comes, IsSupplied}
-use Rattle.run_course.specs.Seconds.{GoesOnBy}
-use Rattle.run_course.proofs.Steps.{went-same_}
+use Rattle.device_calls.specs.note_model.Odometer.{SpanFrom}
+use Rattle.device_calls.specs.note_model.Noted.{Acceptance}
+use Rattle.device_calls.specs.card_image.Own.{own_sizes}
+use Rattle.device_calls.specs.safety_model.Recording.{card_image}
+use Rattle.device_calls.specs.safety_model.Safe.{Devices}
+use Rattle.device_calls.specs.unit_rule.Odometer.{odometer_by, odometer_after}
+use Rattle.device_calls.specs.run_unit_course.Lines.{cut_at}
+use Rattle.run_minutes.specs.card_slots.Calls.{card_in}
+use Rattle.run_minutes.proofs.run_devices.Measured.{goes-itself}
+use Rattle.run_minutes.specs.run_promise.Between.{devices}
+use Rattle.run_acts.specs.run_course.Followed.{Progress, BookFollowsRun, Comes, IsSupplied}
+use Rattle.run_acts.specs.run_course.Seconds.{GoesOnBy}
+use Rattle.run_acts.proofs.run_course.Steps.{went-same_}
 use Rattle.log_model.specs.Spans.{AreInOrder, spans_of}
-use Rattle.unit_model.specs.Image.{odometer_at as odometer_at_start}
-use Rattle.run_course.proofs.Logs.{all-before, found_log, same-found, went-found}
-use Rattle.run_course.proofs.Told.{comes-power, lost-comes}
-use Rattle.run_unit_course.specs.Followed.{UnitPower, MayPower, Lit, Due, Lost as IsLost}
+use Rattle.unit_minutes.specs.unit_model.Image.{odometer_at as odometer_at_start}
+use Rattle.run_acts.proofs.run_course.Logs.{all-before, found_log, same-found, went-found}
+use Rattle.run_acts.proofs.run_course.Told.{comes-power, lost-comes}
+use Rattle.device_calls.specs.run_unit_course.Followed.{UnitPower, MayPower, Lit, Due, Lost as IsLost}
 use Rattle.log_model.specs.Same.{SameAt}
-use Rattle.run_events.proofs.Later.{told-number}
-use Rattle.run_course.proofs.Reached.{TellsNothing, nothing-told}
-use Rattle.run_note_record.proofs.Lines.{same-before}
-use Rattle.run_course.specs.Moments.{and_break}
+use Rattle.run_acts.proofs.run_events.Later.{told-number}
+use Rattle.run_acts.proofs.run_course.Reached.{TellsNothing, nothing-told}
+use Rattle.run_acts.proofs.run_note_record.Lines.{same-before}
+use Rattle.run_acts.specs.run_course.Moments.{and_break}
 use Rattle.run_minutes.specs.Keeping.{with_lines}
 use Rattle.run_outcome.specs.Lines.{cut_at as cut_line}
 use Rattle.run_outcome.specs.declared.outcome.Outcome.{Outcome}
 use Rattle.run_minutes.specs.declared.keeper.Moment.{Moment}
 use Rattle.run_minutes.specs.Books.{HaveTime}
-use Rattle.run_promise.specs.Origin.{Origin, rule_of, start_at, first_of}
-use Rattle.run_rings.specs.Spans.{with_second}
-use Rattle.run_rings.specs.Same.{LeavesRings}
-use Rattle.run_rings.proofs.Same.{behind-same, rings-left, rings-moments}
-use Rattle.run_note_record.specs.OnCards.{PlacesStay, IsReading, VehiclesGo, SessionsGo, NoOtherComes, CardsGo, CardsStay}
-use Rattle.run_note_record.specs.Sessions.{FailsIn, OpensIn}
-use Rattle.run_note_record.proofs.Sessions.{stay-may}
-use Rattle.run_note_record.specs.Ringed.{Seating, IsInsertionIn, since_in}
-use Rattle.run_note_record.specs.RingsSoFar.{RingedBehind, IsSecond, RingedIn, HasMoreBreaks, GoesBehind}
-use Rattle.run_note_record.specs.Steps.{nobody, spans_cut}
-use Rattle.run_note_record.specs.Waking.{NoneFound, IsFoundAnew}
-use Rattle.run_note_record.specs.Stored.{StandsOn, StoresOn, StoresOff}
-use Rattle.run_note_record.proofs.Bases.{stored-first}
-use Rattle.run_note_record.proofs.OnCards.{stay-itself}
-use Rattle.run_note_record.proofs.SoFar.{left-itself, go-on-in, cut-ends}
-use Rattle.run_note_record.proofs.RingsWaking.{behind-alike, still-failed, still-call-failed, power-begins, passed-anew, accepted-anew, cut-anew}
-use Rattle.run_record.specs.Recorded.{Values, RecordBetweenSeconds}
-use Rattle.run_record.specs.Within.{Beginning}
-use Rattle.run_record.specs.Waking.{both_slots}
+use Rattle.run_minutes.specs.run_promise.Origin.{Origin, rule_of, start_at, first_of}
+use Rattle.run_acts.specs.run_rings.Spans.{with_second}
+use Rattle.run_acts.specs.run_rings.Same.{LeavesRings}
+use Rattle.run_acts.proofs.run_rings.Same.{behind-same, rings-left, rings-moments}
+use Rattle.run_acts.specs.run_note_record.OnCards.{PlacesStay, IsReading, VehiclesGo, SessionsGo, NoOtherComes, CardsGo, CardsStay}
+use Rattle.run_acts.specs.run_note_record.Sessions.{FailsIn, OpensIn}
+use Rattle.run_acts.proofs.run_note_record.Sessions.{stay-may}
+use Rattle.run_acts.specs.run_note_record.Ringed.{Seating, IsInsertionIn, since_in}
+use Rattle.run_acts.specs.run_note_record.RingsSoFar.{RingedBehind, IsSecond, RingedIn, HasMoreBreaks, GoesBehind}
+use Rattle.run_acts.specs.run_note_record.Steps.{nobody, spans_cut}
+use Rattle.run_acts.specs.run_note_record.Waking.{NoneFound, IsFoundAnew}
+use Rattle.run_acts.specs.run_note_record.Stored.{StandsOn, StoresOn, StoresOff}
+use Rattle.run_acts.proofs.run_note_record.Bases.{stored-first}
+use Rattle.run_acts.proofs.run_note_record.OnCards.{stay-itself}
+use Rattle.run_acts.proofs.run_note_record.SoFar.{left-itself, go-on-in, cut-ends}
+use Rattle.run_acts.proofs.run_note_record.RingsWaking.{behind-alike, still-failed, still-call-failed, power-begins, passed-anew, accepted-anew, cut-anew}
+use Rattle.run_acts.specs.run_record.Recorded.{Values, RecordBetweenSeconds}
+use Rattle.run_acts.specs.run_record.Within.{Beginning}
+use Rattle.run_acts.specs.run_record.Waking.{both_slots}
 use Rattle.run_acts.specs.declared.run.Run.{Run}
 use Rattle.run_acts.specs.Power.{is_lit, cut_run}
 use Rattle.run_acts.specs.declared.run.Power.TheVariants.{Lit as HasPower}

@@ -2,28 +2,28 @@
 use Rattle.std.proofs.Common.{◌≡◌, ◌∙◌, ℕ, ◌+◌, ◌-◌, ◌≤◌, Bool, true, false, cond, not, Option, Some, None, is_some, List, [], ◌∷◌, ◌++◌, take, refl, ap, sym, subst, arith, append-nil}
 use Rattle.std.proofs.lemmas.List.Elements.{Contains-append_left}
 use Rattle.trace_model.specs.Trace.{TraceSecond}
-use Rattle.minute_model.specs.Activity.{last}
-use Rattle.unit_model.specs.Image.{last_kept, odometer_at}
+use Rattle.minute_rules.specs.minute_model.Activity.{last}
+use Rattle.unit_minutes.specs.unit_model.Image.{last_kept, odometer_at}
 use Rattle.log_model.specs.Log.{cut_in}
 use Rattle.log_model.specs.Course.{ToldSecond, Went, has_power, went, second_told}
-use Rattle.history_model.specs.History.{cut_second}
-use Rattle.run_unit_course.specs.Lines.{cut_at, tells_cut}
-use Rattle.run_unit_course.specs.Followed.{UnitPower, Lit, Due, Lost, cuts_from}
-use Rattle.run_unit_course.proofs.Lines.{tells-here}
-use Rattle.note_model.specs.Odometer.{SpanFrom, MayStore}
-use Rattle.safety_model.specs.Safe.{Devices}
-use Rattle.run_course.specs.Followed.{Progress, BookFollowsRun, Comes}
-use Rattle.run_course.specs.Seconds.{GoesOnBy}
-use Rattle.run_course.proofs.Logs.{tells-none, breaks-front}
-use Rattle.run_course.proofs.Steps.{went-same_}
-use Rattle.run_course.proofs.Told.{comes-power}
-use Rattle.run_events.proofs.Later.{told-number}
-use Rattle.run_course.proofs.Reached.{TellsNothing, nothing-told}
-use Rattle.run_promise.specs.Origin.{Origin, rule_of, start_at, first_of}
-use Rattle.run_note_record.specs.Stored.{StandsOn, StoresOff}
-use Rattle.run_note_record.specs.Steps.{spans_cut}
-use Rattle.run_note_record.proofs.Stored.{may-more}
-use Rattle.run_note_record.proofs.Bases.{with-first, stored-ends, failed-here, stored-unread}
+use Rattle.device_calls.specs.history_model.History.{cut_second}
+use Rattle.device_calls.specs.run_unit_course.Lines.{cut_at, tells_cut}
+use Rattle.device_calls.specs.run_unit_course.Followed.{UnitPower, Lit, Due, Lost, cuts_from}
+use Rattle.device_calls.proofs.run_unit_course.Lines.{tells-here}
+use Rattle.device_calls.specs.note_model.Odometer.{SpanFrom, MayStore}
+use Rattle.device_calls.specs.safety_model.Safe.{Devices}
+use Rattle.run_acts.specs.run_course.Followed.{Progress, BookFollowsRun, Comes}
+use Rattle.run_acts.specs.run_course.Seconds.{GoesOnBy}
+use Rattle.run_acts.proofs.run_course.Logs.{tells-none, breaks-front}
+use Rattle.run_acts.proofs.run_course.Steps.{went-same_}
+use Rattle.run_acts.proofs.run_course.Told.{comes-power}
+use Rattle.run_acts.proofs.run_events.Later.{told-number}
+use Rattle.run_acts.proofs.run_course.Reached.{TellsNothing, nothing-told}
+use Rattle.run_minutes.specs.run_promise.Origin.{Origin, rule_of, start_at, first_of}
+use Rattle.run_acts.specs.run_note_record.Stored.{StandsOn, StoresOff}
+use Rattle.run_acts.specs.run_note_record.Steps.{spans_cut}
+use Rattle.run_acts.proofs.run_note_record.Stored.{may-more}
+use Rattle.run_acts.proofs.run_note_record.Bases.{with-first, stored-ends, failed-here, stored-unread}
 use Rattle.run_acts.specs.RunRinged.{with_cut}
 use Rattle.run_acts.proofs.RingedSecond.{cut-is}
 

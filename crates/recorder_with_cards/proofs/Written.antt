@@ -5,36 +5,36 @@ use Rattle.std.proofs.lemmas.List.{append-nil}
 use Rattle.activity_codec.specs.declared.entries.Entry.{Entry}
 use Rattle.trace_model.specs.declared.Card.{Card}
 use Rattle.trace_model.specs.Trace.{TraceSecond}
-use Rattle.card_layout.specs.Application.{IsApplication}
-use Rattle.card_image.specs.Own.{own_view, own_sizes, IsOwnValid, KeepsOf}
-use Rattle.card_string.specs.Deeds.{IsMade}
-use Rattle.card_string.specs.Since.{all_since, HoldsSince}
-use Rattle.card_string.proofs.Deeds.{made_more}
-use Rattle.card_string.proofs.Kept.{holds_counted, holds_kept, keeps_more}
-use Rattle.history_model.specs.Minutes.{HistoryMinute, card_history}
-use Rattle.history_model.specs.Presence.{CardStart}
-use Rattle.history_model.specs.Book.{Book, all}
-use Rattle.history_model.proofs.Books.{history-append}
-use Rattle.run_unit_course.specs.Followed.{UnitPower, Lit, Due, Lost}
-use Rattle.safety_model.specs.Recording.{Recording, card_image, brought, history_of, expected_of}
-use Rattle.safety_model.specs.Safe.{Devices, card_of}
-use Rattle.run_promise.specs.Found.{found_of, registration_of}
+use Rattle.tach_media.specs.card_layout.Application.{IsApplication}
+use Rattle.device_calls.specs.card_image.Own.{own_view, own_sizes, IsOwnValid, KeepsOf}
+use Rattle.device_calls.specs.card_string.Deeds.{IsMade}
+use Rattle.device_calls.specs.card_string.Since.{all_since, HoldsSince}
+use Rattle.device_calls.proofs.card_string.Deeds.{made_more}
+use Rattle.device_calls.proofs.card_string.Kept.{holds_counted, holds_kept, keeps_more}
+use Rattle.device_calls.specs.history_model.Minutes.{HistoryMinute, card_history}
+use Rattle.device_calls.specs.history_model.Presence.{CardStart}
+use Rattle.device_calls.specs.history_model.Book.{Book, all}
+use Rattle.device_calls.proofs.history_model.Books.{history-append}
+use Rattle.device_calls.specs.run_unit_course.Followed.{UnitPower, Lit, Due, Lost}
+use Rattle.device_calls.specs.safety_model.Recording.{Recording, card_image, brought, history_of, expected_of}
+use Rattle.device_calls.specs.safety_model.Safe.{Devices, card_of}
+use Rattle.run_minutes.specs.run_promise.Found.{found_of, registration_of}
 use Rattle.tacho_types.specs.declared.texts.Registration.{Registration}
-use Rattle.run_promise.specs.Cards.{brought_by}
-use Rattle.run_promise.specs.Between.{IsFound}
-use Rattle.run_promise.proofs.CardEnd.{started}
-use Rattle.run_promise.proofs.AccountsEnd.{ends-follow}
-use Rattle.run_devices.specs.Registered.{TellsOfTwo}
-use Rattle.run_devices.specs.Strung.{HasSameHolder}
-use Rattle.run_devices.specs.Told.{sure_of}
-use Rattle.run_promise.specs.Origin.{Origin, first_of}
-use Rattle.run_promise.specs.Ends.{recording_by, recording_with}
-use Rattle.run_record.specs.Recorded.{Values, progress, carried, IsHeldBy, RecordBetweenSeconds}
+use Rattle.run_minutes.specs.run_promise.Cards.{brought_by}
+use Rattle.run_minutes.specs.run_promise.Between.{IsFound}
+use Rattle.run_minutes.proofs.run_promise.CardEnd.{started}
+use Rattle.run_minutes.proofs.run_promise.AccountsEnd.{ends-follow}
+use Rattle.run_minutes.specs.run_devices.Registered.{TellsOfTwo}
+use Rattle.run_minutes.specs.run_devices.Strung.{HasSameHolder}
+use Rattle.run_minutes.specs.run_devices.Told.{sure_of}
+use Rattle.run_minutes.specs.run_promise.Origin.{Origin, first_of}
+use Rattle.run_minutes.specs.run_promise.Ends.{recording_by, recording_with}
+use Rattle.run_acts.specs.run_record.Recorded.{Values, progress, carried, IsHeldBy, RecordBetweenSeconds}
 use Rattle.recorder_with_cards.specs.Written.{IsWritten, AreWritten}
 use Rattle.recorder_with_cards.specs.Still.{KeepTheirHolders, KeepTheirVehicles}
-use Rattle.hand_model.specs.Written.{Hands, IsPartOf, entries_of}
-use Rattle.safety_model.specs.Hands.{hands_done}
-use Rattle.run_promise.proofs.RecordEnds.{found-with}
+use Rattle.device_calls.specs.hand_model.Written.{Hands, IsPartOf, entries_of}
+use Rattle.device_calls.specs.safety_model.Hands.{hands_done}
+use Rattle.run_minutes.proofs.run_promise.RecordEnds.{found-with}
 
 module _ (r : Recording) (c : Card) (x : List ℕ) where
   -- what is expected, where a book has the front of the history

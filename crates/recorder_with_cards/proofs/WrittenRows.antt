@@ -2,10 +2,10 @@
 use Rattle.std.proofs.Common.{◌≡◌, ℕ, List, [], ◌∷◌, None, refl, ap, arith}
 use Rattle.activity_codec.specs.declared.values.Activity.TheVariants.{Work}
 use Rattle.activity_codec.specs.declared.entries.Entry.{Entry}
-use Rattle.card_session.specs.Vehicles.{Vehicles}
-use Rattle.card_session.specs.Books.{Book}
-use Rattle.card_session.proofs.Rows.{day, this_vehicle, using, work}
-use Rattle.card_string.specs.Deeds.{Keep, Close, Step, Done, Broken, MadeBy, kept_in, AreNext}
+use Rattle.device_calls.specs.card_session.Vehicles.{Vehicles}
+use Rattle.device_calls.specs.card_session.Books.{Book}
+use Rattle.device_calls.proofs.card_session.Rows.{day, this_vehicle, using, work}
+use Rattle.device_calls.specs.card_string.Deeds.{Keep, Close, Step, Done, Broken, MadeBy, kept_in, AreNext}
 
 -- the keep of a minute of the day, with this odometer and so many km behind the one before
 abbrev keep : (odometer km minute : ℕ) → Step

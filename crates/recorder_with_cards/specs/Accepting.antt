@@ -4,13 +4,13 @@ use Rattle.activity_codec.specs.declared.values.Slot.{Slot}
 use Rattle.trace_model.specs.declared.Card.{Card}
 use Rattle.trace_model.specs.declared.Card.TheVariants.{A, B}
 use Rattle.tach_media.specs.Medium.{State}
-use Rattle.card_layout.specs.declared.command.CardState.{CardState}
-use Rattle.minute_model.specs.Span.{Span, travelled_of}
+use Rattle.tach_media.specs.card_layout.declared.command.CardState.{CardState}
+use Rattle.minute_rules.specs.minute_model.Span.{Span, travelled_of}
 use Rattle.minute_rules.specs.Kept.{CountsSpan}
-use Rattle.message_model.specs.Records.{insertion_ring}
-use Rattle.card_slots.specs.declared.seats.Seat.{Seat}
-use Rattle.run_crew.specs.declared.cards.Accepted.{Accepted}
-use Rattle.run_crew.specs.Cabin.{with_card_in}
+use Rattle.run_acts.specs.message_model.Records.{insertion_ring}
+use Rattle.run_minutes.specs.card_slots.declared.seats.Seat.{Seat}
+use Rattle.run_acts.specs.run_crew.declared.cards.Accepted.{Accepted}
+use Rattle.run_acts.specs.run_crew.Cabin.{with_card_in}
 use Rattle.run_minutes.specs.declared.keeper.Moment.{Moment}
 use Rattle.run_minutes.specs.Minutes.{odometer_by}
 use Rattle.run_outcome.specs.declared.outcome.Outcome.{Outcome}

@@ -4,13 +4,13 @@ use Rattle.trace_model.specs.declared.Action.{Action}
 use Rattle.trace_model.specs.declared.Action.TheVariants.{Select, Insert, Withdraw, Tear, Place, Manual}
 use Rattle.trace_model.specs.declared.Item.{Item}
 use Rattle.trace_model.specs.declared.Item.TheVariants.{Run as Driven, Off, Act}
-use Rattle.minute_model.specs.Span.{Span, picked}
+use Rattle.minute_rules.specs.minute_model.Span.{Span, picked}
 use Rattle.minute_rules.specs.Kept.{CountsSpan}
 use Rattle.log_model.specs.declared.lines.Refused.{Refused}
 use Rattle.log_model.specs.declared.lines.SlotFault.{SlotFault}
 use Rattle.log_model.specs.declared.lines.SlotFault.TheVariants.{NoPower}
 use Rattle.log_model.specs.Slots.{refusal}
-use Rattle.card_slots.specs.Calls.{Seats, logged, seat_in, card_in}
+use Rattle.run_minutes.specs.card_slots.Calls.{Seats, logged, seat_in, card_in}
 use Rattle.run_outcome.specs.Lines.{cut_at}
 use Rattle.run_outcome.specs.declared.outcome.Outcome.{Outcome}
 use Rattle.run_minutes.specs.declared.keeper.Moment.{Moment}

@@ -2,7 +2,7 @@
 use Rattle.std.specs.Prelude.{ℕ, ◌*◌, ◌+◌, ◌≡◌, ◌≤◌, Bool, IfErr, IfOk, List, None, OnOk, Result, false, is_some}
 use Rattle.std.specs.Prelude.{length, true, Some, ◌<◌, IfSome}
 use Rattle.activity_codec.specs.declared.values.Slot.{Slot}
-use Rattle.card_slots.specs.Calls.{card_in, seat_in, is_card}
+use Rattle.run_minutes.specs.card_slots.Calls.{card_in, seat_in, is_card}
 use Rattle.log_model.specs.Slots.{other_slot}
 use Rattle.log_model.specs.declared.lines.Break.{Break}
 use Rattle.run_acts.specs.ByHand.{stopped_in}
@@ -24,8 +24,8 @@ use Rattle.run_opening.specs.declared.fault.RunFault.{RunFault}
 use Rattle.run_outcome.specs.Broken.{BreaksDown, failed_cuts}
 use Rattle.run_outcome.specs.declared.outcome.Outcome.{Outcome}
 use Rattle.run_outcome.specs.declared.outcome.TheConstants.{MOST_OWED}
-use Rattle.run_speeds.specs.Speeds.{LeavesSpeeds}
-use Rattle.safety_model.specs.Safe.{Devices}
+use Rattle.run_acts.specs.run_speeds.Speeds.{LeavesSpeeds}
+use Rattle.device_calls.specs.safety_model.Safe.{Devices}
 use Rattle.tach_media.specs.Medium.{State}
 use Rattle.tach_media.specs.declared.fault.Failed.{Failed}
 use Rattle.trace_model.specs.declared.Action.{Action}
@@ -50,9 +50,9 @@ use Rattle.recorder_with_cards.specs.Woken.{EventsResuming, EventsWaking, Resume
 use Rattle.recorder_with_cards.specs.Woken.{WakesSo}
 use Rattle.recorder_with_cards.specs.Writes.{WritesFor}
 use Rattle.unit_minutes.specs.declared.notes.Notes.{Notes}
-use Rattle.minute_model.specs.declared.Rule.{Rule}
+use Rattle.minute_rules.specs.minute_model.declared.Rule.{Rule}
 use Rattle.run_opening.specs.Units.{IsLoaded}
-use Rattle.unit_model.specs.Versions.{rule_of}
+use Rattle.unit_minutes.specs.unit_model.Versions.{rule_of}
 
 -- A CARD THAT SITS IN A SLOT WAS JUDGED: what became of it, and nothing else has changed
 pub record AcceptsIn (slot : Slot) (card : Card) (at : Moment) (speed : ℕ) (old new : Run)

@@ -5,8 +5,8 @@ use Rattle.tach_media.specs.Medium.{HasBrokenAtMost, last_count}
 use Rattle.log_model.specs.Log.{RunLog}
 use Rattle.log_model.specs.Slots.{same_card}
 use Rattle.log_model.specs.Causes.{cuts, tears, cards_torn}
-use Rattle.safety_model.specs.Recording.{Recording, told_of}
-use Rattle.safety_model.specs.Safe.{Devices, card_of}
+use Rattle.device_calls.specs.safety_model.Recording.{Recording, told_of}
+use Rattle.device_calls.specs.safety_model.Safe.{Devices, card_of}
 
 -- both cards together have broken down so often at most, as long as either count stands below its last value
 abbrev pub HaveBrokenAtMost : (old new : Devices) → ℕ → Type 0

@@ -3,14 +3,14 @@
 use Rattle.std.specs.Prelude.{◌≡◌, ℕ, List}
 use Rattle.trace_model.specs.declared.Card.{Card}
 use Rattle.tach_media.specs.Medium.{State}
-use Rattle.card_files.specs.declared.current_use.CurrentUse.{CurrentUse}
-use Rattle.card_image.specs.Fields.{current_use}
-use Rattle.card_image.specs.Own.{own_sizes, IsOwnValid}
-use Rattle.event_model.specs.Events.{seen_of}
-use Rattle.safety_model.specs.Recording.{Recording, card_image}
-use Rattle.safety_model.specs.Safe.{Devices, card_of}
-use Rattle.run_promise.specs.Whole.{NothingFailed}
-use Rattle.run_note_record.specs.Uses.{vehicle_of, uses_on, use_left}
+use Rattle.device_calls.specs.card_files.declared.current_use.CurrentUse.{CurrentUse}
+use Rattle.device_calls.specs.card_image.Fields.{current_use}
+use Rattle.device_calls.specs.card_image.Own.{own_sizes, IsOwnValid}
+use Rattle.device_calls.specs.event_model.Events.{seen_of}
+use Rattle.device_calls.specs.safety_model.Recording.{Recording, card_image}
+use Rattle.device_calls.specs.safety_model.Safe.{Devices, card_of}
+use Rattle.run_minutes.specs.run_promise.Whole.{NothingFailed}
+use Rattle.run_acts.specs.run_note_record.Uses.{vehicle_of, uses_on, use_left}
 use Rattle.run_acts.specs.OnCards.{accepted_on, met_seconds, ShowsOn, AreUses}
 use Rattle.recorder_with_cards.specs.Stays.{NothingFailedOn}
 

@@ -4,8 +4,8 @@ use Rattle.std.specs.Prelude.{◌≡◌, ◌++◌, ℕ, Bool, true, false, Resul
 use Rattle.trace_model.specs.declared.Action.{Action}
 use Rattle.trace_model.specs.declared.Item.{Item}
 use Rattle.trace_model.specs.Trace.{TraceSecond, driven}
-use Rattle.safety_model.specs.Safe.{Devices}
-use Rattle.run_promise.specs.Origin.{Origin}
+use Rattle.device_calls.specs.safety_model.Safe.{Devices}
+use Rattle.run_minutes.specs.run_promise.Origin.{Origin}
 use Rattle.run_minutes.specs.Books.{HaveTime}
 use Rattle.run_opening.specs.declared.fault.RunFault.{RunFault}
 use Rattle.run_outcome.specs.declared.outcome.Outcome.{Outcome}

@@ -2,21 +2,21 @@
 use Rattle.std.specs.Prelude.{◌≡◌, ℕ, Bool, true, false, Result, Ok, Err, List, [], ◌∷◌, ◌++◌}
 use Rattle.trace_model.specs.Trace.{TraceSecond}
 use Rattle.log_model.specs.Log.{RunLog}
-use Rattle.run_unit_course.specs.Followed.{UnitPower, MayPower}
-use Rattle.safety_model.specs.Safe.{Devices}
+use Rattle.device_calls.specs.run_unit_course.Followed.{UnitPower, MayPower}
+use Rattle.device_calls.specs.safety_model.Safe.{Devices}
 use Rattle.run_minutes.specs.Books.{HaveTime}
 use Rattle.run_opening.specs.declared.fault.RunFault.{RunFault}
 use Rattle.run_outcome.specs.declared.outcome.Outcome.{Outcome}
-use Rattle.run_promise.specs.Origin.{Origin}
-use Rattle.run_record.specs.Recorded.{Values, RecordBetweenSeconds}
-use Rattle.run_record.specs.Powering.{read_values}
-use Rattle.run_note_record.specs.Evented.{limit_in, Evented}
+use Rattle.run_minutes.specs.run_promise.Origin.{Origin}
+use Rattle.run_acts.specs.run_record.Recorded.{Values, RecordBetweenSeconds}
+use Rattle.run_acts.specs.run_record.Powering.{read_values}
+use Rattle.run_acts.specs.run_note_record.Evented.{limit_in, Evented}
 use Rattle.run_acts.specs.declared.run.Run.{Run}
 use Rattle.run_acts.specs.Power.{has_power}
 use Rattle.run_acts.specs.Recording.{IsOrigin, log_of, values_of, IsNow}
 use Rattle.run_acts.specs.RunRinged.{with_cut}
 use Rattle.run_acts.specs.RunCards.{vehicle_in, CardsBehind, CardsIn}
-use Rattle.run_note_record.specs.Ringed.{notes_in}
+use Rattle.run_acts.specs.run_note_record.Ringed.{notes_in}
 use Rattle.run_acts.specs.Truths.{truths_of, marked}
 use Rattle.run_acts.specs.Stays.{AllStay}
 use Rattle.recorder_with_cards.specs.Carded.{RunCarded, InSecondCarded}

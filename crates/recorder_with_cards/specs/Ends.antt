@@ -3,16 +3,16 @@ use Rattle.std.specs.Prelude.{◌≢◌, ◌<◌, ◌/◌, ℕ, List, []}
 use Rattle.trace_model.specs.declared.Item.{Item}
 use Rattle.trace_model.specs.Trace.{TraceSecond, seconds_of}
 use Rattle.log_model.specs.Log.{RunLog}
-use Rattle.unit_model.specs.Decoding.{Decodes}
-use Rattle.unit_model.specs.Image.{last_kept}
-use Rattle.unit_model.specs.Versions.{rule_of}
-use Rattle.card_image.specs.Own.{own_number, IsOwnValid}
-use Rattle.safety_model.specs.Recording.{Recording}
-use Rattle.safety_model.specs.Safe.{Devices, breakdowns_of}
-use Rattle.unit_rule.specs.OtherRows.{KeepsRows}
-use Rattle.run_promise.specs.Opening.{BeginsAs}
-use Rattle.run_promise.specs.Origin.{Origin}
-use Rattle.run_promise.specs.Ends.{EndsRun}
+use Rattle.unit_minutes.specs.unit_model.Decoding.{Decodes}
+use Rattle.unit_minutes.specs.unit_model.Image.{last_kept}
+use Rattle.unit_minutes.specs.unit_model.Versions.{rule_of}
+use Rattle.device_calls.specs.card_image.Own.{own_number, IsOwnValid}
+use Rattle.device_calls.specs.safety_model.Recording.{Recording}
+use Rattle.device_calls.specs.safety_model.Safe.{Devices, breakdowns_of}
+use Rattle.device_calls.specs.unit_rule.OtherRows.{KeepsRows}
+use Rattle.run_minutes.specs.run_promise.Opening.{BeginsAs}
+use Rattle.run_minutes.specs.run_promise.Origin.{Origin}
+use Rattle.run_minutes.specs.run_promise.Ends.{EndsRun}
 use Rattle.run_opening.specs.Begun.{found_in, IsRefusedBy as IsRefusedAs}
 use Rattle.run_opening.specs.Opening.{IsAsItWas}
 use Rattle.run_opening.specs.declared.fault.RunFault.{RunFault}

@@ -1,6 +1,6 @@
 -- Which events are among the notes of the unit of a card that enters (Annex IB, section III.12).
 use Rattle.std.specs.Prelude.{List, [], ◌∷◌}
-use Rattle.unit_notes.specs.declared.unit_event.UnitEvent.{UnitEvent}
+use Rattle.run_acts.specs.unit_notes.declared.unit_event.UnitEvent.{UnitEvent}
 use Rattle.run_insertion.specs.Noted.{UnitNote, Inserts, BeginsRow, Tells}
 
 -- the events among the notes of a card that enters

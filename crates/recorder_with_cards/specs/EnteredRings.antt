@@ -5,21 +5,21 @@ use Rattle.trace_model.specs.declared.Card.{Card}
 use Rattle.trace_model.specs.declared.Action.{Action}
 use Rattle.trace_model.specs.declared.Action.TheVariants.{Select, Insert, Withdraw, Tear, Place, Manual}
 use Rattle.tacho_types.specs.declared.places.PlaceEntry.{PlaceEntry}
-use Rattle.card_slots.specs.Calls.{seat_in, card_in}
-use Rattle.run_crew.specs.Cabin.{number_of_seat}
+use Rattle.run_minutes.specs.card_slots.Calls.{seat_in, card_in}
+use Rattle.run_acts.specs.run_crew.Cabin.{number_of_seat}
 pub use Rattle.run_acts.specs.Ringing.{IsPlaceNow}
 use Rattle.run_acts.specs.Ringing.{WritesPlace, WithdrawsSo}
 use Rattle.tach_media.specs.Medium.{State, HasCause}
-use Rattle.message_model.specs.Records.{insertion_ring}
-use Rattle.unit_notes.specs.declared.insertion.Insertion.{Insertion}
-use Rattle.unit_notes.specs.Entries.{insertion_bytes}
+use Rattle.run_acts.specs.message_model.Records.{insertion_ring}
+use Rattle.run_acts.specs.unit_notes.declared.insertion.Insertion.{Insertion}
+use Rattle.run_acts.specs.unit_notes.Entries.{insertion_bytes}
 use Rattle.run_outcome.specs.declared.outcome.Outcome.{Outcome}
 use Rattle.run_minutes.specs.declared.keeper.Keeper.{Keeper}
 use Rattle.run_insertion.specs.declared.lines.Entering.{Entering}
 use Rattle.run_insertion.specs.Entering.{Ending, Way, Unfit, Ahead, Fell, Unasked, Unnoted, Seated, Lost, ending_of}
 use Rattle.run_insertion.specs.Entering.{insertion_of}
 use Rattle.run_insertion.specs.Entered.{HasEntered}
-use Rattle.run_note_record.specs.Ringed.{LeavesRings, WritesImages, IsAddedAt, MayBeAdded}
+use Rattle.run_acts.specs.run_note_record.Ringed.{LeavesRings, WritesImages, IsAddedAt, MayBeAdded}
 use Rattle.run_minutes.specs.declared.keeper.Moment.{Moment}
 use Rattle.run_acts.specs.declared.run.Run.{Run}
 use Rattle.run_acts.specs.Acting.{IsSettled}

@@ -1,13 +1,14 @@
 -- Which events the unit notes of a card that enters (Annex IB, section III.12).
 use Rattle.std.specs.Prelude.{ℕ, ◌^◌, ◌<◌, List, [], ◌∷◌, ◌++◌, nat_eq, nat_lt, if◌then◌else◌}
 use Rattle.trace_model.specs.declared.Card.{Card}
-use Rattle.event_model.specs.declared.kinds.TheConstants.{CARD_NOT_VALID, TIME_OVERLAP, INSERTION_WHILE_DRIVING}
-use Rattle.event_model.specs.declared.kinds.TheConstants.{SESSION_NOT_CLOSED, CARD_FAULT}
-use Rattle.event_model.specs.Events.{Event, Crew, noted_with}
+use Rattle.device_calls.specs.event_model.declared.kinds.TheConstants.{CARD_NOT_VALID, TIME_OVERLAP}
+use Rattle.device_calls.specs.event_model.declared.kinds.TheConstants.{INSERTION_WHILE_DRIVING}
+use Rattle.device_calls.specs.event_model.declared.kinds.TheConstants.{SESSION_NOT_CLOSED, CARD_FAULT}
+use Rattle.device_calls.specs.event_model.Events.{Event, Crew, noted_with}
 pub use Rattle.run_acts.specs.NotedEvents.{NoteTellsEvent}
-use Rattle.run_crew.specs.declared.cabin.Cabin.{Cabin}
-use Rattle.run_crew.specs.Cabin.{torn_out, crew_of}
-use Rattle.run_events.specs.Entries.{IsCrewOf}
+use Rattle.run_acts.specs.run_crew.declared.cabin.Cabin.{Cabin}
+use Rattle.run_acts.specs.run_crew.Cabin.{torn_out, crew_of}
+use Rattle.run_acts.specs.run_events.Entries.{IsCrewOf}
 use Rattle.run_insertion.specs.declared.lines.Entering.{Entering}
 use Rattle.run_insertion.specs.Entering.{Ending, Unfit, Ahead, Fell, Unasked, Unnoted, Seated, Lost, seated}
 use Rattle.run_insertion.specs.Noted.{UnitNote, Inserts, BeginsRow, Tells}

@@ -1,14 +1,14 @@
 -- The items of a trace as they come, and how a run goes on by them (profile).
 use Rattle.std.specs.Prelude.{◌≡◌, ◌⊎◌, ℕ, ◌+◌, ◌≤◌, Bool, true, false, Result, IfErr, OnOk, [], length}
 use Rattle.tach_media.specs.Medium.{State, HasBroken}
-use Rattle.card_layout.specs.declared.command.CardState.{CardState}
+use Rattle.tach_media.specs.card_layout.declared.command.CardState.{CardState}
 use Rattle.trace_model.specs.declared.Item.{Item}
 use Rattle.trace_model.specs.declared.Item.TheVariants.{Run as Driven, Off, Act}
-use Rattle.unit_model.specs.Image.{IsUnit}
+use Rattle.unit_minutes.specs.unit_model.Image.{IsUnit}
 use Rattle.run_opening.specs.declared.fault.RunFault.{RunFault}
 use Rattle.log_model.specs.Causes.{cuts, tears}
-use Rattle.safety_model.specs.Safe.{Devices}
-use Rattle.run_promise.specs.Between.{devices}
+use Rattle.device_calls.specs.safety_model.Safe.{Devices}
+use Rattle.run_minutes.specs.run_promise.Between.{devices}
 use Rattle.run_opening.specs.Opening.{IsRefused, IsAsItWas}
 use Rattle.run_outcome.specs.declared.outcome.Outcome.{Outcome}
 use Rattle.run_acts.specs.declared.run.Run.{Run}

@@ -7,15 +7,15 @@ use Rattle.trace_model.specs.Trace.{TraceSecond}
 use Rattle.log_model.specs.Log.{RunLog, In, found_in}
 use Rattle.log_model.specs.Slots.{other_slot}
 use Rattle.log_model.specs.Course.{Visit, went}
-use Rattle.safety_model.specs.Safe.{Devices}
-use Rattle.run_course.specs.Reached.{moved_at}
+use Rattle.device_calls.specs.safety_model.Safe.{Devices}
+use Rattle.run_acts.specs.run_course.Reached.{moved_at}
 use Rattle.run_minutes.specs.declared.keeper.Moment.{Moment}
 use Rattle.run_minutes.specs.Books.{HaveTime}
 use Rattle.run_outcome.specs.declared.outcome.Outcome.{Outcome}
-use Rattle.run_promise.specs.Origin.{Origin}
-use Rattle.run_record.specs.Judging.{IsNext}
-use Rattle.run_record.specs.Within.{Beginning}
-use Rattle.run_note_record.specs.EventsSoFar.{EventedNow, AreBare, ComesInTurn, puts_into, stage_in}
+use Rattle.run_minutes.specs.run_promise.Origin.{Origin}
+use Rattle.run_acts.specs.run_record.Judging.{IsNext}
+use Rattle.run_acts.specs.run_record.Within.{Beginning}
+use Rattle.run_acts.specs.run_note_record.EventsSoFar.{EventedNow, AreBare, ComesInTurn, puts_into, stage_in}
 use Rattle.run_acts.specs.declared.run.Run.{Run}
 use Rattle.run_acts.specs.Recording.{log_of, values_of, RunWithin, GoesOnOrCut}
 use Rattle.run_acts.specs.Evented.{EventsGoOn}

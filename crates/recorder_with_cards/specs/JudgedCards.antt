@@ -4,24 +4,24 @@ use Rattle.std.specs.Prelude.{if◌then◌else◌}
 use Rattle.activity_codec.specs.declared.values.Slot.{Slot}
 use Rattle.trace_model.specs.declared.Card.{Card}
 use Rattle.trace_model.specs.Trace.{TraceSecond}
-use Rattle.card_image.specs.Own.{IsOwnValid}
-use Rattle.card_files.specs.declared.current_use.CurrentUse.{CurrentUse}
-use Rattle.event_model.specs.declared.kinds.TheConstants.{INSERTION_WHILE_DRIVING, SESSION_NOT_CLOSED}
+use Rattle.device_calls.specs.card_image.Own.{IsOwnValid}
+use Rattle.device_calls.specs.card_files.declared.current_use.CurrentUse.{CurrentUse}
+use Rattle.device_calls.specs.event_model.declared.kinds.TheConstants.{INSERTION_WHILE_DRIVING, SESSION_NOT_CLOSED}
 use Rattle.log_model.specs.declared.lines.Verdict.{Verdict}
 use Rattle.log_model.specs.Log.{RunLog, In, cut_in, is_torn_in, found_in}
 use Rattle.log_model.specs.Slots.{same_card, other_slot}
 use Rattle.log_model.specs.Course.{Visit}
-use Rattle.safety_model.specs.Recording.{card_image}
-use Rattle.safety_model.specs.Safe.{Devices, card_of}
-use Rattle.run_promise.specs.Origin.{Origin}
-use Rattle.run_promise.specs.Beside.{HaveLeftMore}
-use Rattle.run_promise.specs.Whole.{NothingFailed}
+use Rattle.device_calls.specs.safety_model.Recording.{card_image}
+use Rattle.device_calls.specs.safety_model.Safe.{Devices, card_of}
+use Rattle.run_minutes.specs.run_promise.Origin.{Origin}
+use Rattle.run_minutes.specs.run_promise.Beside.{HaveLeftMore}
+use Rattle.run_minutes.specs.run_promise.Whole.{NothingFailed}
 use Rattle.run_minutes.specs.declared.keeper.Moment.{Moment}
 use Rattle.run_minutes.specs.Books.{HaveTime}
 use Rattle.run_outcome.specs.declared.outcome.Outcome.{Outcome}
-use Rattle.run_note_record.specs.Evented.{images_in}
-use Rattle.run_note_record.specs.Uses.{notes_now, uses_in}
-use Rattle.run_rings.specs.Notes.{TellSameTo}
+use Rattle.run_acts.specs.run_note_record.Evented.{images_in}
+use Rattle.run_acts.specs.run_note_record.Uses.{notes_now, uses_in}
+use Rattle.run_acts.specs.run_rings.Notes.{TellSameTo}
 use Rattle.run_acts.specs.declared.run.Run.{Run}
 use Rattle.run_acts.specs.Recording.{log_of}
 use Rattle.run_acts.specs.OnCards.{accepts, judging, ComesTo, StillShows, AreUses}

@@ -6,8 +6,8 @@ use Rattle.std.specs.List.{AllByRecursion}
 use Rattle.activity_codec.specs.declared.values.Slot.{Slot}
 use Rattle.trace_model.specs.declared.Card.{Card}
 use Rattle.trace_model.specs.Trace.{TraceSecond}
-use Rattle.minute_model.specs.Span.{travelled_of}
-use Rattle.message_model.specs.Records.{insertion_ring}
+use Rattle.minute_rules.specs.minute_model.Span.{travelled_of}
+use Rattle.run_acts.specs.message_model.Records.{insertion_ring}
 use Rattle.log_model.specs.declared.lines.Verdict.{Verdict}
 use Rattle.log_model.specs.declared.lines.Break.{Break}
 use Rattle.log_model.specs.declared.lines.Find.{Find}
@@ -15,18 +15,19 @@ use Rattle.log_model.specs.Causes.{second_of}
 use Rattle.log_model.specs.Log.{RunLog, In, cut_in, found_in, is_accepting}
 use Rattle.log_model.specs.Slots.{same_card, other_slot}
 use Rattle.log_model.specs.Course.{Visit}
-use Rattle.note_model.specs.Odometer.{SpanFrom, odometer_at}
-use Rattle.note_model.specs.Noted.{Acceptance}
-use Rattle.safety_model.specs.Safe.{Devices}
-use Rattle.run_rings.specs.Notes.{TellSameTo}
+use Rattle.device_calls.specs.note_model.Odometer.{SpanFrom, odometer_at}
+use Rattle.device_calls.specs.note_model.Noted.{Acceptance}
+use Rattle.device_calls.specs.safety_model.Safe.{Devices}
+use Rattle.run_acts.specs.run_rings.Notes.{TellSameTo}
 use Rattle.run_outcome.specs.declared.outcome.Outcome.{Outcome}
-use Rattle.run_promise.specs.Origin.{Origin}
-use Rattle.run_promise.specs.Beside.{HaveLeftMore}
-use Rattle.run_note_record.specs.Ringed.{Seating, one_behind, StaysInRings, WritesRing, IsInsertionIn, IsAddedAt}
-use Rattle.run_note_record.specs.Ringed.{MayBeAdded, Since, since_in}
-use Rattle.run_note_record.specs.OnCards.{IsReading, CardsGo}
-use Rattle.run_note_record.specs.Sessions.{FailsIn}
-use Rattle.run_note_record.specs.RingsSoFar.{AreFewer}
+use Rattle.run_minutes.specs.run_promise.Origin.{Origin}
+use Rattle.run_minutes.specs.run_promise.Beside.{HaveLeftMore}
+use Rattle.run_acts.specs.run_note_record.Ringed.{Seating, one_behind, StaysInRings, WritesRing, IsInsertionIn}
+use Rattle.run_acts.specs.run_note_record.Ringed.{IsAddedAt}
+use Rattle.run_acts.specs.run_note_record.Ringed.{MayBeAdded, Since, since_in}
+use Rattle.run_acts.specs.run_note_record.OnCards.{IsReading, CardsGo}
+use Rattle.run_acts.specs.run_note_record.Sessions.{FailsIn}
+use Rattle.run_acts.specs.run_note_record.RingsSoFar.{AreFewer}
 use Rattle.run_minutes.specs.declared.keeper.Moment.{Moment}
 use Rattle.run_minutes.specs.Minutes.{odometer_by}
 use Rattle.run_minutes.specs.Books.{HaveTime}

@@ -1,15 +1,15 @@
 -- What a run tells of what was kept after its cuts (profile).
 use Rattle.std.specs.Prelude.{◌≡◌, ◌⊎◌, ◌<◌, ℕ, true, IfSome, List, [], ◌∷◌, length}
 use Rattle.std.specs.List.{AllByRecursion}
-use Rattle.minute_model.specs.Activity.{last}
+use Rattle.minute_rules.specs.minute_model.Activity.{last}
 use Rattle.tach_media.specs.Medium.{State}
-use Rattle.unit_model.specs.Image.{last_kept}
+use Rattle.unit_minutes.specs.unit_model.Image.{last_kept}
 use Rattle.log_model.specs.Log.{RunLog, kept_after}
 use Rattle.log_model.specs.Course.{ToldSecond}
 use Rattle.log_model.specs.Spans.{spans_of, first_in}
-use Rattle.history_model.specs.History.{cut_second}
-use Rattle.note_model.specs.Done.{has_failed_in}
-use Rattle.safety_model.specs.Recording.{Recording, told_of}
+use Rattle.device_calls.specs.history_model.History.{cut_second}
+use Rattle.device_calls.specs.note_model.Done.{has_failed_in}
+use Rattle.device_calls.specs.safety_model.Recording.{Recording, told_of}
 
 -- an image of the unit has this last-kept minute
 abbrev pub WasKept : (unit : List ℕ → Type 0) → ℕ → Type 0

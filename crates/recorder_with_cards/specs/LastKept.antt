@@ -1,13 +1,13 @@
 -- What the last-kept minute of the unit's images tells (profile).
 use Rattle.std.specs.Prelude.{ℕ, ◌≤◌, List, All, Contains}
-use Rattle.run_model.specs.declared.Device.TheVariants.{Unit as Recorder}
+use Rattle.log_model.specs.run_model.declared.Device.TheVariants.{Unit as Recorder}
 use Rattle.tach_media.specs.Medium.{State}
-use Rattle.unit_model.specs.Days.{ShownDay}
-use Rattle.unit_model.specs.Image.{last_kept}
+use Rattle.unit_minutes.specs.unit_model.Days.{ShownDay}
+use Rattle.unit_minutes.specs.unit_model.Image.{last_kept}
 use Rattle.log_model.specs.declared.lines.Mark.{Mark}
-use Rattle.history_model.specs.Minutes.{HistoryMinute}
-use Rattle.history_model.specs.Book.{IsMark}
-use Rattle.safety_model.specs.Unit.{UnitSafe, marks_of}
+use Rattle.device_calls.specs.history_model.Minutes.{HistoryMinute}
+use Rattle.device_calls.specs.history_model.Book.{IsMark}
+use Rattle.device_calls.specs.safety_model.Unit.{UnitSafe, marks_of}
 
 -- THE LAST-KEPT MINUTE of each image that the unit might have left since a clock is the start's, or that of one of the
 -- minutes which it shows by the crash-safety theorem, and none of these is later; and behind an acknowledgement, which

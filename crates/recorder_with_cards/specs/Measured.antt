@@ -2,13 +2,13 @@
 use Rattle.std.specs.Prelude.{List, ℕ}
 use Rattle.trace_model.specs.declared.Card.{Card}
 use Rattle.tach_media.specs.Medium.{State}
-use Rattle.card_image.specs.Own.{own_sizes, IsOwnValid}
-use Rattle.note_model.specs.Odometer.{SpanFrom, AreSpansFrom}
-use Rattle.unit_model.specs.Image.{last_kept, odometer_at}
-use Rattle.safety_model.specs.Recording.{Recording, card_image, told_of}
-use Rattle.safety_model.specs.Safe.{Devices, card_of}
-use Rattle.run_devices.specs.Measured.{AreMeasured, vehicles_by}
-use Rattle.run_note_record.specs.OnCards.{IsReading}
+use Rattle.device_calls.specs.card_image.Own.{own_sizes, IsOwnValid}
+use Rattle.device_calls.specs.note_model.Odometer.{SpanFrom, AreSpansFrom}
+use Rattle.unit_minutes.specs.unit_model.Image.{last_kept, odometer_at}
+use Rattle.device_calls.specs.safety_model.Recording.{Recording, card_image, told_of}
+use Rattle.device_calls.specs.safety_model.Safe.{Devices, card_of}
+use Rattle.run_minutes.specs.run_devices.Measured.{AreMeasured, vehicles_by}
+use Rattle.run_acts.specs.run_note_record.OnCards.{IsReading}
 
 -- the vehicle entries of an image of a card: the odometer at the begin of each stood so in one of these power spans, or
 -- the entry goes on from one at the start; and the odometer at its end stood so, or is that of the one from which it

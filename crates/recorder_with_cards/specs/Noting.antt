@@ -3,14 +3,14 @@
 use Rattle.std.specs.Prelude.{◌≡◌, ℕ, ◌<◌, Bool, true, false, Option, Some, None, List, [], ◌∷◌, ◌++◌, ◌⊎◌, length}
 use Rattle.activity_codec.specs.declared.values.Slot.{Slot}
 use Rattle.activity_codec.specs.declared.values.Slot.TheVariants.{Driver, CoDriver}
-use Rattle.event_model.specs.Spans.{gap_of}
-use Rattle.card_slots.specs.Calls.{seat_in, card_in}
+use Rattle.device_calls.specs.event_model.Spans.{gap_of}
+use Rattle.run_minutes.specs.card_slots.Calls.{seat_in, card_in}
 use Rattle.unit_minutes.specs.declared.notes.Notes.{Notes}
 use Rattle.trace_model.specs.declared.Card.{Card}
 use Rattle.trace_model.specs.declared.Action.{Action}
 use Rattle.trace_model.specs.declared.Action.TheVariants.{Select, Insert, Withdraw, Tear, Place, Manual}
-use Rattle.unit_notes.specs.declared.unit_event.UnitEvent.{UnitEvent}
-use Rattle.safety_model.specs.Safe.{Devices}
+use Rattle.run_acts.specs.unit_notes.declared.unit_event.UnitEvent.{UnitEvent}
+use Rattle.device_calls.specs.safety_model.Safe.{Devices}
 use Rattle.run_minutes.specs.declared.keeper.Moment.{Moment}
 use Rattle.run_outcome.specs.declared.outcome.Outcome.{Outcome}
 use Rattle.run_insertion.specs.declared.lines.Entering.{Entering}
@@ -19,10 +19,10 @@ use Rattle.run_insertion.specs.Noted.{notes_by}
 use Rattle.recorder_with_cards.specs.EnteredEvents.{events_in}
 use Rattle.run_acts.specs.NotedEvents.{NotesEvents}
 use Rattle.run_acts.specs.declared.run.Run.{Run}
-use Rattle.run_unit_course.specs.Lines.{found_from}
+use Rattle.device_calls.specs.run_unit_course.Lines.{found_from}
 use Rattle.run_outcome.specs.Lines.{cut_at}
 use Rattle.run_minutes.specs.Keeping.{with_lines}
-use Rattle.minute_model.specs.declared.Rule.{Rule}
+use Rattle.minute_rules.specs.minute_model.declared.Rule.{Rule}
 use Rattle.run_acts.specs.Power.{IsSpanBegun, cut_run}
 use Rattle.run_acts.specs.Acting.{now_moment}
 use Rattle.run_acts.specs.Noting.{GapReach, AreGapEvents, NotesPlace, SettlesThese, NotesWithdrawing}

@@ -2,16 +2,16 @@
 use Rattle.std.specs.Prelude.{ℕ, List}
 use Rattle.trace_model.specs.declared.Card.{Card}
 use Rattle.tach_media.specs.Medium.{State}
-use Rattle.gated_ring.specs.Ring.{IsDense}
-use Rattle.card_image.specs.Own.{IsOwnValid}
-use Rattle.note_model.specs.Odometer.{SpanFrom, AreSpansFrom}
-use Rattle.note_model.specs.Noted.{places_of}
-use Rattle.note_model.specs.Rings.{RingShows}
-use Rattle.unit_model.specs.Image.{last_kept, odometer_at}
-use Rattle.safety_model.specs.Recording.{Recording, card_image, told_of}
-use Rattle.safety_model.specs.Safe.{Devices, card_of}
-use Rattle.safety_model.specs.Side.{notes_in}
-use Rattle.run_note_record.specs.OnCards.{places_in, places_on, IsPlaceOn, is_sure_on}
+use Rattle.unit_minutes.specs.gated_ring.Ring.{IsDense}
+use Rattle.device_calls.specs.card_image.Own.{IsOwnValid}
+use Rattle.device_calls.specs.note_model.Odometer.{SpanFrom, AreSpansFrom}
+use Rattle.device_calls.specs.note_model.Noted.{places_of}
+use Rattle.device_calls.specs.note_model.Rings.{RingShows}
+use Rattle.unit_minutes.specs.unit_model.Image.{last_kept, odometer_at}
+use Rattle.device_calls.specs.safety_model.Recording.{Recording, card_image, told_of}
+use Rattle.device_calls.specs.safety_model.Safe.{Devices, card_of}
+use Rattle.device_calls.specs.safety_model.Side.{notes_in}
+use Rattle.run_acts.specs.run_note_record.OnCards.{places_in, places_on, IsPlaceOn, is_sure_on}
 
 -- an image of a card shows the places that this card entered, behind those at the start, in their order; and its ring
 -- is dense, where it was so at the start

@@ -5,8 +5,8 @@ use Rattle.trace_model.specs.declared.Action.{Action}
 use Rattle.trace_model.specs.declared.Item.{Item}
 use Rattle.trace_model.specs.declared.Item.TheVariants.{Run as Driven, Off, Act}
 use Rattle.trace_model.specs.Trace.{TraceSecond, driven, seconds_at}
-use Rattle.safety_model.specs.Safe.{Devices}
-use Rattle.run_promise.specs.Origin.{Origin}
+use Rattle.device_calls.specs.safety_model.Safe.{Devices}
+use Rattle.run_minutes.specs.run_promise.Origin.{Origin}
 use Rattle.run_minutes.specs.Books.{HaveTime}
 use Rattle.run_opening.specs.declared.fault.RunFault.{RunFault}
 use Rattle.run_outcome.specs.declared.outcome.Outcome.{Outcome}

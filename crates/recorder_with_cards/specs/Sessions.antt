@@ -2,11 +2,11 @@
 use Rattle.std.specs.Prelude.{List, ℕ}
 use Rattle.trace_model.specs.declared.Card.{Card}
 use Rattle.tach_media.specs.Medium.{State}
-use Rattle.card_image.specs.Own.{IsOwnValid}
-use Rattle.safety_model.specs.Recording.{Recording, card_image}
-use Rattle.safety_model.specs.Safe.{Devices, card_of}
-use Rattle.safety_model.specs.Side.{notes_in}
-use Rattle.run_note_record.specs.Sessions.{MayTell, session_told}
+use Rattle.device_calls.specs.card_image.Own.{IsOwnValid}
+use Rattle.device_calls.specs.safety_model.Recording.{Recording, card_image}
+use Rattle.device_calls.specs.safety_model.Safe.{Devices, card_of}
+use Rattle.device_calls.specs.safety_model.Side.{notes_in}
+use Rattle.run_acts.specs.run_note_record.Sessions.{MayTell, session_told}
 
 -- an image of a card tells of no session, or of one that may be open behind what the run has noted: that of its image
 -- at the start, or of one of its acceptances, since it was last withdrawn in a second in which no call on the unit

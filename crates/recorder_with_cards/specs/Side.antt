@@ -1,18 +1,18 @@
 -- THE AUXILIARY RECORDS of a run with cards (profile): what every image that a stop may leave of the unit shows beside
 -- the minutes.
 use Rattle.std.specs.Prelude.{List, ℕ}
-use Rattle.unit_model.specs.Image.{last_kept, odometer_at}
-use Rattle.message_model.specs.Records.{insertion_ring, unit_place_ring}
-use Rattle.note_model.specs.Noted.{insertions_of, places_of}
-use Rattle.note_model.specs.Odometer.{SpanFrom, AreSpansFrom, MayStore}
-use Rattle.note_model.specs.Rings.{RingShows, IsPlace, is_sure_insertion, is_sure_place}
-use Rattle.safety_model.specs.Recording.{Recording, told_of}
-use Rattle.safety_model.specs.Safe.{Devices}
-use Rattle.safety_model.specs.Side.{holder_of, notes_in}
-use Rattle.run_note_record.specs.Evented.{ShowsEventsOf}
-pub use Rattle.run_note_record.specs.Opened.{HasComeBefore}
-use Rattle.run_note_record.specs.Ringed.{IsInsertionOf}
-pub use Rattle.run_note_record.specs.Ringed.{TellsAtStart}
+use Rattle.unit_minutes.specs.unit_model.Image.{last_kept, odometer_at}
+use Rattle.run_acts.specs.message_model.Records.{insertion_ring, unit_place_ring}
+use Rattle.device_calls.specs.note_model.Noted.{insertions_of, places_of}
+use Rattle.device_calls.specs.note_model.Odometer.{SpanFrom, AreSpansFrom, MayStore}
+use Rattle.device_calls.specs.note_model.Rings.{RingShows, IsPlace, is_sure_insertion, is_sure_place}
+use Rattle.device_calls.specs.safety_model.Recording.{Recording, told_of}
+use Rattle.device_calls.specs.safety_model.Safe.{Devices}
+use Rattle.device_calls.specs.safety_model.Side.{holder_of, notes_in}
+use Rattle.run_acts.specs.run_note_record.Evented.{ShowsEventsOf}
+pub use Rattle.run_acts.specs.run_note_record.Opened.{HasComeBefore}
+use Rattle.run_acts.specs.run_note_record.Ringed.{IsInsertionOf}
+pub use Rattle.run_acts.specs.run_note_record.Ringed.{TellsAtStart}
 
 -- an image of the unit shows the run's auxiliary records
 pub record ShowsSide (r : Recording) (began now : Devices) (x : List ℕ) : Type 0 where

@@ -10,17 +10,17 @@ use Rattle.trace_model.specs.declared.Card.TheVariants.{A, B}
 use Rattle.tach_media.specs.Medium.{last_count}
 use Rattle.log_model.specs.declared.lines.Mark.{Mark}
 use Rattle.log_model.specs.Causes.{cuts, tears, device_of}
-use Rattle.history_model.specs.Completeness.{IsMarked}
-use Rattle.card_image.specs.Own.{own_sizes, IsOwnValid}
-use Rattle.note_model.specs.Done.{done_of}
-use Rattle.note_model.specs.Noted.{notes_of}
-use Rattle.safety_model.specs.Recording.{Recording, card_image, brought, start_of}
-use Rattle.safety_model.specs.Safe.{Devices, card_of, breakdowns_of}
-use Rattle.device_rule.specs.Views.{other}
-use Rattle.run_promise.specs.Whole.{NothingFailed, IsUntorn}
-use Rattle.run_note_record.specs.Uses.{vehicle_of}
-use Rattle.unit_model.specs.Image.{odometer_at}
-use Rattle.card_session.specs.declared.session.Kept.{Kept}
+use Rattle.device_calls.specs.history_model.Completeness.{IsMarked}
+use Rattle.device_calls.specs.card_image.Own.{own_sizes, IsOwnValid}
+use Rattle.device_calls.specs.note_model.Done.{done_of}
+use Rattle.device_calls.specs.note_model.Noted.{notes_of}
+use Rattle.device_calls.specs.safety_model.Recording.{Recording, card_image, brought, start_of}
+use Rattle.device_calls.specs.safety_model.Safe.{Devices, card_of, breakdowns_of}
+use Rattle.device_calls.specs.device_rule.Views.{other}
+use Rattle.run_minutes.specs.run_promise.Whole.{NothingFailed, IsUntorn}
+use Rattle.run_acts.specs.run_note_record.Uses.{vehicle_of}
+use Rattle.unit_minutes.specs.unit_model.Image.{odometer_at}
+use Rattle.device_calls.specs.card_session.declared.session.Kept.{Kept}
 use Rattle.run_acts.specs.Closings.{spells_of}
 use Rattle.run_acts.specs.Truths.{past_of, IsOdometerBefore, IsOdometerBehind, IsWordIn, IsLineOf}
 use Rattle.run_acts.specs.Stays.{Stay, TellsBefores, acceptances_told, spells, AreMerged, ShowsStays}

@@ -3,14 +3,14 @@
 use Rattle.std.specs.Prelude.{List, ℕ}
 use Rattle.trace_model.specs.declared.Card.{Card}
 use Rattle.tach_media.specs.Medium.{State}
-use Rattle.gated_ring.specs.Ring.{Shape, IsDense}
-use Rattle.message_model.specs.Records.{insertion_ring, unit_place_ring}
-use Rattle.card_image.specs.Own.{own_sizes, IsOwnValid}
-use Rattle.safety_model.specs.Recording.{Recording, card_image}
-use Rattle.safety_model.specs.Safe.{Devices, card_of}
-use Rattle.run_promise.specs.Found.{registration_of}
-use Rattle.run_devices.specs.Strung.{HasSameHolder}
-use Rattle.run_devices.specs.Registered.{TellsOfTwo}
+use Rattle.unit_minutes.specs.gated_ring.Ring.{Shape, IsDense}
+use Rattle.run_acts.specs.message_model.Records.{insertion_ring, unit_place_ring}
+use Rattle.device_calls.specs.card_image.Own.{own_sizes, IsOwnValid}
+use Rattle.device_calls.specs.safety_model.Recording.{Recording, card_image}
+use Rattle.device_calls.specs.safety_model.Safe.{Devices, card_of}
+use Rattle.run_minutes.specs.run_promise.Found.{registration_of}
+use Rattle.run_minutes.specs.run_devices.Strung.{HasSameHolder}
+use Rattle.run_minutes.specs.run_devices.Registered.{TellsOfTwo}
 
 -- a ring that was dense at the start is dense in each image of the unit that a stop may leave
 abbrev pub StaysDense : Shape → (start : List ℕ) → (now : Devices) → Type 0

@@ -1,17 +1,17 @@
 -- What is there after a run in which no failed call cut the power: every minute, and every whole kilometre (profile).
 use Rattle.std.specs.Prelude.{◌≡◌, ◌⊎◌, ℕ, ◌+◌, ◌/◌, ◌≤◌, min, List, [], ◌∷◌, ◌++◌, Contains}
-use Rattle.minute_model.specs.declared.Rule.{Rule}
-use Rattle.minute_model.specs.declared.Minute.{Minute}
+use Rattle.minute_rules.specs.minute_model.declared.Rule.{Rule}
+use Rattle.minute_rules.specs.minute_model.declared.Minute.{Minute}
 use Rattle.log_model.specs.Course.{ToldSecond}
 use Rattle.log_model.specs.Spans.{spans_of}
-use Rattle.unit_model.specs.declared.layout.TheConstants.{HIGHEST_ODOMETER}
-use Rattle.history_model.specs.History.{decided_of}
-use Rattle.unit_model.specs.Image.{odometer_at}
+use Rattle.unit_minutes.specs.unit_model.declared.layout.TheConstants.{HIGHEST_ODOMETER}
+use Rattle.device_calls.specs.history_model.History.{decided_of}
+use Rattle.unit_minutes.specs.unit_model.Image.{odometer_at}
 use Rattle.unit_minutes.specs.DayOdometers.{RecordsDay}
-use Rattle.run_unit_course.specs.Legs.{kilometres_of, whole_legs}
-use Rattle.safety_model.specs.Recording.{Recording, told_of}
-use Rattle.safety_model.specs.Safe.{Devices}
-use Rattle.run_promise.specs.Whole.{IsWhole}
+use Rattle.device_calls.specs.run_unit_course.Legs.{kilometres_of, whole_legs}
+use Rattle.device_calls.specs.safety_model.Recording.{Recording, told_of}
+use Rattle.device_calls.specs.safety_model.Safe.{Devices}
+use Rattle.run_minutes.specs.run_promise.Whole.{IsWhole}
 
 -- an image's odometer is that of the start and the whole kilometres of each time with power, up to the last minute that
 -- it decided

@@ -5,30 +5,30 @@ use Rattle.trace_model.specs.declared.Card.{Card}
 use Rattle.trace_model.specs.Trace.{TraceSecond}
 use Rattle.log_model.specs.Log.{RunLog, In}
 use Rattle.log_model.specs.Course.{ToldSecond}
-use Rattle.note_model.specs.Odometer.{SpanFrom}
-use Rattle.run_unit_course.specs.Lines.{cut_at}
-use Rattle.run_unit_course.specs.Followed.{UnitPower, Lost, MayPower}
-use Rattle.safety_model.specs.Safe.{Devices}
-use Rattle.run_course.specs.Moments.{and_break}
+use Rattle.device_calls.specs.note_model.Odometer.{SpanFrom}
+use Rattle.device_calls.specs.run_unit_course.Lines.{cut_at}
+use Rattle.device_calls.specs.run_unit_course.Followed.{UnitPower, Lost, MayPower}
+use Rattle.device_calls.specs.safety_model.Safe.{Devices}
+use Rattle.run_acts.specs.run_course.Moments.{and_break}
 use Rattle.run_minutes.specs.Books.{HaveTime}
 use Rattle.run_opening.specs.declared.fault.RunFault.{RunFault}
 use Rattle.run_outcome.specs.declared.outcome.Outcome.{Outcome}
-use Rattle.run_promise.specs.Origin.{Origin}
-use Rattle.run_record.specs.Recorded.{Values, RecordBetweenSeconds}
-use Rattle.run_record.specs.Powering.{read_values}
-use Rattle.run_note_record.specs.Evented.{limit_in, Evented}
-use Rattle.run_note_record.specs.Noting.{Acting}
+use Rattle.run_minutes.specs.run_promise.Origin.{Origin}
+use Rattle.run_acts.specs.run_record.Recorded.{Values, RecordBetweenSeconds}
+use Rattle.run_acts.specs.run_record.Powering.{read_values}
+use Rattle.run_acts.specs.run_note_record.Evented.{limit_in, Evented}
+use Rattle.run_acts.specs.run_note_record.Noting.{Acting}
 use Rattle.run_acts.specs.declared.run.Run.{Run}
 use Rattle.run_acts.specs.Power.{has_power}
 use Rattle.run_acts.specs.Recording.{IsOrigin, log_of, values_of, RunRecorded, InSecond, GoesOnOrCut, IsNow}
-use Rattle.run_note_record.specs.Uses.{vehicle_in}
+use Rattle.run_acts.specs.run_note_record.Uses.{vehicle_in}
 use Rattle.run_acts.specs.Evented.{WithinEvented, InSecondEvented, RunEvented}
 use Rattle.run_acts.specs.RunRinged.{RunRinged, RingsWithin, InSecondRinged, with_cut}
-use Rattle.run_note_record.specs.Ringed.{Seating, notes_in}
-use Rattle.run_note_record.specs.RingsSoFar.{RingedBehind}
-use Rattle.run_note_record.specs.Steps.{nobody}
-use Rattle.run_rings.specs.Spans.{with_second}
-use Rattle.run_note_record.specs.Stored.{StoresOn, StoresOff}
+use Rattle.run_acts.specs.run_note_record.Ringed.{Seating, notes_in}
+use Rattle.run_acts.specs.run_note_record.RingsSoFar.{RingedBehind}
+use Rattle.run_acts.specs.run_note_record.Steps.{nobody}
+use Rattle.run_acts.specs.run_rings.Spans.{with_second}
+use Rattle.run_acts.specs.run_note_record.Stored.{StoresOn, StoresOff}
 use Rattle.run_acts.specs.Truths.{truths_of, marked}
 use Rattle.run_acts.specs.Stays.{AllStay}
 

@@ -1,6 +1,6 @@
 -- How many writes some seconds begin at most, and some actions in them (profile).
 use Rattle.std.specs.Prelude.{ℕ, ◌+◌, ◌*◌}
-use Rattle.safety_model.specs.Safe.{Devices}
+use Rattle.device_calls.specs.safety_model.Safe.{Devices}
 use Rattle.run_minutes.specs.Writes.{WroteAtMost}
 
 -- A SECOND begins at most so many writes on the unit, its power-on with them, and so many on each card; and AN ACTION

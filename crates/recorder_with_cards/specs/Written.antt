@@ -2,11 +2,11 @@
 -- entries.
 use Rattle.std.specs.Prelude.{ℕ, ◌++◌, List}
 use Rattle.trace_model.specs.declared.Card.{Card}
-use Rattle.card_image.specs.Own.{own_sizes, IsOwnValid}
-use Rattle.card_string.specs.Deeds.{IsMade}
-use Rattle.safety_model.specs.Recording.{Recording, card_image}
-use Rattle.safety_model.specs.Cards.{CardShows}
-use Rattle.safety_model.specs.Safe.{Devices, card_of}
+use Rattle.device_calls.specs.card_image.Own.{own_sizes, IsOwnValid}
+use Rattle.device_calls.specs.card_string.Deeds.{IsMade}
+use Rattle.device_calls.specs.safety_model.Recording.{Recording, card_image}
+use Rattle.device_calls.specs.safety_model.Cards.{CardShows}
+use Rattle.device_calls.specs.safety_model.Safe.{Devices, card_of}
 
 -- AN IMAGE OF A CARD shows its entries at the start and some of the others that are expected, from their front; and its
 -- days, with their words and distances, and its vehicle entries are those that the keeps of just these others, one

@@ -1,12 +1,12 @@
 //! A card that sits in a slot, not accepted, is accepted or turned away.
 ghost use Rattle.std.specs.Prelude.{◌≡◌, ◌/◌, ◌<◌, ◌^◌, None, OnOk, is_err};
 ghost use Rattle.tach_media.specs.Medium.{HasCause};
-ghost use Rattle.card_slots.specs.Calls.{seat_in, card_in};
+ghost use Rattle.run_minutes.specs.card_slots.Calls.{seat_in, card_in};
 ghost use Rattle.run_acts.specs.Going.{CanBeCut, RunHasPowerAllSeated, IsActing};
 ghost use Rattle.run_acts.specs.Room.{bare_count, Takes};
 ghost use Rattle.recorder_with_cards.specs.Accepting.{chip_a_of, chip_b_of, a_of, b_of};
-ghost use Rattle.run_promise.specs.Between.{devices};
-ghost use Rattle.run_devices.specs.Told.{arranged};
+ghost use Rattle.run_minutes.specs.run_promise.Between.{devices};
+ghost use Rattle.run_minutes.specs.run_devices.Told.{arranged};
 ghost use Rattle.run_acts.specs.Acts.{RunStandsBehind};
 ghost use Rattle.recorder_with_cards.specs.Acts.{AcceptsAnew, AcceptsHere, AcceptsIn, CardGoes, DevicesGo};
 ghost use Rattle.recorder_with_cards.specs.Acts.{LeavesAccepted, LeavesAnew, LeavesHere, PromisesAccepting};

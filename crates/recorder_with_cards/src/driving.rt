@@ -1,6 +1,6 @@
 //! Seconds at one speed.
 ghost use Rattle.std.specs.Prelude.{ℕ, ◌+◌, ◌-◌, ◌<◌, OnOk};
-ghost use Rattle.run_promise.specs.Between.{devices};
+ghost use Rattle.run_minutes.specs.run_promise.Between.{devices};
 ghost use Rattle.run_acts.specs.Going.{IsBetweenSeconds, IsStretch};
 ghost use Rattle.run_acts.specs.Room.{HasRoom};
 ghost use Rattle.recorder_with_cards.specs.Items.{between, insertions_in};

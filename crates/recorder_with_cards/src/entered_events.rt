@@ -2,11 +2,11 @@ ghost use Rattle.std.specs.Prelude.{◌≡◌, ℕ, ◌^◌, ◌<◌, Some, List
 ghost use Rattle.trace_model.specs.declared.Card.{Card};
 ghost use Rattle.log_model.specs.Course.{Visit};
 ghost use Rattle.log_model.specs.declared.lines.Verdict.TheVariants.{Accepted};
-ghost use Rattle.unit_model.specs.declared.layout.TheConstants.{IMAGE_SIZE};
-ghost use Rattle.event_model.specs.Events.{Event, Crew, Seen, Tearing, number_of, crew_judged};
-ghost use Rattle.run_events.specs.Shown.{by_kind, none_sure, all_sure, ShowsEvents, AreNumbers};
-ghost use Rattle.run_events.specs.Running.{judged_notes};
-ghost use Rattle.run_crew.specs.declared.cabin.Cabin.{Cabin};
+ghost use Rattle.unit_minutes.specs.unit_model.declared.layout.TheConstants.{IMAGE_SIZE};
+ghost use Rattle.device_calls.specs.event_model.Events.{Event, Crew, Seen, Tearing, number_of, crew_judged};
+ghost use Rattle.run_acts.specs.run_events.Shown.{by_kind, none_sure, all_sure, ShowsEvents, AreNumbers};
+ghost use Rattle.run_acts.specs.run_events.Running.{judged_notes};
+ghost use Rattle.run_acts.specs.run_crew.declared.cabin.Cabin.{Cabin};
 ghost use Rattle.run_insertion.specs.declared.lines.Entering.{Entering};
 ghost use Rattle.run_insertion.specs.Entering.{Ending};
 ghost use Rattle.run_insertion.specs.Noted.{AreDone, AreBeingDone, UnitNote, IsOnUnit, IsComing, notes_by};

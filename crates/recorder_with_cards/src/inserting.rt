@@ -2,7 +2,7 @@
 ghost use Rattle.std.specs.Prelude.{is_err};
 ghost use Rattle.run_acts.specs.Going.{IsActing};
 ghost use Rattle.run_acts.specs.Room.{Takes};
-ghost use Rattle.run_promise.specs.Between.{devices};
+ghost use Rattle.run_minutes.specs.run_promise.Between.{devices};
 ghost use Rattle.run_acts.specs.Acts.{RunStandsBehind};
 ghost use Rattle.recorder_with_cards.specs.Acts.{DevicesGo, Inserts, LeavesInserted, PromisesInsertion, MayInsertCard};
 

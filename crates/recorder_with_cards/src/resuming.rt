@@ -1,13 +1,13 @@
 //! Power is back.
 ghost use Rattle.std.specs.Prelude.{◌≡◌, ℕ, ◌+◌, ◌/◌, ◌<◌, ◌≤◌, true, false, IfOk, IsOk, OnOk};
 ghost use Rattle.std.specs.Prelude.{length, is_err};
-ghost use Rattle.unit_model.specs.Image.{IsUnit};
+ghost use Rattle.unit_minutes.specs.unit_model.Image.{IsUnit};
 ghost use Rattle.run_acts.specs.Power.{is_lit, minute_over};
 ghost use Rattle.run_acts.specs.Going.{IsBetweenSeconds, IsInsideSecond};
 ghost use Rattle.run_acts.specs.Room.{HasRoom, HasRoomWithin};
 ghost use Rattle.recorder_with_cards.specs.Waking.{TakesUp, TakesAwake};
 ghost use Rattle.recorder_with_cards.specs.Noting.{NotesWaking, NotesFound, NotesPowerOn};
-ghost use Rattle.run_promise.specs.Between.{devices};
+ghost use Rattle.run_minutes.specs.run_promise.Between.{devices};
 ghost use Rattle.run_acts.specs.Acts.{AllGoOn, RunStandsBehind};
 ghost use Rattle.recorder_with_cards.specs.Acts.{BeginsSecond, BreaksGo, IsWoken, PromisesResuming, PromisesSecond};
 ghost use Rattle.recorder_with_cards.specs.Acts.{PromisesWaking, Resumes, HasRoomFor, IsToldBy, MayWake};

@@ -3,10 +3,10 @@ ghost use Rattle.std.specs.Prelude.{◌≡◌, ℕ, ◌+◌, ◌-◌, ◌<◌, �
 ghost use Rattle.trace_model.specs.Trace.{item_seconds, total_seconds};
 ghost use Rattle.trace_text.specs.Trace.{IsWellFormed};
 ghost use Rattle.trace_text.specs.Line.{InRange};
-ghost use Rattle.card_layout.specs.declared.files.TheConstants.{LARGEST_IMAGE};
-ghost use Rattle.unit_model.specs.Image.{IsUnit};
+ghost use Rattle.tach_media.specs.card_layout.declared.files.TheConstants.{LARGEST_IMAGE};
+ghost use Rattle.unit_minutes.specs.unit_model.Image.{IsUnit};
 ghost use Rattle.run_outcome.specs.Room.{off_count, IsReserved};
-ghost use Rattle.run_promise.specs.Between.{devices};
+ghost use Rattle.run_minutes.specs.run_promise.Between.{devices};
 ghost use Rattle.run_minutes.specs.Books.{HaveTime};
 ghost use Rattle.run_acts.specs.Going.{largest_number, IsBetweenSeconds};
 ghost use Rattle.run_acts.specs.Room.{HasRoom};

@@ -5,14 +5,14 @@ use Rattle.trace_model.specs.declared.Card.{Card}
 use Rattle.tacho_types.specs.declared.numbers.TimeReal.{TimeReal}
 use Rattle.tacho_types.specs.declared.numbers.Odometer.{Odometer}
 use Rattle.tach_media.specs.Medium.{State, IsCoherent, LeavesOnly}
-use Rattle.gated_ring.specs.Ring.{place_of}
-use Rattle.gated_ring.specs.Change.{IsAdding}
-use Rattle.message_model.specs.Records.{insertion_ring, unit_place_ring}
+use Rattle.run_events.specs.gated_ring.Ring.{place_of}
+use Rattle.run_events.specs.gated_ring.Change.{IsAdding}
+use Rattle.run_events.specs.message_model.Records.{insertion_ring, unit_place_ring}
 use Rattle.unit_model.specs.Image.{IsUnit}
 use Rattle.unit_notes.specs.declared.unit_event.UnitEvent.{UnitEvent}
 use Rattle.unit_notes.specs.Noting.{IsWithdrawing}
-use Rattle.safety_model.specs.Safe.{Devices}
-use Rattle.run_promise.specs.Between.{devices}
+use Rattle.device_calls.specs.safety_model.Safe.{Devices}
+use Rattle.run_minutes.specs.run_promise.Between.{devices}
 use Rattle.run_events.specs.Shown.{none_sure, SaysNothing}
 use Rattle.run_events.proofs.Shows.{nothing-more}
 use Rattle.run_events.proofs.Frames.{between-nothing}

@@ -18,32 +18,32 @@ use Rattle.log_model.specs.declared.lines.Find.{Find}
 use Rattle.log_model.specs.declared.lines.Break.{Break}
 use Rattle.log_model.specs.declared.lines.Mark.{Mark}
 use Rattle.log_model.specs.declared.lines.Break.TheVariants.{Cut, Tear}
-use Rattle.run_course.specs.Telling.{IsMore}
-use Rattle.run_unit_course.specs.Lines.{cut_at, with_kept, found_from}
-use Rattle.card_image.specs.Own.{own_sizes, IsOwnValid}
-use Rattle.card_session.specs.declared.session.Kept.{Kept}
-use Rattle.device_rule.specs.Views.{other}
-use Rattle.note_model.specs.Noted.{Note}
-use Rattle.safety_model.specs.Safe.{Devices, card_of, breakdowns_of}
-use Rattle.card_slots.specs.declared.seats.Present.{Present}
+use Rattle.run_events.specs.run_course.Telling.{IsMore}
+use Rattle.device_calls.specs.run_unit_course.Lines.{cut_at, with_kept, found_from}
+use Rattle.hand_model.specs.card_image.Own.{own_sizes, IsOwnValid}
+use Rattle.device_calls.specs.card_session.declared.session.Kept.{Kept}
+use Rattle.device_calls.specs.device_rule.Views.{other}
+use Rattle.unit_notes.specs.note_model.Noted.{Note}
+use Rattle.device_calls.specs.safety_model.Safe.{Devices, card_of, breakdowns_of}
+use Rattle.run_crew.specs.card_slots.declared.seats.Present.{Present}
 use Rattle.run_crew.specs.declared.cards.Accepted.{Accepted}
 use Rattle.run_crew.specs.declared.cards.Cards.{Cards}
 use Rattle.run_crew.specs.declared.cabin.Cabin.{Cabin}
 use Rattle.run_crew.specs.Cards.{session_of, with_session}
-use Rattle.run_promise.specs.Found.{CardFound, found_of}
-use Rattle.run_promise.specs.Between.{devices}
-use Rattle.run_devices.specs.Told.{arranged}
-use Rattle.run_promise.specs.Origin.{Origin}
-use Rattle.run_promise.specs.Whole.{NothingFailed}
+use Rattle.run_minutes.specs.run_promise.Found.{CardFound, found_of}
+use Rattle.run_minutes.specs.run_promise.Between.{devices}
+use Rattle.run_minutes.specs.run_devices.Told.{arranged}
+use Rattle.run_minutes.specs.run_promise.Origin.{Origin}
+use Rattle.run_minutes.specs.run_promise.Whole.{NothingFailed}
 use Rattle.run_minutes.specs.declared.keeper.Keeper.{Keeper}
 use Rattle.run_minutes.specs.declared.keeper.Moment.{Moment}
 use Rattle.run_minutes.specs.Keeping.{Fate, Still, Has, Fell, has_fallen, cabin_by, breaks_by, marks_by, tear_of}
-use Rattle.minute_model.specs.declared.Minute.{Minute}
+use Rattle.unit_model.specs.minute_model.declared.Minute.{Minute}
 use Rattle.run_minutes.specs.Minutes.{KeepingState, Done, Reach, Round, Whole, Short, IsReach, IsLast, told_after, told_by, unit_mark, present_at}
 use Rattle.run_acts.specs.Booked.{IsTurnReach}
 use Rattle.run_acts.proofs.RingedLines.{AreTears, tears-both}
 use Rattle.run_minutes.specs.Deeds.{KeepsOn, AllKeep}
-use Rattle.card_slots.specs.Calls.{Seats, seat_in, card_in}
+use Rattle.run_crew.specs.card_slots.Calls.{Seats, seat_in, card_in}
 use Rattle.run_acts.specs.Closings.{Spell, spells_of, with_last_shut, last_slot}
 use Rattle.run_acts.specs.Comings.{VehicleTold, told_of, TellsMore, TellMore}
 use Rattle.run_acts.proofs.Comings.{tells-none, tells-then}

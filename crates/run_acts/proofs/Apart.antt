@@ -5,9 +5,9 @@ use Rattle.trace_model.specs.declared.Card.{Card}
 use Rattle.trace_model.specs.declared.Card.TheVariants.{A, B}
 use Rattle.tach_media.specs.Medium.{State, LeavesOnly, HasCause, HasBroken, broken_by}
 use Rattle.tach_media.proofs.Breakdowns.{none_broken, call_broken, fewer_broken}
-use Rattle.card_layout.specs.declared.command.CardState.{CardState}
-use Rattle.card_layout.specs.declared.files.Application.{Application}
-use Rattle.card_commands.specs.Ports.{IsPort}
+use Rattle.card_files.specs.card_layout.declared.command.CardState.{CardState}
+use Rattle.card_files.specs.card_layout.declared.files.Application.{Application}
+use Rattle.device_calls.specs.card_commands.Ports.{IsPort}
 use Rattle.device_calls.specs.CardNotes.{IsNote}
 use Rattle.run_crew.specs.declared.cards.Accepted.{Accepted}
 use Rattle.run_crew.specs.declared.cards.Known.{Known}

@@ -5,16 +5,16 @@ use Rattle.activity_codec.specs.declared.values.Slot.TheVariants.{Driver, CoDriv
 use Rattle.trace_model.specs.declared.Action.{Action}
 use Rattle.trace_model.specs.declared.Action.TheVariants.{Withdraw, Tear as Pull}
 use Rattle.trace_model.specs.Trace.{TraceSecond}
-use Rattle.minute_model.specs.declared.Minute.{Minute}
+use Rattle.unit_model.specs.minute_model.declared.Minute.{Minute}
 use Rattle.log_model.specs.Log.{Phase}
 use Rattle.log_model.specs.Slots.{refusal}
 use Rattle.log_model.specs.Course.{Visit}
-use Rattle.safety_model.specs.Safe.{Devices}
-use Rattle.card_slots.specs.declared.seats.Seat.{Seat}
-use Rattle.card_slots.specs.Calls.{Seats, seat_in, card_in, logged}
-use Rattle.card_slots.proofs.Refusing.{refuse-alike}
-use Rattle.run_course.proofs.Presence.{slots-agree}
-use Rattle.run_promise.specs.Origin.{Origin, start_at}
+use Rattle.device_calls.specs.safety_model.Safe.{Devices}
+use Rattle.run_crew.specs.card_slots.declared.seats.Seat.{Seat}
+use Rattle.run_crew.specs.card_slots.Calls.{Seats, seat_in, card_in, logged}
+use Rattle.run_crew.proofs.card_slots.Refusing.{refuse-alike}
+use Rattle.run_events.proofs.run_course.Presence.{slots-agree}
+use Rattle.run_minutes.specs.run_promise.Origin.{Origin, start_at}
 use Rattle.run_record.specs.Recorded.{Values}
 use Rattle.run_record.specs.Within.{told_before, course_in, RecordInSecond}
 

@@ -1,14 +1,14 @@
 -- What is told of events and rings does not hang on a block of detailed speed that is added.
 use Rattle.std.proofs.Common.{◌∙◌, inl, inr, ℕ, Option, None, Some, List, [], ◌∷◌, refl, sym, subst, arith}
-use Rattle.card_layout.specs.Images.{SameOutside}
-use Rattle.card_layout.proofs.Spelled.{number_before}
-use Rattle.gated_ring.proofs.Elsewhere.{ring_outside}
-use Rattle.message_model.specs.Records.{insertion_ring, unit_place_ring}
+use Rattle.card_files.specs.card_layout.Images.{SameOutside}
+use Rattle.card_files.proofs.card_layout.Spelled.{number_before}
+use Rattle.run_events.proofs.gated_ring.Elsewhere.{ring_outside}
+use Rattle.run_events.specs.message_model.Records.{insertion_ring, unit_place_ring}
 use Rattle.unit_notes.proofs.Types.{table_inside}
 use Rattle.unit_notes.specs.declared.unit_event.UnitEvent.{UnitEvent}
-use Rattle.unit_events.proofs.EventFrames.{table-apart}
-use Rattle.run_rings.proofs.Same.{same-rings, then-same}
-use Rattle.speed_model.specs.declared.block.Block.{Block}
+use Rattle.run_events.proofs.unit_events.EventFrames.{table-apart}
+use Rattle.run_events.proofs.run_rings.Same.{same-rings, then-same}
+use Rattle.run_events.specs.speed_model.declared.block.Block.{Block}
 use Rattle.run_events.specs.Blocks.{IsBlockPut, IsPuttingBlock}
 use Rattle.run_minutes.specs.Faults.{SaysTheSame, TellsFaults}
 

@@ -8,13 +8,13 @@ use Rattle.activity_codec.specs.declared.entries.Manual.{Manual}
 use Rattle.trace_model.specs.declared.Card.{Card}
 use Rattle.trace_model.specs.declared.Card.TheVariants.{A, B}
 use Rattle.tach_media.specs.Medium.{State}
-use Rattle.card_layout.specs.declared.command.CardState.{CardState}
+use Rattle.card_files.specs.card_layout.declared.command.CardState.{CardState}
 use Rattle.hand_model.specs.declared.held.EnterFault.{EnterFault}
 use Rattle.hand_model.specs.declared.held.EnterFault.TheVariants.{Full, NotFree}
 use Rattle.hand_model.specs.Holding.{LieBetween, later, last_minute, stopped_by}
-use Rattle.minute_model.specs.Span.{ungiven_of}
-use Rattle.card_slots.specs.declared.seats.Seat.{Seat}
-use Rattle.card_slots.specs.declared.seats.Ended.{Ended}
+use Rattle.unit_model.specs.minute_model.Span.{ungiven_of}
+use Rattle.run_crew.specs.card_slots.declared.seats.Seat.{Seat}
+use Rattle.run_crew.specs.card_slots.declared.seats.Ended.{Ended}
 use Rattle.run_crew.specs.declared.cards.Accepted.{Accepted}
 use Rattle.run_crew.specs.declared.cards.Known.{Known}
 use Rattle.run_crew.specs.declared.cards.Cards.{Cards}

@@ -13,8 +13,8 @@ use Rattle.log_model.specs.declared.lines.Verdict.{Verdict}
 use Rattle.log_model.specs.Log.{RunLog, Phase, In, cut_in, is_torn_in, found_in, is_accepting}
 use Rattle.log_model.specs.Slots.{Slots, Sitting, in_slot, refusal}
 use Rattle.log_model.specs.Course.{Course, Visit, Before, Moved, card_in, visits, leaves, with_slot, carried_out, answered, unmoved, moved_by, fresh, slot_told, both_told, begins, is_settling, acted, all_acted}
-use Rattle.note_model.specs.Done.{course_powered}
-use Rattle.run_rings.specs.Notes.{TellSameTo, course_behind}
+use Rattle.unit_notes.specs.note_model.Done.{course_powered}
+use Rattle.run_events.specs.run_rings.Notes.{TellSameTo, course_behind}
 
 abbrev pub Finding : Type 0
 Finding = Visit × Verdict

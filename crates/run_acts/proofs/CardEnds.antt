@@ -13,19 +13,19 @@ use Rattle.log_model.specs.Causes.{second_of}
 use Rattle.log_model.specs.Log.{RunLog, In, Keeping, cut_in, found_in, kept_after, is_accepting}
 use Rattle.log_model.specs.Slots.{same_card}
 use Rattle.log_model.specs.Course.{Course, Visit, Before, ToldSecond, Went, begins, both_told, unmoved, fresh, all_acted, cut_told, lit_course, second_told, has_power, went}
-use Rattle.event_model.specs.Events.{Event, Seen, number_of, seen_of, seen_spans, last_number, first_card}
-use Rattle.note_model.specs.Done.{course_powered, done_by}
-use Rattle.note_model.specs.Noted.{Note, noted_in}
-use Rattle.safety_model.specs.Safe.{Devices}
-use Rattle.run_course.proofs.Told.{lit-told, dark-told}
+use Rattle.unit_notes.specs.event_model.Events.{Event, Seen, number_of, seen_of, seen_spans, last_number, first_card}
+use Rattle.unit_notes.specs.note_model.Done.{course_powered, done_by}
+use Rattle.unit_notes.specs.note_model.Noted.{Note, noted_in}
+use Rattle.device_calls.specs.safety_model.Safe.{Devices}
+use Rattle.run_events.proofs.run_course.Told.{lit-told, dark-told}
 use Rattle.run_events.specs.Seconds.{gap_by, gap_before, seen_next}
 use Rattle.run_events.specs.Choice.{AreEarlier}
 use Rattle.run_events.proofs.Later.{told-number, seen-same}
 use Rattle.run_note_record.proofs.Brought.{lit-course, told-speed}
-use Rattle.run_rings.specs.Notes.{notes_to, TellSameTo, course_behind, sits_accepted}
-use Rattle.run_rings.proofs.Actions.{power-notes}
-use Rattle.run_promise.specs.Origin.{Origin}
-use Rattle.run_promise.specs.Beside.{HaveLeftMore}
+use Rattle.run_events.specs.run_rings.Notes.{notes_to, TellSameTo, course_behind, sits_accepted}
+use Rattle.run_events.proofs.run_rings.Actions.{power-notes}
+use Rattle.run_minutes.specs.run_promise.Origin.{Origin}
+use Rattle.run_minutes.specs.run_promise.Beside.{HaveLeftMore}
 use Rattle.run_note_record.specs.Uses.{notes_in, noted_next, notes_now, uses_in}
 use Rattle.run_note_record.proofs.Noted.{second-notes}
 use Rattle.run_note_record.proofs.Exact.{fewer-none, next-notes, idle-notes, dark-notes}

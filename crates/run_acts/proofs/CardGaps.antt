@@ -19,18 +19,18 @@ use Rattle.log_model.specs.Log.{RunLog, Phase, In, Keeping, same_phase, cut_in, 
 use Rattle.log_model.specs.Slots.{Sitting, same_card, in_slot, refusal}
 use Rattle.log_model.specs.Course.{Course, Visit, Before, Moved, card_in, visits, both_told, unmoved, all_acted, acted, answered, moved_by, begins, is_settling, cut_told, lit_course, slot_told, second_told, has_power, dark_course, ToldSecond, not_begun}
 use Rattle.log_model.specs.declared.lines.SlotFault.{SlotFault}
-use Rattle.event_model.specs.declared.entries.Span.{Span}
-use Rattle.event_model.specs.declared.kinds.TheConstants.{POWER_INTERRUPTION}
-use Rattle.event_model.specs.Spans.{gap_of}
-use Rattle.event_model.specs.Events.{Event, Crew, Seen, Tearing, Watched, number_of, seen_of, seen_on, seen_with, seen_spans, seen_by, watched_on, noted_with, last_number, gap_event, first_card, standing}
-use Rattle.note_model.specs.Done.{has_failed_in, course_powered}
-use Rattle.run_unit_course.specs.Lines.{tells_cut}
+use Rattle.unit_notes.specs.event_model.declared.entries.Span.{Span}
+use Rattle.unit_notes.specs.event_model.declared.kinds.TheConstants.{POWER_INTERRUPTION}
+use Rattle.unit_notes.specs.event_model.Spans.{gap_of}
+use Rattle.unit_notes.specs.event_model.Events.{Event, Crew, Seen, Tearing, Watched, number_of, seen_of, seen_on, seen_with, seen_spans, seen_by, watched_on, noted_with, last_number, gap_event, first_card, standing}
+use Rattle.unit_notes.specs.note_model.Done.{has_failed_in, course_powered}
+use Rattle.device_calls.specs.run_unit_course.Lines.{tells_cut}
 use Rattle.run_events.specs.Seconds.{gap_before, gap_by}
 use Rattle.run_events.specs.Gaps.{IsKnownGap, AreKnownGaps}
 use Rattle.run_events.proofs.Gaps.{gap-nothing, known-first}
 use Rattle.run_events.proofs.Growing.{AreSome, some-spans, spans-more}
-use Rattle.run_course.proofs.Lookups.{break-more}
-use Rattle.run_course.proofs.Told.{lit-told}
+use Rattle.run_events.proofs.run_course.Lookups.{break-more}
+use Rattle.run_events.proofs.run_course.Told.{lit-told}
 use Rattle.run_note_record.proofs.Brought.{lit-course}
 use Rattle.run_acts.specs.OnCards.{is_card, has_card, as_accepted, gaps_on, gap_entry, enters, falls, is_sure_in, met_behind}
 use Rattle.run_acts.proofs.CardBrings.{all-both}

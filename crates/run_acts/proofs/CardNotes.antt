@@ -10,18 +10,18 @@ use Rattle.log_model.specs.Slots.{same_card}
 use Rattle.log_model.specs.declared.lines.Break.{Break}
 use Rattle.tach_media.specs.Medium.{State, IsCoherent, LeavesOnly}
 use Rattle.tach_media.proofs.Runs.{at_image}
-use Rattle.card_layout.specs.declared.command.CardState.{CardState}
-use Rattle.card_layout.specs.declared.files.Application.{Application}
+use Rattle.card_files.specs.card_layout.declared.command.CardState.{CardState}
+use Rattle.card_files.specs.card_layout.declared.files.Application.{Application}
 use Rattle.card_files.specs.declared.card_event.CardEvent.{CardEvent}
-use Rattle.card_layout.proofs.Images.{part_before}
+use Rattle.card_files.proofs.card_layout.Images.{part_before}
 use Rattle.tacho_types.specs.declared.places.PlaceEntry.{PlaceEntry}
 use Rattle.tacho_types.specs.declared.card_number.FullCardNumber.{FullCardNumber}
-use Rattle.card_layout.specs.Files.{files_of, place_of, size_of}
-use Rattle.gated_ring.specs.Ring.{size_of as ring_size}
+use Rattle.card_files.specs.card_layout.Files.{files_of, place_of, size_of}
+use Rattle.run_events.specs.gated_ring.Ring.{size_of as ring_size}
 use Rattle.card_files.specs.Noting.{IsNotingEvent, IsEventNoted, IsNotingPlace}
 use Rattle.card_files.specs.Rings.{file, place_ring}
-use Rattle.card_slots.specs.declared.seats.Seat.{Seat}
-use Rattle.card_slots.specs.Calls.{is_card, card_in, seat_in}
+use Rattle.run_crew.specs.card_slots.declared.seats.Seat.{Seat}
+use Rattle.run_crew.specs.card_slots.Calls.{is_card, card_in, seat_in}
 use Rattle.run_crew.specs.declared.cards.Accepted.{Accepted}
 use Rattle.run_crew.specs.declared.cards.Known.{Known}
 use Rattle.run_crew.specs.declared.cards.Cards.{Cards}
@@ -31,13 +31,13 @@ use Rattle.run_crew.specs.Cabin.{CabinIsSound, AreTwo, left_from, slot_with, num
 use Rattle.run_outcome.specs.Lines.{Listed}
 use Rattle.run_minutes.specs.declared.keeper.Moment.{Moment}
 use Rattle.run_minutes.specs.Keeping.{CardMayBeCalled}
-use Rattle.safety_model.specs.Safe.{Devices, card_of}
+use Rattle.device_calls.specs.safety_model.Safe.{Devices, card_of}
 use Rattle.tacho_types.specs.declared.texts.Registration.{Registration}
-use Rattle.unit_memory.specs.declared.format.Identity.{Identity}
-use Rattle.unit_memory.specs.declared.memory.UnitFacts.{UnitFacts}
+use Rattle.run_minutes.specs.unit_memory.declared.format.Identity.{Identity}
+use Rattle.run_minutes.specs.unit_memory.declared.memory.UnitFacts.{UnitFacts}
 use Rattle.unit_notes.specs.declared.unit_event.UnitEvent.{UnitEvent}
 use Rattle.run_events.specs.Entries.{card_entry}
-use Rattle.event_model.specs.declared.kinds.TheConstants.{POWER_INTERRUPTION, SESSION_NOT_CLOSED}
+use Rattle.unit_notes.specs.event_model.declared.kinds.TheConstants.{POWER_INTERRUPTION, SESSION_NOT_CLOSED}
 use Rattle.run_insertion.specs.CardEvents.{ShowsMore, NotesOnCard, IsPlain}
 use Rattle.run_insertion.proofs.CardTables.{all-shown, all-showing, same-file}
 use Rattle.run_insertion.proofs.CardInserted.{shows-nothing, shows-unbegun, shows-whole, shows-by}

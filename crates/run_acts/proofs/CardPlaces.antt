@@ -13,50 +13,50 @@ use Rattle.tacho_types.specs.declared.places.PlaceEntry.{PlaceEntry}
 use Rattle.tacho_types.specs.Places.{place_bytes}
 use Rattle.tach_media.specs.Medium.{State, IsCoherent, LeavesOnly, bytes_at}
 use Rattle.tach_media.proofs.Runs.{at_image}
-use Rattle.card_layout.specs.declared.command.CardState.{CardState}
-use Rattle.card_layout.specs.declared.files.Application.{Application}
-use Rattle.card_layout.specs.declared.files.TheConstants.{LARGEST_IMAGE}
-use Rattle.card_layout.specs.Application.{IsApplication}
-use Rattle.card_layout.specs.Files.{files_of, place_of, size_of}
-use Rattle.card_layout.proofs.Sizes.{largest_image}
-use Rattle.gated_ring.specs.Ring.{PointsInside, size_of as ring_size}
+use Rattle.card_files.specs.card_layout.declared.command.CardState.{CardState}
+use Rattle.card_files.specs.card_layout.declared.files.Application.{Application}
+use Rattle.card_files.specs.card_layout.declared.files.TheConstants.{LARGEST_IMAGE}
+use Rattle.card_files.specs.card_layout.Application.{IsApplication}
+use Rattle.card_files.specs.card_layout.Files.{files_of, place_of, size_of}
+use Rattle.card_files.proofs.card_layout.Sizes.{largest_image}
+use Rattle.run_events.specs.gated_ring.Ring.{PointsInside, size_of as ring_size}
 use Rattle.card_files.specs.declared.card_event.CardEvent.{CardEvent}
 use Rattle.card_files.specs.Noting.{IsNotingEvent, IsPlaceNoted, IsNotingPlace}
 use Rattle.card_files.specs.Rings.{file, place_ring}
-use Rattle.card_image.specs.Beside.{HaveSameVehicles}
-use Rattle.card_image.specs.Fields.{file_bytes, vehicle_ring, current_use, session_time}
-use Rattle.card_image.specs.Own.{own_sizes, IsOwnValid}
-use Rattle.card_session.specs.Sessions.{IsSession}
-use Rattle.card_session.specs.Cards.{IsCardClosing}
-use Rattle.card_session.proofs.InsertingUse.{use_inside}
-use Rattle.card_session.proofs.Stopping.{closed_session}
-use Rattle.minute_model.specs.declared.Minute.{Minute}
+use Rattle.hand_model.specs.card_image.Beside.{HaveSameVehicles}
+use Rattle.hand_model.specs.card_image.Fields.{file_bytes, vehicle_ring, current_use, session_time}
+use Rattle.hand_model.specs.card_image.Own.{own_sizes, IsOwnValid}
+use Rattle.device_calls.specs.card_session.Sessions.{IsSession}
+use Rattle.device_calls.specs.card_session.Cards.{IsCardClosing}
+use Rattle.device_calls.proofs.card_session.InsertingUse.{use_inside}
+use Rattle.device_calls.proofs.card_session.Stopping.{closed_session}
+use Rattle.unit_model.specs.minute_model.declared.Minute.{Minute}
 use Rattle.log_model.specs.declared.lines.Break.{Break}
 use Rattle.log_model.specs.Causes.{has_failed, second_of}
 use Rattle.log_model.specs.Log.{RunLog, Phase}
 use Rattle.log_model.specs.Slots.{same_card}
 use Rattle.log_model.specs.Course.{Visit}
-use Rattle.note_model.specs.Noted.{PlaceNote}
-use Rattle.note_model.specs.Odometer.{SpanFrom}
-use Rattle.device_rule.specs.Views.{other}
-use Rattle.safety_model.specs.Recording.{card_image}
-use Rattle.safety_model.specs.Safe.{Devices, card_of}
+use Rattle.unit_notes.specs.note_model.Noted.{PlaceNote}
+use Rattle.unit_notes.specs.note_model.Odometer.{SpanFrom}
+use Rattle.device_calls.specs.device_rule.Views.{other}
+use Rattle.device_calls.specs.safety_model.Recording.{card_image}
+use Rattle.device_calls.specs.safety_model.Safe.{Devices, card_of}
 use Rattle.run_crew.specs.declared.cards.Accepted.{Accepted}
 use Rattle.run_crew.specs.declared.cards.Cards.{Cards}
 use Rattle.run_crew.specs.Cards.{known_of, session_of}
-use Rattle.run_promise.specs.Found.{found_of}
-use Rattle.run_promise.specs.Between.{RunLedger}
-use Rattle.run_devices.specs.Told.{AreFoundCards, DevicesPowered, SessionIsOnCard, arranged}
-use Rattle.run_devices.specs.Measured.{GoesMeasured}
-use Rattle.run_devices.specs.Sessions.{SessionGoes}
-use Rattle.run_devices.proofs.CardUse.{note-use}
-use Rattle.run_devices.proofs.Sessions.{session-itself, session-then, session-same, file-session, close-session}
-use Rattle.run_devices.proofs.Holders.{event-places, closing-places}
-use Rattle.run_devices.proofs.Measured.{goes-itself, goes-then, goes-more, bytes-go, close-goes, event-vehicles, place-vehicles}
-use Rattle.run_devices.proofs.Parts.{CardLit, parts-of}
+use Rattle.run_minutes.specs.run_promise.Found.{found_of}
+use Rattle.run_minutes.specs.run_promise.Between.{RunLedger}
+use Rattle.run_minutes.specs.run_devices.Told.{AreFoundCards, DevicesPowered, SessionIsOnCard, arranged}
+use Rattle.run_minutes.specs.run_devices.Measured.{GoesMeasured}
+use Rattle.run_minutes.specs.run_devices.Sessions.{SessionGoes}
+use Rattle.run_minutes.proofs.run_devices.CardUse.{note-use}
+use Rattle.run_minutes.proofs.run_devices.Sessions.{session-itself, session-then, session-same, file-session, close-session}
+use Rattle.run_minutes.proofs.run_devices.Holders.{event-places, closing-places}
+use Rattle.run_minutes.proofs.run_devices.Measured.{goes-itself, goes-then, goes-more, bytes-go, close-goes, event-vehicles, place-vehicles}
+use Rattle.run_minutes.proofs.run_devices.Parts.{CardLit, parts-of}
 use Rattle.run_record.proofs.Seats.{this-or}
 use Rattle.run_outcome.specs.declared.outcome.Outcome.{Outcome}
-use Rattle.run_promise.specs.Origin.{Origin}
+use Rattle.run_minutes.specs.run_promise.Origin.{Origin}
 use Rattle.run_note_record.specs.OnCards.{has_call_failed_in, places_in, place_width, PlacesStay, IsReading, GoesByReadings, VehiclesGo, SessionsGo, NoOtherComes, CardsStay, TakesPlace, PlaceIsTaken, LeavesPlaces as LeavesRing}
 use Rattle.run_minutes.specs.declared.keeper.Moment.{Moment}
 use Rattle.run_minutes.specs.Books.{AreTimedOn}

@@ -13,22 +13,22 @@ use Rattle.trace_model.specs.Trace.{TraceSecond}
 use Rattle.tacho_types.specs.declared.texts.Registration.{Registration}
 use Rattle.card_files.specs.declared.card_event.CardEvent.{CardEvent}
 use Rattle.card_files.specs.declared.current_use.CurrentUse.{CurrentUse}
-use Rattle.card_image.specs.Own.{IsOwnValid}
+use Rattle.hand_model.specs.card_image.Own.{IsOwnValid}
 use Rattle.log_model.specs.declared.lines.SlotFault.{SlotFault}
 use Rattle.log_model.specs.declared.lines.Verdict.{Verdict}
 use Rattle.log_model.specs.Log.{RunLog, Phase, In, same_phase, cut_in, found_in, kept_after, is_accepting}
 use Rattle.log_model.specs.Slots.{refusal, same_card}
 use Rattle.log_model.specs.Course.{Course, Visit, Before, begins, went}
-use Rattle.event_model.specs.Events.{Seen, number_of, seen_of, seen_spans, torn_at, accepted_at, first_card, standing}
-use Rattle.safety_model.specs.Recording.{card_image}
-use Rattle.safety_model.specs.Safe.{Devices, card_of}
+use Rattle.unit_notes.specs.event_model.Events.{Seen, number_of, seen_of, seen_spans, torn_at, accepted_at, first_card, standing}
+use Rattle.device_calls.specs.safety_model.Recording.{card_image}
+use Rattle.device_calls.specs.safety_model.Safe.{Devices, card_of}
 use Rattle.run_events.specs.Seconds.{gap_by}
 use Rattle.run_note_record.specs.Evented.{images_in}
 use Rattle.run_note_record.specs.Uses.{notes_now, uses_in}
 use Rattle.run_note_record.proofs.Bringing.{before-as}
-use Rattle.run_rings.specs.Notes.{TellSameTo, course_behind}
-use Rattle.run_promise.specs.Origin.{Origin}
-use Rattle.run_promise.specs.Beside.{HaveLeftMore}
+use Rattle.run_events.specs.run_rings.Notes.{TellSameTo, course_behind}
+use Rattle.run_minutes.specs.run_promise.Origin.{Origin}
+use Rattle.run_minutes.specs.run_promise.Beside.{HaveLeftMore}
 use Rattle.run_acts.specs.OnCards.{MetSecond, as_accepted, accepted_in, accepts, moving_at, movings, moved_in, gaps_on, enters, is_sure_in, torn_times, met_seconds, judging, ComesTo, StillShows, AreUses}
 use Rattle.run_acts.specs.RunCards.{vehicle_in, sizes_in, CardShown, so_far, seen_behind, gap_behind, met_so, CardsIn, StillShow}
 use Rattle.run_acts.proofs.CardCourse.{Finding, IsQuiet, IsPutIn, acted-quiet, acted-puts, behind-more, behind-same, PutsNone}

@@ -7,8 +7,8 @@ use Rattle.tacho_types.specs.declared.texts.Registration.{Registration}
 use Rattle.card_files.specs.declared.card_event.CardEvent.{CardEvent}
 use Rattle.card_files.specs.declared.current_use.CurrentUse.{CurrentUse}
 use Rattle.log_model.specs.Log.{RunLog}
-use Rattle.event_model.specs.declared.kinds.TheConstants.{POWER_INTERRUPTION}
-use Rattle.event_model.specs.Events.{Event, Seen, seen_of, seen_spans}
+use Rattle.unit_notes.specs.event_model.declared.kinds.TheConstants.{POWER_INTERRUPTION}
+use Rattle.unit_notes.specs.event_model.Events.{Event, Seen, seen_of, seen_spans}
 use Rattle.run_events.specs.Seconds.{gap_by, seen_next}
 use Rattle.run_events.proofs.Growing.{seen-more}
 use Rattle.run_acts.specs.OnCards.{MetSecond, as_accepted, unclosed_by, accepted_in, accepted_on, gaps_on, is_sure_in, uses_past, met_behind, met_seconds, met_next, met_accepted, bringing, IsBrought, AreBrought, AreUses}

@@ -6,15 +6,15 @@ use Rattle.tacho_types.specs.declared.texts.Registration.{Registration}
 use Rattle.card_files.specs.declared.card_event.CardEvent.{CardEvent}
 use Rattle.card_files.specs.declared.current_use.CurrentUse.{CurrentUse}
 use Rattle.log_model.specs.Log.{RunLog}
-use Rattle.event_model.specs.declared.kinds.TheConstants.{INSERTION_WHILE_DRIVING, SESSION_NOT_CLOSED, POWER_INTERRUPTION}
-use Rattle.event_model.specs.Events.{Seen, number_of}
-use Rattle.note_model.specs.Done.{has_failed_in}
-use Rattle.safety_model.specs.Recording.{card_image}
-use Rattle.safety_model.specs.Safe.{Devices, card_of}
+use Rattle.unit_notes.specs.event_model.declared.kinds.TheConstants.{INSERTION_WHILE_DRIVING, SESSION_NOT_CLOSED, POWER_INTERRUPTION}
+use Rattle.unit_notes.specs.event_model.Events.{Seen, number_of}
+use Rattle.unit_notes.specs.note_model.Done.{has_failed_in}
+use Rattle.device_calls.specs.safety_model.Recording.{card_image}
+use Rattle.device_calls.specs.safety_model.Safe.{Devices, card_of}
 use Rattle.run_insertion.specs.CardEvents.{events_in}
 use Rattle.run_note_record.specs.Evented.{images_in}
-use Rattle.run_promise.specs.Origin.{Origin}
-use Rattle.run_promise.specs.Whole.{NothingFailed}
+use Rattle.run_minutes.specs.run_promise.Origin.{Origin}
+use Rattle.run_minutes.specs.run_promise.Whole.{NothingFailed}
 use Rattle.run_acts.specs.OnCards.{MetSecond, Bringing, unclosed_by, events_by, accepted_in, accepted_on, attempts_in, torn_times, moving_at, moved_in, gaps_on, enters, falls, may_note, is_sure_in, uses_past, met_behind, met_accepted, bringing, IsBrought, AreBrought, ComesTo, StillShows, AreUses}
 use Rattle.run_acts.specs.RunCards.{vehicle_in, sizes_in, CardShown}
 use Rattle.run_acts.proofs.OnCards.{uses-append, uses-still, uses-long, uses-past, past-longer, unclosed-append, unclosed-none, events-none}

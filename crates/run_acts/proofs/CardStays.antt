@@ -5,29 +5,29 @@ use Rattle.trace_model.specs.declared.Card.{Card}
 use Rattle.trace_model.specs.Trace.{TraceSecond}
 use Rattle.tach_media.specs.Medium.{State, IsCoherent, LeavesOnly}
 use Rattle.tach_media.proofs.Runs.{at_image}
-use Rattle.card_layout.specs.declared.files.Application.{Application}
-use Rattle.card_layout.specs.declared.files.TheConstants.{LARGEST_IMAGE}
-use Rattle.card_layout.specs.Application.{IsApplication}
-use Rattle.card_layout.proofs.Sizes.{largest_image}
-use Rattle.card_image.specs.Own.{own_sizes, IsOwnValid}
-use Rattle.card_session.specs.Sessions.{IsSession}
-use Rattle.card_session.specs.Cards.{IsCardClosing}
-use Rattle.card_session.proofs.InsertingUse.{use_inside}
-use Rattle.minute_model.specs.declared.Minute.{Minute}
+use Rattle.card_files.specs.card_layout.declared.files.Application.{Application}
+use Rattle.card_files.specs.card_layout.declared.files.TheConstants.{LARGEST_IMAGE}
+use Rattle.card_files.specs.card_layout.Application.{IsApplication}
+use Rattle.card_files.proofs.card_layout.Sizes.{largest_image}
+use Rattle.hand_model.specs.card_image.Own.{own_sizes, IsOwnValid}
+use Rattle.device_calls.specs.card_session.Sessions.{IsSession}
+use Rattle.device_calls.specs.card_session.Cards.{IsCardClosing}
+use Rattle.device_calls.proofs.card_session.InsertingUse.{use_inside}
+use Rattle.unit_model.specs.minute_model.declared.Minute.{Minute}
 use Rattle.log_model.specs.Log.{Phase}
 use Rattle.log_model.specs.Course.{Visit}
-use Rattle.device_rule.specs.Views.{other}
-use Rattle.safety_model.specs.Recording.{card_image}
-use Rattle.safety_model.specs.Safe.{Devices, card_of}
+use Rattle.device_calls.specs.device_rule.Views.{other}
+use Rattle.device_calls.specs.safety_model.Recording.{card_image}
+use Rattle.device_calls.specs.safety_model.Safe.{Devices, card_of}
 use Rattle.run_crew.specs.declared.cards.Accepted.{Accepted}
 use Rattle.run_crew.specs.declared.cards.Cards.{Cards}
 use Rattle.run_crew.specs.Cards.{session_of}
-use Rattle.run_promise.specs.Found.{found_of}
-use Rattle.run_promise.specs.Between.{RunLedger}
-use Rattle.run_devices.specs.Told.{AreFoundCards, DevicesPowered, SessionIsOnCard, GoesWith, arranged}
-use Rattle.run_devices.proofs.Parts.{CardLit, parts-of}
+use Rattle.run_minutes.specs.run_promise.Found.{found_of}
+use Rattle.run_minutes.specs.run_promise.Between.{RunLedger}
+use Rattle.run_minutes.specs.run_devices.Told.{AreFoundCards, DevicesPowered, SessionIsOnCard, GoesWith, arranged}
+use Rattle.run_minutes.proofs.run_devices.Parts.{CardLit, parts-of}
 use Rattle.run_outcome.specs.declared.outcome.Outcome.{Outcome}
-use Rattle.run_promise.specs.Origin.{Origin}
+use Rattle.run_minutes.specs.run_promise.Origin.{Origin}
 use Rattle.run_minutes.specs.CardEvents.{LeavesEvents}
 use Rattle.run_minutes.specs.Books.{AreTimedOn}
 use Rattle.run_insertion.specs.CardEvents.{events_in, ShowsMore}

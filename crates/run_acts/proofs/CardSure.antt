@@ -8,9 +8,9 @@ use Rattle.tach_media.specs.Medium.{State}
 use Rattle.tacho_types.specs.declared.texts.Registration.{Registration}
 use Rattle.card_files.specs.declared.card_event.CardEvent.{CardEvent}
 use Rattle.card_files.specs.declared.current_use.CurrentUse.{CurrentUse}
-use Rattle.card_image.specs.Own.{own_sizes}
+use Rattle.hand_model.specs.card_image.Own.{own_sizes}
 use Rattle.log_model.specs.Log.{RunLog}
-use Rattle.event_model.specs.Events.{Event, Seen, seen_of, seen_spans, gaps_between}
+use Rattle.unit_notes.specs.event_model.Events.{Event, Seen, seen_of, seen_spans, gaps_between}
 use Rattle.run_events.specs.Seconds.{gap_by, seen_next}
 use Rattle.run_events.proofs.Growing.{spans-more, some-spans, gaps-with}
 use Rattle.run_insertion.specs.CardEvents.{events_in, all_noted}

@@ -4,27 +4,27 @@ use Rattle.std.specs.List.{AllByRecursion}
 use Rattle.std.proofs.lemmas.Bool.{lt-ltb}
 use Rattle.trace_model.specs.Trace.{TraceSecond, driven}
 use Rattle.tach_media.specs.Medium.{State}
-use Rattle.card_layout.specs.declared.command.CardState.{CardState}
-use Rattle.minute_model.specs.declared.Minute.{Minute}
+use Rattle.card_files.specs.card_layout.declared.command.CardState.{CardState}
+use Rattle.unit_model.specs.minute_model.declared.Minute.{Minute}
 use Rattle.log_model.specs.declared.lines.Break.{Break}
 use Rattle.log_model.specs.Causes.{second_of}
 use Rattle.log_model.specs.Log.{RunLog, Phase, In, Keeping, cut_in}
 use Rattle.log_model.specs.Course.{Visit, Before, Went, begins, has_power, went, second_told}
 use Rattle.log_model.proofs.Growth.{went-more}
-use Rattle.safety_model.specs.Safe.{Devices, card_of}
-use Rattle.run_unit_course.specs.Lines.{cut_at}
-use Rattle.run_unit_course.specs.Followed.{Lit as IsLit}
-use Rattle.run_course.specs.Moments.{and_break}
-use Rattle.run_course.specs.Followed.{Progress, PowerGoesOn, IsLost as HasLost}
-use Rattle.run_course.proofs.Told.{lit-power, lost-dark, next-dark, dark-told}
-use Rattle.run_course.proofs.Quiet.{quiet-are-told}
+use Rattle.device_calls.specs.safety_model.Safe.{Devices, card_of}
+use Rattle.device_calls.specs.run_unit_course.Lines.{cut_at}
+use Rattle.device_calls.specs.run_unit_course.Followed.{Lit as IsLit}
+use Rattle.run_events.specs.run_course.Moments.{and_break}
+use Rattle.run_events.specs.run_course.Followed.{Progress, PowerGoesOn, IsLost as HasLost}
+use Rattle.run_events.proofs.run_course.Told.{lit-power, lost-dark, next-dark, dark-told}
+use Rattle.run_events.proofs.run_course.Quiet.{quiet-are-told}
 use Rattle.run_outcome.specs.declared.outcome.Outcome.{Outcome}
 use Rattle.run_minutes.specs.declared.keeper.Moment.{Moment}
 use Rattle.run_minutes.specs.Books.{HaveTime, AreTimedOn}
 use Rattle.run_minutes.specs.Decided.{odometers_of}
-use Rattle.run_rings.specs.Notes.{TellSameTo}
-use Rattle.run_promise.specs.Origin.{Origin, rule_of, start_at, first_of}
-use Rattle.run_promise.specs.Beside.{HaveLeftMore}
+use Rattle.run_events.specs.run_rings.Notes.{TellSameTo}
+use Rattle.run_minutes.specs.run_promise.Origin.{Origin, rule_of, start_at, first_of}
+use Rattle.run_minutes.specs.run_promise.Beside.{HaveLeftMore}
 use Rattle.run_note_record.proofs.Lines.{early-before}
 use Rattle.run_note_record.proofs.SoFar.{failed-more, left-itself}
 use Rattle.run_record.specs.Recorded.{Values, progress}
@@ -44,7 +44,7 @@ use Rattle.run_acts.proofs.RingedLines.{AreTears, TellsBeside, TellsTears, tears
 use Rattle.run_acts.proofs.RingedSecond.{cut-is, cut-torn, cut-found, here-append, tears-here_, goes-by, goes-behind, power-here, more-left}
 use Rattle.run_acts.proofs.CardEnds.{IsLater, second-begins, ends-shown, whole-quiet, plain-same}
 use Rattle.run_acts.proofs.CardStays.{timed-still}
-use Rattle.run_promise.specs.Whole.{NothingFailed}
+use Rattle.run_minutes.specs.run_promise.Whole.{NothingFailed}
 use Rattle.run_note_record.proofs.Exact.{no-cut}
 use Rattle.run_acts.proofs.CardUses.{FoundTo, tears-none, lines-still, untold-to}
 

@@ -14,16 +14,16 @@ use Rattle.log_model.specs.declared.lines.Verdict.{Verdict}
 use Rattle.log_model.specs.Log.{RunLog, Phase, In, cut_in, found_in}
 use Rattle.log_model.specs.Slots.{Sitting, same_card, refusal}
 use Rattle.log_model.specs.Course.{Course, Visit, Before, Moved, visits, answered, moved_by, slot_told, both_told, begins, is_settling, acted, has_power, went}
-use Rattle.note_model.specs.Done.{CarriedOut}
-use Rattle.note_model.specs.Noted.{Note, noted_by}
-use Rattle.safety_model.specs.Recording.{card_image}
-use Rattle.run_rings.specs.Notes.{accepted_in, noted_if, action_notes, notes_from, notes_to, TellSameTo, course_behind, accepts_by, sits_accepted}
-use Rattle.run_rings.proofs.Notes.{answered-found, action-notes, later-lines, second-noted}
-use Rattle.run_rings.proofs.Actions.{none-ahead, power-notes}
-use Rattle.run_promise.specs.Origin.{Origin, rule_of, start_at, first_of}
-use Rattle.run_promise.specs.Whole.{NothingFailed}
-use Rattle.run_course.specs.Followed.{Progress, BookFollowsRun}
-use Rattle.run_course.proofs.Reached.{nothing-told}
+use Rattle.unit_notes.specs.note_model.Done.{CarriedOut}
+use Rattle.unit_notes.specs.note_model.Noted.{Note, noted_by}
+use Rattle.device_calls.specs.safety_model.Recording.{card_image}
+use Rattle.run_events.specs.run_rings.Notes.{accepted_in, noted_if, action_notes, notes_from, notes_to, TellSameTo, course_behind, accepts_by, sits_accepted}
+use Rattle.run_events.proofs.run_rings.Notes.{answered-found, action-notes, later-lines, second-noted}
+use Rattle.run_events.proofs.run_rings.Actions.{none-ahead, power-notes}
+use Rattle.run_minutes.specs.run_promise.Origin.{Origin, rule_of, start_at, first_of}
+use Rattle.run_minutes.specs.run_promise.Whole.{NothingFailed}
+use Rattle.run_events.specs.run_course.Followed.{Progress, BookFollowsRun}
+use Rattle.run_events.proofs.run_course.Reached.{nothing-told}
 use Rattle.run_minutes.specs.declared.keeper.Moment.{Moment}
 use Rattle.run_minutes.specs.Keeping.{tear_of}
 use Rattle.run_note_record.specs.Uses.{uses_from, insertions_on, insertions_at, notes_in, notes_now, vehicle_in, use_in, uses_in, use_now}

@@ -8,30 +8,30 @@ use Rattle.tach_media.proofs.Runs.{at_image}
 use Rattle.tacho_types.specs.declared.places.PlaceEntry.{PlaceEntry}
 use Rattle.tacho_types.specs.declared.card_number.FullCardNumber.{FullCardNumber}
 use Rattle.activity_codec.specs.declared.values.Activity.{Activity}
-use Rattle.card_layout.specs.declared.command.CardState.{CardState}
-use Rattle.card_layout.specs.declared.files.Application.{Application}
-use Rattle.card_image.specs.Own.{IsOwnValid}
+use Rattle.card_files.specs.card_layout.declared.command.CardState.{CardState}
+use Rattle.card_files.specs.card_layout.declared.files.Application.{Application}
+use Rattle.hand_model.specs.card_image.Own.{IsOwnValid}
 use Rattle.card_files.specs.Noting.{IsNotingPlace, IsPlaceNoted}
 use Rattle.card_files.specs.Rings.{place_ring}
-use Rattle.card_session.specs.Sessions.{IsSession}
-use Rattle.card_session.specs.Cards.{IsCardClosed}
-use Rattle.gated_ring.specs.Ring.{PointsInside}
-use Rattle.minute_model.specs.declared.Minute.{Minute}
+use Rattle.device_calls.specs.card_session.Sessions.{IsSession}
+use Rattle.device_calls.specs.card_session.Cards.{IsCardClosed}
+use Rattle.run_events.specs.gated_ring.Ring.{PointsInside}
+use Rattle.unit_model.specs.minute_model.declared.Minute.{Minute}
 use Rattle.unit_notes.specs.Journal.{LeavesJournal}
-use Rattle.run_unit_course.specs.Legs.{Travel}
-use Rattle.unit_rule.specs.Odometer.{HasTravelled, odometer_after}
-use Rattle.safety_model.specs.Safe.{Devices}
-use Rattle.card_slots.specs.declared.seats.Seat.{Seat}
-use Rattle.card_slots.specs.Calls.{card_in}
+use Rattle.device_calls.specs.run_unit_course.Legs.{Travel}
+use Rattle.device_calls.specs.unit_rule.Odometer.{HasTravelled, odometer_after}
+use Rattle.device_calls.specs.safety_model.Safe.{Devices}
+use Rattle.run_crew.specs.card_slots.declared.seats.Seat.{Seat}
+use Rattle.run_crew.specs.card_slots.Calls.{card_in}
 use Rattle.run_crew.specs.declared.cards.Accepted.{Accepted}
 use Rattle.run_crew.specs.declared.cards.Known.{Known}
 use Rattle.run_crew.specs.declared.cards.Cards.{Cards}
 use Rattle.run_crew.specs.Cards.{known_of, session_of, accepted_number, IsKnown}
 use Rattle.run_crew.specs.Cabin.{number_of_seat}
-use Rattle.run_promise.specs.Found.{Found, found_of}
-use Rattle.run_promise.specs.Between.{RunLedger}
-use Rattle.run_devices.specs.Told.{DevicesPowered, SessionIsOnCard, arranged}
-use Rattle.run_devices.proofs.Parts.{CardLit, parts-of}
+use Rattle.run_minutes.specs.run_promise.Found.{Found, found_of}
+use Rattle.run_minutes.specs.run_promise.Between.{RunLedger}
+use Rattle.run_minutes.specs.run_devices.Told.{DevicesPowered, SessionIsOnCard, arranged}
+use Rattle.run_minutes.proofs.run_devices.Parts.{CardLit, parts-of}
 use Rattle.run_minutes.specs.declared.keeper.Moment.{Moment}
 use Rattle.run_minutes.specs.Keeping.{CardMayBeCalled}
 use Rattle.run_minutes.specs.Minutes.{KeepingState, Reach, Whole, Short, IsReach}

@@ -5,19 +5,19 @@ use Rattle.activity_codec.specs.declared.values.Activity.{Activity}
 use Rattle.activity_codec.specs.declared.values.Slot.{Slot}
 use Rattle.trace_model.specs.declared.Card.{Card}
 use Rattle.trace_model.specs.Trace.{TraceSecond}
-use Rattle.run_model.specs.declared.Device.TheVariants.{Unit as Recorder}
+use Rattle.log_model.specs.run_model.declared.Device.TheVariants.{Unit as Recorder}
 use Rattle.tach_media.specs.Medium.{State, IsCoherent, LeavesOnly, HasCause, HasBroken, last_count}
 use Rattle.tach_media.proofs.Runs.{if_told, at_image, weaken}
-use Rattle.card_layout.specs.declared.files.Application.{Application}
-use Rattle.card_layout.specs.declared.files.TheConstants.{LARGEST_IMAGE}
-use Rattle.card_layout.specs.Application.{IsApplication}
-use Rattle.card_layout.proofs.Sizes.{largest_image}
-use Rattle.card_image.specs.Own.{own_sizes, IsOwnValid}
-use Rattle.card_session.specs.Sessions.{IsSession}
-use Rattle.card_session.specs.Cards.{IsCardClosing}
+use Rattle.card_files.specs.card_layout.declared.files.Application.{Application}
+use Rattle.card_files.specs.card_layout.declared.files.TheConstants.{LARGEST_IMAGE}
+use Rattle.card_files.specs.card_layout.Application.{IsApplication}
+use Rattle.card_files.proofs.card_layout.Sizes.{largest_image}
+use Rattle.hand_model.specs.card_image.Own.{own_sizes, IsOwnValid}
+use Rattle.device_calls.specs.card_session.Sessions.{IsSession}
+use Rattle.device_calls.specs.card_session.Cards.{IsCardClosing}
 use Rattle.device_calls.specs.Times.{AreTimedSince}
 use Rattle.device_calls.proofs.TimedCalls.{closing-timed}
-use Rattle.minute_model.specs.Span.{Span, end_of}
+use Rattle.unit_model.specs.minute_model.Span.{Span, end_of}
 use Rattle.minute_rules.specs.Kept.{CountsSpan}
 use Rattle.log_model.specs.declared.lines.Break.{Break}
 use Rattle.log_model.specs.Log.{RunLog, In}
@@ -25,28 +25,28 @@ use Rattle.log_model.specs.Causes.{RoseBy, device_of}
 use Rattle.log_model.specs.Course.{went}
 use Rattle.unit_notes.specs.Journal.{LeavesJournal}
 use Rattle.unit_model.specs.Image.{odometer_at}
-use Rattle.unit_rule.specs.Odometer.{HasTravelled}
-use Rattle.run_unit_course.specs.Legs.{all_travelled}
-use Rattle.safety_model.specs.Safe.{Devices, breakdowns_of}
+use Rattle.device_calls.specs.unit_rule.Odometer.{HasTravelled}
+use Rattle.device_calls.specs.run_unit_course.Legs.{all_travelled}
+use Rattle.device_calls.specs.safety_model.Safe.{Devices, breakdowns_of}
 use Rattle.run_crew.specs.declared.cards.Accepted.{Accepted}
 use Rattle.run_crew.specs.declared.cards.Cards.{Cards}
 use Rattle.run_crew.specs.declared.cabin.Cabin.{Cabin}
 use Rattle.run_crew.specs.Cards.{session_of, with_session}
 use Rattle.run_crew.specs.Cabin.{torn_out, with_session_of, CabinIsSound, crew_of}
-use Rattle.run_promise.specs.Found.{Found, found_of}
-use Rattle.run_promise.specs.Between.{RunLedger}
-use Rattle.run_course.specs.Seconds.{kept_all}
-use Rattle.run_devices.specs.Told.{AreFoundCards, SessionIsOnCard, DevicesPowered, arranged}
-use Rattle.run_devices.proofs.Parts.{CardLit, parts-of}
-use Rattle.run_devices.proofs.Travelled.{travelled-noted}
-use Rattle.run_course.specs.Reached.{IsTearAt}
+use Rattle.run_minutes.specs.run_promise.Found.{Found, found_of}
+use Rattle.run_minutes.specs.run_promise.Between.{RunLedger}
+use Rattle.run_events.specs.run_course.Seconds.{kept_all}
+use Rattle.run_minutes.specs.run_devices.Told.{AreFoundCards, SessionIsOnCard, DevicesPowered, arranged}
+use Rattle.run_minutes.proofs.run_devices.Parts.{CardLit, parts-of}
+use Rattle.run_minutes.proofs.run_devices.Travelled.{travelled-noted}
+use Rattle.run_events.specs.run_course.Reached.{IsTearAt}
 use Rattle.run_outcome.specs.Lines.{Listed}
 use Rattle.run_outcome.specs.declared.outcome.Outcome.{Outcome}
 use Rattle.run_minutes.specs.declared.keeper.Moment.{Moment}
 use Rattle.run_minutes.specs.Keeping.{tear_of, with_lines}
 use Rattle.run_minutes.proofs.Fates.{no-lines}
 use Rattle.run_minutes.proofs.CardBooked.{session-unset}
-use Rattle.run_promise.specs.Origin.{Origin, rule_of}
+use Rattle.run_minutes.specs.run_promise.Origin.{Origin, rule_of}
 use Rattle.run_record.specs.Recorded.{Values, carried}
 use Rattle.run_record.specs.Within.{IsLeaving, GoesOnSo, SecondGoesOn, RecordAtFailure}
 use Rattle.run_record.specs.Taking.{IsCalledLeaving, fallen_values}
@@ -59,12 +59,12 @@ use Rattle.run_acts.specs.Recording.{log_of, values_of, RunWithin, GoesOnOrFails
 use Rattle.log_model.specs.Slots.{other_slot}
 use Rattle.trace_model.specs.declared.Action.{Action}
 use Rattle.trace_model.specs.declared.Action.TheVariants.{Withdraw}
-use Rattle.event_model.specs.declared.kinds.TheConstants.{CARD_FAULT}
+use Rattle.unit_notes.specs.event_model.declared.kinds.TheConstants.{CARD_FAULT}
 use Rattle.run_events.specs.Entries.{entry_of}
-use Rattle.run_course.specs.Moments.{and_break}
-use Rattle.run_course.specs.Telling.{IsLeft}
-use Rattle.run_course.proofs.Telling.{card-torn}
-use Rattle.run_course.proofs.Reached.{leaves-first}
+use Rattle.run_events.specs.run_course.Moments.{and_break}
+use Rattle.run_events.specs.run_course.Telling.{IsLeft}
+use Rattle.run_events.proofs.run_course.Telling.{card-torn}
+use Rattle.run_events.proofs.run_course.Reached.{leaves-first}
 use Rattle.run_note_record.specs.Noting.{Acting}
 use Rattle.run_note_record.specs.Bringing.{NotFound}
 use Rattle.run_note_record.specs.EventsSoFar.{EventedNow, MayFollow}
@@ -83,9 +83,9 @@ use Rattle.run_minutes.proofs.Calm.{none-told}
 use Rattle.run_acts.proofs.Rising.{card-more, card-fell}
 use Rattle.run_minutes.specs.CardDeeds.{ClosesOn}
 use Rattle.run_minutes.proofs.CardDeeds.{does-close}
-use Rattle.note_model.specs.Noted.{Note}
+use Rattle.unit_notes.specs.note_model.Noted.{Note}
 use Rattle.run_acts.specs.Closings.{spells_of, with_last_shut, last_slot, notes_within}
-use Rattle.device_rule.specs.Views.{other}
+use Rattle.device_calls.specs.device_rule.Views.{other}
 use Rattle.run_acts.specs.Truths.{past_of, IsWordIn, truths_within, marked}
 use Rattle.run_acts.specs.Stays.{Shut, Stay, spells, sits_in, as_noted, ClosesOnCard, HasStays, Whose, covers, AreKnown, owed_by, AreTrue, AreStays, AllStay, start_shown, acceptances_told, judged_told, judged_in}
 use Rattle.run_acts.specs.Comings.{TellMore}

@@ -6,7 +6,7 @@ use Rattle.std.proofs.lemmas.List.Sums.{fold-append}
 use Rattle.trace_model.specs.declared.Card.{Card}
 use Rattle.trace_model.specs.declared.Card.TheVariants.{A, B}
 use Rattle.log_model.specs.Slots.{same_card}
-use Rattle.note_model.specs.Noted.{Acceptance, Withdrawal, PlaceNote, InsertionNote, Note, Accepts, Withdraws, Enters, with_withdrawal, with_note, insertions_of}
+use Rattle.unit_notes.specs.note_model.Noted.{Acceptance, Withdrawal, PlaceNote, InsertionNote, Note, Accepts, Withdraws, Enters, with_withdrawal, with_note, insertions_of}
 use Rattle.run_acts.specs.Closings.{Spell, spell_of, spells_in, spells_of, with_last_shut}
 
 pub same-turned : (c d : Card) → same_card c d ≡ same_card d c

@@ -4,28 +4,28 @@ use Rattle.std.specs.Prelude.{◌==◌}
 use Rattle.std.proofs.lemmas.Bool.{cases_eq}
 use Rattle.std.proofs.lemmas.Bool.Decides.{nat_tests}
 use Rattle.std.proofs.lemmas.List.{map-append, length-map, length-take, length-drop}
-use Rattle.card_layout.specs.Images.{bytes_at, put, big_number}
-use Rattle.card_layout.specs.Fields.{field_at}
-use Rattle.card_layout.proofs.Images.{put_outside}
-use Rattle.card_layout.proofs.Fields.{field_stays}
+use Rattle.card_files.specs.card_layout.Images.{bytes_at, put, big_number}
+use Rattle.card_files.specs.card_layout.Fields.{field_at}
+use Rattle.card_files.proofs.card_layout.Images.{put_outside}
+use Rattle.card_files.proofs.card_layout.Fields.{field_stays}
 use Rattle.tach_media.specs.Medium.{State, IsCoherent, LeavesOnly}
 use Rattle.tacho_types.specs.declared.numbers.TimeReal.{TimeReal}
 use Rattle.tacho_types.specs.declared.numbers.Odometer.{Odometer}
 use Rattle.tacho_types.specs.Numbers.{time_bytes, odometer_bytes}
-use Rattle.minute_model.specs.Span.{Span}
+use Rattle.unit_model.specs.minute_model.Span.{Span}
 use Rattle.minute_rules.specs.Kept.{CountsSpan}
-use Rattle.gated_ring.specs.Ring.{PointsInside, IsDense, size_of, place_of, indices, ring_list, entry_at, taken}
-use Rattle.gated_ring.specs.Change.{IsAdded, IsAdding}
-use Rattle.gated_ring.proofs.Elsewhere.{ring_outside}
-use Rattle.gated_ring.proofs.Orders.{Each}
-use Rattle.gated_ring.proofs.Listing.{indices_below}
-use Rattle.message_model.specs.Records.{insertion_widths, insertion_ring, unit_place_ring}
+use Rattle.run_events.specs.gated_ring.Ring.{PointsInside, IsDense, size_of, place_of, indices, ring_list, entry_at, taken}
+use Rattle.run_events.specs.gated_ring.Change.{IsAdded, IsAdding}
+use Rattle.run_events.proofs.gated_ring.Elsewhere.{ring_outside}
+use Rattle.run_events.proofs.gated_ring.Orders.{Each}
+use Rattle.run_events.proofs.gated_ring.Listing.{indices_below}
+use Rattle.run_events.specs.message_model.Records.{insertion_widths, insertion_ring, unit_place_ring}
 use Rattle.unit_notes.specs.Noting.{out_place, with_withdrawal, IsWithdrawn}
 use Rattle.unit_model.specs.Image.{IsUnit}
 use Rattle.run_crew.specs.declared.cards.Accepted.{Accepted}
-use Rattle.run_rings.specs.Carried.{RingKeeps}
-use Rattle.run_rings.proofs.Carried.{carries-none, carries-more, carries-same}
-use Rattle.run_rings.proofs.Few.{as-many, added-long}
+use Rattle.run_events.specs.run_rings.Carried.{RingKeeps}
+use Rattle.run_events.proofs.run_rings.Carried.{carries-none, carries-more, carries-same}
+use Rattle.run_events.proofs.run_rings.Few.{as-many, added-long}
 use Rattle.run_note_record.specs.Ringed.{HasSameRings, LeavesRings, WritesImages, Seating, IsAddedAt}
 use Rattle.run_note_record.proofs.OnCards.{whole-head}
 use Rattle.run_note_record.proofs.Rings.{insertion_shape}

@@ -2,9 +2,9 @@
 use Rattle.std.proofs.Common.{◌≡◌, ℕ, zero, suc, ◌+◌, ◌-◌, ◌/◌, ◌<◌, ◌≤◌, List, [], ◌∷◌, ◌++◌, All, length, map, refl, ap, sym, ◌∙◌, arith}
 use Rattle.std.proofs.lemmas.List.{map-append, append_cancel_left}
 use Rattle.std.proofs.lemmas.List.Elements.{All-nil, All-cons, All-weaker}
-use Rattle.minute_model.specs.declared.Minute.{Minute}
-use Rattle.minute_model.specs.Span.{Span, count_from, end_of, ungiven_of, decided_in, AreNumbered, AreSettled}
-use Rattle.minute_model.proofs.Counted.{count_from-parts, decided-minutes, ungiven-most}
+use Rattle.unit_model.specs.minute_model.declared.Minute.{Minute}
+use Rattle.unit_model.specs.minute_model.Span.{Span, count_from, end_of, ungiven_of, decided_in, AreNumbered, AreSettled}
+use Rattle.unit_model.proofs.minute_model.Counted.{count_from-parts, decided-minutes, ungiven-most}
 use Rattle.run_minutes.specs.Minutes.{AreDue, kept_after}
 use Rattle.run_acts.specs.Going.{first_second, end_of_seconds}
 

@@ -7,29 +7,29 @@ use Rattle.trace_model.specs.declared.Card.TheVariants.{A, B}
 use Rattle.trace_model.specs.Trace.{TraceSecond}
 use Rattle.tach_media.specs.Medium.{State, LeavesOnly, Rose, HasBroken, last_count}
 use Rattle.tach_media.proofs.Runs.{at_image}
-use Rattle.run_model.specs.declared.Device.TheVariants.{Unit as Recorder}
+use Rattle.log_model.specs.run_model.declared.Device.TheVariants.{Unit as Recorder}
 use Rattle.minute_rules.specs.Kept.{Kept}
-use Rattle.card_image.specs.Own.{IsOwnValid}
+use Rattle.hand_model.specs.card_image.Own.{IsOwnValid}
 use Rattle.device_calls.specs.Times.{AreTimedSince}
 use Rattle.log_model.specs.Log.{In}
 use Rattle.log_model.specs.Causes.{RoseBy}
 use Rattle.log_model.specs.Course.{Visit}
-use Rattle.device_rule.specs.Rules.{Out}
-use Rattle.device_rule.specs.Views.{other}
-use Rattle.run_unit_course.specs.Legs.{all_travelled}
+use Rattle.device_calls.specs.device_rule.Rules.{Out}
+use Rattle.device_calls.specs.device_rule.Views.{other}
+use Rattle.device_calls.specs.run_unit_course.Legs.{all_travelled}
 use Rattle.unit_model.specs.Image.{odometer_at}
-use Rattle.unit_rule.specs.Odometer.{HasTravelled}
-use Rattle.safety_model.specs.Safe.{card_of, breakdowns_of}
-use Rattle.run_promise.specs.Found.{found_of}
-use Rattle.run_promise.specs.Cards.{IsUntouched}
-use Rattle.run_promise.specs.Between.{RunLedger}
-use Rattle.run_course.specs.Seconds.{kept_all}
-use Rattle.run_course.specs.Telling.{IsMore, BrokeDown}
-use Rattle.run_devices.specs.Told.{arranged, for_card, with_standing}
-use Rattle.run_devices.proofs.Parts.{told-one, AreParts, parts-of}
+use Rattle.device_calls.specs.unit_rule.Odometer.{HasTravelled}
+use Rattle.device_calls.specs.safety_model.Safe.{card_of, breakdowns_of}
+use Rattle.run_minutes.specs.run_promise.Found.{found_of}
+use Rattle.run_minutes.specs.run_promise.Cards.{IsUntouched}
+use Rattle.run_minutes.specs.run_promise.Between.{RunLedger}
+use Rattle.run_events.specs.run_course.Seconds.{kept_all}
+use Rattle.run_events.specs.run_course.Telling.{IsMore, BrokeDown}
+use Rattle.run_minutes.specs.run_devices.Told.{arranged, for_card, with_standing}
+use Rattle.run_minutes.proofs.run_devices.Parts.{told-one, AreParts, parts-of}
 use Rattle.run_outcome.specs.declared.outcome.Outcome.{Outcome}
-use Rattle.run_promise.specs.Origin.{Origin}
-use Rattle.run_promise.specs.Beside.{HaveLeftMore}
+use Rattle.run_minutes.specs.run_promise.Origin.{Origin}
+use Rattle.run_minutes.specs.run_promise.Beside.{HaveLeftMore}
 use Rattle.run_minutes.specs.declared.keeper.Keeper.{Keeper}
 use Rattle.run_minutes.specs.declared.keeper.Moment.{Moment as KeepingAt}
 use Rattle.run_insertion.specs.declared.lines.Entering.{Entering}

@@ -9,31 +9,31 @@ use Rattle.trace_model.specs.declared.Card.TheVariants.{A, B}
 use Rattle.trace_model.specs.Trace.{TraceSecond}
 use Rattle.tach_media.specs.Medium.{State, IsCoherent}
 use Rattle.minute_rules.specs.Kept.{Kept}
-use Rattle.card_image.specs.View.{CardView}
-use Rattle.card_image.specs.Own.{own_view}
+use Rattle.hand_model.specs.card_image.View.{CardView}
+use Rattle.hand_model.specs.card_image.Own.{own_view}
 use Rattle.log_model.specs.Causes.{device_of}
 use Rattle.log_model.specs.Log.{In}
 use Rattle.log_model.specs.Course.{ToldSecond, Visit, went}
-use Rattle.history_model.specs.Minutes.{card_history, up_to}
-use Rattle.history_model.specs.Completeness.{IsMarked}
-use Rattle.history_model.specs.Presence.{CardStart}
-use Rattle.history_model.specs.Book.{Book, all}
-use Rattle.history_model.proofs.Filters.{all-front, all-back}
-use Rattle.device_rule.specs.Rules.{Out, Meets}
-use Rattle.device_rule.specs.Views.{UnitView, unit_view, owed}
-use Rattle.device_rule.proofs.Pairs.{owed-above}
-use Rattle.safety_model.specs.Recording.{Recording, card_image, unit_seen, brought}
-use Rattle.safety_model.specs.Cards.{entered as often_entered}
-use Rattle.safety_model.specs.Safe.{entered_by}
-use Rattle.run_promise.specs.Found.{found_of, AnyKept}
-use Rattle.run_course.specs.Seconds.{kept_all}
-use Rattle.run_course.specs.Lines.{times_of}
-use Rattle.run_devices.specs.Told.{arranged, with_standing, card_marks}
+use Rattle.device_calls.specs.history_model.Minutes.{card_history, up_to}
+use Rattle.device_calls.specs.history_model.Completeness.{IsMarked}
+use Rattle.device_calls.specs.history_model.Presence.{CardStart}
+use Rattle.device_calls.specs.history_model.Book.{Book, all}
+use Rattle.device_calls.proofs.history_model.Filters.{all-front, all-back}
+use Rattle.device_calls.specs.device_rule.Rules.{Out, Meets}
+use Rattle.device_calls.specs.device_rule.Views.{UnitView, unit_view, owed}
+use Rattle.device_calls.proofs.device_rule.Pairs.{owed-above}
+use Rattle.device_calls.specs.safety_model.Recording.{Recording, card_image, unit_seen, brought}
+use Rattle.device_calls.specs.safety_model.Cards.{entered as often_entered}
+use Rattle.device_calls.specs.safety_model.Safe.{entered_by}
+use Rattle.run_minutes.specs.run_promise.Found.{found_of, AnyKept}
+use Rattle.run_events.specs.run_course.Seconds.{kept_all}
+use Rattle.run_events.specs.run_course.Lines.{times_of}
+use Rattle.run_minutes.specs.run_devices.Told.{arranged, with_standing, card_marks}
 use Rattle.run_outcome.specs.declared.outcome.Outcome.{Outcome}
-use Rattle.run_promise.specs.Origin.{Origin, rule_of, start_at}
-use Rattle.run_promise.specs.Ends.{recording_by, IsAllOwed}
-use Rattle.run_promise.proofs.Beside.{before-next}
-use Rattle.run_promise.proofs.Unentered.{IsBare, StaysOut, stays-out, others-told, entered-then, entered-at, minutes-bare, unit-bare, up-bare, bare-history}
+use Rattle.run_minutes.specs.run_promise.Origin.{Origin, rule_of, start_at}
+use Rattle.run_minutes.specs.run_promise.Ends.{recording_by, IsAllOwed}
+use Rattle.run_minutes.proofs.run_promise.Beside.{before-next}
+use Rattle.run_minutes.proofs.run_promise.Unentered.{IsBare, StaysOut, stays-out, others-told, entered-then, entered-at, minutes-bare, unit-bare, up-bare, bare-history}
 use Rattle.run_minutes.specs.declared.keeper.Keeper.{Keeper}
 use Rattle.device_calls.specs.declared.entering.Entered.{Entered}
 use Rattle.run_insertion.specs.declared.lines.Entering.{Entering}

@@ -10,39 +10,39 @@ use Rattle.trace_model.specs.declared.Card.TheVariants.{A, B}
 use Rattle.trace_model.specs.Trace.{TraceSecond}
 use Rattle.tach_media.specs.Medium.{State, IsCoherent}
 use Rattle.minute_rules.specs.Kept.{Kept}
-use Rattle.minute_model.specs.Activity.{last}
-use Rattle.card_image.specs.Fields.{session_time, last_use, card_days}
-use Rattle.card_retention.specs.Entries.{newest_word}
-use Rattle.card_session.specs.declared.words.TheConstants.{LATEST_MINUTE}
+use Rattle.unit_model.specs.minute_model.Activity.{last}
+use Rattle.hand_model.specs.card_image.Fields.{session_time, last_use, card_days}
+use Rattle.device_calls.specs.card_retention.Entries.{newest_word}
+use Rattle.device_calls.specs.card_session.declared.words.TheConstants.{LATEST_MINUTE}
 use Rattle.run_crew.specs.declared.cards.Accepted.{Accepted as Session}
-use Rattle.card_image.specs.View.{CardView}
-use Rattle.card_image.specs.Own.{own_sizes, own_view, IsOwnValid}
-use Rattle.card_session.proofs.NewestStays.{view_word}
-use Rattle.card_session.proofs.Renewing.{stored_least, stored_open, stored_shut}
+use Rattle.hand_model.specs.card_image.View.{CardView}
+use Rattle.hand_model.specs.card_image.Own.{own_sizes, own_view, IsOwnValid}
+use Rattle.device_calls.proofs.card_session.NewestStays.{view_word}
+use Rattle.device_calls.proofs.card_session.Renewing.{stored_least, stored_open, stored_shut}
 use Rattle.device_calls.specs.Times.{own_use, IsTimed}
 use Rattle.device_calls.proofs.TimedCalls.{use-is}
 use Rattle.device_calls.proofs.OnCard.{own-is, session-is, mark-is}
 use Rattle.log_model.specs.Log.{In}
 use Rattle.log_model.specs.Slots.{same_card}
 use Rattle.log_model.specs.Course.{ToldSecond, Visit}
-use Rattle.history_model.specs.Minutes.{card_history, up_to}
-use Rattle.history_model.specs.Presence.{CardStart, closed_at}
-use Rattle.history_model.specs.Book.{all}
-use Rattle.device_rule.specs.Rules.{Meets}
-use Rattle.device_rule.specs.Views.{UnitView, unit_view, owed, newest_with, beyond}
-use Rattle.device_rule.proofs.Pairs.{mark-newest}
-use Rattle.safety_model.specs.Recording.{Recording, card_image, told_of}
-use Rattle.safety_model.specs.Safe.{entered_by}
-use Rattle.run_promise.specs.Found.{found_of, AnyKept}
-use Rattle.run_promise.proofs.Behind.{own-marked}
-use Rattle.run_course.specs.Seconds.{kept_all}
-use Rattle.run_course.specs.Lines.{times_of}
-use Rattle.run_devices.specs.Told.{arranged}
-use Rattle.run_devices.proofs.Opened.{owed-none}
-use Rattle.run_devices.proofs.Parts.{CardLit}
+use Rattle.device_calls.specs.history_model.Minutes.{card_history, up_to}
+use Rattle.device_calls.specs.history_model.Presence.{CardStart, closed_at}
+use Rattle.device_calls.specs.history_model.Book.{all}
+use Rattle.device_calls.specs.device_rule.Rules.{Meets}
+use Rattle.device_calls.specs.device_rule.Views.{UnitView, unit_view, owed, newest_with, beyond}
+use Rattle.device_calls.proofs.device_rule.Pairs.{mark-newest}
+use Rattle.device_calls.specs.safety_model.Recording.{Recording, card_image, told_of}
+use Rattle.device_calls.specs.safety_model.Safe.{entered_by}
+use Rattle.run_minutes.specs.run_promise.Found.{found_of, AnyKept}
+use Rattle.run_minutes.proofs.run_promise.Behind.{own-marked}
+use Rattle.run_events.specs.run_course.Seconds.{kept_all}
+use Rattle.run_events.specs.run_course.Lines.{times_of}
+use Rattle.run_minutes.specs.run_devices.Told.{arranged}
+use Rattle.run_minutes.proofs.run_devices.Opened.{owed-none}
+use Rattle.run_minutes.proofs.run_devices.Parts.{CardLit}
 use Rattle.run_outcome.specs.declared.outcome.Outcome.{Outcome}
-use Rattle.run_promise.specs.Origin.{Origin}
-use Rattle.run_promise.specs.Ends.{recording_by}
+use Rattle.run_minutes.specs.run_promise.Origin.{Origin}
+use Rattle.run_minutes.specs.run_promise.Ends.{recording_by}
 use Rattle.run_minutes.specs.declared.keeper.Keeper.{Keeper}
 use Rattle.run_insertion.specs.declared.lines.Entering.{Entering}
 use Rattle.run_record.specs.Within.{course_in, often, MayBeWrittenSo, RecordInSecond}

@@ -4,7 +4,7 @@ use Rattle.std.proofs.lemmas.Bool.{lt-ltb}
 use Rattle.std.proofs.lemmas.List.Elements.{All-nil, All-cons, Contains-append_left, Contains-append_right, Contains-push}
 use Rattle.activity_codec.specs.declared.entries.Entry.{Entry}
 use Rattle.trace_model.specs.declared.Card.{Card}
-use Rattle.run_model.specs.declared.Device.{Device}
+use Rattle.log_model.specs.run_model.declared.Device.{Device}
 use Rattle.minute_rules.specs.Kept.{Kept}
 use Rattle.log_model.specs.declared.lines.Break.{Break}
 use Rattle.log_model.specs.declared.lines.Find.{Find}
@@ -12,9 +12,9 @@ use Rattle.log_model.specs.declared.lines.Mark.{Mark}
 use Rattle.log_model.specs.declared.lines.Refused.{Refused}
 use Rattle.log_model.specs.Causes.{device_of}
 use Rattle.log_model.specs.ByHand.{by_slots, stops}
-use Rattle.history_model.specs.Completeness.{IsMarked}
+use Rattle.device_calls.specs.history_model.Completeness.{IsMarked}
 use Rattle.run_crew.specs.declared.cabin.Cabin.{Cabin}
-use Rattle.run_devices.specs.Told.{card_marks}
+use Rattle.run_minutes.specs.run_devices.Told.{card_marks}
 use Rattle.run_outcome.specs.Lines.{Listed}
 use Rattle.run_outcome.specs.declared.outcome.Outcome.{Outcome}
 use Rattle.run_minutes.specs.declared.keeper.Keeper.{Keeper}

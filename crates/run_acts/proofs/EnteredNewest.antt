@@ -12,37 +12,37 @@ use Rattle.trace_model.specs.declared.Card.TheVariants.{A, B}
 use Rattle.trace_model.specs.Trace.{TraceSecond}
 use Rattle.tach_media.specs.Medium.{State, IsCoherent}
 use Rattle.minute_rules.specs.Kept.{Kept}
-use Rattle.minute_model.specs.Activity.{last}
-use Rattle.card_image.specs.Fields.{session_time, last_use, end_mark}
-use Rattle.card_image.specs.View.{CardView}
-use Rattle.card_image.specs.Own.{own_sizes, own_view, IsOwnValid}
-use Rattle.card_session.proofs.NewestStays.{view_word}
-use Rattle.card_session.proofs.Renewing.{stored_least, stored_shut}
+use Rattle.unit_model.specs.minute_model.Activity.{last}
+use Rattle.hand_model.specs.card_image.Fields.{session_time, last_use, end_mark}
+use Rattle.hand_model.specs.card_image.View.{CardView}
+use Rattle.hand_model.specs.card_image.Own.{own_sizes, own_view, IsOwnValid}
+use Rattle.device_calls.proofs.card_session.NewestStays.{view_word}
+use Rattle.device_calls.proofs.card_session.Renewing.{stored_least, stored_shut}
 use Rattle.device_calls.proofs.OnCard.{own-is, session-is, mark-is}
 use Rattle.log_model.specs.Log.{In}
 use Rattle.log_model.specs.Slots.{other_slot}
 use Rattle.log_model.specs.Course.{Visit}
-use Rattle.history_model.specs.Minutes.{HistoryMinute, on_card, card_history, up_to}
-use Rattle.history_model.specs.Presence.{CardStart, card_start, expected_entries, closed_at, trimmed_by, newest_by, newest_minute}
-use Rattle.history_model.specs.Book.{Book, all, Ordered}
-use Rattle.history_model.proofs.Books.{all-none, history-append, history-one, history-none, on_card-minute}
-use Rattle.history_model.proofs.Filters.{filter-whole}
-use Rattle.device_rule.specs.Rules.{Out}
-use Rattle.device_rule.specs.Views.{beyond}
-use Rattle.unit_rule.proofs.Moves.{shown-last}
-use Rattle.card_slots.specs.declared.seats.Seat.{Seat}
-use Rattle.card_slots.specs.Calls.{seat_in, is_card}
-use Rattle.card_slots.specs.Kept.{Kept as SlotsKept, is_minute, left_in, left_of}
-use Rattle.safety_model.specs.Recording.{Recording, card_image, brought, start_of, unit_seen}
-use Rattle.run_promise.specs.Found.{found_of}
-use Rattle.run_promise.specs.Cards.{IsUntouched, brought_by}
-use Rattle.run_promise.proofs.Behind.{owed-until}
-use Rattle.run_course.specs.Presence.{IsNewestAt}
-use Rattle.run_course.specs.Seconds.{kept_all}
-use Rattle.run_promise.proofs.Going.{sure-kept}
-use Rattle.run_devices.specs.Told.{arranged, with_standing}
+use Rattle.device_calls.specs.history_model.Minutes.{HistoryMinute, on_card, card_history, up_to}
+use Rattle.device_calls.specs.history_model.Presence.{CardStart, card_start, expected_entries, closed_at, trimmed_by, newest_by, newest_minute}
+use Rattle.device_calls.specs.history_model.Book.{Book, all, Ordered}
+use Rattle.device_calls.proofs.history_model.Books.{all-none, history-append, history-one, history-none, on_card-minute}
+use Rattle.device_calls.proofs.history_model.Filters.{filter-whole}
+use Rattle.device_calls.specs.device_rule.Rules.{Out}
+use Rattle.device_calls.specs.device_rule.Views.{beyond}
+use Rattle.device_calls.proofs.unit_rule.Moves.{shown-last}
+use Rattle.run_crew.specs.card_slots.declared.seats.Seat.{Seat}
+use Rattle.run_crew.specs.card_slots.Calls.{seat_in, is_card}
+use Rattle.run_crew.specs.card_slots.Kept.{Kept as SlotsKept, is_minute, left_in, left_of}
+use Rattle.device_calls.specs.safety_model.Recording.{Recording, card_image, brought, start_of, unit_seen}
+use Rattle.run_minutes.specs.run_promise.Found.{found_of}
+use Rattle.run_minutes.specs.run_promise.Cards.{IsUntouched, brought_by}
+use Rattle.run_minutes.proofs.run_promise.Behind.{owed-until}
+use Rattle.run_events.specs.run_course.Presence.{IsNewestAt}
+use Rattle.run_events.specs.run_course.Seconds.{kept_all}
+use Rattle.run_minutes.proofs.run_promise.Going.{sure-kept}
+use Rattle.run_minutes.specs.run_devices.Told.{arranged, with_standing}
 use Rattle.run_outcome.specs.declared.outcome.Outcome.{Outcome}
-use Rattle.run_promise.specs.Origin.{Origin, start_at, first_of}
+use Rattle.run_minutes.specs.run_promise.Origin.{Origin, start_at, first_of}
 use Rattle.run_minutes.specs.declared.keeper.Keeper.{Keeper}
 use Rattle.device_calls.specs.declared.entering.Entered.{Entered}
 use Rattle.run_insertion.specs.declared.lines.Entering.{Entering}

@@ -16,25 +16,25 @@ use Rattle.log_model.specs.Course.{Visit, went}
 use Rattle.log_model.specs.declared.lines.Break.{Break}
 use Rattle.log_model.specs.declared.lines.Mark.{Mark}
 use Rattle.log_model.specs.Causes.{cuts, device_of}
-use Rattle.history_model.specs.Completeness.{IsMarked}
+use Rattle.device_calls.specs.history_model.Completeness.{IsMarked}
 use Rattle.log_model.specs.declared.lines.Verdict.{Verdict}
 use Rattle.log_model.specs.declared.lines.Find.{Find}
 use Rattle.log_model.specs.declared.lines.Verdict.TheVariants.{Accepted as AcceptedWith, NotValid, TimeOverlap}
 use Rattle.log_model.specs.ByHand.{by_slots}
-use Rattle.card_image.specs.View.{CardView, card_view}
-use Rattle.card_image.specs.Own.{own_sizes, IsOwnValid}
+use Rattle.hand_model.specs.card_image.View.{CardView, card_view}
+use Rattle.hand_model.specs.card_image.Own.{own_sizes, IsOwnValid}
 use Rattle.device_calls.proofs.OnCard.{own-is}
 use Rattle.tacho_types.specs.declared.texts.Registration.{Registration}
 use Rattle.run_minutes.specs.CardDeeds.{DoesOn}
-use Rattle.card_layout.specs.declared.files.Application.{Application}
-use Rattle.device_rule.specs.Views.{other}
-use Rattle.note_model.specs.Noted.{Note}
-use Rattle.safety_model.specs.Safe.{Devices, breakdowns_of}
-use Rattle.card_slots.specs.declared.seats.Seat.{Seat}
-use Rattle.card_slots.specs.Calls.{seat_in, card_in, is_card}
-use Rattle.card_slots.specs.Kept.{Kept as SlotsKept}
-use Rattle.run_course.specs.Moments.{and_break, and_find}
-use Rattle.run_course.specs.Reached.{IsTearAt, IsFindAt, moved_at}
+use Rattle.card_files.specs.card_layout.declared.files.Application.{Application}
+use Rattle.device_calls.specs.device_rule.Views.{other}
+use Rattle.unit_notes.specs.note_model.Noted.{Note}
+use Rattle.device_calls.specs.safety_model.Safe.{Devices, breakdowns_of}
+use Rattle.run_crew.specs.card_slots.declared.seats.Seat.{Seat}
+use Rattle.run_crew.specs.card_slots.Calls.{seat_in, card_in, is_card}
+use Rattle.run_crew.specs.card_slots.Kept.{Kept as SlotsKept}
+use Rattle.run_events.specs.run_course.Moments.{and_break, and_find}
+use Rattle.run_events.specs.run_course.Reached.{IsTearAt, IsFindAt, moved_at}
 use Rattle.run_record.specs.Recorded.{Values}
 use Rattle.run_record.specs.Within.{RecordInSecond}
 use Rattle.run_record.specs.Judging.{IsNext}
@@ -43,12 +43,12 @@ use Rattle.hand_model.specs.Holding.{none_held}
 use Rattle.run_crew.specs.declared.cards.Accepted.{Accepted}
 use Rattle.run_crew.specs.declared.cabin.Cabin.{Cabin}
 use Rattle.run_crew.specs.Cards.{session_of}
-use Rattle.run_promise.specs.Found.{CardFound, found_of}
-use Rattle.run_promise.specs.Between.{RunLedger}
-use Rattle.run_devices.specs.Told.{arranged, card_marks}
-use Rattle.run_devices.proofs.Known.{session-sized}
-use Rattle.run_promise.specs.Origin.{Origin}
-use Rattle.run_promise.specs.Whole.{NothingFailed}
+use Rattle.run_minutes.specs.run_promise.Found.{CardFound, found_of}
+use Rattle.run_minutes.specs.run_promise.Between.{RunLedger}
+use Rattle.run_minutes.specs.run_devices.Told.{arranged, card_marks}
+use Rattle.run_minutes.proofs.run_devices.Known.{session-sized}
+use Rattle.run_minutes.specs.run_promise.Origin.{Origin}
+use Rattle.run_minutes.specs.run_promise.Whole.{NothingFailed}
 use Rattle.run_outcome.specs.declared.outcome.Outcome.{Outcome}
 use Rattle.run_minutes.specs.declared.keeper.Keeper.{Keeper}
 use Rattle.run_insertion.specs.declared.lines.Entering.{Entering}
@@ -63,8 +63,8 @@ use Rattle.run_acts.specs.Recording.{log_of}
 use Rattle.run_acts.specs.Closings.{spells_of, last_slot, notes_within}
 use Rattle.run_acts.specs.Truths.{Truths}
 use Rattle.card_files.specs.declared.vehicle.Vehicle.{Vehicle}
-use Rattle.card_session.specs.Books.{Book, mark_of}
-use Rattle.card_session.specs.Sessions.{book_of}
+use Rattle.device_calls.specs.card_session.Books.{Book, mark_of}
+use Rattle.device_calls.specs.card_session.Sessions.{book_of}
 use Rattle.run_acts.specs.Comings.{told_of, TellMore}
 use Rattle.run_acts.specs.Stays.{Stay, Shown, Whose, Both, Only, covers, AreKnown, owed_by, after_stays, start_shown, acceptances_told, sits_in, IsPlaced, AllStay, is_late, judged_told, judged_in, AreJudged, stored_by, HasStays}
 use Rattle.run_acts.proofs.Stays.{coming_behind, one-coming, true-more, last-slot-more, stays-still, stays-moved, stays-open, owes-more, judged-more, judged-late, verdicts-more, verdicts-late, stored-shown, in-time}

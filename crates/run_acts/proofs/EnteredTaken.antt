@@ -11,32 +11,32 @@ use Rattle.trace_model.specs.Trace.{TraceSecond}
 use Rattle.tach_media.specs.Medium.{State, HasBroken}
 use Rattle.tach_media.proofs.Runs.{at_image}
 use Rattle.minute_rules.specs.Kept.{Kept}
-use Rattle.card_layout.specs.declared.files.Application.{Application}
+use Rattle.card_files.specs.card_layout.declared.files.Application.{Application}
 use Rattle.log_model.specs.declared.lines.Verdict.TheVariants.{Accepted}
 use Rattle.log_model.specs.Log.{In}
 use Rattle.log_model.specs.Slots.{other_slot, same_card}
 use Rattle.log_model.specs.Course.{Visit}
 use Rattle.unit_minutes.specs.Image.{Agrees}
 use Rattle.unit_model.specs.Image.{last_kept}
-use Rattle.device_rule.specs.Rules.{Standing, Out, In as IsIn, Torn}
-use Rattle.card_slots.specs.Calls.{seat_in, is_card}
-use Rattle.card_slots.specs.Kept.{Kept as SlotsKept, put_in, taken}
-use Rattle.safety_model.specs.Safe.{card_of}
+use Rattle.device_calls.specs.device_rule.Rules.{Standing, Out, In as IsIn, Torn}
+use Rattle.run_crew.specs.card_slots.Calls.{seat_in, is_card}
+use Rattle.run_crew.specs.card_slots.Kept.{Kept as SlotsKept, put_in, taken}
+use Rattle.device_calls.specs.safety_model.Safe.{card_of}
 use Rattle.hand_model.specs.Holding.{none_held}
 use Rattle.run_crew.specs.declared.cabin.Cabin.{Cabin}
 use Rattle.run_crew.specs.declared.cards.Cards.{Cards}
 use Rattle.run_crew.specs.declared.cards.Accepted.{Accepted as Session}
 use Rattle.run_crew.specs.Cards.{session_of, with_sizes, with_session, with_number}
 use Rattle.run_crew.specs.Cabin.{slot_with, left_from, torn_out, with_sizes_of, with_power_lost}
-use Rattle.run_promise.specs.Found.{found_of}
-use Rattle.run_course.specs.Presence.{IsNewestAt}
-use Rattle.run_course.specs.Seconds.{kept_all}
-use Rattle.run_promise.specs.Going.{IsTakenAt}
-use Rattle.run_devices.specs.Presence.{IsSeated}
-use Rattle.run_devices.specs.Told.{AreFoundCards, DevicesUnpowered, arranged, for_card, card_marks, with_marks, with_standing, HasFoundSo}
-use Rattle.run_devices.proofs.Known.{session-sized, early-accepted}
+use Rattle.run_minutes.specs.run_promise.Found.{found_of}
+use Rattle.run_events.specs.run_course.Presence.{IsNewestAt}
+use Rattle.run_events.specs.run_course.Seconds.{kept_all}
+use Rattle.run_minutes.specs.run_promise.Going.{IsTakenAt}
+use Rattle.run_minutes.specs.run_devices.Presence.{IsSeated}
+use Rattle.run_minutes.specs.run_devices.Told.{AreFoundCards, DevicesUnpowered, arranged, for_card, card_marks, with_marks, with_standing, HasFoundSo}
+use Rattle.run_minutes.proofs.run_devices.Known.{session-sized, early-accepted}
 use Rattle.run_outcome.specs.declared.outcome.Outcome.{Outcome}
-use Rattle.run_promise.specs.Origin.{Origin, start_at, first_of}
+use Rattle.run_minutes.specs.run_promise.Origin.{Origin, start_at, first_of}
 use Rattle.run_minutes.specs.declared.keeper.Keeper.{Keeper}
 use Rattle.run_minutes.specs.declared.keeper.Moment.{Moment as KeepingAt}
 use Rattle.run_minutes.specs.Keeping.{tear_of}
@@ -55,8 +55,8 @@ use Rattle.run_acts.specs.Entered.{values_with, MayJudge, HasGone, AreSound, IsC
 use Rattle.run_acts.proofs.EnteredFacts.{unit-back, for-own, for-other, before, now-is, unit-told, left, there, breakdowns, broke-once, unit-broke, travels, untouched}
 use Rattle.run_acts.proofs.EnteredTurned.{not-keeping, own-card, slot-there}
 use Rattle.run_record.proofs.HandedSteps.{less-stay}
-use Rattle.history_model.specs.Presence.{trimmed_by, newest_minute}
-use Rattle.run_promise.specs.Cards.{brought_by}
+use Rattle.device_calls.specs.history_model.Presence.{trimmed_by, newest_minute}
+use Rattle.run_minutes.specs.run_promise.Cards.{brought_by}
 
 -- ---- small facts
 

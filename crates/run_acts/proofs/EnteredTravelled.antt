@@ -1,17 +1,17 @@
 -- What a card that enters is noted with on the unit leaves its last-kept minute, its odometer and its days alone.
 use Rattle.std.proofs.Common.{⊎_elim, inr, ℕ, List, [], ◌∷◌, arith}
-use Rattle.card_layout.specs.Images.{SameOutside}
+use Rattle.card_files.specs.card_layout.Images.{SameOutside}
 use Rattle.tach_media.specs.Medium.{State, IsCoherent, LeavesOnly}
-use Rattle.gated_ring.specs.Ring.{size_of}
-use Rattle.message_model.specs.Records.{insertion_ring}
-use Rattle.note_model.specs.Tables.{table_of}
-use Rattle.history_model.specs.Book.{Book}
-use Rattle.run_unit_course.specs.Legs.{Travel}
+use Rattle.run_events.specs.gated_ring.Ring.{size_of}
+use Rattle.run_events.specs.message_model.Records.{insertion_ring}
+use Rattle.unit_notes.specs.note_model.Tables.{table_of}
+use Rattle.device_calls.specs.history_model.Book.{Book}
+use Rattle.device_calls.specs.run_unit_course.Legs.{Travel}
 use Rattle.unit_minutes.specs.Beside.{SameJournal}
 use Rattle.unit_minutes.proofs.Beside.{beside, beside_then}
 use Rattle.unit_notes.proofs.Types.{table_inside}
-use Rattle.unit_rule.specs.Odometer.{HasTravelled}
-use Rattle.unit_rule.proofs.Elsewhere.{rows-elsewhere, travelled-elsewhere}
+use Rattle.device_calls.specs.unit_rule.Odometer.{HasTravelled}
+use Rattle.device_calls.proofs.unit_rule.Elsewhere.{rows-elsewhere, travelled-elsewhere}
 use Rattle.run_insertion.specs.Noted.{UnitNote, Inserts, BeginsRow, Tells, IsOnUnit, IsComing, AreBeingDone}
 
 -- a write behind what the journal reads

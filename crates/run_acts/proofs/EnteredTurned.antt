@@ -8,28 +8,28 @@ use Rattle.trace_model.specs.declared.Card.TheVariants.{A, B}
 use Rattle.trace_model.specs.Trace.{TraceSecond}
 use Rattle.tach_media.specs.Medium.{State, HasBroken}
 use Rattle.minute_rules.specs.Kept.{Kept}
-use Rattle.card_layout.specs.declared.files.Application.{Application}
-use Rattle.card_image.specs.Own.{own_view, IsOwnValid}
+use Rattle.card_files.specs.card_layout.declared.files.Application.{Application}
+use Rattle.hand_model.specs.card_image.Own.{own_view, IsOwnValid}
 use Rattle.log_model.specs.declared.lines.Verdict.{Verdict}
 use Rattle.log_model.specs.Log.{Phase, In, Keeping, is_accepting}
 use Rattle.log_model.specs.Slots.{other_slot}
 use Rattle.log_model.specs.Course.{Visit}
-use Rattle.device_rule.specs.Rules.{Out}
-use Rattle.card_slots.specs.Calls.{Seats, seat_in, is_card}
-use Rattle.card_slots.specs.Kept.{taken}
-use Rattle.safety_model.specs.Recording.{card_image}
-use Rattle.safety_model.specs.Safe.{Devices, card_of}
-use Rattle.card_slots.specs.declared.seats.Seat.{Seat}
+use Rattle.device_calls.specs.device_rule.Rules.{Out}
+use Rattle.run_crew.specs.card_slots.Calls.{Seats, seat_in, is_card}
+use Rattle.run_crew.specs.card_slots.Kept.{taken}
+use Rattle.device_calls.specs.safety_model.Recording.{card_image}
+use Rattle.device_calls.specs.safety_model.Safe.{Devices, card_of}
+use Rattle.run_crew.specs.card_slots.declared.seats.Seat.{Seat}
 use Rattle.run_crew.specs.declared.cards.Accepted.{Accepted}
 use Rattle.run_crew.specs.declared.cards.Cards.{Cards}
 use Rattle.run_crew.specs.Cards.{session_of, with_sizes, with_session}
 use Rattle.run_crew.specs.Cabin.{slot_with, left_from, torn_out, with_sizes_of}
-use Rattle.run_promise.specs.Found.{found_of}
-use Rattle.run_promise.specs.Cards.{IsUntouched}
-use Rattle.run_devices.specs.Told.{AreFoundCards, arranged, for_card, with_standing}
-use Rattle.run_devices.proofs.Known.{session-sized}
+use Rattle.run_minutes.specs.run_promise.Found.{found_of}
+use Rattle.run_minutes.specs.run_promise.Cards.{IsUntouched}
+use Rattle.run_minutes.specs.run_devices.Told.{AreFoundCards, arranged, for_card, with_standing}
+use Rattle.run_minutes.proofs.run_devices.Known.{session-sized}
 use Rattle.run_outcome.specs.declared.outcome.Outcome.{Outcome}
-use Rattle.run_promise.specs.Origin.{Origin}
+use Rattle.run_minutes.specs.run_promise.Origin.{Origin}
 use Rattle.run_minutes.specs.declared.keeper.Keeper.{Keeper}
 use Rattle.run_minutes.specs.declared.keeper.Moment.{Moment as KeepingAt}
 use Rattle.run_minutes.specs.Keeping.{tear_of}

@@ -6,27 +6,27 @@ use Rattle.trace_model.specs.declared.Card.TheVariants.{A, B}
 use Rattle.trace_model.specs.Trace.{TraceSecond}
 use Rattle.tach_media.specs.Medium.{State, IsCoherent}
 use Rattle.minute_rules.specs.Kept.{Kept}
-use Rattle.card_layout.specs.declared.files.Application.{Application}
-use Rattle.card_layout.specs.declared.files.Fid.{Fid}
-use Rattle.card_layout.specs.Application.{application_in, first_bad_field, place_of_field}
-use Rattle.card_layout.specs.Files.{files_of}
-use Rattle.card_image.specs.Judging.{first_bad_file, first_bad_of, file_check, file_checks, IsValid}
-use Rattle.card_image.specs.View.{CardView, card_view}
-use Rattle.card_image.specs.Own.{own_sizes, own_view, own_number, own_bad_file, IsOwnValid}
+use Rattle.card_files.specs.card_layout.declared.files.Application.{Application}
+use Rattle.card_files.specs.card_layout.declared.files.Fid.{Fid}
+use Rattle.card_files.specs.card_layout.Application.{application_in, first_bad_field, place_of_field}
+use Rattle.card_files.specs.card_layout.Files.{files_of}
+use Rattle.hand_model.specs.card_image.Judging.{first_bad_file, first_bad_of, file_check, file_checks, IsValid}
+use Rattle.hand_model.specs.card_image.View.{CardView, card_view}
+use Rattle.hand_model.specs.card_image.Own.{own_sizes, own_view, own_number, own_bad_file, IsOwnValid}
 use Rattle.device_calls.proofs.OnCard.{own-is}
 use Rattle.log_model.specs.declared.lines.Verdict.TheVariants.{Accepted, NotValid, TimeOverlap}
 use Rattle.log_model.specs.Log.{In}
 use Rattle.log_model.specs.Course.{Visit}
-use Rattle.device_rule.specs.Rules.{Out}
-use Rattle.device_rule.specs.Views.{unit_view, owed}
-use Rattle.safety_model.specs.Recording.{card_image, unit_seen}
-use Rattle.safety_model.specs.Safe.{card_of}
-use Rattle.run_promise.specs.Found.{found_of}
-use Rattle.run_devices.specs.Told.{arranged, with_standing, card_marks}
-use Rattle.run_devices.proofs.OnCards.{valid-own}
+use Rattle.device_calls.specs.device_rule.Rules.{Out}
+use Rattle.device_calls.specs.device_rule.Views.{unit_view, owed}
+use Rattle.device_calls.specs.safety_model.Recording.{card_image, unit_seen}
+use Rattle.device_calls.specs.safety_model.Safe.{card_of}
+use Rattle.run_minutes.specs.run_promise.Found.{found_of}
+use Rattle.run_minutes.specs.run_devices.Told.{arranged, with_standing, card_marks}
+use Rattle.run_minutes.proofs.run_devices.OnCards.{valid-own}
 use Rattle.run_outcome.specs.declared.outcome.Outcome.{Outcome}
-use Rattle.run_promise.specs.Origin.{Origin}
-use Rattle.run_promise.specs.Beside.{HaveLeftMore}
+use Rattle.run_minutes.specs.run_promise.Origin.{Origin}
+use Rattle.run_minutes.specs.run_promise.Beside.{HaveLeftMore}
 use Rattle.run_minutes.specs.declared.keeper.Keeper.{Keeper}
 use Rattle.device_calls.specs.declared.entering.Entered.{Entered}
 use Rattle.run_insertion.specs.declared.lines.Entering.{Entering}

@@ -6,27 +6,27 @@ use Rattle.trace_model.specs.Trace.{TraceSecond}
 use Rattle.tach_media.specs.Medium.{State}
 use Rattle.tach_media.proofs.Runs.{at_image}
 use Rattle.minute_rules.specs.Kept.{Kept}
-use Rattle.card_layout.specs.declared.files.Application.{Application}
-use Rattle.card_layout.specs.declared.files.Fid.{Fid}
-use Rattle.card_layout.specs.Application.{place_of_field}
-use Rattle.card_image.specs.Own.{own_view, IsOwnValid}
+use Rattle.card_files.specs.card_layout.declared.files.Application.{Application}
+use Rattle.card_files.specs.card_layout.declared.files.Fid.{Fid}
+use Rattle.card_files.specs.card_layout.Application.{place_of_field}
+use Rattle.hand_model.specs.card_image.Own.{own_view, IsOwnValid}
 use Rattle.log_model.specs.declared.lines.Verdict.TheVariants.{Accepted, NotValid, TimeOverlap}
 use Rattle.log_model.specs.Log.{In}
 use Rattle.log_model.specs.Causes.{device_of}
 use Rattle.log_model.specs.Course.{Visit}
-use Rattle.device_rule.specs.Rules.{Out}
-use Rattle.safety_model.specs.Recording.{card_image}
+use Rattle.device_calls.specs.device_rule.Rules.{Out}
+use Rattle.device_calls.specs.safety_model.Recording.{card_image}
 use Rattle.run_crew.specs.declared.cards.Cards.{Cards}
 use Rattle.run_crew.specs.Cards.{with_session}
 use Rattle.run_crew.specs.Cabin.{torn_out, with_sizes_of}
-use Rattle.run_promise.specs.Found.{Found, found_of}
-use Rattle.run_promise.specs.Cards.{IsUntouched}
-use Rattle.run_devices.specs.Told.{AreFoundCards, arranged, card_marks, with_marks, with_standing}
-use Rattle.run_devices.proofs.Known.{found-still}
-use Rattle.run_devices.proofs.Parts.{told-one}
-use Rattle.run_devices.proofs.Woken.{untouched-read}
+use Rattle.run_minutes.specs.run_promise.Found.{Found, found_of}
+use Rattle.run_minutes.specs.run_promise.Cards.{IsUntouched}
+use Rattle.run_minutes.specs.run_devices.Told.{AreFoundCards, arranged, card_marks, with_marks, with_standing}
+use Rattle.run_minutes.proofs.run_devices.Known.{found-still}
+use Rattle.run_minutes.proofs.run_devices.Parts.{told-one}
+use Rattle.run_minutes.proofs.run_devices.Woken.{untouched-read}
 use Rattle.run_outcome.specs.declared.outcome.Outcome.{Outcome}
-use Rattle.run_promise.specs.Origin.{Origin}
+use Rattle.run_minutes.specs.run_promise.Origin.{Origin}
 use Rattle.run_minutes.specs.declared.keeper.Keeper.{Keeper}
 use Rattle.run_minutes.specs.Keeping.{tear_of}
 use Rattle.device_calls.specs.declared.entering.Entered.{Entered}

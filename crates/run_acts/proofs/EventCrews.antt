@@ -9,22 +9,22 @@ use Rattle.tacho_types.specs.CardNumber.{card_number_bytes}
 use Rattle.tacho_types.specs.declared.card_number.FullCardNumber.{FullCardNumber}
 use Rattle.log_model.specs.Slots.{Slots, Sitting, same_card}
 use Rattle.log_model.specs.Course.{ToldSecond}
-use Rattle.history_model.specs.Minutes.{HistoryMinute}
-use Rattle.history_model.specs.Presence.{Start}
-use Rattle.event_model.specs.declared.kinds.TheConstants.{CARD_FAULT}
-use Rattle.event_model.specs.Events as events
-use Rattle.event_model.specs.Events.{noted_with}
-use Rattle.card_image.specs.Own.{IsOwnValid}
-use Rattle.run_promise.specs.Found.{Found, found_of}
-use Rattle.run_devices.specs.Told.{AreFoundCards}
+use Rattle.device_calls.specs.history_model.Minutes.{HistoryMinute}
+use Rattle.device_calls.specs.history_model.Presence.{Start}
+use Rattle.unit_notes.specs.event_model.declared.kinds.TheConstants.{CARD_FAULT}
+use Rattle.unit_notes.specs.event_model.Events as events
+use Rattle.unit_notes.specs.event_model.Events.{noted_with}
+use Rattle.hand_model.specs.card_image.Own.{IsOwnValid}
+use Rattle.run_minutes.specs.run_promise.Found.{Found, found_of}
+use Rattle.run_minutes.specs.run_devices.Told.{AreFoundCards}
 use Rattle.run_minutes.specs.Keeping.{Fate, Still, Has, Fell}
 use Rattle.run_minutes.specs.Faults.{fault_entry, faults_by}
 use Rattle.run_acts.specs.NotedEvents.{NoteTellsEvent, AreTold}
-use Rattle.note_model.specs.Tables.{number_or_none}
-use Rattle.card_slots.specs.declared.seats.Seat.{Seat}
-use Rattle.card_slots.specs.Calls.{Seats, seat_in, is_card}
-use Rattle.card_slots.specs.Kept.{Kept}
-use Rattle.run_course.specs.Presence.{SlotsTell, SitsAs, IsNewest}
+use Rattle.unit_notes.specs.note_model.Tables.{number_or_none}
+use Rattle.run_crew.specs.card_slots.declared.seats.Seat.{Seat}
+use Rattle.run_crew.specs.card_slots.Calls.{Seats, seat_in, is_card}
+use Rattle.run_crew.specs.card_slots.Kept.{Kept}
+use Rattle.run_events.specs.run_course.Presence.{SlotsTell, SitsAs, IsNewest}
 use Rattle.run_crew.specs.declared.cabin.Cabin.{Cabin}
 use Rattle.run_crew.specs.declared.cards.Accepted.{Accepted}
 use Rattle.run_crew.specs.declared.cards.Cards.{Cards}

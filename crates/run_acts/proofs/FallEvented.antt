@@ -5,30 +5,30 @@ use Rattle.trace_model.specs.declared.Card.{Card}
 use Rattle.trace_model.specs.declared.Card.TheVariants.{A, B}
 use Rattle.trace_model.specs.declared.Action.{Action}
 use Rattle.trace_model.specs.Trace.{TraceSecond}
-use Rattle.card_image.specs.Own.{IsOwnValid}
+use Rattle.hand_model.specs.card_image.Own.{IsOwnValid}
 use Rattle.log_model.specs.declared.lines.Break.{Break}
 use Rattle.log_model.specs.Log.{RunLog, Phase, In, is_torn_in}
 use Rattle.log_model.specs.Slots.{Sitting, in_slot, other_slot}
 use Rattle.log_model.specs.Course.{Visit, Before, ToldSecond, Course, visits, card_in as card_of_sitting, went}
-use Rattle.event_model.specs.declared.kinds.TheConstants.{CARD_FAULT}
-use Rattle.event_model.specs.Events.{with_card}
-use Rattle.event_model.specs.Events as events
+use Rattle.unit_notes.specs.event_model.declared.kinds.TheConstants.{CARD_FAULT}
+use Rattle.unit_notes.specs.event_model.Events.{with_card}
+use Rattle.unit_notes.specs.event_model.Events as events
 use Rattle.unit_notes.specs.declared.unit_event.UnitEvent.{UnitEvent}
-use Rattle.safety_model.specs.Safe.{Devices, breakdowns_of}
-use Rattle.card_slots.specs.Calls.{seat_in, card_in}
+use Rattle.device_calls.specs.safety_model.Safe.{Devices, breakdowns_of}
+use Rattle.run_crew.specs.card_slots.Calls.{seat_in, card_in}
 use Rattle.run_crew.specs.declared.cabin.Cabin.{Cabin}
 use Rattle.run_crew.specs.Cards.{session_of}
 use Rattle.run_crew.specs.Cabin.{CabinIsSound, torn_out, with_session_of, crew_of}
 use Rattle.run_events.specs.Entries.{IsCrewOf, entry_of}
-use Rattle.run_course.specs.Moments.{and_break}
-use Rattle.run_course.specs.Followed.{Progress}
-use Rattle.run_course.specs.Reached.{moved_at, Reaches, IsTearAt}
-use Rattle.run_course.specs.Telling.{IsOneOut, IsLeft}
-use Rattle.run_course.proofs.Lines.{who-sits}
-use Rattle.run_course.proofs.Moment.{reaches-of}
+use Rattle.run_events.specs.run_course.Moments.{and_break}
+use Rattle.run_events.specs.run_course.Followed.{Progress}
+use Rattle.run_events.specs.run_course.Reached.{moved_at, Reaches, IsTearAt}
+use Rattle.run_events.specs.run_course.Telling.{IsOneOut, IsLeft}
+use Rattle.run_events.proofs.run_course.Lines.{who-sits}
+use Rattle.run_events.proofs.run_course.Moment.{reaches-of}
 use Rattle.run_minutes.specs.Keeping.{Fell}
-use Rattle.run_promise.specs.Origin.{Origin, start_at}
-use Rattle.run_promise.specs.Beside.{HaveLeftMore}
+use Rattle.run_minutes.specs.run_promise.Origin.{Origin, start_at}
+use Rattle.run_minutes.specs.run_promise.Beside.{HaveLeftMore}
 use Rattle.run_record.specs.Recorded.{Values}
 use Rattle.run_record.specs.Within.{RecordInSecond, course_in, told_before, IsLeaving}
 use Rattle.run_record.proofs.Moved.{not-leaving}

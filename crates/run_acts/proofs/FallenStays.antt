@@ -7,14 +7,14 @@ use Rattle.tacho_types.specs.declared.texts.Registration.{Registration}
 use Rattle.log_model.specs.Log.{RunLog}
 use Rattle.log_model.specs.Slots.{same_card}
 use Rattle.log_model.specs.Causes.{device_of}
-use Rattle.device_rule.specs.Views.{other}
-use Rattle.note_model.specs.Noted.{Note}
-use Rattle.safety_model.specs.Safe.{breakdowns_of}
-use Rattle.card_slots.specs.Calls.{seat_in, card_in}
+use Rattle.device_calls.specs.device_rule.Views.{other}
+use Rattle.unit_notes.specs.note_model.Noted.{Note}
+use Rattle.device_calls.specs.safety_model.Safe.{breakdowns_of}
+use Rattle.run_crew.specs.card_slots.Calls.{seat_in, card_in}
 use Rattle.run_crew.specs.declared.cabin.Cabin.{Cabin}
 use Rattle.run_crew.specs.Cards.{session_of}
-use Rattle.run_devices.specs.Told.{arranged}
-use Rattle.run_promise.specs.Origin.{Origin}
+use Rattle.run_minutes.specs.run_devices.Told.{arranged}
+use Rattle.run_minutes.specs.run_promise.Origin.{Origin}
 use Rattle.run_minutes.specs.declared.keeper.Moment.{Moment}
 use Rattle.run_minutes.specs.Keeping.{tear_of}
 use Rattle.run_acts.specs.Closings.{spells_of}

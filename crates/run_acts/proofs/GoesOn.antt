@@ -6,19 +6,19 @@ use Rattle.trace_model.specs.declared.Card.TheVariants.{A, B}
 use Rattle.tach_media.specs.Medium.{State, Rose, HasCause, LeavesOnly}
 use Rattle.tach_media.proofs.Runs.{cause_after}
 use Rattle.unit_notes.specs.Journal.{LeavesJournal}
-use Rattle.run_model.specs.declared.Device.TheVariants.{Unit as Recorder}
+use Rattle.log_model.specs.run_model.declared.Device.TheVariants.{Unit as Recorder}
 use Rattle.log_model.specs.Causes.{RoseBy}
-use Rattle.safety_model.specs.Safe.{Devices, card_of, breakdowns_of}
+use Rattle.device_calls.specs.safety_model.Safe.{Devices, card_of, breakdowns_of}
 use Rattle.run_crew.specs.declared.cards.Accepted.{Accepted}
 use Rattle.run_crew.specs.declared.cards.Cards.{Cards}
 use Rattle.run_crew.specs.Cards.{session_of}
-use Rattle.run_promise.specs.Found.{CardFound, found_of}
-use Rattle.run_promise.specs.Cards.{IsUntouched}
-use Rattle.run_promise.specs.Between.{RunLedger, devices}
-use Rattle.run_devices.specs.Told.{DevicesPowered}
-use Rattle.run_promise.specs.Origin.{Origin}
+use Rattle.run_minutes.specs.run_promise.Found.{CardFound, found_of}
+use Rattle.run_minutes.specs.run_promise.Cards.{IsUntouched}
+use Rattle.run_minutes.specs.run_promise.Between.{RunLedger, devices}
+use Rattle.run_minutes.specs.run_devices.Told.{DevicesPowered}
+use Rattle.run_minutes.specs.run_promise.Origin.{Origin}
 use Rattle.run_outcome.specs.declared.outcome.Outcome.{Outcome}
-use Rattle.run_speeds.specs.Speeds.{LeavesSpeeds}
+use Rattle.run_events.specs.run_speeds.Speeds.{LeavesSpeeds}
 use Rattle.run_minutes.specs.declared.keeper.Moment.{Moment}
 use Rattle.run_minutes.specs.Books.{AreTimedOn}
 use Rattle.run_minutes.specs.Later.{IsLater, AreLater, RestsBy}

@@ -8,14 +8,14 @@ use Rattle.tach_media.specs.Medium.{State}
 use Rattle.tacho_types.specs.declared.texts.Registration.{Registration}
 use Rattle.log_model.specs.Log.{RunLog}
 use Rattle.log_model.specs.declared.lines.Find.{Find}
-use Rattle.note_model.specs.Noted.{Note}
-use Rattle.card_image.specs.Own.{own_sizes}
-use Rattle.safety_model.specs.Safe.{Devices}
+use Rattle.unit_notes.specs.note_model.Noted.{Note}
+use Rattle.hand_model.specs.card_image.Own.{own_sizes}
+use Rattle.device_calls.specs.safety_model.Safe.{Devices}
 use Rattle.run_crew.specs.declared.cards.Accepted.{Accepted}
 use Rattle.run_crew.specs.declared.cabin.Cabin.{Cabin}
 use Rattle.run_crew.specs.Cards.{session_of}
-use Rattle.run_promise.specs.Found.{CardFound, found_of}
-use Rattle.run_promise.specs.Origin.{Origin}
+use Rattle.run_minutes.specs.run_promise.Found.{CardFound, found_of}
+use Rattle.run_minutes.specs.run_promise.Origin.{Origin}
 use Rattle.run_acts.specs.ByHand.{session_at, holding, cabin_holding}
 use Rattle.run_acts.specs.Closings.{Spell, spells_of}
 use Rattle.run_acts.specs.Comings.{TellMore}

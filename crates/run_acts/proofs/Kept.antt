@@ -5,16 +5,16 @@ use Rattle.std.proofs.lemmas.List.Elements.{All-weaker}
 use Rattle.trace_model.specs.declared.Card.{Card}
 use Rattle.trace_model.specs.declared.Card.TheVariants.{A, B}
 use Rattle.tach_media.specs.Medium.{State}
-use Rattle.card_layout.specs.declared.command.CardState.{CardState}
-use Rattle.message_model.specs.Records.{insertion_ring}
-use Rattle.minute_model.specs.declared.Minute.{Minute}
-use Rattle.minute_model.specs.Span.{Span, end_of, ungiven_of}
+use Rattle.card_files.specs.card_layout.declared.command.CardState.{CardState}
+use Rattle.run_events.specs.message_model.Records.{insertion_ring}
+use Rattle.unit_model.specs.minute_model.declared.Minute.{Minute}
+use Rattle.unit_model.specs.minute_model.Span.{Span, end_of, ungiven_of}
 use Rattle.minute_rules.specs.Kept.{CountsSpan, Kept as Minutes}
-use Rattle.minute_model.proofs.Counted.{ungiven-most}
-use Rattle.card_slots.specs.declared.seats.Present.{Present}
-use Rattle.card_slots.specs.declared.seats.Ended.{Ended}
-use Rattle.card_slots.specs.declared.seats.Seat.{Seat}
-use Rattle.card_slots.specs.Calls.{Seats, present_in}
+use Rattle.unit_model.proofs.minute_model.Counted.{ungiven-most}
+use Rattle.run_crew.specs.card_slots.declared.seats.Present.{Present}
+use Rattle.run_crew.specs.card_slots.declared.seats.Ended.{Ended}
+use Rattle.run_crew.specs.card_slots.declared.seats.Seat.{Seat}
+use Rattle.run_crew.specs.card_slots.Calls.{Seats, present_in}
 use Rattle.run_crew.specs.declared.cards.Accepted.{Accepted}
 use Rattle.run_crew.specs.declared.cards.Cards.{Cards}
 use Rattle.run_crew.specs.Cards.{session_of}

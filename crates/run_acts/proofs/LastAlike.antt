@@ -8,9 +8,9 @@ use Rattle.log_model.specs.Log.{RunLog, Phase, In, Keeping, is_torn_in, cut_in}
 use Rattle.log_model.specs.Slots.{Slots, Sitting, is_accepted}
 use Rattle.log_model.specs.Course.{ToldSecond, Course, Before, Went, unmoved, fresh, has_power, both_told, all_acted, lit_course, cut_told, before_next, second_told, went}
 use Rattle.log_model.proofs.Growth.{went-more}
-use Rattle.event_model.specs.Runs.{runs_behind}
-use Rattle.event_model.specs.Events.{Event, Seen, course_by, seen_of, seen_spans, is_bare, bare_event, over_event}
-use Rattle.run_course.proofs.Told.{lit-told, dark-told}
+use Rattle.unit_notes.specs.event_model.Runs.{runs_behind}
+use Rattle.unit_notes.specs.event_model.Events.{Event, Seen, course_by, seen_of, seen_spans, is_bare, bare_event, over_event}
+use Rattle.run_events.proofs.run_course.Told.{lit-told, dark-told}
 use Rattle.run_events.specs.Seconds.{last_of, span_before, seen_next, bares_by, overs_by, is_fast}
 use Rattle.run_note_record.proofs.Brought.{told-speed}
 use Rattle.run_note_record.proofs.Tearing.{told_slot, both-slot}

@@ -16,16 +16,16 @@ use Rattle.log_model.specs.declared.lines.Verdict.{Verdict}
 use Rattle.log_model.specs.Log.{In, is_accepting}
 use Rattle.log_model.specs.Course.{Visit, went}
 use Rattle.log_model.specs.Spans.{AreInOrder}
-use Rattle.device_rule.specs.Views.{other}
-use Rattle.safety_model.specs.Safe.{Devices}
+use Rattle.device_calls.specs.device_rule.Views.{other}
+use Rattle.device_calls.specs.safety_model.Safe.{Devices}
 use Rattle.run_minutes.specs.declared.keeper.Moment.{Moment}
 use Rattle.run_insertion.specs.declared.lines.Entering.{Entering}
 use Rattle.run_insertion.specs.Entering.{find_of}
-use Rattle.run_promise.specs.Origin.{Origin}
+use Rattle.run_minutes.specs.run_promise.Origin.{Origin}
 use Rattle.run_record.specs.Recorded.{Values}
 use Rattle.run_record.specs.Within.{RecordInSecond}
 use Rattle.run_record.specs.Judging.{IsNext}
-use Rattle.run_course.proofs.Logs.{all-before}
+use Rattle.run_events.proofs.run_course.Logs.{all-before}
 use Rattle.run_note_record.proofs.Stored.{AtEnd, nothing, push, at-end}
 use Rattle.run_acts.specs.Words.{withdraws, begun_in}
 use Rattle.run_acts.specs.Truths.{PutsIn, IsLineOf}

@@ -120,3 +120,13 @@ pub mod OwedOn
 pub mod OwedNow
 pub mod ByHand
 pub mod HeldStays
+pub use Rattle.run_events.proofs.run_course as run_course
+pub use Rattle.run_crew.proofs as run_crew
+pub use Rattle.run_events.proofs as run_events
+pub use Rattle.run_note_record.proofs as run_note_record
+pub use Rattle.run_record.proofs as run_record
+pub use Rattle.run_events.proofs.run_rings as run_rings
+pub use Rattle.run_events.proofs.run_speeds as run_speeds
+pub use Rattle.run_events.proofs.speed_store as speed_store
+pub use Rattle.run_events.proofs.unit_events as unit_events
+pub use Rattle.unit_notes.proofs as unit_notes

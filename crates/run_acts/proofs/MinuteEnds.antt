@@ -7,31 +7,31 @@ use Rattle.std.proofs.lemmas.Bool.Decides.{nat_tests}
 use Rattle.std.proofs.lemmas.List.Elements.{filter-append, Contains-append_right, Contains-append_cases, Contains-push_cases}
 use Rattle.std.proofs.lemmas.List.Sums.{sum_by-cons}
 use Rattle.trace_model.specs.Trace.{TraceSecond}
-use Rattle.minute_model.specs.declared.Minute.{Minute}
-use Rattle.minute_model.specs.declared.Rule.{Rule}
-use Rattle.minute_model.specs.declared.Rule.TheVariants.{Original, Amended}
-use Rattle.minute_model.specs.Minute.{minutes_ahead}
-use Rattle.minute_model.specs.Second.{Second}
-use Rattle.minute_model.specs.Span.{Span, fed, end_of, decided_in, ungiven_of, AreNumbered, AreSettled, count_from}
-use Rattle.minute_model.proofs.Counted.{decided-minutes, ungiven-most, settled-more}
+use Rattle.unit_model.specs.minute_model.declared.Minute.{Minute}
+use Rattle.unit_model.specs.minute_model.declared.Rule.{Rule}
+use Rattle.unit_model.specs.minute_model.declared.Rule.TheVariants.{Original, Amended}
+use Rattle.unit_model.specs.minute_model.Minute.{minutes_ahead}
+use Rattle.unit_model.specs.minute_model.Second.{Second}
+use Rattle.unit_model.specs.minute_model.Span.{Span, fed, end_of, decided_in, ungiven_of, AreNumbered, AreSettled, count_from}
+use Rattle.unit_model.proofs.minute_model.Counted.{decided-minutes, ungiven-most, settled-more}
 use Rattle.log_model.specs.Log.{RunLog, Phase}
 use Rattle.log_model.specs.Course.{ToldSecond, Visit, Went, went}
 use Rattle.log_model.specs.Spans.{spans_with, spans_of, seconds_in, first_in, end_in, AreInOrder, AreApart}
 use Rattle.log_model.proofs.Growth.{went-more}
 use Rattle.log_model.proofs.Spanning.{spanned, spans-more as spans-one}
-use Rattle.history_model.specs.Growth.{as_span, picking}
-use Rattle.history_model.specs.History.{decided_of}
-use Rattle.history_model.proofs.Deciding.{counted, span-settled}
-use Rattle.history_model.proofs.Growing.{apart-last}
-use Rattle.run_unit_course.specs.Followed.{Lit as IsLit, as_spans}
-use Rattle.run_unit_course.specs.Turn.{span_at}
-use Rattle.safety_model.specs.Safe.{Devices}
-use Rattle.run_course.specs.Followed.{BookFollowsRun, IsSupplied}
-use Rattle.run_course.specs.Seconds.{next_told}
-use Rattle.run_course.proofs.Steps.{with-supply, span-end}
-use Rattle.run_course.proofs.Told.{IsLitAs, lit-told, lit-starts, spans-lit}
-use Rattle.run_course.specs.Kept.{settled_times, fed_where}
-use Rattle.run_promise.specs.Origin.{Origin, rule_of, start_at, first_of}
+use Rattle.device_calls.specs.history_model.Growth.{as_span, picking}
+use Rattle.device_calls.specs.history_model.History.{decided_of}
+use Rattle.device_calls.proofs.history_model.Deciding.{counted, span-settled}
+use Rattle.device_calls.proofs.history_model.Growing.{apart-last}
+use Rattle.device_calls.specs.run_unit_course.Followed.{Lit as IsLit, as_spans}
+use Rattle.device_calls.specs.run_unit_course.Turn.{span_at}
+use Rattle.device_calls.specs.safety_model.Safe.{Devices}
+use Rattle.run_events.specs.run_course.Followed.{BookFollowsRun, IsSupplied}
+use Rattle.run_events.specs.run_course.Seconds.{next_told}
+use Rattle.run_events.proofs.run_course.Steps.{with-supply, span-end}
+use Rattle.run_events.proofs.run_course.Told.{IsLitAs, lit-told, lit-starts, spans-lit}
+use Rattle.run_events.specs.run_course.Kept.{settled_times, fed_where}
+use Rattle.run_minutes.specs.run_promise.Origin.{Origin, rule_of, start_at, first_of}
 use Rattle.run_note_record.proofs.Stored.{mapped, travelled-is}
 use Rattle.run_record.specs.Recorded.{Values}
 use Rattle.run_record.specs.Within.{RecordInSecond, course_in}

@@ -3,19 +3,19 @@ use Rattle.std.proofs.Common.{◌≡◌, ◌∙◌, ℕ, ◌+◌, true, Option, 
 use Rattle.activity_codec.specs.declared.values.Slot.{Slot}
 use Rattle.activity_codec.specs.declared.values.Slot.TheVariants.{Driver, CoDriver}
 use Rattle.trace_model.specs.declared.Card.{Card}
-use Rattle.card_image.specs.Own.{IsOwnValid}
+use Rattle.hand_model.specs.card_image.Own.{IsOwnValid}
 use Rattle.log_model.specs.Slots.{Sitting}
 use Rattle.log_model.specs.Course.{ToldSecond, Course}
-use Rattle.device_rule.specs.Rules.{Standing}
-use Rattle.event_model.specs.Events.{Event, Crew, accepted_card, crew_of, with_card}
-use Rattle.run_promise.specs.Found.{found_of}
+use Rattle.device_calls.specs.device_rule.Rules.{Standing}
+use Rattle.unit_notes.specs.event_model.Events.{Event, Crew, accepted_card, crew_of, with_card}
+use Rattle.run_minutes.specs.run_promise.Found.{found_of}
 use Rattle.run_crew.specs.declared.cabin.Cabin.{Cabin}
-use Rattle.run_devices.specs.Presence.{PresentStand, sits}
-use Rattle.run_promise.specs.Origin.{Origin}
-use Rattle.card_layout.specs.Fields.{number_in as field_number, field_at}
+use Rattle.run_minutes.specs.run_devices.Presence.{PresentStand, sits}
+use Rattle.run_minutes.specs.run_promise.Origin.{Origin}
+use Rattle.card_files.specs.card_layout.Fields.{number_in as field_number, field_at}
 use Rattle.tacho_types.specs.declared.card_number.FullCardNumber.{FullCardNumber}
 use Rattle.tacho_types.specs.CardNumber.{card_number_widths, card_number_bytes, card_number_of}
-use Rattle.run_devices.specs.Told.{AreFoundCards}
+use Rattle.run_minutes.specs.run_devices.Told.{AreFoundCards}
 use Rattle.run_crew.specs.declared.cards.Cards.{Cards}
 use Rattle.run_crew.specs.Cards.{known_of, session_of}
 use Rattle.run_note_record.specs.Evented.{number_in}

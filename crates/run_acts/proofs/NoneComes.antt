@@ -2,10 +2,10 @@
 use Rattle.std.proofs.Common.{◌≡◌, ⊎_elim, ℕ, false, Option, Some, None, List, subst, sym}
 use Rattle.activity_codec.specs.declared.values.Slot.TheVariants.{Driver, CoDriver}
 use Rattle.trace_model.specs.declared.Card.{Card}
-use Rattle.minute_model.specs.declared.Minute.{Minute}
-use Rattle.card_session.specs.declared.session.Kept.{Kept}
+use Rattle.unit_model.specs.minute_model.declared.Minute.{Minute}
+use Rattle.device_calls.specs.card_session.declared.session.Kept.{Kept}
 use Rattle.unit_minutes.specs.declared.kept.KeptMinute.{KeptMinute}
-use Rattle.card_slots.specs.declared.seats.Present.{Present}
+use Rattle.run_crew.specs.card_slots.declared.seats.Present.{Present}
 use Rattle.run_crew.specs.declared.cabin.Cabin.{Cabin}
 use Rattle.run_crew.specs.Cards.{session_of}
 use Rattle.run_minutes.specs.declared.keeper.Moment.{Moment}

@@ -8,16 +8,16 @@ use Rattle.trace_model.specs.declared.Card.TheVariants.{A, B}
 use Rattle.trace_model.specs.declared.Action.{Action}
 use Rattle.trace_model.specs.declared.Action.TheVariants.{Place}
 use Rattle.trace_model.specs.Trace.{TraceSecond}
-use Rattle.run_model.specs.declared.Device.TheVariants.{Unit as Recorder}
+use Rattle.log_model.specs.run_model.declared.Device.TheVariants.{Unit as Recorder}
 use Rattle.activity_codec.specs.declared.values.Slot.{Slot}
 use Rattle.tach_media.specs.Medium.{State, IsCoherent, LeavesOnly, HasCause, HasBroken, Rose, last_count}
-use Rattle.card_layout.specs.declared.files.TheConstants.{LARGEST_IMAGE}
-use Rattle.card_session.specs.Sessions.{IsValue}
-use Rattle.card_image.specs.Own.{IsOwnValid}
+use Rattle.card_files.specs.card_layout.declared.files.TheConstants.{LARGEST_IMAGE}
+use Rattle.device_calls.specs.card_session.Sessions.{IsValue}
+use Rattle.hand_model.specs.card_image.Own.{IsOwnValid}
 use Rattle.device_calls.specs.Times.{AreTimedSince}
-use Rattle.minute_model.specs.declared.Minute.{Minute}
-use Rattle.minute_model.specs.Span.{Span, end_of, ungiven_of}
-use Rattle.minute_model.proofs.Counted.{ungiven-most}
+use Rattle.unit_model.specs.minute_model.declared.Minute.{Minute}
+use Rattle.unit_model.specs.minute_model.Span.{Span, end_of, ungiven_of}
+use Rattle.unit_model.proofs.minute_model.Counted.{ungiven-most}
 use Rattle.minute_rules.specs.Kept.{Kept, CountsSpan}
 use Rattle.log_model.specs.declared.lines.Break.{Break}
 use Rattle.log_model.specs.declared.lines.Break.TheVariants.{Tear}
@@ -26,34 +26,34 @@ use Rattle.log_model.specs.Causes.{RoseBy, device_of, second_of}
 use Rattle.log_model.specs.Course.{Visit, Went, went}
 use Rattle.unit_notes.specs.Journal.{LeavesJournal}
 use Rattle.unit_model.specs.Image.{odometer_at}
-use Rattle.unit_rule.specs.Odometer.{odometer_after, HasTravelled}
-use Rattle.run_unit_course.specs.Legs.{all_travelled}
-use Rattle.safety_model.specs.Safe.{Devices, card_of, breakdowns_of}
+use Rattle.device_calls.specs.unit_rule.Odometer.{odometer_after, HasTravelled}
+use Rattle.device_calls.specs.run_unit_course.Legs.{all_travelled}
+use Rattle.device_calls.specs.safety_model.Safe.{Devices, card_of, breakdowns_of}
 use Rattle.log_model.specs.Slots.{refusal, other_slot}
-use Rattle.card_slots.specs.Calls.{seat_in, card_in, logged}
+use Rattle.run_crew.specs.card_slots.Calls.{seat_in, card_in, logged}
 use Rattle.device_calls.specs.CardNotes.{IsNote}
 use Rattle.run_crew.specs.declared.cards.Accepted.{Accepted}
 use Rattle.run_crew.specs.declared.cards.Cards.{Cards}
 use Rattle.run_crew.specs.Cards.{session_of, with_session}
-use Rattle.event_model.specs.declared.kinds.TheConstants.{CARD_FAULT}
+use Rattle.unit_notes.specs.event_model.declared.kinds.TheConstants.{CARD_FAULT}
 use Rattle.run_events.specs.Entries.{entry_of}
 use Rattle.run_crew.specs.declared.cabin.Cabin.{Cabin}
 use Rattle.run_crew.specs.Cabin.{CabinIsSound, torn_out, crew_of}
-use Rattle.run_promise.specs.Found.{found_of}
-use Rattle.run_promise.specs.Cards.{IsUntouched}
-use Rattle.run_promise.specs.Between.{RunLedger, devices}
-use Rattle.run_course.specs.Followed.{BookFollowsRun}
-use Rattle.run_course.specs.Seconds.{kept_all}
-use Rattle.run_course.proofs.Logs.{went-later}
-use Rattle.run_course.proofs.Steps.{went-same_}
-use Rattle.run_course.specs.Moment.{goes_on}
-use Rattle.run_devices.specs.Told.{arranged, with_standing}
-use Rattle.run_devices.proofs.Parts.{parts-of}
-use Rattle.run_devices.proofs.Noted.{noted-powered, noted-powerless}
-use Rattle.run_devices.proofs.Travelled.{travelled-noted}
+use Rattle.run_minutes.specs.run_promise.Found.{found_of}
+use Rattle.run_minutes.specs.run_promise.Cards.{IsUntouched}
+use Rattle.run_minutes.specs.run_promise.Between.{RunLedger, devices}
+use Rattle.run_events.specs.run_course.Followed.{BookFollowsRun}
+use Rattle.run_events.specs.run_course.Seconds.{kept_all}
+use Rattle.run_events.proofs.run_course.Logs.{went-later}
+use Rattle.run_events.proofs.run_course.Steps.{went-same_}
+use Rattle.run_events.specs.run_course.Moment.{goes_on}
+use Rattle.run_minutes.specs.run_devices.Told.{arranged, with_standing}
+use Rattle.run_minutes.proofs.run_devices.Parts.{parts-of}
+use Rattle.run_minutes.proofs.run_devices.Noted.{noted-powered, noted-powerless}
+use Rattle.run_minutes.proofs.run_devices.Travelled.{travelled-noted}
 use Rattle.run_outcome.specs.Lines.{Listed}
 use Rattle.run_outcome.specs.declared.outcome.Outcome.{Outcome}
-use Rattle.run_promise.specs.Origin.{Origin, rule_of, start_at, first_of}
+use Rattle.run_minutes.specs.run_promise.Origin.{Origin, rule_of, start_at, first_of}
 use Rattle.run_minutes.specs.declared.keeper.Moment.{Moment}
 use Rattle.run_minutes.specs.Keeping.{tear_of, with_lines}
 use Rattle.run_minutes.proofs.Fates.{no-lines}
@@ -77,7 +77,7 @@ use Rattle.run_acts.specs.Closings.{spells_of, notes_within}
 use Rattle.run_acts.specs.Comings.{TellMore}
 use Rattle.run_acts.specs.Truths.{truths_within, marked}
 use Rattle.run_acts.specs.Stays.{sits_in, AllStay}
-use Rattle.note_model.specs.Noted.{Note}
+use Rattle.unit_notes.specs.note_model.Noted.{Note}
 use Rattle.run_acts.proofs.Stays.{stays-still}
 use Rattle.run_acts.proofs.AllStay.{turns-so, all-unit, all-one, all-noted, log-self, known-still, stood-calm, stood-broken, others-left, other-apart}
 use Rattle.run_acts.proofs.SeatsThen.{torn-other, torn-slot}
@@ -85,12 +85,12 @@ use Rattle.run_acts.proofs.RingedLines.{TellsBeside, phase_at, tears-beside}
 use Rattle.run_acts.proofs.KeptSeats.{floor-in}
 use Rattle.run_acts.proofs.FallenStays.{all-fell}
 use Rattle.run_acts.proofs.TornNotes.{spells-unhurt}
-use Rattle.device_rule.specs.Views.{other}
+use Rattle.device_calls.specs.device_rule.Views.{other}
 use Rattle.run_acts.proofs.NotesThen.{place-now}
 use Rattle.run_acts.proofs.NotedOn.{noted-books, noted-timed, noted-does}
-use Rattle.run_course.proofs.Telling.{card-torn}
-use Rattle.run_course.specs.Telling.{IsLeft, IsMore}
-use Rattle.run_course.specs.Moments.{and_break}
+use Rattle.run_events.proofs.run_course.Telling.{card-torn}
+use Rattle.run_events.specs.run_course.Telling.{IsLeft, IsMore}
+use Rattle.run_events.specs.run_course.Moments.{and_break}
 use Rattle.run_note_record.specs.Noting.{Acting}
 use Rattle.run_note_record.specs.Bringing.{NotFound}
 use Rattle.run_note_record.specs.EventsSoFar.{EventedNow, MayFollow}
@@ -101,7 +101,7 @@ use Rattle.run_acts.specs.NotedEvents.{NotesEvents}
 use Rattle.run_acts.specs.Evented.{EventsGoOn}
 use Rattle.run_acts.proofs.RoundFaults.{none-added}
 use Rattle.run_acts.specs.ActsEvented.{IsFailing}
-use Rattle.run_promise.specs.Beside.{HaveLeftMore}
+use Rattle.run_minutes.specs.run_promise.Beside.{HaveLeftMore}
 use Rattle.run_acts.proofs.FallEvented.{call-evented, begins-now, seated-untorn, seated-out, seated-falls}
 use Rattle.run_acts.proofs.Rising.{unit-more, card-more, card-fell}
 

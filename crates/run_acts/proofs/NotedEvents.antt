@@ -2,17 +2,17 @@
 use Rattle.std.proofs.Common.{◌≡◌, ◌∙◌, ◌⊎◌, ⊎_elim, ℕ, ◌+◌, Bool, true, false, not, Option, Some, None, IfSome, is_some, List, [], ◌∷◌, ◌++◌, length, refl, ap, sym, subst, arith}
 use Rattle.trace_model.specs.declared.Card.{Card}
 use Rattle.tach_media.specs.Medium.{State, IsCoherent, LeavesOnly}
-use Rattle.event_model.specs.Events.{Event}
+use Rattle.unit_notes.specs.event_model.Events.{Event}
 use Rattle.unit_model.specs.Image.{IsUnit}
 use Rattle.unit_notes.specs.declared.unit_event.UnitEvent.{UnitEvent}
-use Rattle.safety_model.specs.Safe.{Devices}
-use Rattle.run_promise.specs.Between.{devices}
+use Rattle.device_calls.specs.safety_model.Safe.{Devices}
+use Rattle.run_minutes.specs.run_promise.Between.{devices}
 use Rattle.run_events.specs.Shown.{by_kind, all_sure, SaysNothing}
 use Rattle.run_events.proofs.Shows.{more-then, moment-then, nothing-more, nothing-of}
 use Rattle.run_events.proofs.Frames.{event-more, event-coming}
 use Rattle.unit_notes.specs.Entries.{fault_bytes}
 use Rattle.unit_notes.specs.Noting.{IsEventNoted, IsNotingEvent}
-use Rattle.run_promise.specs.Origin.{Origin}
+use Rattle.run_minutes.specs.run_promise.Origin.{Origin}
 use Rattle.run_note_record.specs.Evented.{number_in}
 use Rattle.run_note_record.specs.Noting.{NotesThese}
 use Rattle.run_acts.specs.NotedEvents.{AreTold, IsSplit, NotesSo, NotesEvents}

@@ -4,28 +4,28 @@ use Rattle.trace_model.specs.declared.Card.{Card}
 use Rattle.trace_model.specs.declared.Card.TheVariants.{A, B}
 use Rattle.tach_media.specs.Medium.{State, IsCoherent, LeavesOnly, HasCause}
 use Rattle.tach_media.proofs.Runs.{if_told}
-use Rattle.card_layout.specs.declared.files.Application.{Application}
-use Rattle.card_layout.specs.declared.files.TheConstants.{LARGEST_IMAGE}
-use Rattle.card_layout.specs.Files.{image_size_of}
-use Rattle.card_layout.proofs.Sizes.{largest_image}
-use Rattle.card_image.specs.Judging.{IsValid}
-use Rattle.card_image.specs.Own.{own_sizes, IsOwnValid}
+use Rattle.card_files.specs.card_layout.declared.files.Application.{Application}
+use Rattle.card_files.specs.card_layout.declared.files.TheConstants.{LARGEST_IMAGE}
+use Rattle.card_files.specs.card_layout.Files.{image_size_of}
+use Rattle.card_files.proofs.card_layout.Sizes.{largest_image}
+use Rattle.hand_model.specs.card_image.Judging.{IsValid}
+use Rattle.hand_model.specs.card_image.Own.{own_sizes, IsOwnValid}
 use Rattle.device_calls.specs.Times.{AreTimedSince}
 use Rattle.device_calls.proofs.TimedCalls.{noting-timed}
-use Rattle.card_session.specs.Sessions.{IsValue}
+use Rattle.device_calls.specs.card_session.Sessions.{IsValue}
 use Rattle.unit_notes.specs.Journal.{LeavesJournal}
-use Rattle.device_rule.specs.Views.{other}
-use Rattle.device_rule.specs.Rules.{Standing, Torn}
+use Rattle.device_calls.specs.device_rule.Views.{other}
+use Rattle.device_calls.specs.device_rule.Rules.{Standing, Torn}
 use Rattle.device_calls.specs.CardNotes.{IsNote}
 use Rattle.run_crew.specs.declared.cards.Accepted.{Accepted}
 use Rattle.run_crew.specs.declared.cards.Cards.{Cards}
 use Rattle.run_crew.specs.Cards.{session_of, with_session}
-use Rattle.run_promise.specs.Found.{Found, found_of}
-use Rattle.run_promise.specs.Between.{RunLedger}
-use Rattle.run_devices.specs.Told.{AreFoundCards, SessionIsOnCard, DevicesPowered, arranged, with_standing, for_card}
-use Rattle.run_devices.proofs.OnCards.{valid-or, no-marks, own-valid}
-use Rattle.run_devices.proofs.Parts.{CardLit, AreParts, parts-of, powered-of, at-other}
-use Rattle.run_devices.proofs.Noted.{noted-on, noted-off}
+use Rattle.run_minutes.specs.run_promise.Found.{Found, found_of}
+use Rattle.run_minutes.specs.run_promise.Between.{RunLedger}
+use Rattle.run_minutes.specs.run_devices.Told.{AreFoundCards, SessionIsOnCard, DevicesPowered, arranged, with_standing, for_card}
+use Rattle.run_minutes.proofs.run_devices.OnCards.{valid-or, no-marks, own-valid}
+use Rattle.run_minutes.proofs.run_devices.Parts.{CardLit, AreParts, parts-of, powered-of, at-other}
+use Rattle.run_minutes.proofs.run_devices.Noted.{noted-on, noted-off}
 use Rattle.run_minutes.proofs.Brought.{found-session}
 use Rattle.run_record.specs.Taking.{fallen}
 use Rattle.run_acts.specs.declared.run.Run.{Run}

@@ -24,34 +24,34 @@ use Rattle.log_model.specs.Same.{SameAt}
 use Rattle.log_model.proofs.Growth.{went-more, went-same}
 use Rattle.log_model.specs.Slots.{Sitting, same_card, in_slot, is_accepted, refusal}
 use Rattle.log_model.specs.Course.{Course, Visit, Before, Went, card_in as card_of_sitting, answered, moved_by, both_told, begins, is_settling, acted, all_acted, has_power, went, second_told}
-use Rattle.note_model.specs.Done.{course_powered, done_by}
-use Rattle.note_model.specs.Noted.{PlaceNote, Withdrawal, Note, Accepts, Withdraws, Enters, noted_in}
-use Rattle.card_slots.specs.Calls.{seat_in, card_in, logged}
-use Rattle.safety_model.specs.Safe.{Devices, breakdowns_of}
+use Rattle.unit_notes.specs.note_model.Done.{course_powered, done_by}
+use Rattle.unit_notes.specs.note_model.Noted.{PlaceNote, Withdrawal, Note, Accepts, Withdraws, Enters, noted_in}
+use Rattle.run_crew.specs.card_slots.Calls.{seat_in, card_in, logged}
+use Rattle.device_calls.specs.safety_model.Safe.{Devices, breakdowns_of}
 use Rattle.run_crew.specs.declared.cards.Accepted.{Accepted}
 use Rattle.run_crew.specs.Cards.{session_of}
 use Rattle.run_crew.specs.Cabin.{CabinIsSound}
-use Rattle.run_course.specs.Moments.{and_break, and_find, and_refused}
-use Rattle.run_course.specs.Followed.{Progress, PowerGoesOn, IsLost}
-use Rattle.run_course.proofs.Logs.{found_log, same-found}
-use Rattle.run_course.proofs.Quiet.{quiet-are-told}
-use Rattle.run_course.proofs.Lookups.{break-more, find-more, refusal-more}
-use Rattle.run_course.proofs.Moments.{later-lines as same-course-by}
-use Rattle.run_course.proofs.Told.{lit-power, lost-dark, dark-told, next-dark}
-use Rattle.run_course.specs.Telling.{WaitBut}
-use Rattle.run_course.specs.Reached.{IsBehind, IsUpTo, IsTearAt, IsFindAt, course_at, course_with, moved_at, moved_with}
-use Rattle.run_course.proofs.Lines.{tear-seen, who-sits}
-use Rattle.run_course.proofs.Telling.{card-judged}
-use Rattle.run_rings.specs.Notes.{accepted_in, noted_if, accepts_by, sits_accepted, notes_to, TellSameTo, NotesMore, course_behind}
-use Rattle.run_rings.proofs.Notes.{Finding, is_at, accepted-append, action-notes, later-lines, second-noted}
-use Rattle.run_rings.proofs.Actions.{power-notes, selections, pulls, entries, refusals, places, withdrawals, insertions}
-use Rattle.run_promise.specs.Origin.{Origin, rule_of, start_at, first_of}
+use Rattle.run_events.specs.run_course.Moments.{and_break, and_find, and_refused}
+use Rattle.run_events.specs.run_course.Followed.{Progress, PowerGoesOn, IsLost}
+use Rattle.run_events.proofs.run_course.Logs.{found_log, same-found}
+use Rattle.run_events.proofs.run_course.Quiet.{quiet-are-told}
+use Rattle.run_events.proofs.run_course.Lookups.{break-more, find-more, refusal-more}
+use Rattle.run_events.proofs.run_course.Moments.{later-lines as same-course-by}
+use Rattle.run_events.proofs.run_course.Told.{lit-power, lost-dark, dark-told, next-dark}
+use Rattle.run_events.specs.run_course.Telling.{WaitBut}
+use Rattle.run_events.specs.run_course.Reached.{IsBehind, IsUpTo, IsTearAt, IsFindAt, course_at, course_with, moved_at, moved_with}
+use Rattle.run_events.proofs.run_course.Lines.{tear-seen, who-sits}
+use Rattle.run_events.proofs.run_course.Telling.{card-judged}
+use Rattle.run_events.specs.run_rings.Notes.{accepted_in, noted_if, accepts_by, sits_accepted, notes_to, TellSameTo, NotesMore, course_behind}
+use Rattle.run_events.proofs.run_rings.Notes.{Finding, is_at, accepted-append, action-notes, later-lines, second-noted}
+use Rattle.run_events.proofs.run_rings.Actions.{power-notes, selections, pulls, entries, refusals, places, withdrawals, insertions}
+use Rattle.run_minutes.specs.run_promise.Origin.{Origin, rule_of, start_at, first_of}
 use Rattle.run_note_record.specs.Ringed.{notes_in}
 use Rattle.run_note_record.specs.RingsSoFar.{GoesBehind, notes_so_far}
 use Rattle.run_note_record.proofs.Noted.{notes-alike, second-notes}
 use Rattle.run_record.specs.Recorded.{Values, progress}
 use Rattle.run_record.specs.Turning.{last_of, before_last, BehindFirst}
-use Rattle.run_unit_course.specs.Followed.{Lit as IsLit}
+use Rattle.device_calls.specs.run_unit_course.Followed.{Lit as IsLit}
 use Rattle.run_record.specs.Within.{Beginning, RecordInSecond, told_before, course_in}
 use Rattle.run_record.specs.Judging.{IsNext}
 use Rattle.run_record.proofs.Pulling.{sitting-now}

@@ -4,24 +4,24 @@ use Rattle.std.proofs.lemmas.List.{length-take-le, length-drop, length-append}
 use Rattle.std.specs.List.{AllByRecursion}
 use Rattle.trace_model.specs.declared.Card.{Card}
 use Rattle.trace_model.specs.declared.Card.TheVariants.{A, B}
-use Rattle.card_layout.specs.declared.files.Fid.{Fid}
-use Rattle.card_layout.specs.declared.files.Application.{Application}
-use Rattle.card_layout.specs.Files.{files_of, image_size_of, place_of as layout_at}
-use Rattle.card_layout.specs.Application.{application_of}
-use Rattle.card_image.specs.Fields.{file, card_number}
+use Rattle.card_files.specs.card_layout.declared.files.Fid.{Fid}
+use Rattle.card_files.specs.card_layout.declared.files.Application.{Application}
+use Rattle.card_files.specs.card_layout.Files.{files_of, image_size_of, place_of as layout_at}
+use Rattle.card_files.specs.card_layout.Application.{application_of}
+use Rattle.hand_model.specs.card_image.Fields.{file, card_number}
 use Rattle.tach_media.specs.Medium.{bytes_at}
-use Rattle.card_image.specs.Own.{own_sizes, own_number, own_bad_file, IsOwnValid}
-use Rattle.event_model.specs.declared.kinds.TheConstants.{OVER_SPEEDING}
+use Rattle.hand_model.specs.card_image.Own.{own_sizes, own_number, own_bad_file, IsOwnValid}
+use Rattle.unit_notes.specs.event_model.declared.kinds.TheConstants.{OVER_SPEEDING}
 use Rattle.unit_model.specs.declared.layout.TheConstants.{IMAGE_SIZE, REGISTRATION}
-use Rattle.event_model.specs.Events.{Event, Crew}
-use Rattle.event_model.specs.Places.{day_place, place_of, similar_after}
-use Rattle.note_model.specs.Tables.{number_or_none, HasRest, IsEntry, similar_field, similar_at, held_of, held_in, table_in, IsNotedAt}
-use Rattle.note_model.specs.Unsure.{IsNotedSo, AreNotedBut}
+use Rattle.unit_notes.specs.event_model.Events.{Event, Crew}
+use Rattle.unit_notes.specs.event_model.Places.{day_place, place_of, similar_after}
+use Rattle.unit_notes.specs.note_model.Tables.{number_or_none, HasRest, IsEntry, similar_field, similar_at, held_of, held_in, table_in, IsNotedAt}
+use Rattle.unit_notes.specs.note_model.Unsure.{IsNotedSo, AreNotedBut}
 use Rattle.unit_notes.specs.declared.unit_event.UnitEvent.{UnitEvent}
-use Rattle.safety_model.specs.Recording.{card_image}
-use Rattle.safety_model.specs.Safe.{Devices}
+use Rattle.device_calls.specs.safety_model.Recording.{card_image}
+use Rattle.device_calls.specs.safety_model.Safe.{Devices}
 use Rattle.run_events.specs.Shown.{by_kind, none_sure, all_sure, ShowsEvents, AreNumbers}
-use Rattle.run_promise.specs.Origin.{Origin}
+use Rattle.run_minutes.specs.run_promise.Origin.{Origin}
 use Rattle.run_note_record.specs.Evented.{number_in}
 use Rattle.run_note_record.specs.Uses.{vehicle_of}
 use Rattle.run_acts.specs.NotedEvents.{AreTold, NotesSo, NotesEvents}

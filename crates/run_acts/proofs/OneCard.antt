@@ -4,30 +4,30 @@ use Rattle.run_minutes.specs.Later.{AreCalm, AreLater, IsCalm, IsLater}
 use Rattle.run_acts.specs.Devices.{AreLeftMore}
 use Rattle.log_model.specs.declared.lines.Break.{Break}
 use Rattle.trace_model.specs.declared.Card.{Card}
-use Rattle.card_layout.specs.declared.command.CardState.{CardState}
+use Rattle.card_files.specs.card_layout.declared.command.CardState.{CardState}
 use Rattle.run_crew.specs.declared.cards.Cards.{Cards}
-use Rattle.safety_model.specs.Safe.{Devices, card_of}
+use Rattle.device_calls.specs.safety_model.Safe.{Devices, card_of}
 use Rattle.tach_media.specs.declared.fault.Failed.{Failed}
 use Rattle.run_minutes.specs.Keeping.{HasLeftMore, CardMayBeCalled, HasItsRow, UnitMayBeCalled, SessionsGoOn}
 use Rattle.tach_media.specs.Medium.{IsCoherent, State, HasCause}
 use Rattle.trace_model.specs.declared.Card.TheVariants.{A, B}
 use Rattle.run_crew.specs.declared.cards.Known.{Known}
-use Rattle.card_layout.specs.declared.files.TheConstants.{LARGEST_IMAGE}
+use Rattle.card_files.specs.card_layout.declared.files.TheConstants.{LARGEST_IMAGE}
 use Rattle.run_outcome.specs.Lines.{Listed}
 use Rattle.run_acts.specs.CardNotes.{NotesOn, NotesOnCards}
 use Rattle.std.specs.Prelude.{Result}
 use Rattle.run_acts.specs.declared.run.Run.{Run}
-use Rattle.run_devices.specs.Told.{arranged}
+use Rattle.run_minutes.specs.run_devices.Told.{arranged}
 use Rattle.run_acts.proofs.CardNotes.{both-cards, on-none}
 use Rattle.run_minutes.proofs.Calm.{calm-of-a, calm-of-b, card-by}
-use Rattle.run_promise.specs.Between.{devices}
+use Rattle.run_minutes.specs.run_promise.Between.{devices}
 use Rattle.run_crew.specs.Cards.{known_of, session_of}
-use Rattle.run_speeds.specs.Speeds.{LeavesSpeeds}
+use Rattle.run_events.specs.run_speeds.Speeds.{LeavesSpeeds}
 use Rattle.run_events.specs.Blocks.{KnowsNewest}
 use Rattle.run_minutes.proofs.Later.{later-of-a, later-of-b}
 use Rattle.run_acts.proofs.RingedSecond.{left-after}
 use Rattle.run_acts.proofs.Cabins.{noted-a, noted-b, noted_cabin, at-same, cabin-going, cabin-held, keeper-only, noted-falls, noted-is, noted-minute, noted-past, noted-sessions, ready-same}
-use Rattle.device_rule.specs.Views.{other}
+use Rattle.device_calls.specs.device_rule.Views.{other}
 use Rattle.log_model.specs.Slots.{same_card}
 use Rattle.run_acts.specs.Going.{CanBeCut, RunHasPowerAllSeated, RunHasPower, StandSomehow}
 use Rattle.run_acts.specs.Acting.{IsNotedOn, noted_breaks, Closing, IsClosed, closed_cabin}
@@ -37,7 +37,7 @@ use Rattle.activity_codec.specs.declared.values.Slot.{Slot}
 use Rattle.run_crew.specs.Cabin.{CabinIsSound}
 use Rattle.run_acts.specs.Room.{falls_of}
 use Rattle.run_minutes.proofs.Counts.{lines-length}
-use Rattle.minute_model.specs.Span.{ungiven_of}
+use Rattle.unit_model.specs.minute_model.Span.{ungiven_of}
 use Rattle.run_acts.specs.Power.{with_cabin}
 use Rattle.run_crew.specs.declared.cabin.Cabin.{Cabin}
 use Rattle.run_acts.proofs.Leaving.{closed-a, closed-b, closed-minute, closed-past, closed-sessions}

@@ -7,15 +7,15 @@ use Rattle.activity_codec.specs.declared.entries.Entry.{Entry}
 use Rattle.trace_model.specs.declared.Card.{Card}
 use Rattle.trace_model.specs.Trace.{TraceSecond}
 use Rattle.tach_media.specs.Medium.{State, IsCoherent}
-use Rattle.minute_model.specs.declared.Minute.{Minute}
-use Rattle.minute_model.specs.declared.Rule.{Rule}
-use Rattle.minute_model.specs.Span.{Span, decided_in, ungiven_of}
+use Rattle.unit_model.specs.minute_model.declared.Minute.{Minute}
+use Rattle.unit_model.specs.minute_model.declared.Rule.{Rule}
+use Rattle.unit_model.specs.minute_model.Span.{Span, decided_in, ungiven_of}
 use Rattle.minute_rules.specs.Kept.{Kept}
-use Rattle.card_layout.specs.declared.files.Application.{Application}
-use Rattle.card_image.specs.View.{CardView, card_view}
-use Rattle.card_image.specs.Own.{own_view, own_sizes}
-use Rattle.card_session.specs.Books.{mark_of}
-use Rattle.card_session.specs.Sessions.{book_of}
+use Rattle.card_files.specs.card_layout.declared.files.Application.{Application}
+use Rattle.hand_model.specs.card_image.View.{CardView, card_view}
+use Rattle.hand_model.specs.card_image.Own.{own_view, own_sizes}
+use Rattle.device_calls.specs.card_session.Books.{mark_of}
+use Rattle.device_calls.specs.card_session.Sessions.{book_of}
 use Rattle.device_calls.proofs.OnCard.{own-is}
 use Rattle.log_model.specs.Log.{RunLog, In}
 use Rattle.log_model.specs.declared.lines.Break.{Break}
@@ -23,35 +23,35 @@ use Rattle.log_model.specs.declared.lines.Find.{Find}
 use Rattle.log_model.specs.declared.lines.Verdict.TheVariants.{Accepted}
 use Rattle.log_model.specs.Causes.{device_of}
 use Rattle.log_model.specs.Course.{ToldSecond, Course, Visit, went, Went, second_told}
-use Rattle.history_model.specs.Minutes.{HistoryMinute, on_card, card_history, up_to}
-use Rattle.history_model.specs.Completeness.{deciding_of, IsMarked, TornBetween}
+use Rattle.device_calls.specs.history_model.Minutes.{HistoryMinute, on_card, card_history, up_to}
+use Rattle.device_calls.specs.history_model.Completeness.{deciding_of, IsMarked, TornBetween}
 use Rattle.log_model.proofs.Growth.{went-more}
-use Rattle.history_model.specs.Presence.{Start, CardStart}
-use Rattle.history_model.specs.History.{settlings_of, minutes_after, decided_of, span_minutes, limited_to, history_by, unit_history}
-use Rattle.history_model.specs.Growth.{closed_limit, closed_history}
-use Rattle.history_model.specs.Book.{Book, all}
-use Rattle.history_model.proofs.Books.{all-none, up_to-whole, history-append, history-one, history-none, on_card-minute}
-use Rattle.history_model.proofs.Closing.{minutes-parts}
-use Rattle.history_model.proofs.Decided.{after-decided, unit-decided}
-use Rattle.history_model.proofs.Filters.{all-back, filter-none, filter-whole}
-use Rattle.device_rule.specs.Rules.{Meets, Out}
-use Rattle.device_rule.specs.Views.{UnitView, unit_view, owed}
-use Rattle.device_rule.proofs.Pairs.{owed-above}
-use Rattle.run_unit_course.specs.Legs.{AreWhole}
-use Rattle.run_unit_course.specs.Turn.{span_at}
-use Rattle.safety_model.specs.Recording.{brought}
-use Rattle.safety_model.specs.Unit.{marks_of}
-use Rattle.safety_model.proofs.Whole.{mark-of, no-failure}
-use Rattle.run_promise.specs.Cards.{IsCardHeld, CardMarksHold}
-use Rattle.run_promise.specs.Found.{found_of, AnyKept}
-use Rattle.run_promise.proofs.Entries.{all-by}
-use Rattle.run_course.specs.Seconds.{kept_all}
-use Rattle.run_course.specs.Kept.{BrokenSince, settled_times}
-use Rattle.run_course.proofs.Told.{lit-starts}
-use Rattle.run_devices.specs.Told.{arranged, with_standing}
+use Rattle.device_calls.specs.history_model.Presence.{Start, CardStart}
+use Rattle.device_calls.specs.history_model.History.{settlings_of, minutes_after, decided_of, span_minutes, limited_to, history_by, unit_history}
+use Rattle.device_calls.specs.history_model.Growth.{closed_limit, closed_history}
+use Rattle.device_calls.specs.history_model.Book.{Book, all}
+use Rattle.device_calls.proofs.history_model.Books.{all-none, up_to-whole, history-append, history-one, history-none, on_card-minute}
+use Rattle.device_calls.proofs.history_model.Closing.{minutes-parts}
+use Rattle.device_calls.proofs.history_model.Decided.{after-decided, unit-decided}
+use Rattle.device_calls.proofs.history_model.Filters.{all-back, filter-none, filter-whole}
+use Rattle.device_calls.specs.device_rule.Rules.{Meets, Out}
+use Rattle.device_calls.specs.device_rule.Views.{UnitView, unit_view, owed}
+use Rattle.device_calls.proofs.device_rule.Pairs.{owed-above}
+use Rattle.device_calls.specs.run_unit_course.Legs.{AreWhole}
+use Rattle.device_calls.specs.run_unit_course.Turn.{span_at}
+use Rattle.device_calls.specs.safety_model.Recording.{brought}
+use Rattle.device_calls.specs.safety_model.Unit.{marks_of}
+use Rattle.device_calls.proofs.safety_model.Whole.{mark-of, no-failure}
+use Rattle.run_minutes.specs.run_promise.Cards.{IsCardHeld, CardMarksHold}
+use Rattle.run_minutes.specs.run_promise.Found.{found_of, AnyKept}
+use Rattle.run_minutes.proofs.run_promise.Entries.{all-by}
+use Rattle.run_events.specs.run_course.Seconds.{kept_all}
+use Rattle.run_events.specs.run_course.Kept.{BrokenSince, settled_times}
+use Rattle.run_events.proofs.run_course.Told.{lit-starts}
+use Rattle.run_minutes.specs.run_devices.Told.{arranged, with_standing}
 use Rattle.run_outcome.specs.declared.outcome.Outcome.{Outcome}
-use Rattle.run_promise.specs.Origin.{Origin, rule_of, start_at}
-use Rattle.run_promise.specs.Whole.{NothingFailed}
+use Rattle.run_minutes.specs.run_promise.Origin.{Origin, rule_of, start_at}
+use Rattle.run_minutes.specs.run_promise.Whole.{NothingFailed}
 use Rattle.run_minutes.specs.declared.keeper.Keeper.{Keeper}
 use Rattle.run_minutes.specs.declared.keeper.Moment.{Moment}
 use Rattle.device_calls.specs.declared.entering.Entered.{Entered}

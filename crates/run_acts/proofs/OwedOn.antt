@@ -6,18 +6,18 @@ use Rattle.std.proofs.lemmas.List.{same_from_push}
 use Rattle.activity_codec.specs.declared.entries.Entry.{Entry}
 use Rattle.trace_model.specs.declared.Card.{Card}
 use Rattle.trace_model.specs.Trace.{TraceSecond}
-use Rattle.minute_model.specs.declared.Rule.{Rule}
-use Rattle.minute_model.specs.Span.{decided_in}
+use Rattle.unit_model.specs.minute_model.declared.Rule.{Rule}
+use Rattle.unit_model.specs.minute_model.Span.{decided_in}
 use Rattle.log_model.specs.Log.{RunLog}
 use Rattle.log_model.specs.declared.lines.Find.{Find}
 use Rattle.log_model.specs.Course.{ToldSecond, Went, Before, went, second_told, before_next, not_begun}
 use Rattle.log_model.specs.Spans.{spans_of}
 use Rattle.log_model.proofs.Growth.{went-more}
-use Rattle.history_model.specs.Minutes.{card_history}
-use Rattle.history_model.specs.Presence.{Start}
-use Rattle.history_model.specs.History.{minutes_after, decided_of}
-use Rattle.run_unit_course.specs.Turn.{span_at}
-use Rattle.run_course.specs.Kept.{settled_times}
+use Rattle.device_calls.specs.history_model.Minutes.{card_history}
+use Rattle.device_calls.specs.history_model.Presence.{Start}
+use Rattle.device_calls.specs.history_model.History.{minutes_after, decided_of}
+use Rattle.device_calls.specs.run_unit_course.Turn.{span_at}
+use Rattle.run_events.specs.run_course.Kept.{settled_times}
 use Rattle.run_note_record.proofs.Stored.{AtEnd, nothing, push, at-end}
 use Rattle.run_acts.specs.Owed.{IsPulledBefore, IsPulledHere, IsOwed, runs_on}
 

@@ -8,12 +8,12 @@ use Rattle.trace_model.specs.Trace.{TraceSecond}
 use Rattle.log_model.specs.declared.lines.Break.TheVariants.{Tear}
 use Rattle.log_model.specs.Log.{In}
 use Rattle.log_model.specs.Slots.{same_card}
-use Rattle.safety_model.specs.Safe.{Devices}
-use Rattle.card_slots.specs.Calls.{seat_in, card_in}
+use Rattle.device_calls.specs.safety_model.Safe.{Devices}
+use Rattle.run_crew.specs.card_slots.Calls.{seat_in, card_in}
 use Rattle.run_crew.specs.Cabin.{CabinIsSound, torn_out}
 use Rattle.run_outcome.specs.declared.outcome.Outcome.{Outcome}
 use Rattle.run_minutes.specs.Keeping.{with_lines}
-use Rattle.run_promise.specs.Origin.{Origin}
+use Rattle.run_minutes.specs.run_promise.Origin.{Origin}
 use Rattle.run_record.proofs.Pulling.{pulled-out}
 use Rattle.run_acts.specs.declared.run.Run.{Run}
 use Rattle.run_acts.specs.Power.{with_cabin}
@@ -21,7 +21,7 @@ use Rattle.run_acts.specs.Acting.{pulled_run, pulled_breaks}
 use Rattle.run_acts.specs.Recording.{log_of, values_of, RunWithin, RunGoesOn, RecordsAction}
 use Rattle.run_acts.proofs.Asked.{pulls-one}
 use Rattle.run_acts.proofs.NoteRecorded.{goes-as}
-use Rattle.note_model.specs.Noted.{Note}
+use Rattle.unit_notes.specs.note_model.Noted.{Note}
 use Rattle.run_crew.specs.declared.cards.Accepted.{Accepted}
 use Rattle.run_crew.specs.Cards.{session_of, with_session}
 use Rattle.run_acts.specs.Closings.{Spell, spells_of, last_slot, notes_within}

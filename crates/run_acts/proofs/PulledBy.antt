@@ -19,12 +19,12 @@ use Rattle.log_model.specs.Log.{RunLog, Phase, In, cut_in, is_torn_in, found_in,
 use Rattle.log_model.specs.Causes.{is_cut, has_failed, tears, places, visit_places, in_the_slot, torn_of}
 use Rattle.log_model.specs.Slots.{Slots, Sitting, in_slot, other_slot, same_card, holds, refusal}
 use Rattle.log_model.specs.Course.{ToldSecond, Course, Visit, Moved, Before, card_in, visits, with_slot, leaves, answered, moved_by, slot_told, both_told, begins, is_settling, acted, all_acted, unmoved, fresh}
-use Rattle.event_model.specs.Events.{course_by}
-use Rattle.note_model.specs.Done.{course_powered}
-use Rattle.run_unit_course.specs.Lines.{log_of}
-use Rattle.run_course.specs.Reached.{course_at}
-use Rattle.run_course.proofs.Reached.{at-by}
-use Rattle.run_promise.specs.Whole.{NothingFailed}
+use Rattle.unit_notes.specs.event_model.Events.{course_by}
+use Rattle.unit_notes.specs.note_model.Done.{course_powered}
+use Rattle.device_calls.specs.run_unit_course.Lines.{log_of}
+use Rattle.run_events.specs.run_course.Reached.{course_at}
+use Rattle.run_events.proofs.run_course.Reached.{at-by}
+use Rattle.run_minutes.specs.run_promise.Whole.{NothingFailed}
 use Rattle.run_acts.specs.Owed.{unlogged}
 
 -- ---- LINES pull none out

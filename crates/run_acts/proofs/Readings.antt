@@ -4,18 +4,18 @@ use Rattle.std.proofs.lemmas.List.{map-append, same_from_push}
 use Rattle.std.proofs.lemmas.List.Elements.{Contains-append_left, Contains-append_right, Contains-append_cases, Contains-push, Contains-push_cases}
 use Rattle.trace_model.specs.declared.Action.{Action}
 use Rattle.trace_model.specs.Trace.{TraceSecond}
-use Rattle.minute_model.specs.declared.Minute.{Minute}
-use Rattle.minute_model.specs.Span.{travelled_of}
+use Rattle.unit_model.specs.minute_model.declared.Minute.{Minute}
+use Rattle.unit_model.specs.minute_model.Span.{travelled_of}
 use Rattle.log_model.specs.Log.{RunLog, Phase}
 use Rattle.log_model.specs.Course.{ToldSecond, Visit, went}
 use Rattle.log_model.specs.Spans.{spans_with}
-use Rattle.note_model.specs.Odometer.{SpanFrom}
-use Rattle.safety_model.specs.Safe.{Devices}
-use Rattle.unit_rule.specs.Odometer.{odometer_by}
-use Rattle.run_rings.specs.Spans.{with_second}
-use Rattle.run_rings.proofs.Spans.{are-spans}
-use Rattle.run_course.proofs.Told.{lit-starts, spans-lit}
-use Rattle.run_promise.specs.Origin.{Origin}
+use Rattle.unit_notes.specs.note_model.Odometer.{SpanFrom}
+use Rattle.device_calls.specs.safety_model.Safe.{Devices}
+use Rattle.device_calls.specs.unit_rule.Odometer.{odometer_by}
+use Rattle.run_events.specs.run_rings.Spans.{with_second}
+use Rattle.run_events.proofs.run_rings.Spans.{are-spans}
+use Rattle.run_events.proofs.run_course.Told.{lit-starts, spans-lit}
+use Rattle.run_minutes.specs.run_promise.Origin.{Origin}
 use Rattle.run_note_record.specs.OnCards.{IsReading}
 use Rattle.run_record.specs.Recorded.{Values}
 use Rattle.run_record.specs.Within.{RecordInSecond}

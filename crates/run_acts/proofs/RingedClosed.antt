@@ -6,18 +6,18 @@ use Rattle.trace_model.specs.declared.Action.TheVariants.{Withdraw}
 use Rattle.trace_model.specs.declared.Card.{Card}
 use Rattle.trace_model.specs.declared.Card.TheVariants.{A, B}
 use Rattle.trace_model.specs.Trace.{TraceSecond}
-use Rattle.minute_model.specs.declared.Minute.{Minute}
-use Rattle.minute_model.specs.Span.{settled, travelled_of}
+use Rattle.unit_model.specs.minute_model.declared.Minute.{Minute}
+use Rattle.unit_model.specs.minute_model.Span.{settled, travelled_of}
 use Rattle.minute_rules.specs.Kept.{CountsSpan}
-use Rattle.message_model.specs.Records.{insertion_ring}
-use Rattle.unit_rule.specs.Odometer.{odometer_by}
+use Rattle.run_events.specs.message_model.Records.{insertion_ring}
+use Rattle.device_calls.specs.unit_rule.Odometer.{odometer_by}
 use Rattle.log_model.specs.declared.lines.Break.{Break}
 use Rattle.log_model.specs.Log.{RunLog, In, is_torn_in}
 use Rattle.log_model.specs.Slots.{refusal}
 use Rattle.log_model.specs.Course.{ToldSecond}
-use Rattle.note_model.specs.Odometer.{SpanFrom}
-use Rattle.safety_model.specs.Safe.{Devices}
-use Rattle.card_slots.specs.Calls.{seat_in, card_in, logged}
+use Rattle.unit_notes.specs.note_model.Odometer.{SpanFrom}
+use Rattle.device_calls.specs.safety_model.Safe.{Devices}
+use Rattle.run_crew.specs.card_slots.Calls.{seat_in, card_in, logged}
 use Rattle.run_crew.specs.declared.cabin.Cabin.{Cabin}
 use Rattle.run_crew.specs.declared.cards.Accepted.{Accepted}
 use Rattle.run_crew.specs.declared.cards.Cards.{Cards}
@@ -30,9 +30,9 @@ use Rattle.run_minutes.specs.declared.keeper.Moment.{Moment}
 use Rattle.run_minutes.specs.Keeping.{GoesOnFrom, SessionsGoOn, tear_of}
 use Rattle.run_minutes.specs.Minutes.{AreKept}
 use Rattle.run_minutes.proofs.Seats.{sessions-then}
-use Rattle.run_promise.specs.Origin.{Origin}
-use Rattle.run_promise.specs.Beside.{HaveLeftMore}
-use Rattle.run_rings.specs.Spans.{with_second}
+use Rattle.run_minutes.specs.run_promise.Origin.{Origin}
+use Rattle.run_minutes.specs.run_promise.Beside.{HaveLeftMore}
+use Rattle.run_events.specs.run_rings.Spans.{with_second}
 use Rattle.run_note_record.specs.OnCards.{CardsStay}
 use Rattle.run_note_record.specs.Sessions.{Shuts}
 use Rattle.run_note_record.specs.Ringed.{Seating, LeavesRings}

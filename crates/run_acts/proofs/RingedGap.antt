@@ -4,25 +4,25 @@ use Rattle.activity_codec.specs.declared.values.Slot.{Slot}
 use Rattle.activity_codec.specs.declared.values.Slot.TheVariants.{Driver, CoDriver}
 use Rattle.trace_model.specs.declared.Card.{Card}
 use Rattle.trace_model.specs.Trace.{TraceSecond}
-use Rattle.event_model.specs.declared.entries.Span.{Span}
+use Rattle.unit_notes.specs.event_model.declared.entries.Span.{Span}
 use Rattle.log_model.specs.declared.lines.Break.{Break}
 use Rattle.log_model.specs.Log.{RunLog, In, cut_in, found_in}
 use Rattle.log_model.specs.Course.{ToldSecond, Before, Went, went}
-use Rattle.note_model.specs.Odometer.{SpanFrom}
-use Rattle.note_model.specs.Noted.{Note}
-use Rattle.safety_model.specs.Safe.{Devices}
-use Rattle.card_slots.specs.Calls.{seat_in, card_in}
-use Rattle.run_unit_course.specs.Lines.{cut_at}
+use Rattle.unit_notes.specs.note_model.Odometer.{SpanFrom}
+use Rattle.unit_notes.specs.note_model.Noted.{Note}
+use Rattle.device_calls.specs.safety_model.Safe.{Devices}
+use Rattle.run_crew.specs.card_slots.Calls.{seat_in, card_in}
+use Rattle.device_calls.specs.run_unit_course.Lines.{cut_at}
 use Rattle.run_outcome.specs.Lines.{Listed}
 use Rattle.run_outcome.specs.declared.outcome.Outcome.{Outcome}
 use Rattle.run_minutes.specs.declared.keeper.Moment.{Moment}
 use Rattle.run_minutes.specs.Keeping.{SessionsGoOn}
 use Rattle.run_minutes.proofs.Seats.{sessions-none, sessions-then}
-use Rattle.run_rings.specs.Notes.{notes_to, sits_accepted}
-use Rattle.run_rings.specs.Spans.{with_second}
-use Rattle.run_rings.proofs.Actions.{power-notes}
-use Rattle.run_promise.specs.Origin.{Origin}
-use Rattle.run_promise.specs.Beside.{HaveLeftMore}
+use Rattle.run_events.specs.run_rings.Notes.{notes_to, sits_accepted}
+use Rattle.run_events.specs.run_rings.Spans.{with_second}
+use Rattle.run_events.proofs.run_rings.Actions.{power-notes}
+use Rattle.run_minutes.specs.run_promise.Origin.{Origin}
+use Rattle.run_minutes.specs.run_promise.Beside.{HaveLeftMore}
 use Rattle.run_note_record.specs.Ringed.{Ringed, LeavesRings, notes_in, since_in}
 use Rattle.run_note_record.specs.RingsSoFar.{RingedBehind, RingedIn, AreFewer, HasMoreBreaks, GoesBehind, notes_so_far}
 use Rattle.run_note_record.specs.Steps.{nobody, spans_cut}

@@ -9,14 +9,14 @@ use Rattle.activity_codec.specs.declared.values.Slot.TheVariants.{Driver, CoDriv
 use Rattle.activity_codec.specs.Activity.{same_slot}
 use Rattle.trace_model.specs.declared.Card.{Card}
 use Rattle.trace_model.specs.declared.Card.TheVariants.{A, B}
-use Rattle.minute_model.specs.declared.Minute.{Minute}
+use Rattle.unit_model.specs.minute_model.declared.Minute.{Minute}
 use Rattle.log_model.specs.declared.lines.Break.{Break}
 use Rattle.log_model.specs.Log.{RunLog, Phase, In, Keeping, same_phase, cut_in, phase_of, tears_here, is_torn_in, found_in}
-use Rattle.card_slots.specs.declared.seats.Present.{Present}
-use Rattle.card_slots.specs.declared.seats.Ended.{Ended}
-use Rattle.card_slots.specs.Calls.{present_in}
-use Rattle.run_course.specs.Moments.{and_break}
-use Rattle.run_course.proofs.Lookups.{break-more, torn-by}
+use Rattle.run_crew.specs.card_slots.declared.seats.Present.{Present}
+use Rattle.run_crew.specs.card_slots.declared.seats.Ended.{Ended}
+use Rattle.run_crew.specs.card_slots.Calls.{present_in}
+use Rattle.run_events.specs.run_course.Moments.{and_break}
+use Rattle.run_events.proofs.run_course.Lookups.{break-more, torn-by}
 use Rattle.run_crew.specs.declared.cards.Accepted.{Accepted}
 use Rattle.run_crew.specs.declared.cards.Cards.{Cards}
 use Rattle.run_crew.specs.declared.cabin.Cabin.{Cabin}

@@ -11,22 +11,22 @@ use Rattle.tacho_types.specs.CardNumber.{card_number_bytes}
 use Rattle.tacho_types.specs.declared.card_number.FullCardNumber.{FullCardNumber}
 use Rattle.tacho_types.specs.declared.places.PlaceEntry.{PlaceEntry}
 use Rattle.tacho_types.specs.Places.{place_bytes}
-use Rattle.card_layout.specs.declared.files.Application.{Application}
-use Rattle.message_model.specs.Records.{unit_place_ring}
+use Rattle.card_files.specs.card_layout.declared.files.Application.{Application}
+use Rattle.run_events.specs.message_model.Records.{unit_place_ring}
 use Rattle.unit_notes.specs.Entries.{unit_place_bytes}
-use Rattle.card_image.specs.Own.{own_number, IsOwnValid}
+use Rattle.hand_model.specs.card_image.Own.{own_number, IsOwnValid}
 use Rattle.log_model.specs.declared.lines.Break.{Break}
 use Rattle.log_model.specs.declared.lines.SlotFault.{SlotFault}
 use Rattle.log_model.specs.declared.lines.SlotFault.TheVariants.{NoCard}
 use Rattle.log_model.specs.Log.{RunLog, In}
 use Rattle.log_model.specs.Slots.{Sitting, in_slot, is_accepted, refusal, same_card}
 use Rattle.log_model.specs.Course.{ToldSecond}
-use Rattle.note_model.specs.Odometer.{SpanFrom, odometer_at}
-use Rattle.note_model.specs.Noted.{PlaceNote}
-use Rattle.safety_model.specs.Recording.{card_image}
-use Rattle.safety_model.specs.Safe.{Devices, card_of}
-use Rattle.card_slots.specs.declared.seats.Seat.{Seat}
-use Rattle.card_slots.specs.Calls.{Seats, seat_in, card_in, sitting_of, logged}
+use Rattle.unit_notes.specs.note_model.Odometer.{SpanFrom, odometer_at}
+use Rattle.unit_notes.specs.note_model.Noted.{PlaceNote}
+use Rattle.device_calls.specs.safety_model.Recording.{card_image}
+use Rattle.device_calls.specs.safety_model.Safe.{Devices, card_of}
+use Rattle.run_crew.specs.card_slots.declared.seats.Seat.{Seat}
+use Rattle.run_crew.specs.card_slots.Calls.{Seats, seat_in, card_in, sitting_of, logged}
 use Rattle.run_crew.specs.declared.cards.Accepted.{Accepted}
 use Rattle.run_crew.specs.declared.cards.Cards.{Cards}
 use Rattle.run_crew.specs.declared.cards.Known.{Known}
@@ -36,11 +36,11 @@ use Rattle.run_crew.specs.Cabin.{CabinIsSound, AnswersTo, SeatAnswers, number_of
 use Rattle.run_events.specs.Entries.{number_or_no_card}
 use Rattle.run_outcome.specs.Lines.{Listed}
 use Rattle.run_outcome.specs.declared.outcome.Outcome.{Outcome}
-use Rattle.run_rings.specs.Spans.{with_second}
+use Rattle.run_events.specs.run_rings.Spans.{with_second}
 use Rattle.run_minutes.specs.declared.keeper.Moment.{Moment}
 use Rattle.run_minutes.specs.Keeping.{with_lines}
-use Rattle.run_promise.specs.Origin.{Origin}
-use Rattle.run_promise.specs.Beside.{HaveLeftMore}
+use Rattle.run_minutes.specs.run_promise.Origin.{Origin}
+use Rattle.run_minutes.specs.run_promise.Beside.{HaveLeftMore}
 use Rattle.run_note_record.specs.Ringed.{IsPlaceIn, holder_in}
 use Rattle.run_note_record.specs.RingsSoFar.{RingedBehind, RingedIn, AreFewer}
 use Rattle.run_note_record.specs.Steps.{nobody, spans_cut}
@@ -62,7 +62,7 @@ use Rattle.run_acts.specs.RunRinged.{seats_of, IsLastFrom, RingsWithin, with_cut
 use Rattle.run_acts.specs.CardWrites.{MayHavePlace}
 use Rattle.run_acts.specs.Ringing.{IsPlaceNow, WritesPlace}
 use Rattle.run_acts.proofs.Cabins.{session-known, noted-sessions}
-use Rattle.run_unit_course.specs.Lines.{cut_at}
+use Rattle.device_calls.specs.run_unit_course.Lines.{cut_at}
 use Rattle.run_acts.proofs.CardStays.{session-sizes}
 use Rattle.run_acts.proofs.CardPlaces.{PlaceCall, entry-wide, place-taken, place-go, place-sessions, tear-failed}
 use Rattle.run_acts.proofs.FallEvented.{known}

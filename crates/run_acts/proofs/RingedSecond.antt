@@ -9,51 +9,51 @@ use Rattle.trace_model.specs.declared.Action.{Action}
 use Rattle.trace_model.specs.declared.Card.{Card}
 use Rattle.trace_model.specs.declared.Card.TheVariants.{A, B}
 use Rattle.trace_model.specs.Trace.{TraceSecond}
-use Rattle.minute_model.specs.declared.Minute.{Minute}
-use Rattle.minute_model.specs.Second.{Second}
-use Rattle.minute_model.specs.Span.{Span, travelled_of}
+use Rattle.unit_model.specs.minute_model.declared.Minute.{Minute}
+use Rattle.unit_model.specs.minute_model.Second.{Second}
+use Rattle.unit_model.specs.minute_model.Span.{Span, travelled_of}
 use Rattle.tach_media.specs.Medium.{State}
 use Rattle.unit_model.specs.declared.layout.TheConstants.{HIGHEST_ODOMETER}
-use Rattle.unit_rule.specs.Odometer.{odometer_by}
+use Rattle.device_calls.specs.unit_rule.Odometer.{odometer_by}
 use Rattle.log_model.specs.declared.lines.Break.{Break}
 use Rattle.log_model.specs.Causes.{second_of}
 use Rattle.log_model.specs.Log.{RunLog, Phase, In, same_phase, cut_in, is_torn_in, found_in}
 use Rattle.log_model.specs.Slots.{Sitting, in_slot}
 use Rattle.log_model.specs.Course.{ToldSecond, Before, Visit, Course, begins, has_power, all_acted, went}
 use Rattle.log_model.specs.Spans.{seconds_in, spans_of}
-use Rattle.unit_events.proofs.Failing.{failed-here}
-use Rattle.note_model.specs.Done.{course_powered, has_failed_in}
-use Rattle.note_model.specs.Odometer.{SpanFrom, odometer_at}
-use Rattle.run_unit_course.specs.Lines.{cut_at}
-use Rattle.run_unit_course.specs.Followed.{Lit as IsLit, as_spans}
-use Rattle.run_unit_course.specs.Turn.{begins_with, span_at}
-use Rattle.safety_model.specs.Safe.{Devices, card_of}
-use Rattle.card_slots.specs.declared.seats.Seat.{Seat}
-use Rattle.card_slots.specs.Kept.{Kept as SlotsKept}
-use Rattle.card_slots.specs.Calls.{card_in}
-use Rattle.history_model.specs.Presence.{Start}
-use Rattle.history_model.specs.Minutes.{HistoryMinute}
+use Rattle.run_events.proofs.unit_events.Failing.{failed-here}
+use Rattle.unit_notes.specs.note_model.Done.{course_powered, has_failed_in}
+use Rattle.unit_notes.specs.note_model.Odometer.{SpanFrom, odometer_at}
+use Rattle.device_calls.specs.run_unit_course.Lines.{cut_at}
+use Rattle.device_calls.specs.run_unit_course.Followed.{Lit as IsLit, as_spans}
+use Rattle.device_calls.specs.run_unit_course.Turn.{begins_with, span_at}
+use Rattle.device_calls.specs.safety_model.Safe.{Devices, card_of}
+use Rattle.run_crew.specs.card_slots.declared.seats.Seat.{Seat}
+use Rattle.run_crew.specs.card_slots.Kept.{Kept as SlotsKept}
+use Rattle.run_crew.specs.card_slots.Calls.{card_in}
+use Rattle.device_calls.specs.history_model.Presence.{Start}
+use Rattle.device_calls.specs.history_model.Minutes.{HistoryMinute}
 use Rattle.run_crew.specs.declared.cards.Accepted.{Accepted}
 use Rattle.run_crew.specs.declared.cards.Cards.{Cards}
 use Rattle.run_crew.specs.Cards.{session_of}
 use Rattle.run_crew.specs.Cabin.{AnswersTo, SeatAnswers}
-use Rattle.run_course.specs.Followed.{BookFollowsRun}
-use Rattle.run_course.specs.Moments.{and_break, SameUpTo}
-use Rattle.run_course.specs.Presence.{SitsAs, IsNewest}
-use Rattle.run_course.specs.Seconds.{GoesOnBy}
-use Rattle.run_course.proofs.Lookups.{break-more}
-use Rattle.run_course.proofs.Moments.{later-lines}
-use Rattle.run_course.proofs.Steps.{with-supply, went-same_}
-use Rattle.run_course.proofs.Told.{lit-power, lit-starts}
-use Rattle.run_course.specs.Kept.{settled_times}
-use Rattle.run_course.proofs.Reached.{at-by}
-use Rattle.run_promise.specs.Found.{found_of}
+use Rattle.run_events.specs.run_course.Followed.{BookFollowsRun}
+use Rattle.run_events.specs.run_course.Moments.{and_break, SameUpTo}
+use Rattle.run_events.specs.run_course.Presence.{SitsAs, IsNewest}
+use Rattle.run_events.specs.run_course.Seconds.{GoesOnBy}
+use Rattle.run_events.proofs.run_course.Lookups.{break-more}
+use Rattle.run_events.proofs.run_course.Moments.{later-lines}
+use Rattle.run_events.proofs.run_course.Steps.{with-supply, went-same_}
+use Rattle.run_events.proofs.run_course.Told.{lit-power, lit-starts}
+use Rattle.run_events.specs.run_course.Kept.{settled_times}
+use Rattle.run_events.proofs.run_course.Reached.{at-by}
+use Rattle.run_minutes.specs.run_promise.Found.{found_of}
 use Rattle.run_minutes.specs.Keeping.{HasLeftMore}
-use Rattle.run_rings.specs.Notes.{course_behind}
-use Rattle.run_rings.specs.Spans.{go_on_from, with_second, odometer_on, AreAllBefore}
-use Rattle.run_rings.proofs.Spans.{odometer-now}
-use Rattle.run_promise.specs.Origin.{Origin, rule_of, start_at, first_of}
-use Rattle.run_promise.specs.Beside.{HaveLeftMore}
+use Rattle.run_events.specs.run_rings.Notes.{course_behind}
+use Rattle.run_events.specs.run_rings.Spans.{go_on_from, with_second, odometer_on, AreAllBefore}
+use Rattle.run_events.proofs.run_rings.Spans.{odometer-now}
+use Rattle.run_minutes.specs.run_promise.Origin.{Origin, rule_of, start_at, first_of}
+use Rattle.run_minutes.specs.run_promise.Beside.{HaveLeftMore}
 use Rattle.run_note_record.proofs.Lines.{same-before}
 use Rattle.run_note_record.specs.Ringed.{Seating}
 use Rattle.run_note_record.specs.RingsSoFar.{GoesBehind, RingedIn, HasMoreBreaks}

@@ -7,30 +7,30 @@ use Rattle.trace_model.specs.declared.Card.{Card}
 use Rattle.trace_model.specs.declared.Card.TheVariants.{A, B}
 use Rattle.trace_model.specs.Trace.{TraceSecond, driven}
 use Rattle.tach_media.specs.Medium.{State}
-use Rattle.card_layout.specs.declared.command.CardState.{CardState}
-use Rattle.minute_model.specs.declared.Minute.{Minute}
+use Rattle.card_files.specs.card_layout.declared.command.CardState.{CardState}
+use Rattle.unit_model.specs.minute_model.declared.Minute.{Minute}
 use Rattle.log_model.specs.declared.lines.Break.{Break}
 use Rattle.log_model.specs.Causes.{second_of}
 use Rattle.log_model.specs.Log.{RunLog, In, Keeping, cut_in}
 use Rattle.log_model.specs.Same.{SameAt}
 use Rattle.log_model.specs.Course.{ToldSecond, Before, Went, begins, has_power, went, second_told}
 use Rattle.log_model.proofs.Growth.{went-more}
-use Rattle.note_model.specs.Odometer.{SpanFrom}
-use Rattle.safety_model.specs.Safe.{Devices}
-use Rattle.run_unit_course.specs.Lines.{cut_at}
-use Rattle.run_course.specs.Moments.{and_break}
-use Rattle.run_course.specs.Followed.{PowerGoesOn, IsLost as HasLost}
-use Rattle.run_course.proofs.Told.{IsLitAs, lit-told, dark-told, lit-power, lost-dark, next-dark}
+use Rattle.unit_notes.specs.note_model.Odometer.{SpanFrom}
+use Rattle.device_calls.specs.safety_model.Safe.{Devices}
+use Rattle.device_calls.specs.run_unit_course.Lines.{cut_at}
+use Rattle.run_events.specs.run_course.Moments.{and_break}
+use Rattle.run_events.specs.run_course.Followed.{PowerGoesOn, IsLost as HasLost}
+use Rattle.run_events.proofs.run_course.Told.{IsLitAs, lit-told, dark-told, lit-power, lost-dark, next-dark}
 use Rattle.run_crew.specs.declared.cards.Accepted.{Accepted}
 use Rattle.run_outcome.specs.declared.outcome.Outcome.{Outcome}
 use Rattle.run_minutes.specs.declared.keeper.Moment.{Moment}
 use Rattle.run_minutes.specs.Keeping.{SessionsGoOn}
 use Rattle.run_minutes.specs.Books.{HaveTime, AreTimedOn}
 use Rattle.run_minutes.specs.Decided.{odometers_of}
-use Rattle.run_rings.specs.Notes.{TellSameTo}
-use Rattle.run_rings.specs.Spans.{with_second}
-use Rattle.run_promise.specs.Origin.{Origin, first_of}
-use Rattle.run_promise.specs.Beside.{HaveLeftMore}
+use Rattle.run_events.specs.run_rings.Notes.{TellSameTo}
+use Rattle.run_events.specs.run_rings.Spans.{with_second}
+use Rattle.run_minutes.specs.run_promise.Origin.{Origin, first_of}
+use Rattle.run_minutes.specs.run_promise.Beside.{HaveLeftMore}
 use Rattle.run_note_record.specs.Ringed.{Seating, LeavesRings, notes_in, since_behind}
 use Rattle.run_note_record.specs.RingsSoFar.{RingedBehind, RingedIn, IsSecond, AreFewer, HasMoreBreaks, GoesBehind}
 use Rattle.run_note_record.specs.Steps.{nobody, spans_cut}

@@ -10,28 +10,28 @@ use Rattle.trace_model.specs.declared.Card.TheVariants.{A, B}
 use Rattle.trace_model.specs.Trace.{TraceSecond}
 use Rattle.tacho_types.specs.declared.numbers.Odometer.{Odometer}
 use Rattle.tacho_types.specs.declared.numbers.TimeReal.{TimeReal}
-use Rattle.minute_model.specs.Span.{travelled_of}
-use Rattle.message_model.specs.Records.{insertion_ring}
-use Rattle.unit_rule.specs.Odometer.{odometer_by}
+use Rattle.unit_model.specs.minute_model.Span.{travelled_of}
+use Rattle.run_events.specs.message_model.Records.{insertion_ring}
+use Rattle.device_calls.specs.unit_rule.Odometer.{odometer_by}
 use Rattle.log_model.specs.declared.lines.Break.{Break}
 use Rattle.log_model.specs.declared.lines.SlotFault.{SlotFault}
 use Rattle.log_model.specs.declared.lines.SlotFault.TheVariants.{Moving, Empty}
 use Rattle.log_model.specs.Log.{RunLog, In, cut_in, is_torn_in}
 use Rattle.log_model.specs.Slots.{Sitting, same_card, in_slot, refusal}
 use Rattle.log_model.specs.Course.{ToldSecond, Before, begins, went}
-use Rattle.note_model.specs.Odometer.{SpanFrom, odometer_at}
-use Rattle.safety_model.specs.Safe.{Devices}
-use Rattle.card_slots.specs.Calls.{seat_in, card_in, logged}
+use Rattle.unit_notes.specs.note_model.Odometer.{SpanFrom, odometer_at}
+use Rattle.device_calls.specs.safety_model.Safe.{Devices}
+use Rattle.run_crew.specs.card_slots.Calls.{seat_in, card_in, logged}
 use Rattle.run_crew.specs.declared.cards.Accepted.{Accepted}
 use Rattle.run_crew.specs.Cards.{session_of}
 use Rattle.run_crew.specs.Cabin.{CabinIsSound}
 use Rattle.run_outcome.specs.declared.outcome.Outcome.{Outcome}
-use Rattle.run_rings.specs.Notes.{NotesMore, course_behind}
-use Rattle.run_rings.specs.Spans.{with_second}
-use Rattle.run_rings.proofs.Actions.{withdrawals}
-use Rattle.run_rings.proofs.Same.{same-rings}
-use Rattle.run_promise.specs.Origin.{Origin, start_at}
-use Rattle.run_promise.specs.Beside.{HaveLeftMore}
+use Rattle.run_events.specs.run_rings.Notes.{NotesMore, course_behind}
+use Rattle.run_events.specs.run_rings.Spans.{with_second}
+use Rattle.run_events.proofs.run_rings.Actions.{withdrawals}
+use Rattle.run_events.proofs.run_rings.Same.{same-rings}
+use Rattle.run_minutes.specs.run_promise.Origin.{Origin, start_at}
+use Rattle.run_minutes.specs.run_promise.Beside.{HaveLeftMore}
 use Rattle.run_note_record.specs.Ringed.{Seating, LeavesRings, WritesRing, MayBeWithdrawn}
 use Rattle.run_note_record.specs.RingsSoFar.{RingedBehind, RingedIn, AreFewer}
 use Rattle.run_note_record.specs.Steps.{GoesOnTo, IsCutIn, nobody, spans_cut}

@@ -2,24 +2,24 @@
 use Rattle.std.proofs.Common.{◌≡◌, ◌⊎◌, inl, inr, ⊎_elim, ℕ, ◌+◌, ◌-◌, ◌≤◌, Bool, true, false, not, Option, Some, None, IfSome, is_some, List, length, refl, ap, sym, subst, arith}
 use Rattle.tach_media.specs.Medium.{State, IsCoherent, LeavesOnly}
 use Rattle.tach_media.proofs.Runs.{at_image}
-use Rattle.gated_ring.specs.Ring.{Shape}
-use Rattle.gated_ring.specs.Change.{IsAdded, IsAdding}
-use Rattle.message_model.specs.Records.{insertion_ring, unit_place_ring}
+use Rattle.run_events.specs.gated_ring.Ring.{Shape}
+use Rattle.run_events.specs.gated_ring.Change.{IsAdded, IsAdding}
+use Rattle.run_events.specs.message_model.Records.{insertion_ring, unit_place_ring}
 use Rattle.tacho_types.specs.declared.numbers.Odometer.{Odometer}
-use Rattle.minute_model.specs.declared.Minute.{Minute}
+use Rattle.unit_model.specs.minute_model.declared.Minute.{Minute}
 use Rattle.unit_notes.specs.declared.unit_event.UnitEvent.{UnitEvent}
 use Rattle.unit_notes.specs.Noting.{IsEventNoted, IsNotingEvent, IsOverNoted, IsNotingOver, IsWithdrawn, IsWithdrawing, with_first, with_one_more}
-use Rattle.event_model.specs.declared.kinds.TheConstants.{OVER_SPEEDING, DRIVING_WITHOUT_CARD}
-use Rattle.unit_events.proofs.NoteFrames.{first-outside, more-outside}
+use Rattle.unit_notes.specs.event_model.declared.kinds.TheConstants.{OVER_SPEEDING, DRIVING_WITHOUT_CARD}
+use Rattle.run_events.proofs.unit_events.NoteFrames.{first-outside, more-outside}
 use Rattle.unit_model.specs.Image.{IsUnit}
 use Rattle.run_crew.specs.declared.cards.Accepted.{Accepted}
 use Rattle.run_events.specs.declared.watch.Ended.{Ended}
 use Rattle.run_events.specs.Noting.{IsBareNoted, IsNotingBare, IsFastNoted, IsNotingFast, AreNoted, AreBeingNoted}
 use Rattle.run_events.specs.Watching.{BareWith, OverWith, bare_ended, over_ended}
 use Rattle.run_outcome.specs.declared.outcome.Outcome.{Outcome}
-use Rattle.run_rings.proofs.Same.{same-rings, then-same, outside-both, table-outside, rings-then}
+use Rattle.run_events.proofs.run_rings.Same.{same-rings, then-same, outside-both, table-outside, rings-then}
 use Rattle.run_note_record.specs.Ringed.{HasSameRings, LeavesRings, WritesImages, Seating, MayBeAdded, IsWithdrawnAt, MayBeWithdrawn}
-use Rattle.run_devices.proofs.Parts.{told-one}
+use Rattle.run_minutes.proofs.run_devices.Parts.{told-one}
 use Rattle.run_minutes.specs.declared.keeper.Moment.{Moment}
 use Rattle.run_minutes.specs.Faults.{faults_to}
 use Rattle.run_minutes.proofs.Faults.{tells-rings, faults-leave}

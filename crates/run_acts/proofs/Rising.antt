@@ -3,15 +3,15 @@ use Rattle.std.proofs.Common.{◌≡◌, ◌⊎◌, ⊎_elim, ◌∙◌, ℕ, �
 use Rattle.trace_model.specs.declared.Card.{Card}
 use Rattle.trace_model.specs.declared.Card.TheVariants.{A, B}
 use Rattle.tach_media.specs.Medium.{State}
-use Rattle.run_model.specs.declared.Device.{Device}
-use Rattle.run_model.specs.declared.Device.TheVariants.{Unit as Recorder}
+use Rattle.log_model.specs.run_model.declared.Device.{Device}
+use Rattle.log_model.specs.run_model.declared.Device.TheVariants.{Unit as Recorder}
 use Rattle.log_model.specs.Causes.{device_of, RoseBy}
-use Rattle.safety_model.specs.Safe.{Devices, breakdowns_of}
+use Rattle.device_calls.specs.safety_model.Safe.{Devices, breakdowns_of}
 use Rattle.run_crew.specs.declared.cards.Cards.{Cards}
 use Rattle.run_crew.specs.Cards.{session_of}
-use Rattle.run_promise.specs.Between.{devices}
-use Rattle.run_devices.specs.Told.{arranged}
-use Rattle.run_course.specs.Telling.{IsMore, BrokeDown}
+use Rattle.run_minutes.specs.run_promise.Between.{devices}
+use Rattle.run_minutes.specs.run_devices.Told.{arranged}
+use Rattle.run_events.specs.run_course.Telling.{IsMore, BrokeDown}
 use Rattle.run_minutes.specs.Keeping.{tears_of}
 use Rattle.run_minutes.specs.Later.{RestBy}
 use Rattle.run_acts.specs.Rounds.{StandsOrFell}

@@ -8,32 +8,32 @@ use Rattle.activity_codec.specs.declared.values.Slot.TheVariants.{Driver, CoDriv
 use Rattle.trace_model.specs.declared.Card.{Card}
 use Rattle.trace_model.specs.declared.Card.TheVariants.{A, B}
 use Rattle.trace_model.specs.Trace.{TraceSecond}
-use Rattle.run_model.specs.declared.Device.{Device}
-use Rattle.minute_model.specs.declared.Minute.{Minute}
+use Rattle.log_model.specs.run_model.declared.Device.{Device}
+use Rattle.unit_model.specs.minute_model.declared.Minute.{Minute}
 use Rattle.log_model.specs.declared.lines.Mark.{Mark}
 use Rattle.log_model.specs.Log.{RunLog}
 use Rattle.log_model.specs.Slots.{same_card}
 use Rattle.log_model.specs.Causes.{device_of}
 use Rattle.log_model.specs.Course.{ToldSecond as Seconds, Course, Visit}
-use Rattle.history_model.specs.Minutes.{HistoryMinute, Seat as HistorySeat, is_crew, entry_in, on_card}
-use Rattle.history_model.specs.History.{seated}
-use Rattle.history_model.specs.Completeness.{IsMarked}
-use Rattle.device_rule.specs.Rules.{Standing}
-use Rattle.card_slots.specs.declared.seats.Present.{Present}
-use Rattle.card_slots.specs.declared.seats.Ended.{Ended}
-use Rattle.card_slots.specs.Calls.{present_in}
+use Rattle.device_calls.specs.history_model.Minutes.{HistoryMinute, Seat as HistorySeat, is_crew, entry_in, on_card}
+use Rattle.device_calls.specs.history_model.History.{seated}
+use Rattle.device_calls.specs.history_model.Completeness.{IsMarked}
+use Rattle.device_calls.specs.device_rule.Rules.{Standing}
+use Rattle.run_crew.specs.card_slots.declared.seats.Present.{Present}
+use Rattle.run_crew.specs.card_slots.declared.seats.Ended.{Ended}
+use Rattle.run_crew.specs.card_slots.Calls.{present_in}
 use Rattle.run_crew.specs.declared.cards.Accepted.{Accepted}
 use Rattle.run_crew.specs.declared.cabin.Cabin.{Cabin}
 use Rattle.run_crew.specs.Cards.{session_of}
 use Rattle.run_crew.specs.Cabin.{AreTwo}
 use Rattle.run_crew.proofs.Sessions.{same_is, session_apart}
-use Rattle.run_course.specs.Presence.{present_at as present_by}
-use Rattle.run_course.proofs.Presence.{minutes-kept}
-use Rattle.run_course.specs.Kept.{BrokenSince, StaysOut, AreMarkedSoFar}
-use Rattle.run_course.proofs.Kept.{one-marked, marks-stay}
-use Rattle.run_devices.specs.Presence.{StandsIn, IsIn}
-use Rattle.run_devices.proofs.Presence.{step-leaves}
-use Rattle.run_promise.specs.Origin.{Origin, start_at}
+use Rattle.run_events.specs.run_course.Presence.{present_at as present_by}
+use Rattle.run_events.proofs.run_course.Presence.{minutes-kept}
+use Rattle.run_events.specs.run_course.Kept.{BrokenSince, StaysOut, AreMarkedSoFar}
+use Rattle.run_events.proofs.run_course.Kept.{one-marked, marks-stay}
+use Rattle.run_minutes.specs.run_devices.Presence.{StandsIn, IsIn}
+use Rattle.run_minutes.proofs.run_devices.Presence.{step-leaves}
+use Rattle.run_minutes.specs.run_promise.Origin.{Origin, start_at}
 use Rattle.run_minutes.specs.declared.keeper.Keeper.{Keeper}
 use Rattle.run_minutes.specs.Keeping.{Fate, Still, Has, Fell, is_this, cabin_by, breaks_by, marks_by, session_at, kept_in, IsFateOf}
 use Rattle.run_minutes.specs.Minutes.{Round, IsRound, KeepingState, cabin_after, unit_mark, or_nobody, present_at, minute_of}

@@ -4,33 +4,33 @@ use Rattle.std.proofs.lemmas.List.{length-map}
 use Rattle.std.proofs.lemmas.List.Elements.{All-nil, All-cons, All-head, All-tail}
 use Rattle.activity_codec.specs.declared.entries.Entry.{Entry}
 use Rattle.trace_model.specs.Trace.{TraceSecond}
-use Rattle.minute_model.specs.declared.Minute.{Minute}
-use Rattle.minute_model.specs.Span.{count_from, decided_in, ungiven_of}
-use Rattle.minute_model.proofs.Counted.{decided-minutes}
+use Rattle.unit_model.specs.minute_model.declared.Minute.{Minute}
+use Rattle.unit_model.specs.minute_model.Span.{count_from, decided_in, ungiven_of}
+use Rattle.unit_model.proofs.minute_model.Counted.{decided-minutes}
 use Rattle.log_model.specs.Log.{RunLog, Keeping}
 use Rattle.log_model.specs.Course.{ToldSecond as Second, Course, went}
-use Rattle.history_model.specs.Minutes.{HistoryMinute, on_card}
-use Rattle.history_model.specs.History.{decided_of}
-use Rattle.card_image.specs.Own.{IsOwnValid}
-use Rattle.device_rule.specs.Rules.{Standing, In, IsPresent}
-use Rattle.run_unit_course.specs.Turn.{begins_with}
-use Rattle.safety_model.specs.Safe.{Devices, card_of, breakdowns_of}
+use Rattle.device_calls.specs.history_model.Minutes.{HistoryMinute, on_card}
+use Rattle.device_calls.specs.history_model.History.{decided_of}
+use Rattle.hand_model.specs.card_image.Own.{IsOwnValid}
+use Rattle.device_calls.specs.device_rule.Rules.{Standing, In, IsPresent}
+use Rattle.device_calls.specs.run_unit_course.Turn.{begins_with}
+use Rattle.device_calls.specs.safety_model.Safe.{Devices, card_of, breakdowns_of}
 use Rattle.tach_media.specs.Medium.{State}
-use Rattle.card_slots.specs.declared.seats.Present.{Present}
-use Rattle.card_slots.specs.Calls.{present_in}
+use Rattle.run_crew.specs.card_slots.declared.seats.Present.{Present}
+use Rattle.run_crew.specs.card_slots.Calls.{present_in}
 use Rattle.run_crew.specs.declared.cards.Accepted.{Accepted}
-use Rattle.run_promise.specs.Found.{CardFound, found_of}
-use Rattle.run_course.specs.Followed.{Progress, BookFollowsRun}
-use Rattle.run_course.specs.Seconds.{GoesOnBy, AreNew, next_told}
-use Rattle.run_course.proofs.New.{are-new}
-use Rattle.run_course.specs.Moment.{goes_on}
-use Rattle.run_course.specs.Telling.{told_with}
-use Rattle.run_course.proofs.Telling.{second-ends_told}
-use Rattle.run_course.proofs.Kept.{second-decided}
-use Rattle.run_devices.specs.Presence.{SessionsStand}
-use Rattle.run_devices.proofs.Presence.{minute-says}
-use Rattle.run_devices.specs.Told.{GoesWith}
-use Rattle.run_promise.specs.Origin.{Origin, rule_of, start_at, first_of}
+use Rattle.run_minutes.specs.run_promise.Found.{CardFound, found_of}
+use Rattle.run_events.specs.run_course.Followed.{Progress, BookFollowsRun}
+use Rattle.run_events.specs.run_course.Seconds.{GoesOnBy, AreNew, next_told}
+use Rattle.run_events.proofs.run_course.New.{are-new}
+use Rattle.run_events.specs.run_course.Moment.{goes_on}
+use Rattle.run_events.specs.run_course.Telling.{told_with}
+use Rattle.run_events.proofs.run_course.Telling.{second-ends_told}
+use Rattle.run_events.proofs.run_course.Kept.{second-decided}
+use Rattle.run_minutes.specs.run_devices.Presence.{SessionsStand}
+use Rattle.run_minutes.proofs.run_devices.Presence.{minute-says}
+use Rattle.run_minutes.specs.run_devices.Told.{GoesWith}
+use Rattle.run_minutes.specs.run_promise.Origin.{Origin, rule_of, start_at, first_of}
 use Rattle.run_minutes.specs.Minutes.{KeepingState, or_nobody, present_at}
 use Rattle.run_minutes.specs.Decided.{MayBookAll, decided_minute}
 use Rattle.run_record.specs.Recorded.{Values}

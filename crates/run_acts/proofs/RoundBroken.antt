@@ -3,11 +3,11 @@ use Rattle.std.proofs.Common.{◌≡◌, ◌⊎◌, inl, inr, ⊎_elim, ℕ, Boo
 use Rattle.activity_codec.specs.declared.values.Slot.TheVariants.{Driver, CoDriver}
 use Rattle.trace_model.specs.declared.Card.{Card}
 use Rattle.trace_model.specs.declared.Card.TheVariants.{A, B}
-use Rattle.run_model.specs.declared.Device.{Device}
+use Rattle.log_model.specs.run_model.declared.Device.{Device}
 use Rattle.log_model.specs.Causes.{device_of, RoseBy}
-use Rattle.minute_model.specs.declared.Minute.{Minute}
-use Rattle.card_session.specs.declared.session.Kept.{Kept}
-use Rattle.card_slots.specs.declared.seats.Present.{Present}
+use Rattle.unit_model.specs.minute_model.declared.Minute.{Minute}
+use Rattle.device_calls.specs.card_session.declared.session.Kept.{Kept}
+use Rattle.run_crew.specs.card_slots.declared.seats.Present.{Present}
 use Rattle.run_crew.specs.declared.cards.Accepted.{Accepted}
 use Rattle.run_crew.specs.declared.cards.Cards.{Cards}
 use Rattle.run_crew.specs.declared.cabin.Cabin.{Cabin}

@@ -3,23 +3,23 @@ use Rattle.std.proofs.Common.{◌≡◌, inl, inr, ℕ, suc, ◌+◌, ◌/◌, �
 use Rattle.std.proofs.lemmas.List.Elements.{All-head}
 use Rattle.trace_model.specs.declared.Card.{Card}
 use Rattle.trace_model.specs.Trace.{TraceSecond}
-use Rattle.run_model.specs.declared.Device.TheVariants.{Unit as Recorder}
-use Rattle.minute_model.specs.declared.Minute.{Minute}
+use Rattle.log_model.specs.run_model.declared.Device.TheVariants.{Unit as Recorder}
+use Rattle.unit_model.specs.minute_model.declared.Minute.{Minute}
 use Rattle.log_model.specs.declared.lines.Mark.{Mark}
 use Rattle.log_model.specs.Causes.{RoseBy, device_of}
 use Rattle.log_model.specs.Course.{Course}
-use Rattle.history_model.specs.Minutes.{HistoryMinute}
-use Rattle.history_model.specs.History.{seated}
-use Rattle.history_model.specs.Book.{Book, kept, broken}
-use Rattle.run_unit_course.specs.Legs.{Travel, travelled, stranded, all_travelled, stranded_at}
+use Rattle.device_calls.specs.history_model.Minutes.{HistoryMinute}
+use Rattle.device_calls.specs.history_model.History.{seated}
+use Rattle.device_calls.specs.history_model.Book.{Book, kept, broken}
+use Rattle.device_calls.specs.run_unit_course.Legs.{Travel, travelled, stranded, all_travelled, stranded_at}
 use Rattle.unit_model.specs.Image.{odometer_at}
-use Rattle.unit_rule.specs.Odometer.{HasTravelled}
-use Rattle.safety_model.specs.Safe.{Devices, breakdowns_of}
-use Rattle.run_promise.specs.Between.{RunLedger}
-use Rattle.run_course.specs.Seconds.{kept_all, broken_at}
-use Rattle.run_course.proofs.Kept.{one-travelled}
-use Rattle.run_devices.specs.Told.{DevicesUnpowered, AreEarly}
-use Rattle.run_promise.specs.Origin.{Origin, start_at}
+use Rattle.device_calls.specs.unit_rule.Odometer.{HasTravelled}
+use Rattle.device_calls.specs.safety_model.Safe.{Devices, breakdowns_of}
+use Rattle.run_minutes.specs.run_promise.Between.{RunLedger}
+use Rattle.run_events.specs.run_course.Seconds.{kept_all, broken_at}
+use Rattle.run_events.proofs.run_course.Kept.{one-travelled}
+use Rattle.run_minutes.specs.run_devices.Told.{DevicesUnpowered, AreEarly}
+use Rattle.run_minutes.specs.run_promise.Origin.{Origin, start_at}
 use Rattle.run_minutes.specs.Minutes.{Round, KeepingState, Done, AreRounds, IsLast, told_by, told_after, present_at}
 use Rattle.run_minutes.specs.Books.{carried_after, carried_broken}
 use Rattle.run_minutes.specs.Decided.{carried_by, decided_minute}
@@ -38,7 +38,7 @@ use Rattle.std.specs.Prelude.{option_to_list}
 use Rattle.run_record.proofs.Opened.{sessions-since, seconds-before}
 use Rattle.run_record.proofs.HandedSteps.{handed-gone}
 use Rattle.run_acts.proofs.RoundHanded.{HandedAt, HandedBy, one-handed, increased}
-use Rattle.safety_model.specs.Unit.{marks_of, Increase}
+use Rattle.device_calls.specs.safety_model.Unit.{marks_of, Increase}
 use Rattle.run_crew.specs.Cards.{session_of}
 
 rose-since : (before mid now : ℕ) → before ≤ mid → RoseBy 1 mid now → RoseBy 1 before now

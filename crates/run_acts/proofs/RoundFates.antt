@@ -7,43 +7,43 @@ use Rattle.activity_codec.specs.declared.values.Slot.TheVariants.{Driver, CoDriv
 use Rattle.trace_model.specs.declared.Card.{Card}
 use Rattle.trace_model.specs.declared.Card.TheVariants.{A, B}
 use Rattle.trace_model.specs.Trace.{TraceSecond}
-use Rattle.run_model.specs.declared.Device.{Device}
-use Rattle.run_model.specs.declared.Device.TheVariants.{Unit as Recorder, CardA, CardB}
+use Rattle.log_model.specs.run_model.declared.Device.{Device}
+use Rattle.log_model.specs.run_model.declared.Device.TheVariants.{Unit as Recorder, CardA, CardB}
 use Rattle.log_model.specs.declared.lines.Break.{Break}
 use Rattle.log_model.specs.Log.{RunLog, Phase, is_torn_in}
 use Rattle.log_model.specs.Slots.{Slots, Sitting, same_card, in_slot}
 use Rattle.log_model.specs.Causes.{device_of, RoseBy}
 use Rattle.log_model.specs.Course.{ToldSecond, Course, Visit, Before, visits, card_in, went}
-use Rattle.history_model.specs.Minutes.{HistoryMinute}
-use Rattle.card_image.specs.Own.{IsOwnValid}
-use Rattle.card_session.specs.declared.session.Kept.{Kept}
-use Rattle.device_rule.specs.Rules.{Standing, In}
-use Rattle.card_slots.specs.declared.seats.Seat.{Seat}
-use Rattle.card_slots.specs.declared.seats.Present.{Present}
-use Rattle.card_slots.specs.Calls.{seat_in, is_card, present_in}
-use Rattle.card_slots.specs.Kept.{Kept as Slate_, SitsSince, SitStill, with_left, left_of, taken}
-use Rattle.card_slots.proofs.Newest.{found_sits}
+use Rattle.device_calls.specs.history_model.Minutes.{HistoryMinute}
+use Rattle.hand_model.specs.card_image.Own.{IsOwnValid}
+use Rattle.device_calls.specs.card_session.declared.session.Kept.{Kept}
+use Rattle.device_calls.specs.device_rule.Rules.{Standing, In}
+use Rattle.run_crew.specs.card_slots.declared.seats.Seat.{Seat}
+use Rattle.run_crew.specs.card_slots.declared.seats.Present.{Present}
+use Rattle.run_crew.specs.card_slots.Calls.{seat_in, is_card, present_in}
+use Rattle.run_crew.specs.card_slots.Kept.{Kept as Slate_, SitsSince, SitStill, with_left, left_of, taken}
+use Rattle.run_crew.proofs.card_slots.Newest.{found_sits}
 use Rattle.run_crew.specs.declared.cards.Accepted.{Accepted}
 use Rattle.run_crew.specs.declared.cards.Cards.{Cards}
 use Rattle.run_crew.specs.declared.cabin.Cabin.{Cabin}
 use Rattle.run_crew.specs.Cards.{session_of, with_session}
 use Rattle.run_crew.specs.Cabin.{SitsNowhere, left_from, torn_out}
 use Rattle.run_crew.proofs.Sessions.{same_self, same_is, session_set, session_apart}
-use Rattle.run_promise.specs.Found.{found_of}
-use Rattle.run_course.specs.Moments.{and_break}
-use Rattle.run_course.specs.Presence.{SlotsTell}
-use Rattle.run_course.specs.Within.{IsTornFrom}
-use Rattle.run_course.proofs.Within.{tear-tells}
-use Rattle.run_course.specs.Reached.{moved_at, IsTearAt}
-use Rattle.run_course.specs.Lines.{IsTornAt}
-use Rattle.run_course.specs.Moment.{Moment}
-use Rattle.run_course.specs.Telling.{BrokeDown}
-use Rattle.run_course.specs.Kept.{StaysOut}
-use Rattle.run_course.proofs.Lines.{who-sits}
-use Rattle.run_course.proofs.Telling.{card-torn}
-use Rattle.run_devices.specs.Presence.{SessionsStand, StaysSo, HasMore, IsTornOut, sits}
-use Rattle.run_devices.proofs.Presence.{step-leaves}
-use Rattle.run_promise.specs.Origin.{Origin, start_at}
+use Rattle.run_minutes.specs.run_promise.Found.{found_of}
+use Rattle.run_events.specs.run_course.Moments.{and_break}
+use Rattle.run_events.specs.run_course.Presence.{SlotsTell}
+use Rattle.run_events.specs.run_course.Within.{IsTornFrom}
+use Rattle.run_events.proofs.run_course.Within.{tear-tells}
+use Rattle.run_events.specs.run_course.Reached.{moved_at, IsTearAt}
+use Rattle.run_events.specs.run_course.Lines.{IsTornAt}
+use Rattle.run_events.specs.run_course.Moment.{Moment}
+use Rattle.run_events.specs.run_course.Telling.{BrokeDown}
+use Rattle.run_events.specs.run_course.Kept.{StaysOut}
+use Rattle.run_events.proofs.run_course.Lines.{who-sits}
+use Rattle.run_events.proofs.run_course.Telling.{card-torn}
+use Rattle.run_minutes.specs.run_devices.Presence.{SessionsStand, StaysSo, HasMore, IsTornOut, sits}
+use Rattle.run_minutes.proofs.run_devices.Presence.{step-leaves}
+use Rattle.run_minutes.specs.run_promise.Origin.{Origin, start_at}
 use Rattle.run_minutes.specs.Keeping.{Fate, Still, Has, Fell, is_this, cabin_by, breaks_by, tear_of, session_at, card_in as present_of, IsFateOf, tears_of}
 use Rattle.run_minutes.specs.Books.{standing_by}
 use Rattle.run_record.specs.Within.{Beginning, told_before, course_in, IsLeaving}

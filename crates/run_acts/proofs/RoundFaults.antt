@@ -8,37 +8,37 @@ use Rattle.trace_model.specs.declared.Card.{Card}
 use Rattle.trace_model.specs.declared.Action.{Action}
 use Rattle.trace_model.specs.declared.Action.TheVariants.{Select, Insert, Withdraw, Tear as Pull, Place, Manual}
 use Rattle.trace_model.specs.Trace.{TraceSecond}
-use Rattle.run_model.specs.declared.Device.{Device}
-use Rattle.card_image.specs.Own.{IsOwnValid}
-use Rattle.card_session.specs.declared.session.Kept.{Kept}
-use Rattle.minute_model.specs.declared.Minute.{Minute}
-use Rattle.minute_model.specs.Span.{Span}
+use Rattle.log_model.specs.run_model.declared.Device.{Device}
+use Rattle.hand_model.specs.card_image.Own.{IsOwnValid}
+use Rattle.device_calls.specs.card_session.declared.session.Kept.{Kept}
+use Rattle.unit_model.specs.minute_model.declared.Minute.{Minute}
+use Rattle.unit_model.specs.minute_model.Span.{Span}
 use Rattle.log_model.specs.declared.lines.Break.{Break}
 use Rattle.log_model.specs.declared.lines.Mark.{Mark}
 use Rattle.log_model.specs.declared.lines.SlotFault.{SlotFault}
 use Rattle.log_model.specs.Log.{RunLog, Phase, In, Keeping, is_torn_in, found_in}
 use Rattle.log_model.specs.Slots.{Slots, other_slot}
 use Rattle.log_model.specs.Course.{Course, Before, moved_by, went}
-use Rattle.history_model.specs.Minutes.{HistoryMinute}
-use Rattle.device_rule.specs.Rules.{Standing}
-use Rattle.card_slots.specs.declared.seats.Present.{Present}
-use Rattle.card_slots.specs.declared.seats.Seat.{Seat}
-use Rattle.card_slots.specs.Calls.{seat_in, is_card, present_in}
-use Rattle.event_model.specs.Events.{Event, course_by, with_card, crew_of as events_crew_of}
-use Rattle.safety_model.specs.Safe.{Devices, breakdowns_of}
+use Rattle.device_calls.specs.history_model.Minutes.{HistoryMinute}
+use Rattle.device_calls.specs.device_rule.Rules.{Standing}
+use Rattle.run_crew.specs.card_slots.declared.seats.Present.{Present}
+use Rattle.run_crew.specs.card_slots.declared.seats.Seat.{Seat}
+use Rattle.run_crew.specs.card_slots.Calls.{seat_in, is_card, present_in}
+use Rattle.unit_notes.specs.event_model.Events.{Event, course_by, with_card, crew_of as events_crew_of}
+use Rattle.device_calls.specs.safety_model.Safe.{Devices, breakdowns_of}
 use Rattle.unit_notes.specs.declared.unit_event.UnitEvent.{UnitEvent}
-use Rattle.run_promise.specs.Found.{found_of}
-use Rattle.run_promise.specs.Between.{RunLedger}
+use Rattle.run_minutes.specs.run_promise.Found.{found_of}
+use Rattle.run_minutes.specs.run_promise.Between.{RunLedger}
 use Rattle.run_crew.specs.declared.cards.Accepted.{Accepted}
 use Rattle.run_crew.specs.declared.cards.Cards.{Cards}
 use Rattle.run_crew.specs.declared.cabin.Cabin.{Cabin}
 use Rattle.run_crew.specs.Cards.{session_of}
 use Rattle.run_crew.specs.Cabin.{AreTwo, torn_out, crew_of}
-use Rattle.run_course.specs.Moment.{goes_on, Moment}
-use Rattle.run_course.specs.Reached.{moved_at, moved_with, Reaches, IsTearAt, IsMoment}
-use Rattle.run_course.specs.Moments.{and_break}
-use Rattle.run_course.proofs.Lookups.{break-more}
-use Rattle.run_promise.specs.Origin.{Origin, start_at}
+use Rattle.run_events.specs.run_course.Moment.{goes_on, Moment}
+use Rattle.run_events.specs.run_course.Reached.{moved_at, moved_with, Reaches, IsTearAt, IsMoment}
+use Rattle.run_events.specs.run_course.Moments.{and_break}
+use Rattle.run_events.proofs.run_course.Lookups.{break-more}
+use Rattle.run_minutes.specs.run_promise.Origin.{Origin, start_at}
 use Rattle.run_record.specs.Recorded.{Values}
 use Rattle.run_record.specs.Within.{Beginning, told_before, course_in, IsLeaving}
 use Rattle.run_record.proofs.Seats.{no-both}
@@ -56,21 +56,21 @@ use Rattle.activity_codec.specs.Activity.{same_slot}
 use Rattle.tacho_types.specs.declared.card_number.FullCardNumber.{FullCardNumber}
 use Rattle.tacho_types.specs.CardNumber.{card_number_bytes}
 use Rattle.log_model.specs.Causes.{device_of, RoseBy}
-use Rattle.history_model.specs.History.{seated}
+use Rattle.device_calls.specs.history_model.History.{seated}
 use Rattle.run_events.specs.Entries.{number_or_no_card, IsCrewOf}
 use Rattle.run_crew.proofs.Sessions.{same_is}
-use Rattle.run_devices.specs.Presence.{IsIn}
+use Rattle.run_minutes.specs.run_devices.Presence.{IsIn}
 use Rattle.run_minutes.specs.declared.keeper.Moment.{Moment as KeepingAt}
 use Rattle.run_minutes.specs.Books.{carried_after}
 use Rattle.run_minutes.specs.Decided.{decided_minute, carried_by}
 use Rattle.run_acts.specs.Rounds.{standing_card, Point, Outset, told_values, moment_of, and_breaks, StandsOrFell, Slate, HasBrokenDown, HaveBroken, SoFar}
 use Rattle.std.proofs.lemmas.List.{take-append-drop, length-take-le}
-use Rattle.run_model.specs.declared.Device.TheVariants.{Unit as Recorder}
+use Rattle.log_model.specs.run_model.declared.Device.TheVariants.{Unit as Recorder}
 use Rattle.tach_media.specs.Medium.{IsCoherent}
 use Rattle.unit_model.specs.Image.{IsUnit}
-use Rattle.run_unit_course.specs.Lines.{cut_at}
-use Rattle.run_unit_course.specs.Followed.{Lost as IsLost}
-use Rattle.run_course.specs.Telling.{IsMore, begun_by, IsLeft}
+use Rattle.device_calls.specs.run_unit_course.Lines.{cut_at}
+use Rattle.device_calls.specs.run_unit_course.Followed.{Lost as IsLost}
+use Rattle.run_events.specs.run_course.Telling.{IsMore, begun_by, IsLeft}
 use Rattle.run_note_record.proofs.Cutting.{failure-cuts}
 use Rattle.run_acts.specs.NotedEvents.{NotesSo, AreTold}
 use Rattle.run_acts.specs.KeptEvents.{AreFaults}

@@ -7,27 +7,27 @@ use Rattle.activity_codec.specs.declared.values.Slot.TheVariants.{Driver, CoDriv
 use Rattle.trace_model.specs.declared.Card.{Card}
 use Rattle.trace_model.specs.declared.Card.TheVariants.{A, B}
 use Rattle.trace_model.specs.Trace.{TraceSecond}
-use Rattle.run_model.specs.declared.Device.{Device}
-use Rattle.minute_model.specs.declared.Minute.{Minute}
-use Rattle.minute_model.specs.Span.{Span}
+use Rattle.log_model.specs.run_model.declared.Device.{Device}
+use Rattle.unit_model.specs.minute_model.declared.Minute.{Minute}
+use Rattle.unit_model.specs.minute_model.Span.{Span}
 use Rattle.log_model.specs.declared.lines.Break.{Break}
 use Rattle.log_model.specs.declared.lines.Mark.{Mark}
 use Rattle.log_model.specs.Log.{RunLog}
 use Rattle.log_model.specs.Causes.{device_of}
 use Rattle.log_model.specs.Course.{Course, Visit}
 use Rattle.log_model.specs.ByHand.{Asked}
-use Rattle.history_model.specs.Minutes.{HistoryMinute}
-use Rattle.history_model.specs.Presence.{Start}
-use Rattle.history_model.specs.Book.{Book}
-use Rattle.minute_model.specs.Activity.{last}
+use Rattle.device_calls.specs.history_model.Minutes.{HistoryMinute}
+use Rattle.device_calls.specs.history_model.Presence.{Start}
+use Rattle.device_calls.specs.history_model.Book.{Book}
+use Rattle.unit_model.specs.minute_model.Activity.{last}
 use Rattle.hand_model.specs.Holding.{Holding, first_of, begun_by, none_held}
 use Rattle.hand_model.specs.Written.{Hands}
-use Rattle.card_slots.specs.declared.seats.Present.{Present}
-use Rattle.safety_model.specs.Unit.{marks_of, Increase, is_of}
-use Rattle.safety_model.specs.Hands.{Session, sessions_in, sessions_found}
-use Rattle.run_promise.specs.Cards.{FirstKeep}
-use Rattle.run_promise.specs.Between.{RunLedger}
-use Rattle.run_promise.specs.Origin.{Origin, start_at}
+use Rattle.run_crew.specs.card_slots.declared.seats.Present.{Present}
+use Rattle.device_calls.specs.safety_model.Unit.{marks_of, Increase, is_of}
+use Rattle.device_calls.specs.safety_model.Hands.{Session, sessions_in, sessions_found}
+use Rattle.run_minutes.specs.run_promise.Cards.{FirstKeep}
+use Rattle.run_minutes.specs.run_promise.Between.{RunLedger}
+use Rattle.run_minutes.specs.run_promise.Origin.{Origin, start_at}
 use Rattle.run_crew.specs.declared.cabin.Cabin.{Cabin}
 use Rattle.run_crew.specs.declared.cards.Accepted.{Accepted}
 use Rattle.run_crew.specs.Cards.{session_of}
@@ -49,10 +49,10 @@ use Rattle.run_acts.specs.Rounds.{Point, IsPoint, Outset, told_values, moment_of
 use Rattle.run_acts.proofs.Round.{apart-both, this-one, other-session}
 use Rattle.run_acts.proofs.RoundReached.{first-number, one-on}
 use Rattle.log_model.specs.declared.lines.Verdict.{Verdict}
-use Rattle.card_session.specs.declared.session.Kept.{Kept}
+use Rattle.device_calls.specs.card_session.declared.session.Kept.{Kept}
 use Rattle.log_model.specs.Slots.{same_card}
 use Rattle.run_record.proofs.Stopped.{stopped-as, stopped-kept, stopped-behind, known-behind}
-use Rattle.safety_model.specs.ByHand.{IsStoppedBy}
+use Rattle.device_calls.specs.safety_model.ByHand.{IsStoppedBy}
 
 -- ---- ONE CARD in a round, by what became of its entry
 

@@ -4,9 +4,9 @@ use Rattle.std.proofs.lemmas.Bool.{cases_lt}
 use Rattle.std.proofs.lemmas.List.{length-map}
 use Rattle.trace_model.specs.declared.Card.TheVariants.{A, B}
 use Rattle.tach_media.specs.Medium.{State, HasBroken}
-use Rattle.minute_model.specs.declared.Minute.{Minute}
+use Rattle.unit_model.specs.minute_model.declared.Minute.{Minute}
 use Rattle.log_model.specs.Causes.{RoseBy}
-use Rattle.safety_model.specs.Safe.{Devices, breakdowns_of}
+use Rattle.device_calls.specs.safety_model.Safe.{Devices, breakdowns_of}
 use Rattle.run_crew.specs.declared.cards.Accepted.{Accepted}
 use Rattle.run_minutes.specs.Keeping.{tears_of}
 use Rattle.run_minutes.specs.Minutes.{KeepingState, Done, Whole, Short, told_by}

@@ -8,13 +8,13 @@ use Rattle.log_model.specs.declared.lines.Break.{Break}
 use Rattle.log_model.specs.Log.{RunLog, Phase, is_torn_in}
 use Rattle.log_model.specs.Slots.{other_slot}
 use Rattle.log_model.specs.Course.{Before, Moved}
-use Rattle.card_slots.specs.declared.seats.Ended.{Ended}
-use Rattle.card_slots.specs.Calls.{Seats, seat_in, with_seat, present_in}
+use Rattle.run_crew.specs.card_slots.declared.seats.Ended.{Ended}
+use Rattle.run_crew.specs.card_slots.Calls.{Seats, seat_in, with_seat, present_in}
 use Rattle.run_crew.specs.declared.cabin.Cabin.{Cabin}
 use Rattle.run_crew.specs.Cabin.{SitsNowhere}
-use Rattle.run_course.specs.Moments.{and_break}
-use Rattle.run_course.specs.Reached.{moved_at, IsUpTo, IsTearAt}
-use Rattle.run_course.proofs.Lines.{tear-begun, tear-other}
+use Rattle.run_events.specs.run_course.Moments.{and_break}
+use Rattle.run_events.specs.run_course.Reached.{moved_at, IsUpTo, IsTearAt}
+use Rattle.run_events.proofs.run_course.Lines.{tear-begun, tear-other}
 use Rattle.run_record.specs.Within.{IsLeaving}
 
 -- ---- two slots

@@ -4,23 +4,23 @@ use Rattle.std.proofs.lemmas.List.Elements.{All-head, All-tail}
 use Rattle.activity_codec.specs.declared.values.Slot.TheVariants.{CoDriver}
 use Rattle.trace_model.specs.declared.Card.{Card}
 use Rattle.trace_model.specs.Trace.{TraceSecond}
-use Rattle.run_model.specs.declared.Device.{Device}
-use Rattle.minute_model.specs.declared.Minute.{Minute}
-use Rattle.minute_model.specs.Span.{Span, count_from}
+use Rattle.log_model.specs.run_model.declared.Device.{Device}
+use Rattle.unit_model.specs.minute_model.declared.Minute.{Minute}
+use Rattle.unit_model.specs.minute_model.Span.{Span, count_from}
 use Rattle.log_model.specs.declared.lines.Mark.{Mark}
 use Rattle.log_model.specs.Log.{RunLog}
 use Rattle.log_model.specs.Course.{Course}
-use Rattle.history_model.specs.Minutes.{HistoryMinute}
-use Rattle.history_model.specs.History.{seated}
-use Rattle.history_model.specs.Book.{Book, kept}
-use Rattle.run_unit_course.specs.Legs.{all_travelled}
-use Rattle.card_slots.specs.declared.seats.Present.{Present}
+use Rattle.device_calls.specs.history_model.Minutes.{HistoryMinute}
+use Rattle.device_calls.specs.history_model.History.{seated}
+use Rattle.device_calls.specs.history_model.Book.{Book, kept}
+use Rattle.device_calls.specs.run_unit_course.Legs.{all_travelled}
+use Rattle.run_crew.specs.card_slots.declared.seats.Present.{Present}
 use Rattle.run_crew.specs.Cabin.{AreTwo}
-use Rattle.run_promise.specs.Between.{RunLedger}
-use Rattle.run_course.specs.Seconds.{kept_all}
-use Rattle.run_course.specs.Kept.{HasDecided, AreMarkedSoFar}
-use Rattle.run_course.proofs.Kept.{minute-kept, nothing-else, one-travelled}
-use Rattle.run_promise.specs.Origin.{Origin, rule_of, start_at}
+use Rattle.run_minutes.specs.run_promise.Between.{RunLedger}
+use Rattle.run_events.specs.run_course.Seconds.{kept_all}
+use Rattle.run_events.specs.run_course.Kept.{HasDecided, AreMarkedSoFar}
+use Rattle.run_events.proofs.run_course.Kept.{minute-kept, nothing-else, one-travelled}
+use Rattle.run_minutes.specs.run_promise.Origin.{Origin, rule_of, start_at}
 use Rattle.run_minutes.specs.declared.keeper.Keeper.{Keeper}
 use Rattle.run_minutes.specs.Keeping.{cabin_by, session_at, kept_in, IsFateOf}
 use Rattle.run_minutes.specs.Minutes.{Round, IsRound, KeepingState, Done, AreRounds, told_after, told_by, present_at, minute_of}

@@ -3,29 +3,29 @@ use Rattle.std.proofs.Common.{◌≡◌, ◌⊎◌, inl, inr, ⊎_elim, ℕ, ◌
 use Rattle.activity_codec.specs.declared.values.Slot.{Slot}
 use Rattle.trace_model.specs.declared.Card.{Card}
 use Rattle.trace_model.specs.Trace.{TraceSecond}
-use Rattle.minute_model.specs.declared.Minute.{Minute}
+use Rattle.unit_model.specs.minute_model.declared.Minute.{Minute}
 use Rattle.log_model.specs.declared.lines.Mark.{Mark}
 use Rattle.log_model.specs.declared.lines.Verdict.{Verdict}
 use Rattle.log_model.specs.Log.{RunLog, Phase}
 use Rattle.log_model.specs.Course.{Course, Visit, Before, went}
-use Rattle.history_model.specs.Minutes.{HistoryMinute}
-use Rattle.history_model.specs.Book.{Book}
-use Rattle.run_unit_course.specs.Legs.{Travel, all_travelled}
+use Rattle.device_calls.specs.history_model.Minutes.{HistoryMinute}
+use Rattle.device_calls.specs.history_model.Book.{Book}
+use Rattle.device_calls.specs.run_unit_course.Legs.{Travel, all_travelled}
 use Rattle.unit_model.specs.Image.{odometer_at}
-use Rattle.unit_rule.specs.Odometer.{HasTravelled}
-use Rattle.safety_model.specs.Safe.{Devices, card_of, breakdowns_of}
-use Rattle.card_slots.specs.Kept.{Kept as Slate_, left_of}
+use Rattle.device_calls.specs.unit_rule.Odometer.{HasTravelled}
+use Rattle.device_calls.specs.safety_model.Safe.{Devices, card_of, breakdowns_of}
+use Rattle.run_crew.specs.card_slots.Kept.{Kept as Slate_, left_of}
 use Rattle.run_crew.specs.declared.cabin.Cabin.{Cabin}
-use Rattle.run_promise.specs.Found.{found_of}
-use Rattle.run_promise.specs.Between.{RunLedger}
-use Rattle.run_course.specs.Seconds.{kept_all}
-use Rattle.run_promise.specs.Going.{IsTakenAt}
-use Rattle.run_course.specs.Lines.{times_of}
-use Rattle.run_course.proofs.Telling.{breakdowns-only}
-use Rattle.run_devices.specs.Told.{DevicesPowered}
-use Rattle.run_promise.specs.Origin.{Origin, first_of}
-use Rattle.run_promise.specs.Ends.{AreVerdicts}
-use Rattle.run_promise.proofs.Beside.{kept-later}
+use Rattle.run_minutes.specs.run_promise.Found.{found_of}
+use Rattle.run_minutes.specs.run_promise.Between.{RunLedger}
+use Rattle.run_events.specs.run_course.Seconds.{kept_all}
+use Rattle.run_minutes.specs.run_promise.Going.{IsTakenAt}
+use Rattle.run_events.specs.run_course.Lines.{times_of}
+use Rattle.run_events.proofs.run_course.Telling.{breakdowns-only}
+use Rattle.run_minutes.specs.run_devices.Told.{DevicesPowered}
+use Rattle.run_minutes.specs.run_promise.Origin.{Origin, first_of}
+use Rattle.run_minutes.specs.run_promise.Ends.{AreVerdicts}
+use Rattle.run_minutes.proofs.run_promise.Beside.{kept-later}
 use Rattle.run_minutes.specs.Minutes.{KeepingState, Done, AreRounds, told_by}
 use Rattle.run_minutes.specs.Books.{AreBooked}
 use Rattle.run_minutes.specs.Decided.{carried_by}
@@ -43,7 +43,7 @@ use Rattle.run_acts.proofs.RoundBegun.{outset, begun-so}
 use Rattle.run_record.proofs.Opened.{sessions-since, seconds-before}
 use Rattle.run_acts.proofs.RoundHanded.{HandedAt, HandedBy, all-handed}
 use Rattle.log_model.specs.Causes.{device_of}
-use Rattle.safety_model.specs.Unit.{marks_of, Increase}
+use Rattle.device_calls.specs.safety_model.Unit.{marks_of, Increase}
 
 -- a card that leaves leaves so where fewer minutes are to be kept, up to the same one
 pub leaving-later : (log : RunLog) (before : Before) (s : TraceSecond) (at : Phase) (low high next end : ℕ) (cabin : Cabin) (slot : Slot) (card : Card) → low ≤ next → end ≡ high →

@@ -8,14 +8,14 @@ use Rattle.trace_model.specs.Trace.{TraceSecond}
 use Rattle.log_model.specs.Log.{RunLog, Keeping, is_torn_in}
 use Rattle.log_model.specs.Slots.{in_slot}
 use Rattle.log_model.specs.Course.{Course, Before, unmoved, both_told}
-use Rattle.event_model.specs.declared.kinds.TheConstants.{OVER_SPEEDING}
-use Rattle.event_model.specs.declared.entries.Over.{Over}
-use Rattle.event_model.specs.Runs.{run_with, last_run, runs_behind}
-use Rattle.event_model.specs.Spans.{over_of}
-use Rattle.event_model.specs.Events.{Event, Seen, course_by, seen_of, seen_on, seen_spans, crew_of, last_seen, run_event, bare_event, over_event, is_bare, speed_second}
-use Rattle.run_course.specs.Reached.{course_at}
+use Rattle.unit_notes.specs.event_model.declared.kinds.TheConstants.{OVER_SPEEDING}
+use Rattle.unit_notes.specs.event_model.declared.entries.Over.{Over}
+use Rattle.unit_notes.specs.event_model.Runs.{run_with, last_run, runs_behind}
+use Rattle.unit_notes.specs.event_model.Spans.{over_of}
+use Rattle.unit_notes.specs.event_model.Events.{Event, Seen, course_by, seen_of, seen_on, seen_spans, crew_of, last_seen, run_event, bare_event, over_event, is_bare, speed_second}
+use Rattle.run_events.specs.run_course.Reached.{course_at}
 use Rattle.run_events.specs.Seconds.{last_of, span_before, seen_next, bares_by, overs_by, is_fast}
-use Rattle.run_promise.specs.Origin.{Origin}
+use Rattle.run_minutes.specs.run_promise.Origin.{Origin}
 use Rattle.run_events.proofs.Growing.{seen-more, spans-more}
 use Rattle.run_note_record.proofs.Tearing.{told_slot, both-slot}
 use Rattle.run_acts.specs.Named.{CrewValid, NamesValid}

@@ -5,24 +5,24 @@ use Rattle.trace_model.specs.declared.Card.{Card}
 use Rattle.trace_model.specs.declared.Card.TheVariants.{A, B}
 use Rattle.trace_model.specs.Trace.{TraceSecond}
 use Rattle.tach_media.specs.Medium.{State, IsCoherent}
-use Rattle.card_layout.specs.declared.files.TheConstants.{LARGEST_IMAGE}
-use Rattle.card_image.specs.Fields.{session_time}
-use Rattle.card_image.specs.Own.{IsOwnValid}
-use Rattle.minute_model.specs.declared.Minute.{Minute}
+use Rattle.card_files.specs.card_layout.declared.files.TheConstants.{LARGEST_IMAGE}
+use Rattle.hand_model.specs.card_image.Fields.{session_time}
+use Rattle.hand_model.specs.card_image.Own.{IsOwnValid}
+use Rattle.unit_model.specs.minute_model.declared.Minute.{Minute}
 use Rattle.log_model.specs.declared.lines.Break.{Break}
 use Rattle.log_model.specs.Log.{RunLog, Phase}
 use Rattle.log_model.specs.Slots.{same_card}
 use Rattle.log_model.specs.Course.{Visit}
 use Rattle.activity_codec.specs.declared.values.Slot.{Slot}
-use Rattle.device_rule.specs.Views.{other}
-use Rattle.safety_model.specs.Recording.{card_image}
+use Rattle.device_calls.specs.device_rule.Views.{other}
+use Rattle.device_calls.specs.safety_model.Recording.{card_image}
 use Rattle.run_crew.specs.declared.cards.Accepted.{Accepted}
 use Rattle.run_crew.specs.Cards.{session_of}
-use Rattle.run_devices.specs.Told.{arranged}
+use Rattle.run_minutes.specs.run_devices.Told.{arranged}
 use Rattle.run_outcome.specs.Lines.{Listed}
 use Rattle.run_outcome.specs.declared.outcome.Outcome.{Outcome}
-use Rattle.run_promise.specs.Origin.{Origin}
-use Rattle.note_model.specs.Done.{has_failed_in}
+use Rattle.run_minutes.specs.run_promise.Origin.{Origin}
+use Rattle.unit_notes.specs.note_model.Done.{has_failed_in}
 use Rattle.run_note_record.specs.Sessions.{Shuts}
 use Rattle.run_minutes.specs.declared.keeper.Moment.{Moment}
 use Rattle.run_acts.specs.declared.run.Run.{Run}

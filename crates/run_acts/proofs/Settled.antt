@@ -2,10 +2,10 @@
 use Rattle.std.proofs.Common.{◌≡◌, ◌∙◌, ℕ, ◌+◌, ◌-◌, ◌/◌, ◌≤◌, List, ◌++◌, Option, refl, ap, arith}
 use Rattle.trace_model.specs.declared.Card.{Card}
 use Rattle.tach_media.specs.Medium.{State}
-use Rattle.card_layout.specs.declared.command.CardState.{CardState}
-use Rattle.minute_model.specs.declared.Minute.{Minute}
-use Rattle.minute_model.specs.Span.{ungiven_of, settled, decided_in}
-use Rattle.minute_model.proofs.Counted.{settled-more, ungiven-settled, ungiven-most}
+use Rattle.card_files.specs.card_layout.declared.command.CardState.{CardState}
+use Rattle.unit_model.specs.minute_model.declared.Minute.{Minute}
+use Rattle.unit_model.specs.minute_model.Span.{ungiven_of, settled, decided_in}
+use Rattle.unit_model.proofs.minute_model.Counted.{settled-more, ungiven-settled, ungiven-most}
 use Rattle.run_acts.specs.declared.run.Run.{Run}
 use Rattle.run_acts.specs.Going.{end_of_seconds, RunHasPower}
 use Rattle.run_acts.proofs.Due.{Decides, decides}

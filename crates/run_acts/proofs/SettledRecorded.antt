@@ -4,28 +4,28 @@ use Rattle.std.proofs.lemmas.List.Elements.{All-head, All-tail}
 use Rattle.trace_model.specs.declared.Card.{Card}
 use Rattle.trace_model.specs.Trace.{TraceSecond}
 use Rattle.tach_media.specs.Medium.{State, last_count}
-use Rattle.card_layout.specs.declared.command.CardState.{CardState}
-use Rattle.minute_model.specs.declared.Minute.{Minute}
-use Rattle.minute_model.specs.Span.{Span, end_of, settled, decided_in, ungiven_of}
-use Rattle.minute_model.proofs.Counted.{ungiven-most}
+use Rattle.card_files.specs.card_layout.declared.command.CardState.{CardState}
+use Rattle.unit_model.specs.minute_model.declared.Minute.{Minute}
+use Rattle.unit_model.specs.minute_model.Span.{Span, end_of, settled, decided_in, ungiven_of}
+use Rattle.unit_model.proofs.minute_model.Counted.{ungiven-most}
 use Rattle.minute_rules.specs.Kept.{Kept, CountsSpan, kept_of}
 use Rattle.log_model.specs.declared.lines.Break.{Break}
 use Rattle.log_model.specs.declared.lines.Mark.{Mark}
 use Rattle.log_model.specs.Log.{In}
 use Rattle.log_model.specs.Course.{Visit, went}
-use Rattle.card_slots.specs.declared.seats.Ended.{Ended}
-use Rattle.card_slots.specs.Calls.{present_in}
-use Rattle.safety_model.specs.Safe.{Devices, breakdowns_of}
+use Rattle.run_crew.specs.card_slots.declared.seats.Ended.{Ended}
+use Rattle.run_crew.specs.card_slots.Calls.{present_in}
+use Rattle.device_calls.specs.safety_model.Safe.{Devices, breakdowns_of}
 use Rattle.log_model.specs.Causes.{device_of}
-use Rattle.run_unit_course.specs.Legs.{all_travelled}
-use Rattle.run_unit_course.proofs.Legs.{travelled-earlier}
+use Rattle.device_calls.specs.run_unit_course.Legs.{all_travelled}
+use Rattle.device_calls.proofs.run_unit_course.Legs.{travelled-earlier}
 use Rattle.unit_model.specs.Image.{odometer_at}
-use Rattle.unit_rule.specs.Odometer.{odometer_after}
+use Rattle.device_calls.specs.unit_rule.Odometer.{odometer_after}
 use Rattle.run_crew.specs.declared.cabin.Cabin.{Cabin}
 use Rattle.run_crew.specs.Cabin.{AreTwo, EndedStands, CabinIsSound}
 use Rattle.run_outcome.specs.Lines.{Listed}
 use Rattle.run_outcome.specs.declared.outcome.Outcome.{Outcome}
-use Rattle.run_promise.specs.Origin.{Origin}
+use Rattle.run_minutes.specs.run_promise.Origin.{Origin}
 use Rattle.run_record.specs.Recorded.{Values}
 use Rattle.run_record.specs.Within.{Beginning, RecordInSecond, RecordAtFailure}
 use Rattle.run_minutes.specs.declared.keeper.Keeper.{Keeper}

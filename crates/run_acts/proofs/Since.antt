@@ -19,11 +19,11 @@ use Rattle.log_model.specs.declared.lines.Verdict.{Verdict}
 use Rattle.log_model.specs.Log.{RunLog, Phase, In, same_phase, cut_in, is_torn_in, found_in, is_accepting}
 use Rattle.log_model.specs.Slots.{Slots, Sitting, in_slot, refusal}
 use Rattle.log_model.specs.Course.{Course, Visit, Moved, Before, card_in, visits, with_slot, leaves, answered, moved_by, slot_told, both_told, begins, is_settling, acted, all_acted}
-use Rattle.note_model.specs.Done.{course_powered}
-use Rattle.event_model.specs.Events.{course_by}
-use Rattle.run_course.specs.Moment.{find_as, found_at}
-use Rattle.run_course.specs.Reached.{course_at, course_with, moved_at, moved_with}
-use Rattle.run_rings.proofs.Notes.{Finding, seen_of, answered-found}
+use Rattle.unit_notes.specs.note_model.Done.{course_powered}
+use Rattle.unit_notes.specs.event_model.Events.{course_by}
+use Rattle.run_events.specs.run_course.Moment.{find_as, found_at}
+use Rattle.run_events.specs.run_course.Reached.{course_at, course_with, moved_at, moved_with}
+use Rattle.run_events.proofs.run_rings.Notes.{Finding, seen_of, answered-found}
 use Rattle.run_acts.specs.Words.{withdraws, begun_in}
 use Rattle.run_acts.specs.Truths.{PutsIn}
 use Rattle.run_acts.proofs.Stays.{all-both}

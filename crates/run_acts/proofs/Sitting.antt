@@ -3,11 +3,11 @@ use Rattle.std.proofs.Common.{◌≡◌, ◌∙◌, ◌⊎◌, inl, inr, ℕ, Bo
 use Rattle.activity_codec.specs.declared.values.Slot.TheVariants.{Driver, CoDriver}
 use Rattle.trace_model.specs.declared.Card.{Card}
 use Rattle.trace_model.specs.declared.Card.TheVariants.{A, B}
-use Rattle.card_session.specs.declared.session.Kept.{Kept}
+use Rattle.device_calls.specs.card_session.declared.session.Kept.{Kept}
 use Rattle.log_model.specs.Slots.{same_card}
-use Rattle.card_slots.specs.declared.seats.Seat.{Seat}
-use Rattle.card_slots.specs.Calls.{is_card}
-use Rattle.card_slots.specs.Kept.{Kept as Slots}
+use Rattle.run_crew.specs.card_slots.declared.seats.Seat.{Seat}
+use Rattle.run_crew.specs.card_slots.Calls.{is_card}
+use Rattle.run_crew.specs.card_slots.Kept.{Kept as Slots}
 use Rattle.run_crew.specs.declared.cards.Accepted.{Accepted}
 use Rattle.run_crew.specs.declared.cards.Cards.{Cards}
 use Rattle.run_crew.specs.declared.cabin.Cabin.{Cabin}

@@ -3,14 +3,14 @@ use Rattle.std.proofs.Common.{◌≡◌, ◌∙◌, ℕ, ◌+◌, Bool, true, fa
 use Rattle.std.specs.Prelude.{not, option_to_list}
 use Rattle.trace_model.specs.Trace.{TraceSecond}
 use Rattle.log_model.specs.Log.{RunLog}
-use Rattle.note_model.specs.Done.{has_failed_in}
-use Rattle.safety_model.specs.Safe.{Devices}
-use Rattle.speed_model.specs.declared.block.Block.{Block}
-use Rattle.run_speeds.specs.Speeds.{HasSpeeds, LeavesSpeeds, CarriesBlock}
-use Rattle.run_speeds.specs.Spans.{blocks_by, is_sure_block}
-use Rattle.run_speeds.proofs.Blocks.{speeds-fewer}
-use Rattle.run_speeds.proofs.Speeds.{speeds-on}
-use Rattle.run_promise.specs.Origin.{Origin}
+use Rattle.unit_notes.specs.note_model.Done.{has_failed_in}
+use Rattle.device_calls.specs.safety_model.Safe.{Devices}
+use Rattle.run_events.specs.speed_model.declared.block.Block.{Block}
+use Rattle.run_events.specs.run_speeds.Speeds.{HasSpeeds, LeavesSpeeds, CarriesBlock}
+use Rattle.run_events.specs.run_speeds.Spans.{blocks_by, is_sure_block}
+use Rattle.run_events.proofs.run_speeds.Blocks.{speeds-fewer}
+use Rattle.run_events.proofs.run_speeds.Speeds.{speeds-on}
+use Rattle.run_minutes.specs.run_promise.Origin.{Origin}
 use Rattle.run_acts.specs.Speeds.{HasBlocks}
 
 -- each failed call that a log tells of a later one tells too

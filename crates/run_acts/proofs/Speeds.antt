@@ -3,12 +3,12 @@ use Rattle.std.proofs.Common.{◌≡◌, ℕ, ◌+◌, ◌%◌, ◌<◌, ◌≤�
 use Rattle.std.specs.Prelude.{not}
 use Rattle.tach_media.specs.Medium.{State}
 use Rattle.minute_rules.specs.Kept.{Kept as Minutes}
-use Rattle.speed_store.specs.Feeding.{block_at}
-use Rattle.speed_store.proofs.Feeding.{given-at, time-at}
+use Rattle.run_events.specs.speed_store.Feeding.{block_at}
+use Rattle.run_events.proofs.speed_store.Feeding.{given-at, time-at}
 use Rattle.run_crew.specs.declared.cards.Crew.{Crew}
 use Rattle.run_events.specs.Blocks.{IsWatchedOn}
-use Rattle.run_speeds.specs.Speeds.{LeavesSpeeds}
-use Rattle.run_speeds.proofs.Blocks.{carries-behind, carries-unsure}
+use Rattle.run_events.specs.run_speeds.Speeds.{LeavesSpeeds}
+use Rattle.run_events.proofs.run_speeds.Blocks.{carries-behind, carries-unsure}
 use Rattle.run_acts.specs.declared.run.Run.{Run}
 use Rattle.run_acts.specs.declared.run.Power.{Power}
 use Rattle.run_acts.specs.declared.run.Power.TheVariants.{Lit}

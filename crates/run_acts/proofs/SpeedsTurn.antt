@@ -4,29 +4,29 @@ use Rattle.std.specs.Prelude.{not, option_to_list}
 use Rattle.std.specs.List.{AllByRecursion}
 use Rattle.trace_model.specs.Trace.{TraceSecond, driven}
 use Rattle.tach_media.specs.Medium.{State}
-use Rattle.card_layout.specs.declared.command.CardState.{CardState}
-use Rattle.minute_model.specs.declared.Minute.{Minute}
+use Rattle.card_files.specs.card_layout.declared.command.CardState.{CardState}
+use Rattle.unit_model.specs.minute_model.declared.Minute.{Minute}
 use Rattle.log_model.specs.declared.lines.Break.{Break}
 use Rattle.log_model.specs.Causes.{second_of}
 use Rattle.log_model.specs.Log.{RunLog, In, Keeping}
 use Rattle.log_model.specs.Course.{Went, has_power, went, second_told}
 use Rattle.log_model.proofs.Growth.{went-more}
-use Rattle.note_model.specs.Done.{has_failed_in}
-use Rattle.event_model.specs.Spans.{SpeedSecond, at_speed}
-use Rattle.safety_model.specs.Safe.{Devices}
-use Rattle.speed_store.specs.Feeding as minute
-use Rattle.speed_model.specs.Blocks.{blocks_of, blocks_in}
-use Rattle.run_speeds.specs.Speeds.{HasSpeeds}
-use Rattle.run_speeds.specs.Spans.{speeds_of, speed_spans, blocks_by, is_sure_block, last_speeds, speeds_before}
-use Rattle.run_speeds.proofs.Spans.{on-last, grown, before-them, grown-then, last-grown, grown-blocks, as-speed, speeds-lit, speeds-dark}
-use Rattle.run_unit_course.specs.Lines.{cut_at}
-use Rattle.run_course.specs.Moments.{and_break}
-use Rattle.run_course.specs.Followed.{PowerGoesOn, IsLost as HasLost}
-use Rattle.run_course.proofs.Told.{going-power, lost-dark, dark-told, next-dark}
+use Rattle.unit_notes.specs.note_model.Done.{has_failed_in}
+use Rattle.unit_notes.specs.event_model.Spans.{SpeedSecond, at_speed}
+use Rattle.device_calls.specs.safety_model.Safe.{Devices}
+use Rattle.run_events.specs.speed_store.Feeding as minute
+use Rattle.run_events.specs.speed_model.Blocks.{blocks_of, blocks_in}
+use Rattle.run_events.specs.run_speeds.Speeds.{HasSpeeds}
+use Rattle.run_events.specs.run_speeds.Spans.{speeds_of, speed_spans, blocks_by, is_sure_block, last_speeds, speeds_before}
+use Rattle.run_events.proofs.run_speeds.Spans.{on-last, grown, before-them, grown-then, last-grown, grown-blocks, as-speed, speeds-lit, speeds-dark}
+use Rattle.device_calls.specs.run_unit_course.Lines.{cut_at}
+use Rattle.run_events.specs.run_course.Moments.{and_break}
+use Rattle.run_events.specs.run_course.Followed.{PowerGoesOn, IsLost as HasLost}
+use Rattle.run_events.proofs.run_course.Told.{going-power, lost-dark, dark-told, next-dark}
 use Rattle.run_outcome.specs.declared.outcome.Outcome.{Outcome}
 use Rattle.run_minutes.specs.declared.keeper.Moment.{Moment}
 use Rattle.run_minutes.specs.Books.{HaveTime}
-use Rattle.run_promise.specs.Origin.{Origin}
+use Rattle.run_minutes.specs.run_promise.Origin.{Origin}
 use Rattle.run_note_record.proofs.SoFar.{failed-more}
 use Rattle.run_note_record.proofs.Bases.{failed-here}
 use Rattle.run_record.specs.Recorded.{Values}

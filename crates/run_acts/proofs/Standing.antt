@@ -4,19 +4,19 @@ use Rattle.std.specs.Prelude.{nat_eq}
 use Rattle.trace_model.specs.declared.Card.{Card}
 use Rattle.trace_model.specs.declared.Card.TheVariants.{A, B}
 use Rattle.tach_media.specs.Medium.{State}
-use Rattle.card_layout.specs.declared.command.CardState.{CardState}
-use Rattle.minute_model.specs.declared.Rule.{Rule}
-use Rattle.minute_model.specs.declared.Rule.TheVariants.{Original, Amended}
-use Rattle.minute_model.specs.Minute.{minutes_ahead}
-use Rattle.minute_model.specs.Span.{begin, ungiven_of}
+use Rattle.card_files.specs.card_layout.declared.command.CardState.{CardState}
+use Rattle.unit_model.specs.minute_model.declared.Rule.{Rule}
+use Rattle.unit_model.specs.minute_model.declared.Rule.TheVariants.{Original, Amended}
+use Rattle.unit_model.specs.minute_model.Minute.{minutes_ahead}
+use Rattle.unit_model.specs.minute_model.Span.{begin, ungiven_of}
 use Rattle.event_rules.specs.Bare.{Bare}
 use Rattle.event_rules.specs.declared.speeding.Fast.{Fast}
-use Rattle.card_slots.specs.Calls.{present_in, ending}
-use Rattle.card_slots.specs.Kept.{left_in}
-use Rattle.card_slots.proofs.Newest.{cut-knows, end-knows}
+use Rattle.run_crew.specs.card_slots.Calls.{present_in, ending}
+use Rattle.run_crew.specs.card_slots.Kept.{left_in}
+use Rattle.run_crew.proofs.card_slots.Newest.{cut-knows, end-knows}
 use Rattle.unit_model.specs.declared.layout.TheConstants.{HIGHEST_ODOMETER}
-use Rattle.message_model.specs.Records.{insertion_ring, speed_ring}
-use Rattle.gated_ring.specs.Ring.{PointsInside}
+use Rattle.run_events.specs.message_model.Records.{insertion_ring, speed_ring}
+use Rattle.run_events.specs.gated_ring.Ring.{PointsInside}
 use Rattle.run_crew.specs.declared.cards.Accepted.{Accepted}
 use Rattle.run_crew.specs.declared.cards.Known.{Known}
 use Rattle.run_crew.specs.declared.cabin.Cabin.{Cabin}
@@ -26,7 +26,7 @@ use Rattle.run_crew.proofs.Moves.{cut-stands, end-stands}
 use Rattle.run_events.specs.Watching.{Watches}
 use Rattle.run_events.specs.Blocks.{KnowsNewest}
 use Rattle.run_events.specs.Watching as watching
-use Rattle.speed_store.specs.Feeding as minute_speeds
+use Rattle.run_events.specs.speed_store.Feeding as minute_speeds
 use Rattle.run_events.specs.declared.watch.Watch.{Watch}
 use Rattle.unit_minutes.specs.declared.notes.Notes.{Notes}
 use Rattle.run_minutes.specs.declared.keeper.Keeper.{Keeper}

@@ -5,18 +5,18 @@ use Rattle.trace_model.specs.declared.Card.{Card}
 use Rattle.tach_media.specs.Medium.{State}
 use Rattle.tacho_types.specs.declared.texts.Registration.{Registration}
 use Rattle.card_files.specs.declared.current_use.CurrentUse.{CurrentUse}
-use Rattle.card_image.specs.Fields.{current_use}
-use Rattle.card_image.specs.Own.{own_sizes, IsOwnValid}
+use Rattle.hand_model.specs.card_image.Fields.{current_use}
+use Rattle.hand_model.specs.card_image.Own.{own_sizes, IsOwnValid}
 use Rattle.log_model.specs.Log.{RunLog}
-use Rattle.note_model.specs.Noted.{InsertionNote, Note}
-use Rattle.safety_model.specs.Recording.{card_image}
-use Rattle.safety_model.specs.Safe.{Devices, card_of}
+use Rattle.unit_notes.specs.note_model.Noted.{InsertionNote, Note}
+use Rattle.device_calls.specs.safety_model.Recording.{card_image}
+use Rattle.device_calls.specs.safety_model.Safe.{Devices, card_of}
 use Rattle.run_crew.specs.declared.cards.Accepted.{Accepted}
 use Rattle.run_crew.specs.declared.cabin.Cabin.{Cabin}
 use Rattle.run_crew.specs.Cards.{session_of}
-use Rattle.run_promise.specs.Found.{found_of}
-use Rattle.run_promise.specs.Origin.{Origin}
-use Rattle.run_promise.specs.Whole.{NothingFailed}
+use Rattle.run_minutes.specs.run_promise.Found.{found_of}
+use Rattle.run_minutes.specs.run_promise.Origin.{Origin}
+use Rattle.run_minutes.specs.run_promise.Whole.{NothingFailed}
 use Rattle.run_note_record.specs.Uses.{left_open, left_by, use_behind, insertions_on, vehicle_in, use_in, use_now}
 use Rattle.run_acts.specs.Closings.{Spell, spell_of, spells_of}
 use Rattle.run_acts.specs.Recording.{IsOrigin}

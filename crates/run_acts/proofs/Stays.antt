@@ -8,18 +8,18 @@ use Rattle.activity_codec.specs.declared.entries.Manual.{Manual}
 use Rattle.tach_media.specs.Medium.{State}
 use Rattle.tacho_types.specs.declared.numbers.Odometer.{Odometer}
 use Rattle.tacho_types.specs.declared.texts.Registration.{Registration}
-use Rattle.card_layout.specs.declared.files.Application.{Application}
-use Rattle.card_image.specs.View.{card_view}
-use Rattle.card_image.specs.Own.{own_sizes}
-use Rattle.card_image.specs.Fields.{current_use}
+use Rattle.card_files.specs.card_layout.declared.files.Application.{Application}
+use Rattle.hand_model.specs.card_image.View.{card_view}
+use Rattle.hand_model.specs.card_image.Own.{own_sizes}
+use Rattle.hand_model.specs.card_image.Fields.{current_use}
 use Rattle.card_files.specs.declared.current_use.CurrentUse.{CurrentUse}
-use Rattle.card_session.specs.declared.session.Kept.{Kept}
-use Rattle.card_session.specs.Books.{Book, mark_of}
-use Rattle.card_session.specs.Sessions.{book_of}
-use Rattle.card_session.specs.Inserting.{lacked}
-use Rattle.card_string.specs.Deeds.{Deed, Close}
+use Rattle.device_calls.specs.card_session.declared.session.Kept.{Kept}
+use Rattle.device_calls.specs.card_session.Books.{Book, mark_of}
+use Rattle.device_calls.specs.card_session.Sessions.{book_of}
+use Rattle.device_calls.specs.card_session.Inserting.{lacked}
+use Rattle.device_calls.specs.card_string.Deeds.{Deed, Close}
 use Rattle.run_crew.specs.declared.cards.Accepted.{Accepted}
-use Rattle.run_promise.specs.Found.{CardFound}
+use Rattle.run_minutes.specs.run_promise.Found.{CardFound}
 use Rattle.run_minutes.specs.CardDeeds.{made_by, is_open_in, ShowsBook, DoesOn, keeps, holds_after, last_odometer, opens, OpensOn, ClosesOn}
 use Rattle.run_minutes.specs.Deeds.{KeepsOn}
 use Rattle.run_minutes.proofs.CardDeeds.{made-append, keeps-append, holds-append, last-append}

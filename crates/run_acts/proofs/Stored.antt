@@ -8,11 +8,11 @@ use Rattle.std.proofs.lemmas.List.Sums.{fold-append}
 use Rattle.tach_media.specs.Medium.{State}
 use Rattle.trace_model.specs.declared.Action.{Action}
 use Rattle.trace_model.specs.Trace.{TraceSecond}
-use Rattle.minute_model.specs.Activity.{last}
-use Rattle.minute_model.specs.declared.Minute.{Minute}
-use Rattle.minute_model.specs.Span.{AreNumbered, count_from, ungiven_of}
-use Rattle.minute_model.proofs.Numbered.{numbered-parts}
-use Rattle.minute_model.proofs.Ranges.{last-push}
+use Rattle.unit_model.specs.minute_model.Activity.{last}
+use Rattle.unit_model.specs.minute_model.declared.Minute.{Minute}
+use Rattle.unit_model.specs.minute_model.Span.{AreNumbered, count_from, ungiven_of}
+use Rattle.unit_model.proofs.minute_model.Numbered.{numbered-parts}
+use Rattle.unit_model.proofs.minute_model.Ranges.{last-push}
 use Rattle.log_model.specs.declared.lines.Break.{Break}
 use Rattle.log_model.specs.declared.lines.Break.TheVariants.{Cut, Tear}
 use Rattle.log_model.specs.declared.lines.Mark.{Mark}
@@ -21,45 +21,45 @@ use Rattle.log_model.specs.Course.{ToldSecond, Visit, Went, went}
 use Rattle.log_model.specs.Log.{RunLog, Phase}
 use Rattle.log_model.specs.Spans.{seconds_in, first_in, end_in, spans_with, spans_of, AreApart}
 use Rattle.log_model.proofs.Spanning.{spans-more, spanned}
-use Rattle.history_model.specs.Minutes.{HistoryMinute}
-use Rattle.history_model.specs.Presence.{Start}
-use Rattle.history_model.specs.History.{seated, decided_of, cut_second}
-use Rattle.history_model.specs.Book.{Book, all, found, Rising, IsMark}
-use Rattle.history_model.proofs.Growing.{apart-last}
-use Rattle.history_model.proofs.Deciding.{counted}
-use Rattle.device_rule.specs.Views.{unit_view}
+use Rattle.device_calls.specs.history_model.Minutes.{HistoryMinute}
+use Rattle.device_calls.specs.history_model.Presence.{Start}
+use Rattle.device_calls.specs.history_model.History.{seated, decided_of, cut_second}
+use Rattle.device_calls.specs.history_model.Book.{Book, all, found, Rising, IsMark}
+use Rattle.device_calls.proofs.history_model.Growing.{apart-last}
+use Rattle.device_calls.proofs.history_model.Deciding.{counted}
+use Rattle.device_calls.specs.device_rule.Views.{unit_view}
 use Rattle.unit_model.specs.declared.layout.TheConstants.{HIGHEST_ODOMETER}
 use Rattle.unit_model.specs.Image.{last_kept, odometer_at}
-use Rattle.run_unit_course.specs.Lines.{cut_at, found_from, tells_cut}
-use Rattle.run_unit_course.specs.Followed.{UnitPower, Lit, MayPower, as_spans, cuts_from}
-use Rattle.run_unit_course.specs.Legs.{Travel, stranded_at, all_travelled}
-use Rattle.run_unit_course.specs.Travelled.{MayShow}
-use Rattle.run_unit_course.specs.Turn.{span_at, begins_with, cut_at_end, cut_last}
-use Rattle.run_unit_course.proofs.Legs.{travelled-all, travelled-none, travelled-earlier}
-use Rattle.run_unit_course.proofs.Lines.{tells-here}
-use Rattle.run_unit_course.proofs.Alike.{decided-empty}
-use Rattle.run_unit_course.proofs.Spans.{decided-cut}
-use Rattle.unit_rule.proofs.Marking.{holds-dark}
-use Rattle.unit_rule.specs.Marks.{UnitFollowsBook}
-use Rattle.unit_rule.specs.Odometer.{odometer_by, odometer_after, ShowsOdometer, HasTravelled}
-use Rattle.unit_rule.proofs.Moves.{shown-last}
-use Rattle.unit_rule.proofs.Travelling.{odometer-sum}
-use Rattle.note_model.specs.Odometer.{SpanFrom, IsBeingKept, MayStore}
-use Rattle.safety_model.specs.Safe.{Devices, breakdowns_of}
-use Rattle.run_course.specs.Moments.{and_break}
-use Rattle.run_course.specs.Followed.{Progress, BookFollowsRun, IsBreakBefore}
-use Rattle.run_course.specs.Seconds.{next_told, kept_all, broken_at}
-use Rattle.run_course.specs.Travelled.{AreLegsOf, AreShutLegs}
-use Rattle.run_course.proofs.Logs.{found_log, went-found, tells-none, breaks-front}
-use Rattle.run_course.proofs.New.{are-new}
-use Rattle.run_course.proofs.Steps.{lit-parts, now-told, span-end}
-use Rattle.run_promise.proofs.Going.{sure-kept}
-use Rattle.run_course.specs.Telling.{IsLeft, begun_by}
-use Rattle.run_promise.specs.Origin.{Origin, rule_of, start_at, first_of}
-use Rattle.run_promise.specs.Seconds.{found_again}
-use Rattle.run_promise.proofs.Seconds.{found-recorded}
-use Rattle.run_rings.specs.Spans.{with_second}
-use Rattle.run_rings.proofs.Spans.{are-spans}
+use Rattle.device_calls.specs.run_unit_course.Lines.{cut_at, found_from, tells_cut}
+use Rattle.device_calls.specs.run_unit_course.Followed.{UnitPower, Lit, MayPower, as_spans, cuts_from}
+use Rattle.device_calls.specs.run_unit_course.Legs.{Travel, stranded_at, all_travelled}
+use Rattle.device_calls.specs.run_unit_course.Travelled.{MayShow}
+use Rattle.device_calls.specs.run_unit_course.Turn.{span_at, begins_with, cut_at_end, cut_last}
+use Rattle.device_calls.proofs.run_unit_course.Legs.{travelled-all, travelled-none, travelled-earlier}
+use Rattle.device_calls.proofs.run_unit_course.Lines.{tells-here}
+use Rattle.device_calls.proofs.run_unit_course.Alike.{decided-empty}
+use Rattle.device_calls.proofs.run_unit_course.Spans.{decided-cut}
+use Rattle.device_calls.proofs.unit_rule.Marking.{holds-dark}
+use Rattle.device_calls.specs.unit_rule.Marks.{UnitFollowsBook}
+use Rattle.device_calls.specs.unit_rule.Odometer.{odometer_by, odometer_after, ShowsOdometer, HasTravelled}
+use Rattle.device_calls.proofs.unit_rule.Moves.{shown-last}
+use Rattle.device_calls.proofs.unit_rule.Travelling.{odometer-sum}
+use Rattle.unit_notes.specs.note_model.Odometer.{SpanFrom, IsBeingKept, MayStore}
+use Rattle.device_calls.specs.safety_model.Safe.{Devices, breakdowns_of}
+use Rattle.run_events.specs.run_course.Moments.{and_break}
+use Rattle.run_events.specs.run_course.Followed.{Progress, BookFollowsRun, IsBreakBefore}
+use Rattle.run_events.specs.run_course.Seconds.{next_told, kept_all, broken_at}
+use Rattle.run_events.specs.run_course.Travelled.{AreLegsOf, AreShutLegs}
+use Rattle.run_events.proofs.run_course.Logs.{found_log, went-found, tells-none, breaks-front}
+use Rattle.run_events.proofs.run_course.New.{are-new}
+use Rattle.run_events.proofs.run_course.Steps.{lit-parts, now-told, span-end}
+use Rattle.run_minutes.proofs.run_promise.Going.{sure-kept}
+use Rattle.run_events.specs.run_course.Telling.{IsLeft, begun_by}
+use Rattle.run_minutes.specs.run_promise.Origin.{Origin, rule_of, start_at, first_of}
+use Rattle.run_minutes.specs.run_promise.Seconds.{found_again}
+use Rattle.run_minutes.proofs.run_promise.Seconds.{found-recorded}
+use Rattle.run_events.specs.run_rings.Spans.{with_second}
+use Rattle.run_events.proofs.run_rings.Spans.{are-spans}
 use Rattle.run_note_record.specs.RingsSoFar.{HasMoreBreaks}
 use Rattle.run_note_record.specs.Steps.{spans_cut}
 use Rattle.run_note_record.specs.Stored.{minutes_kept, IsNewest, StandsOn, StoresOn, StoresOff}

@@ -4,25 +4,25 @@ use Rattle.std.specs.List.{AllByRecursion}
 use Rattle.std.proofs.lemmas.List.{map-append, same_from_push}
 use Rattle.trace_model.specs.declared.Action.{Action}
 use Rattle.trace_model.specs.Trace.{TraceSecond}
-use Rattle.minute_model.specs.declared.Minute.{Minute}
+use Rattle.unit_model.specs.minute_model.declared.Minute.{Minute}
 use Rattle.log_model.specs.declared.lines.Break.{Break}
 use Rattle.log_model.specs.Causes.{second_of}
 use Rattle.log_model.specs.Course.{ToldSecond, Visit, Went, went}
 use Rattle.log_model.specs.Log.{RunLog, Phase}
 use Rattle.log_model.specs.Spans.{spans_of}
-use Rattle.run_unit_course.specs.Lines.{cut_at}
-use Rattle.run_unit_course.specs.Followed.{UnitPower, Lit as IsLit, Due as IsDue, Lost as IsLost}
-use Rattle.run_unit_course.specs.Turn.{cut_last}
+use Rattle.device_calls.specs.run_unit_course.Lines.{cut_at}
+use Rattle.device_calls.specs.run_unit_course.Followed.{UnitPower, Lit as IsLit, Due as IsDue, Lost as IsLost}
+use Rattle.device_calls.specs.run_unit_course.Turn.{cut_last}
 use Rattle.unit_model.specs.Image.{last_kept, odometer_at}
-use Rattle.unit_rule.specs.Rule.{Started}
-use Rattle.note_model.specs.Odometer.{SpanFrom, HaveBases, MayStore}
-use Rattle.safety_model.specs.Safe.{Devices}
-use Rattle.run_course.specs.Followed.{Progress, BookFollowsRun}
-use Rattle.run_course.specs.Moments.{and_break}
-use Rattle.run_course.specs.Telling.{IsLeft, begun_by}
+use Rattle.device_calls.specs.unit_rule.Rule.{Started}
+use Rattle.unit_notes.specs.note_model.Odometer.{SpanFrom, HaveBases, MayStore}
+use Rattle.device_calls.specs.safety_model.Safe.{Devices}
+use Rattle.run_events.specs.run_course.Followed.{Progress, BookFollowsRun}
+use Rattle.run_events.specs.run_course.Moments.{and_break}
+use Rattle.run_events.specs.run_course.Telling.{IsLeft, begun_by}
 use Rattle.run_outcome.specs.declared.outcome.Outcome.{Outcome}
-use Rattle.run_promise.specs.Origin.{Origin, rule_of, start_at, first_of}
-use Rattle.run_rings.specs.Spans.{with_second}
+use Rattle.run_minutes.specs.run_promise.Origin.{Origin, rule_of, start_at, first_of}
+use Rattle.run_events.specs.run_rings.Spans.{with_second}
 use Rattle.run_note_record.specs.RingsSoFar.{HasMoreBreaks}
 use Rattle.run_note_record.specs.Steps.{spans_cut}
 use Rattle.run_note_record.specs.Stored.{StoresOn, StoresOff, Stores}
@@ -34,7 +34,7 @@ use Rattle.run_acts.specs.declared.run.Power.{Power}
 use Rattle.run_acts.specs.declared.run.Power.TheVariants.{Lit, Due, Lost}
 use Rattle.run_acts.specs.Power.{is_lit}
 use Rattle.run_acts.specs.Recording.{log_of, values_of, Supplies, IsOrigin, RunRecorded, RunWithin, RunFails}
-use Rattle.run_course.proofs.Logs.{went-later}
+use Rattle.run_events.proofs.run_course.Logs.{went-later}
 use Rattle.run_record.proofs.Cutting.{goes}
 use Rattle.run_acts.proofs.Stored.{lit-stores, lit-off, lines-early, stored-cut}
 

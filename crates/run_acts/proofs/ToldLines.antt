@@ -7,7 +7,7 @@ use Rattle.trace_model.specs.declared.Card.TheVariants.{A, B}
 use Rattle.tacho_types.specs.declared.texts.Registration.{Registration}
 use Rattle.log_model.specs.Log.{RunLog, is_accepting}
 use Rattle.log_model.specs.declared.lines.Find.{Find}
-use Rattle.device_rule.specs.Views.{other}
+use Rattle.device_calls.specs.device_rule.Views.{other}
 use Rattle.run_acts.specs.Truths.{Truths}
 use Rattle.run_acts.specs.Stays.{Stay, Shown, after_stay, Whose, Both, Only, covers, AreTold, AreMerged, is_late, judged_told, judged_in, acceptances_told, IsTurnedAway, AreJudged}
 use Rattle.run_acts.proofs.LastLine.{merged-swap, all-passed, found_of_all}

@@ -11,7 +11,7 @@ use Rattle.trace_model.specs.declared.Action.{Action}
 use Rattle.trace_model.specs.declared.Action.TheVariants.{Select, Insert, Withdraw, Tear, Place, Manual}
 use Rattle.trace_model.specs.Trace.{TraceSecond}
 use Rattle.tach_media.specs.Medium.{last_count}
-use Rattle.minute_model.specs.declared.Minute.{Minute}
+use Rattle.unit_model.specs.minute_model.declared.Minute.{Minute}
 use Rattle.log_model.specs.declared.lines.SlotFault.{SlotFault}
 use Rattle.log_model.specs.declared.lines.SlotFault.TheVariants.{Moving, Empty, NoCard}
 use Rattle.log_model.specs.declared.lines.Verdict.{Verdict}
@@ -19,17 +19,17 @@ use Rattle.log_model.specs.Log.{RunLog, Phase, In, Keeping, same_phase, cut_in, 
 use Rattle.log_model.specs.Slots.{Sitting, same_card, in_slot, is_accepted, refusal}
 use Rattle.log_model.specs.Causes.{device_of, RoseBy, cards_torn}
 use Rattle.log_model.specs.Course.{Course, Visit, Before, Moved, visits, card_in, leaves, with_slot, moved_by, both_told, slot_told, begins, all_acted, went}
-use Rattle.note_model.specs.Done.{course_powered}
-use Rattle.note_model.specs.Noted.{PlaceNote, Withdrawal, Note, Withdraws, Enters}
-use Rattle.safety_model.specs.Safe.{Devices, breakdowns_of}
-use Rattle.run_course.specs.Lines.{times_of}
-use Rattle.run_course.specs.Reached.{course_at, course_with, moved_with}
-use Rattle.run_course.proofs.Lines.{times-append}
-use Rattle.run_course.proofs.Moments.{later-lines as same-course-by}
-use Rattle.run_rings.specs.Notes.{accepts_by, sits_accepted, notes_to, TellSameTo, NotesMore, course_behind}
-use Rattle.run_rings.proofs.Notes.{judged_at, verdicts_at, later-lines}
-use Rattle.run_rings.proofs.Actions.{power-notes, selections, pulls, entries, refusals, places, withdrawals, insertions}
-use Rattle.run_promise.specs.Origin.{Origin}
+use Rattle.unit_notes.specs.note_model.Done.{course_powered}
+use Rattle.unit_notes.specs.note_model.Noted.{PlaceNote, Withdrawal, Note, Withdraws, Enters}
+use Rattle.device_calls.specs.safety_model.Safe.{Devices, breakdowns_of}
+use Rattle.run_events.specs.run_course.Lines.{times_of}
+use Rattle.run_events.specs.run_course.Reached.{course_at, course_with, moved_with}
+use Rattle.run_events.proofs.run_course.Lines.{times-append}
+use Rattle.run_events.proofs.run_course.Moments.{later-lines as same-course-by}
+use Rattle.run_events.specs.run_rings.Notes.{accepts_by, sits_accepted, notes_to, TellSameTo, NotesMore, course_behind}
+use Rattle.run_events.proofs.run_rings.Notes.{judged_at, verdicts_at, later-lines}
+use Rattle.run_events.proofs.run_rings.Actions.{power-notes, selections, pulls, entries, refusals, places, withdrawals, insertions}
+use Rattle.run_minutes.specs.run_promise.Origin.{Origin}
 use Rattle.run_note_record.specs.Ringed.{notes_in}
 use Rattle.run_note_record.specs.RingsSoFar.{notes_so_far}
 use Rattle.run_record.specs.Recorded.{Values}

@@ -9,16 +9,16 @@ use Rattle.trace_model.specs.declared.Action.{Action}
 use Rattle.trace_model.specs.declared.Action.TheVariants.{Select, Insert, Withdraw, Tear}
 use Rattle.trace_model.specs.declared.Card.TheVariants.{A, B}
 use Rattle.trace_model.specs.Trace.{TraceSecond}
-use Rattle.minute_model.specs.declared.Rule.TheVariants.{Original}
-use Rattle.minute_model.specs.Span.{activity_next}
+use Rattle.unit_model.specs.minute_model.declared.Rule.TheVariants.{Original}
+use Rattle.unit_model.specs.minute_model.Span.{activity_next}
 use Rattle.log_model.specs.declared.lines.Find.{Find}
 use Rattle.log_model.specs.declared.lines.Verdict.TheVariants.{Accepted}
 use Rattle.log_model.specs.Log.{RunLog, In, cut_in, is_torn_in, found_in}
 use Rattle.log_model.specs.Course.{ToldSecond, Visit, Before, went, second_told}
 use Rattle.log_model.specs.Spans.{spans_of}
-use Rattle.event_model.specs.Events.{course_by}
-use Rattle.history_model.specs.Growth.{picking}
-use Rattle.run_unit_course.specs.Turn.{span_at}
+use Rattle.unit_notes.specs.event_model.Events.{course_by}
+use Rattle.device_calls.specs.history_model.Growth.{picking}
+use Rattle.device_calls.specs.run_unit_course.Turn.{span_at}
 use Rattle.run_acts.specs.Words.{picks_of, withdraws, IsWordOf}
 use Rattle.run_acts.specs.Owed.{unlogged, IsPulledHere}
 use Rattle.run_acts.specs.Truths.{past_of, IsOdometerBefore, IsOdometerBehind, IsWordIn}

@@ -2,16 +2,16 @@
 use Rattle.std.proofs.Common.{◌≡◌, ◌∙◌, ℕ, ◌+◌, ◌*◌, Bool, true, false, List, [], ◌∷◌, ◌++◌, Contains, sum_by, refl, ap, sym, subst, arith, append-nil, append_assoc}
 use Rattle.std.proofs.lemmas.List.{map-append, same_from_push}
 use Rattle.std.proofs.lemmas.List.Sums.{sum_by-cons, sum_by-append}
-use Rattle.minute_model.specs.declared.Rule.{Rule}
-use Rattle.minute_model.specs.Second.{Second}
+use Rattle.unit_model.specs.minute_model.declared.Rule.{Rule}
+use Rattle.unit_model.specs.minute_model.Second.{Second}
 use Rattle.log_model.specs.Course.{ToldSecond}
 use Rattle.log_model.specs.Spans.{go_on, spans_with, spans_of, seconds_in}
 use Rattle.log_model.proofs.Spanning.{spans-more as spans-one, spans-new, spans-on as spans-kept, spans-dark}
-use Rattle.run_unit_course.specs.Legs.{whole_legs}
-use Rattle.unit_rule.specs.Odometer.{odometer_after}
-use Rattle.run_rings.specs.Spans.{AreAlike}
+use Rattle.device_calls.specs.run_unit_course.Legs.{whole_legs}
+use Rattle.device_calls.specs.unit_rule.Odometer.{odometer_after}
+use Rattle.run_events.specs.run_rings.Spans.{AreAlike}
 use Rattle.log_model.specs.declared.lines.Mark.{Mark}
-use Rattle.run_promise.proofs.Beside.{marked-on}
+use Rattle.run_minutes.proofs.run_promise.Beside.{marked-on}
 use Rattle.run_note_record.proofs.Stored.{AtEnd, nothing, push, at-end}
 use Rattle.run_acts.specs.Truths.{Truths, Grow, marked, Past, Rides, driven_in, IsOdometerBefore, IsOdometerBehind, truths_by, SpansGoOn, PastGoesOn}
 use Rattle.activity_codec.specs.declared.entries.Entry.{Entry}

@@ -2,7 +2,7 @@
 use Rattle.std.proofs.Common.{◌≡◌, ◌∙◌, ℕ, suc, ◌+◌, Bool, true, false, Option, List, [], ◌∷◌, ◌++◌, refl, ap, sym, subst, append-nil, append_assoc}
 use Rattle.std.proofs.lemmas.List.Elements.{Contains-append_left}
 use Rattle.trace_model.specs.Trace.{TraceSecond, driven}
-use Rattle.minute_model.specs.declared.Minute.{Minute}
+use Rattle.unit_model.specs.minute_model.declared.Minute.{Minute}
 use Rattle.log_model.specs.declared.lines.Break.{Break}
 use Rattle.log_model.specs.Log.{RunLog, Phase}
 use Rattle.log_model.specs.Course.{ToldSecond, Visit, Before, Went, has_power, went, second_told}
@@ -10,17 +10,17 @@ use Rattle.log_model.specs.Spans.{spans_of}
 use Rattle.log_model.specs.Causes.{cuts}
 use Rattle.log_model.proofs.Growth.{went-more}
 use Rattle.unit_model.specs.Image.{odometer_at}
-use Rattle.run_rings.specs.Spans.{AreAlike}
-use Rattle.run_promise.specs.Origin.{Origin, rule_of, start_at}
-use Rattle.run_promise.specs.Whole.{NothingFailed}
-use Rattle.safety_model.specs.Safe.{Devices}
+use Rattle.run_events.specs.run_rings.Spans.{AreAlike}
+use Rattle.run_minutes.specs.run_promise.Origin.{Origin, rule_of, start_at}
+use Rattle.run_minutes.specs.run_promise.Whole.{NothingFailed}
+use Rattle.device_calls.specs.safety_model.Safe.{Devices}
 use Rattle.run_record.specs.Recorded.{Values}
 use Rattle.run_record.specs.Within.{RecordInSecond}
 use Rattle.run_record.specs.Turning.{last_of, before_last}
 use Rattle.run_acts.specs.Truths.{Grow, past_of, truths_of, truths_within, SpansGoOn, PastGoesOn}
 use Rattle.run_acts.proofs.AllStay.{fewer-none, fewer-uncut}
 use Rattle.run_acts.proofs.Truths.{spans-more, spans-alike, spans-on, spans-same, past-grows, grow-on}
-use Rattle.safety_model.specs.Recording.{brought}
+use Rattle.device_calls.specs.safety_model.Recording.{brought}
 use Rattle.run_acts.specs.Owed.{IsOwed}
 use Rattle.run_acts.proofs.OwedOn.{owed-more, owed-same, owed-end}
 

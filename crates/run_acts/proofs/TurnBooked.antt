@@ -3,14 +3,14 @@ use Rattle.std.proofs.Common.{◌≡◌, Bool, true, false, not, List, refl, ari
 use Rattle.std.specs.Prelude.{map}
 use Rattle.trace_model.specs.declared.Card.TheVariants.{A, B}
 use Rattle.tach_media.specs.Medium.{State, IsCoherent, LeavesOnly}
-use Rattle.minute_model.specs.declared.Minute.{Minute}
+use Rattle.unit_model.specs.minute_model.declared.Minute.{Minute}
 use Rattle.unit_notes.specs.Journal.{LeavesJournal}
-use Rattle.safety_model.specs.Safe.{Devices}
-use Rattle.run_promise.specs.Found.{Found}
-use Rattle.run_promise.specs.Between.{RunLedger, devices}
-use Rattle.run_unit_course.specs.Legs.{all_travelled}
-use Rattle.run_devices.proofs.Noted.{noted-powered, noted-powerless}
-use Rattle.run_devices.proofs.Travelled.{travelled-noted}
+use Rattle.device_calls.specs.safety_model.Safe.{Devices}
+use Rattle.run_minutes.specs.run_promise.Found.{Found}
+use Rattle.run_minutes.specs.run_promise.Between.{RunLedger, devices}
+use Rattle.device_calls.specs.run_unit_course.Legs.{all_travelled}
+use Rattle.run_minutes.proofs.run_devices.Noted.{noted-powered, noted-powerless}
+use Rattle.run_minutes.proofs.run_devices.Travelled.{travelled-noted}
 use Rattle.run_minutes.specs.declared.keeper.Moment.{Moment}
 use Rattle.run_minutes.specs.Minutes.{Done, Reach, Whole, Short, KeepingState, IsReach}
 use Rattle.run_minutes.specs.Deeds.{AllKeep, kepts_on}

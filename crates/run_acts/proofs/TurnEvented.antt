@@ -1,36 +1,36 @@
 -- The minutes that seconds of one minute decide are kept behind them, and what has ended is noted: the events behind them.
 use Rattle.std.proofs.Common.{◌≡◌, ◌∙◌, ◌⊎◌, ⊎_elim, ℕ, suc, ◌+◌, ◌-◌, ◌/◌, ◌^◌, ◌≤◌, ◌<◌, Bool, true, false, Some, List, [], ◌∷◌, ◌++◌, length, refl, ap, sym, subst, arith}
 use Rattle.trace_model.specs.Trace.{TraceSecond}
-use Rattle.run_model.specs.declared.Device.{Device}
-use Rattle.run_model.specs.declared.Device.TheVariants.{Unit as Recorder}
+use Rattle.log_model.specs.run_model.declared.Device.{Device}
+use Rattle.log_model.specs.run_model.declared.Device.TheVariants.{Unit as Recorder}
 use Rattle.tach_media.specs.Medium.{IsCoherent}
-use Rattle.minute_model.specs.declared.Minute.{Minute}
+use Rattle.unit_model.specs.minute_model.declared.Minute.{Minute}
 use Rattle.minute_rules.specs.Kept.{Kept}
 use Rattle.log_model.specs.declared.lines.Break.{Break}
 use Rattle.log_model.specs.declared.lines.Mark.{Mark}
 use Rattle.log_model.specs.Log.{RunLog, Keeping}
 use Rattle.log_model.specs.Causes.{RoseBy}
 use Rattle.log_model.specs.Course.{ToldSecond as Second, went}
-use Rattle.unit_memory.specs.declared.memory.UnitFacts.{UnitFacts}
+use Rattle.run_minutes.specs.unit_memory.declared.memory.UnitFacts.{UnitFacts}
 use Rattle.unit_model.specs.Image.{IsUnit, odometer_at}
-use Rattle.unit_rule.specs.Odometer.{odometer_after}
-use Rattle.run_unit_course.specs.Followed.{Lit as IsLit, Lost as IsLost}
-use Rattle.event_model.specs.Events.{Event, Seen, seen_of, seen_spans}
+use Rattle.device_calls.specs.unit_rule.Odometer.{odometer_after}
+use Rattle.device_calls.specs.run_unit_course.Followed.{Lit as IsLit, Lost as IsLost}
+use Rattle.unit_notes.specs.event_model.Events.{Event, Seen, seen_of, seen_spans}
 use Rattle.run_events.specs.Watched.{watched}
 use Rattle.run_events.specs.Turned.{AreEnded, AreLow}
-use Rattle.safety_model.specs.Safe.{Devices, breakdowns_of}
+use Rattle.device_calls.specs.safety_model.Safe.{Devices, breakdowns_of}
 use Rattle.unit_notes.specs.declared.unit_event.UnitEvent.{UnitEvent}
 use Rattle.run_crew.specs.Cabin.{AreTwo, crew_of}
-use Rattle.run_course.specs.Moments.{and_break}
-use Rattle.run_course.specs.Seconds.{next_told}
-use Rattle.run_course.specs.Moment.{Moment as SecondMoment, goes_on}
-use Rattle.run_course.specs.Reached.{Reaches}
+use Rattle.run_events.specs.run_course.Moments.{and_break}
+use Rattle.run_events.specs.run_course.Seconds.{next_told}
+use Rattle.run_events.specs.run_course.Moment.{Moment as SecondMoment, goes_on}
+use Rattle.run_events.specs.run_course.Reached.{Reaches}
 use Rattle.run_events.specs.declared.watch.Watch.{Watch}
 use Rattle.run_events.specs.declared.watch.Ended.{Ended as WatchEnded}
 use Rattle.run_events.specs.Noting.{IsFed}
 use Rattle.run_outcome.specs.declared.outcome.Outcome.{Outcome}
 use Rattle.run_outcome.specs.Lines.{Listed, cut_at}
-use Rattle.run_promise.specs.Origin.{Origin}
+use Rattle.run_minutes.specs.run_promise.Origin.{Origin}
 use Rattle.run_events.specs.Seconds.{bares_by, overs_by, span_before, seen_next}
 use Rattle.run_note_record.specs.Evented.{limit_in, number_in, Evented}
 use Rattle.run_note_record.specs.Noting.{Acting, Ended}

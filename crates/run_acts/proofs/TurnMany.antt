@@ -5,38 +5,38 @@ use Rattle.activity_codec.specs.declared.values.Slot.{Slot}
 use Rattle.trace_model.specs.declared.Card.{Card}
 use Rattle.trace_model.specs.declared.Action.{Action}
 use Rattle.trace_model.specs.Trace.{TraceSecond, driven}
-use Rattle.card_layout.specs.declared.command.CardState.{CardState}
+use Rattle.card_files.specs.card_layout.declared.command.CardState.{CardState}
 use Rattle.tach_media.specs.Medium.{State, IsCoherent}
-use Rattle.minute_model.specs.declared.Minute.{Minute}
-use Rattle.minute_model.specs.Span.{Span, decided_in, fed_many, ungiven_of}
+use Rattle.unit_model.specs.minute_model.declared.Minute.{Minute}
+use Rattle.unit_model.specs.minute_model.Span.{Span, decided_in, fed_many, ungiven_of}
 use Rattle.minute_rules.specs.Kept.{Kept, CountsSpan}
 use Rattle.log_model.specs.declared.lines.Break.{Break}
 use Rattle.log_model.specs.declared.lines.Mark.{Mark}
 use Rattle.log_model.specs.Log.{RunLog, In, Keeping, is_torn_in}
 use Rattle.log_model.specs.Course.{ToldSecond as Second, Course, Before, has_power, went, Went, fresh}
 use Rattle.unit_model.specs.Image.{IsUnit, odometer_at}
-use Rattle.unit_rule.specs.Odometer.{odometer_after}
-use Rattle.run_unit_course.specs.Followed.{UnitPower, Lit as IsLit, Lost as IsLost, Due as IsDue}
-use Rattle.run_unit_course.specs.Turn.{begins_with, span_at}
-use Rattle.event_model.specs.Events.{Event, Seen, course_by, seen_of, seen_spans, number_of, is_bare, accepted_card, seen_on}
-use Rattle.event_model.specs.Events as events
+use Rattle.device_calls.specs.unit_rule.Odometer.{odometer_after}
+use Rattle.device_calls.specs.run_unit_course.Followed.{UnitPower, Lit as IsLit, Lost as IsLost, Due as IsDue}
+use Rattle.device_calls.specs.run_unit_course.Turn.{begins_with, span_at}
+use Rattle.unit_notes.specs.event_model.Events.{Event, Seen, course_by, seen_of, seen_spans, number_of, is_bare, accepted_card, seen_on}
+use Rattle.unit_notes.specs.event_model.Events as events
 use Rattle.run_events.specs.Shown.{all_sure}
 use Rattle.run_events.specs.Watched.{watched, named}
 use Rattle.run_events.specs.Turned.{AreLow, IsLow}
 use Rattle.run_events.proofs.CrewsFed.{one-fed, still-seen, still-quiet, still-fed}
-use Rattle.safety_model.specs.Safe.{Devices, breakdowns_of}
+use Rattle.device_calls.specs.safety_model.Safe.{Devices, breakdowns_of}
 use Rattle.run_crew.specs.declared.cabin.Cabin.{Cabin}
 use Rattle.run_crew.specs.Cabin.{crew_of}
-use Rattle.run_course.specs.Followed.{Progress, BookFollowsRun}
-use Rattle.run_course.specs.Seconds.{next_told}
-use Rattle.run_course.proofs.Steps.{with-supply, went-same_}
-use Rattle.run_course.proofs.Told.{lit-told, lit-power, lit-starts}
-use Rattle.run_course.specs.Moment.{Moment as SecondMoment, goes_on}
-use Rattle.run_course.specs.Reached.{Reaches}
+use Rattle.run_events.specs.run_course.Followed.{Progress, BookFollowsRun}
+use Rattle.run_events.specs.run_course.Seconds.{next_told}
+use Rattle.run_events.proofs.run_course.Steps.{with-supply, went-same_}
+use Rattle.run_events.proofs.run_course.Told.{lit-told, lit-power, lit-starts}
+use Rattle.run_events.specs.run_course.Moment.{Moment as SecondMoment, goes_on}
+use Rattle.run_events.specs.run_course.Reached.{Reaches}
 use Rattle.run_events.specs.declared.watch.Watch.{Watch}
 use Rattle.run_outcome.specs.declared.outcome.Outcome.{Outcome}
 use Rattle.run_outcome.specs.Lines.{Listed}
-use Rattle.run_promise.specs.Origin.{Origin, start_at, rule_of, first_of}
+use Rattle.run_minutes.specs.run_promise.Origin.{Origin, start_at, rule_of, first_of}
 use Rattle.run_events.specs.Seconds.{bares_by, overs_by, span_before, seen_next, last_of as last_span, IsQuiet, is_fast}
 use Rattle.run_events.proofs.Later.{told-number, seen-same}
 use Rattle.run_note_record.specs.Evented.{limit_in, number_in, Evented, EventedBy}
@@ -72,27 +72,27 @@ use Rattle.run_acts.proofs.Named.{crew-valid, known-as}
 use Rattle.run_acts.proofs.SeenSpan.{span-more}
 use Rattle.run_acts.proofs.SettledRecorded.{same-ungiven}
 use Rattle.std.proofs.lemmas.List.{map-append}
-use Rattle.run_course.specs.Quiet.{quiet_seconds}
+use Rattle.run_events.specs.run_course.Quiet.{quiet_seconds}
 use Rattle.std.specs.Prelude.{is_some, option_map, ◌&&◌, nat_lt}
 use Rattle.event_rules.proofs.InARow.{one_more}
-use Rattle.event_model.specs.Spans.{in_a_row}
+use Rattle.unit_notes.specs.event_model.Spans.{in_a_row}
 use Rattle.run_events.specs.Fed.{IsSilentFrom, going_with, still_seconds}
 use Rattle.tacho_types.specs.declared.card_number.FullCardNumber.{FullCardNumber}
 use Rattle.run_crew.specs.declared.cards.Crew.{Crew}
-use Rattle.run_course.proofs.Reached.{at-by, nothing-told}
-use Rattle.run_course.proofs.Telling.{keeping-comes}
+use Rattle.run_events.proofs.run_course.Reached.{at-by, nothing-told}
+use Rattle.run_events.proofs.run_course.Telling.{keeping-comes}
 use Rattle.run_events.proofs.Shows.{nothing-more}
 use Rattle.run_events.proofs.Growing.{spans-more}
-use Rattle.run_promise.specs.Beside.{HaveLeftMore}
+use Rattle.run_minutes.specs.run_promise.Beside.{HaveLeftMore}
 use Rattle.run_note_record.specs.Going.{AreQuiet}
 use Rattle.run_note_record.proofs.Brought.{told-speed}
 use Rattle.run_note_record.proofs.Quiet.{ends-nothing, quiet-brings_nothing}
 use Rattle.run_events.proofs.Quiet.{bares-split, overs-split}
 use Rattle.run_record.specs.Recorded.{progress}
 use Rattle.trace_model.specs.declared.Card.TheVariants.{A as CardA_, B as CardB_}
-use Rattle.card_image.specs.Own.{IsOwnValid}
-use Rattle.safety_model.specs.Recording.{card_image}
-use Rattle.run_promise.specs.Ends.{recording_by}
+use Rattle.hand_model.specs.card_image.Own.{IsOwnValid}
+use Rattle.device_calls.specs.safety_model.Recording.{card_image}
+use Rattle.run_minutes.specs.run_promise.Ends.{recording_by}
 use Rattle.run_acts.proofs.LastAlike.{last-ends}
 use Rattle.run_note_record.proofs.Unlit.{dark-seconds}
 use Rattle.run_acts.proofs.Stays.{all-both}

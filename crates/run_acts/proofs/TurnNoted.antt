@@ -2,10 +2,10 @@
 use Rattle.std.proofs.Common.{◌≡◌, inl, inr, ⊎_elim, ℕ, Bool, true, false, not, Option, Some, IfSome, List, refl}
 use Rattle.tach_media.specs.Medium.{State, IsCoherent, LeavesOnly}
 use Rattle.tach_media.proofs.Runs.{at_image, told_too}
-use Rattle.minute_model.specs.declared.Minute.{Minute}
+use Rattle.unit_model.specs.minute_model.declared.Minute.{Minute}
 use Rattle.run_crew.specs.Cabin.{crew_of}
 use Rattle.run_events.specs.declared.watch.Ended.{Ended}
-use Rattle.speed_model.specs.declared.block.Block.{Block}
+use Rattle.run_events.specs.speed_model.declared.block.Block.{Block}
 use Rattle.unit_notes.specs.declared.unit_event.UnitEvent.{UnitEvent}
 use Rattle.run_events.specs.Blocks.{AreNotedBehind, AreBeingNotedBehind, IsWatchedOn}
 use Rattle.run_outcome.specs.declared.outcome.Outcome.{Outcome}

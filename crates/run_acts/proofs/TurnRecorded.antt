@@ -4,10 +4,10 @@ use Rattle.trace_model.specs.declared.Action.{Action}
 use Rattle.trace_model.specs.declared.Card.{Card}
 use Rattle.trace_model.specs.Trace.{TraceSecond, driven}
 use Rattle.tach_media.specs.Medium.{State, last_count}
-use Rattle.card_layout.specs.declared.command.CardState.{CardState}
-use Rattle.run_model.specs.declared.Device.TheVariants.{Unit as Recorder}
-use Rattle.minute_model.specs.declared.Minute.{Minute}
-use Rattle.minute_model.specs.Span.{Span, fed_many, decided_in, ungiven_of}
+use Rattle.card_files.specs.card_layout.declared.command.CardState.{CardState}
+use Rattle.log_model.specs.run_model.declared.Device.TheVariants.{Unit as Recorder}
+use Rattle.unit_model.specs.minute_model.declared.Minute.{Minute}
+use Rattle.unit_model.specs.minute_model.Span.{Span, fed_many, decided_in, ungiven_of}
 use Rattle.minute_rules.specs.Kept.{Kept, CountsSpan}
 use Rattle.log_model.specs.declared.lines.Break.{Break}
 use Rattle.log_model.specs.declared.lines.Mark.{Mark}
@@ -16,19 +16,19 @@ use Rattle.log_model.specs.Log.{In, Keeping}
 use Rattle.log_model.specs.Causes.{RoseBy, device_of}
 use Rattle.log_model.specs.Course.{ToldSecond as Second}
 use Rattle.log_model.specs.ByHand.{by_slots}
-use Rattle.safety_model.specs.Safe.{Devices, breakdowns_of}
-use Rattle.run_unit_course.specs.Followed.{Lit as IsLit, Lost as IsLost}
-use Rattle.run_unit_course.specs.Legs.{all_travelled}
-use Rattle.run_unit_course.proofs.Legs.{travelled-earlier}
+use Rattle.device_calls.specs.safety_model.Safe.{Devices, breakdowns_of}
+use Rattle.device_calls.specs.run_unit_course.Followed.{Lit as IsLit, Lost as IsLost}
+use Rattle.device_calls.specs.run_unit_course.Legs.{all_travelled}
+use Rattle.device_calls.proofs.run_unit_course.Legs.{travelled-earlier}
 use Rattle.unit_model.specs.Image.{odometer_at}
-use Rattle.unit_rule.specs.Odometer.{odometer_after}
+use Rattle.device_calls.specs.unit_rule.Odometer.{odometer_after}
 use Rattle.run_crew.specs.Cabin.{AreTwo, with_power_lost}
 use Rattle.run_events.specs.declared.watch.Watch.{Watch}
 use Rattle.run_outcome.specs.Lines.{Listed, cut_at}
 use Rattle.run_outcome.specs.declared.outcome.Outcome.{Outcome}
-use Rattle.run_promise.specs.Origin.{Origin}
-use Rattle.run_course.specs.Moments.{and_break}
-use Rattle.run_course.specs.Seconds.{next_told}
+use Rattle.run_minutes.specs.run_promise.Origin.{Origin}
+use Rattle.run_events.specs.run_course.Moments.{and_break}
+use Rattle.run_events.specs.run_course.Seconds.{next_told}
 use Rattle.run_record.specs.Recorded.{Values, RecordBetweenSeconds}
 use Rattle.run_record.specs.Within.{Beginning, RecordInSecond, RecordAtFailure, RecordedFrom, passed_values}
 use Rattle.run_record.specs.Turning.{last_of, before_last, IsTurned}
@@ -59,7 +59,7 @@ use Rattle.run_acts.specs.Turning.{IsLitTurn, told_of, late_moment, cut_where, c
 use Rattle.run_acts.proofs.GoesOn.{goes-on, unit-rose}
 use Rattle.run_acts.proofs.SettledRecorded.{same-ungiven, two-present}
 use Rattle.run_acts.proofs.Turned.{turn-decides, turn-most}
-use Rattle.note_model.specs.Noted.{Note}
+use Rattle.unit_notes.specs.note_model.Noted.{Note}
 use Rattle.run_note_record.specs.Ringed.{notes_in}
 use Rattle.run_note_record.specs.RingsSoFar.{GoesBehind, notes_so_far}
 use Rattle.run_acts.specs.Closings.{notes_within}

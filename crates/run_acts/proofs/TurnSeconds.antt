@@ -4,39 +4,39 @@ use Rattle.std.specs.List.{AllByRecursion}
 use Rattle.activity_codec.specs.declared.values.Slot.{Slot}
 use Rattle.activity_codec.specs.declared.values.Slot.TheVariants.{Driver, CoDriver}
 use Rattle.trace_model.specs.Trace.{TraceSecond}
-use Rattle.run_model.specs.declared.Device.{Device}
-use Rattle.card_layout.specs.declared.command.CardState.{CardState}
+use Rattle.log_model.specs.run_model.declared.Device.{Device}
+use Rattle.card_files.specs.card_layout.declared.command.CardState.{CardState}
 use Rattle.tach_media.specs.Medium.{State, IsCoherent}
-use Rattle.minute_model.specs.declared.Minute.{Minute}
-use Rattle.minute_model.specs.Span.{Span, decided_in, fed_many, ungiven_of}
+use Rattle.unit_model.specs.minute_model.declared.Minute.{Minute}
+use Rattle.unit_model.specs.minute_model.Span.{Span, decided_in, fed_many, ungiven_of}
 use Rattle.minute_rules.specs.Kept.{Kept, CountsSpan}
 use Rattle.log_model.specs.declared.lines.Break.{Break}
 use Rattle.log_model.specs.declared.lines.Mark.{Mark}
 use Rattle.log_model.specs.Log.{RunLog, Phase, In, Keeping, is_torn_in, tears_here, found_in}
 use Rattle.log_model.specs.Course.{Course, Before, has_power, went, Went}
 use Rattle.unit_model.specs.Image.{IsUnit, odometer_at}
-use Rattle.unit_rule.specs.Odometer.{odometer_after}
-use Rattle.run_unit_course.specs.Followed.{Lit as IsLit}
-use Rattle.event_model.specs.Events.{Seen, seen_of, seen_by, seen_spans, number_of}
-use Rattle.event_model.specs.Events as events
+use Rattle.device_calls.specs.unit_rule.Odometer.{odometer_after}
+use Rattle.device_calls.specs.run_unit_course.Followed.{Lit as IsLit}
+use Rattle.unit_notes.specs.event_model.Events.{Seen, seen_of, seen_by, seen_spans, number_of}
+use Rattle.unit_notes.specs.event_model.Events as events
 use Rattle.run_events.specs.Watched.{watched, named}
 use Rattle.run_events.specs.Turned.{AreEnded, AreLow, IsLow}
 use Rattle.run_events.proofs.Turned.{turn-ends, turn-stands}
 use Rattle.run_events.proofs.CrewsFed.{one-fed}
-use Rattle.safety_model.specs.Safe.{Devices}
-use Rattle.card_slots.specs.declared.seats.Present.{Present}
+use Rattle.device_calls.specs.safety_model.Safe.{Devices}
+use Rattle.run_crew.specs.card_slots.declared.seats.Present.{Present}
 use Rattle.run_crew.specs.Cabin.{AreTwo, crew_of}
-use Rattle.run_course.specs.Followed.{Progress}
-use Rattle.run_course.specs.Moments.{and_break}
-use Rattle.run_course.proofs.Steps.{with-supply, went-same_}
-use Rattle.run_course.proofs.Told.{lit-told, lit-power}
-use Rattle.run_course.specs.Moment.{Moment as SecondMoment, goes_on}
+use Rattle.run_events.specs.run_course.Followed.{Progress}
+use Rattle.run_events.specs.run_course.Moments.{and_break}
+use Rattle.run_events.proofs.run_course.Steps.{with-supply, went-same_}
+use Rattle.run_events.proofs.run_course.Told.{lit-told, lit-power}
+use Rattle.run_events.specs.run_course.Moment.{Moment as SecondMoment, goes_on}
 use Rattle.run_events.specs.declared.watch.Watch.{Watch}
 use Rattle.run_events.specs.declared.watch.Ended.{Ended as WatchEnded}
 use Rattle.run_events.specs.Noting.{IsFed}
 use Rattle.run_outcome.specs.declared.outcome.Outcome.{Outcome}
 use Rattle.run_outcome.specs.Lines.{Listed}
-use Rattle.run_promise.specs.Origin.{Origin, start_at, rule_of, first_of}
+use Rattle.run_minutes.specs.run_promise.Origin.{Origin, start_at, rule_of, first_of}
 use Rattle.run_events.specs.Seconds.{bares_by, overs_by, span_before, seen_next, last_of as last_span}
 use Rattle.run_events.proofs.Later.{told-number, seen-same}
 use Rattle.run_note_record.specs.Evented.{limit_in}
@@ -66,7 +66,7 @@ use Rattle.run_note_record.proofs.Lines.{same-before}
 use Rattle.log_model.specs.Slots.{Slots}
 use Rattle.run_events.specs.Watching.{seconds_with}
 use Rattle.run_minutes.specs.Keeping.{Fate, Still, Has, Fell, breaks_by}
-use Rattle.run_course.proofs.Lookups.{break-more}
+use Rattle.run_events.proofs.run_course.Lookups.{break-more}
 use Rattle.run_note_record.proofs.Brought.{SameBefore, course-until}
 use Rattle.run_note_record.proofs.Tearing.{told-elsewhere}
 use Rattle.run_record.specs.Turning.{IsTurned}

@@ -2,13 +2,13 @@
 use Rattle.std.proofs.Common.{◌≡◌, ◌∙◌, ℕ, ◌+◌, ◌-◌, ◌/◌, ◌%◌, ◌<◌, ◌≤◌, true, false, List, ◌++◌, All, Option, None, refl, ap, sym, subst, arith}
 use Rattle.std.specs.Prelude.{max}
 use Rattle.tach_media.specs.Medium.{State}
-use Rattle.card_layout.specs.declared.command.CardState.{CardState}
-use Rattle.minute_model.specs.declared.Minute.{Minute}
-use Rattle.minute_model.specs.declared.Rule.{Rule}
-use Rattle.minute_model.specs.declared.Rule.TheVariants.{Original, Amended}
-use Rattle.minute_model.specs.Minute.{minutes_ahead}
-use Rattle.minute_model.specs.Span.{Span, end_of, ungiven_of, latest, decided_in, fed_many}
-use Rattle.minute_model.proofs.Spans.{fed_many-end, fed_many-rule, fed_many-first_number, fed_many-settlings, fed_many-numbered, fed_many-settled}
+use Rattle.card_files.specs.card_layout.declared.command.CardState.{CardState}
+use Rattle.unit_model.specs.minute_model.declared.Minute.{Minute}
+use Rattle.unit_model.specs.minute_model.declared.Rule.{Rule}
+use Rattle.unit_model.specs.minute_model.declared.Rule.TheVariants.{Original, Amended}
+use Rattle.unit_model.specs.minute_model.Minute.{minutes_ahead}
+use Rattle.unit_model.specs.minute_model.Span.{Span, end_of, ungiven_of, latest, decided_in, fed_many}
+use Rattle.unit_model.proofs.minute_model.Spans.{fed_many-end, fed_many-rule, fed_many-first_number, fed_many-settlings, fed_many-numbered, fed_many-settled}
 use Rattle.trace_model.specs.declared.Card.{Card}
 use Rattle.minute_rules.specs.Kept.{CountsSpan, Kept as Minutes}
 use Rattle.unit_model.specs.Image.{IsUnit}

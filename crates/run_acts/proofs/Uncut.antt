@@ -3,10 +3,10 @@ use Rattle.std.proofs.Common.{◌≡◌, ◌∙◌, ◌⊎◌, ⊎_elim, ℕ, �
 use Rattle.activity_codec.specs.declared.values.Slot.{Slot}
 use Rattle.activity_codec.specs.declared.values.Slot.TheVariants.{Driver, CoDriver}
 use Rattle.trace_model.specs.declared.Card.{Card}
-use Rattle.event_model.specs.declared.entries.Span.{Span}
-use Rattle.minute_model.specs.declared.Minute.{Minute}
+use Rattle.unit_notes.specs.event_model.declared.entries.Span.{Span}
+use Rattle.unit_model.specs.minute_model.declared.Minute.{Minute}
 use Rattle.log_model.specs.declared.lines.Break.{Break}
-use Rattle.card_slots.specs.Calls.{seat_in, card_in}
+use Rattle.run_crew.specs.card_slots.Calls.{seat_in, card_in}
 use Rattle.tach_media.specs.Medium.{State, HasCause}
 use Rattle.run_outcome.specs.Lines.{Listed, cut_at}
 use Rattle.run_outcome.specs.Broken.{failed_cuts, BreaksDown}

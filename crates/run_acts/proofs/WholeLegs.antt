@@ -9,48 +9,48 @@ use Rattle.std.proofs.lemmas.List.Sums.{fold-append}
 use Rattle.activity_codec.specs.declared.entries.Entry.{Entry}
 use Rattle.trace_model.specs.declared.Card.{Card}
 use Rattle.trace_model.specs.Trace.{TraceSecond}
-use Rattle.run_model.specs.declared.Device.TheVariants.{Unit as Recorder}
-use Rattle.minute_model.specs.declared.Minute.{Minute}
-use Rattle.minute_model.specs.declared.Rule.{Rule}
-use Rattle.minute_model.specs.Span.{travelled_of}
-use Rattle.minute_model.proofs.Ranges.{each-more}
+use Rattle.log_model.specs.run_model.declared.Device.TheVariants.{Unit as Recorder}
+use Rattle.unit_model.specs.minute_model.declared.Minute.{Minute}
+use Rattle.unit_model.specs.minute_model.declared.Rule.{Rule}
+use Rattle.unit_model.specs.minute_model.Span.{travelled_of}
+use Rattle.unit_model.proofs.minute_model.Ranges.{each-more}
 use Rattle.log_model.specs.declared.lines.Break.{Break}
 use Rattle.log_model.specs.Log.{RunLog, Phase, kept_after}
 use Rattle.log_model.specs.Course.{ToldSecond, Visit, went}
 use Rattle.log_model.specs.Spans.{spans_of, first_in, end_in, AreApart}
 use Rattle.log_model.specs.Causes.{cuts}
 use Rattle.log_model.proofs.Spanning.{spanned}
-use Rattle.history_model.specs.Minutes.{HistoryMinute, up_to}
-use Rattle.history_model.specs.Presence.{Start}
-use Rattle.history_model.specs.History.{decided_of, span_minutes, limited_to, limit_by, history_by, settlings_of, minutes_after}
-use Rattle.history_model.specs.Completeness.{IsMarked, deciding_of}
-use Rattle.history_model.specs.Growth.{closed_limit, closed_history}
-use Rattle.history_model.proofs.Books.{up_to-within}
-use Rattle.history_model.proofs.Deciding.{apart-ended}
-use Rattle.history_model.proofs.Decided.{after-decided, limited-among, rises-within}
-use Rattle.history_model.proofs.Rising.{rises-span, rises-spans}
-use Rattle.card_session.specs.declared.session.Kept.{Kept}
+use Rattle.device_calls.specs.history_model.Minutes.{HistoryMinute, up_to}
+use Rattle.device_calls.specs.history_model.Presence.{Start}
+use Rattle.device_calls.specs.history_model.History.{decided_of, span_minutes, limited_to, limit_by, history_by, settlings_of, minutes_after}
+use Rattle.device_calls.specs.history_model.Completeness.{IsMarked, deciding_of}
+use Rattle.device_calls.specs.history_model.Growth.{closed_limit, closed_history}
+use Rattle.device_calls.proofs.history_model.Books.{up_to-within}
+use Rattle.device_calls.proofs.history_model.Deciding.{apart-ended}
+use Rattle.device_calls.proofs.history_model.Decided.{after-decided, limited-among, rises-within}
+use Rattle.device_calls.proofs.history_model.Rising.{rises-span, rises-spans}
+use Rattle.device_calls.specs.card_session.declared.session.Kept.{Kept}
 use Rattle.unit_model.specs.declared.layout.TheConstants.{HIGHEST_ODOMETER}
 use Rattle.unit_model.specs.Image.{odometer_at}
-use Rattle.run_unit_course.specs.Followed.{UnitPower, Lit as IsLit, as_spans, IsKnown}
-use Rattle.run_unit_course.specs.Legs.{kilometres_of, AreLegs, AreWhole, whole_legs}
-use Rattle.run_unit_course.specs.Turn.{span_at}
-use Rattle.run_unit_course.proofs.Alike.{decided-empty}
-use Rattle.run_unit_course.proofs.Legs.{legs-whole}
-use Rattle.unit_rule.specs.Rule.{once_mended}
-use Rattle.unit_rule.specs.Marks.{MarkIsKept}
-use Rattle.unit_rule.specs.Odometer.{odometer_by, odometer_after}
-use Rattle.unit_rule.proofs.Travelling.{odometer-sum}
-use Rattle.safety_model.specs.Safe.{Devices}
-use Rattle.safety_model.specs.Unit.{marks_of}
-use Rattle.safety_model.proofs.Whole.{mark-of, no-failure}
-use Rattle.card_slots.specs.declared.seats.Present.{Present}
-use Rattle.run_course.specs.Seconds.{next_told, kept_all}
-use Rattle.run_course.specs.Travelled.{HasLegs}
-use Rattle.run_promise.proofs.Going.{sure-kept}
-use Rattle.run_course.proofs.Telling.{each-of}
-use Rattle.run_promise.proofs.Entries.{all-by}
-use Rattle.run_promise.specs.Origin.{Origin, rule_of, start_at, first_of}
+use Rattle.device_calls.specs.run_unit_course.Followed.{UnitPower, Lit as IsLit, as_spans, IsKnown}
+use Rattle.device_calls.specs.run_unit_course.Legs.{kilometres_of, AreLegs, AreWhole, whole_legs}
+use Rattle.device_calls.specs.run_unit_course.Turn.{span_at}
+use Rattle.device_calls.proofs.run_unit_course.Alike.{decided-empty}
+use Rattle.device_calls.proofs.run_unit_course.Legs.{legs-whole}
+use Rattle.device_calls.specs.unit_rule.Rule.{once_mended}
+use Rattle.device_calls.specs.unit_rule.Marks.{MarkIsKept}
+use Rattle.device_calls.specs.unit_rule.Odometer.{odometer_by, odometer_after}
+use Rattle.device_calls.proofs.unit_rule.Travelling.{odometer-sum}
+use Rattle.device_calls.specs.safety_model.Safe.{Devices}
+use Rattle.device_calls.specs.safety_model.Unit.{marks_of}
+use Rattle.device_calls.proofs.safety_model.Whole.{mark-of, no-failure}
+use Rattle.run_crew.specs.card_slots.declared.seats.Present.{Present}
+use Rattle.run_events.specs.run_course.Seconds.{next_told, kept_all}
+use Rattle.run_events.specs.run_course.Travelled.{HasLegs}
+use Rattle.run_minutes.proofs.run_promise.Going.{sure-kept}
+use Rattle.run_events.proofs.run_course.Telling.{each-of}
+use Rattle.run_minutes.proofs.run_promise.Entries.{all-by}
+use Rattle.run_minutes.specs.run_promise.Origin.{Origin, rule_of, start_at, first_of}
 use Rattle.run_minutes.specs.declared.keeper.Keeper.{Keeper}
 use Rattle.run_minutes.specs.Keeping.{is_this, kept_in}
 use Rattle.run_minutes.specs.Minutes.{minute_of, present_at}

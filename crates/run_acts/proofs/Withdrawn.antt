@@ -5,31 +5,31 @@ use Rattle.activity_codec.specs.declared.values.Activity.{Activity}
 use Rattle.trace_model.specs.declared.Card.{Card}
 use Rattle.trace_model.specs.declared.Card.TheVariants.{A, B}
 use Rattle.tach_media.specs.Medium.{State, IsCoherent, LeavesOnly}
-use Rattle.card_layout.specs.declared.files.TheConstants.{LARGEST_IMAGE}
-use Rattle.card_layout.specs.Files.{image_size_of}
-use Rattle.card_layout.proofs.Sizes.{largest_image}
-use Rattle.card_image.specs.Own.{own_sizes, IsOwnValid}
-use Rattle.card_session.specs.Sessions.{IsSession}
-use Rattle.card_session.specs.Cards.{IsCardClosing}
+use Rattle.card_files.specs.card_layout.declared.files.TheConstants.{LARGEST_IMAGE}
+use Rattle.card_files.specs.card_layout.Files.{image_size_of}
+use Rattle.card_files.proofs.card_layout.Sizes.{largest_image}
+use Rattle.hand_model.specs.card_image.Own.{own_sizes, IsOwnValid}
+use Rattle.device_calls.specs.card_session.Sessions.{IsSession}
+use Rattle.device_calls.specs.card_session.Cards.{IsCardClosing}
 use Rattle.unit_notes.specs.Journal.{LeavesJournal}
-use Rattle.device_rule.specs.Views.{other}
-use Rattle.device_rule.specs.Rules.{Standing, Out}
+use Rattle.device_calls.specs.device_rule.Views.{other}
+use Rattle.device_calls.specs.device_rule.Rules.{Standing, Out}
 use Rattle.run_crew.specs.declared.cards.Accepted.{Accepted}
 use Rattle.run_crew.specs.declared.cards.Cards.{Cards}
 use Rattle.run_crew.specs.declared.cabin.Cabin.{Cabin}
 use Rattle.run_crew.specs.Cards.{session_of, with_session}
-use Rattle.run_promise.specs.Found.{Found, found_of}
-use Rattle.run_promise.specs.Between.{RunLedger}
-use Rattle.run_devices.specs.Told.{AreFoundCards, DevicesPowered, DevicesUnpowered, AreEarly, for_card, arranged, with_standing}
-use Rattle.run_devices.proofs.OnCards.{valid-or, no-marks}
-use Rattle.run_devices.proofs.Parts.{CardLit, AreParts, parts-of, powered-of, at-other}
-use Rattle.run_devices.proofs.Noted.{noted-powered, noted-powerless}
-use Rattle.run_devices.proofs.Left.{left-powered}
-use Rattle.run_devices.proofs.Travelled.{travelled-noted}
-use Rattle.run_unit_course.specs.Legs.{Travel, all_travelled}
-use Rattle.unit_rule.specs.Odometer.{HasTravelled}
-use Rattle.minute_model.specs.declared.Minute.{Minute}
-use Rattle.safety_model.specs.Safe.{Devices}
+use Rattle.run_minutes.specs.run_promise.Found.{Found, found_of}
+use Rattle.run_minutes.specs.run_promise.Between.{RunLedger}
+use Rattle.run_minutes.specs.run_devices.Told.{AreFoundCards, DevicesPowered, DevicesUnpowered, AreEarly, for_card, arranged, with_standing}
+use Rattle.run_minutes.proofs.run_devices.OnCards.{valid-or, no-marks}
+use Rattle.run_minutes.proofs.run_devices.Parts.{CardLit, AreParts, parts-of, powered-of, at-other}
+use Rattle.run_minutes.proofs.run_devices.Noted.{noted-powered, noted-powerless}
+use Rattle.run_minutes.proofs.run_devices.Left.{left-powered}
+use Rattle.run_minutes.proofs.run_devices.Travelled.{travelled-noted}
+use Rattle.device_calls.specs.run_unit_course.Legs.{Travel, all_travelled}
+use Rattle.device_calls.specs.unit_rule.Odometer.{HasTravelled}
+use Rattle.unit_model.specs.minute_model.declared.Minute.{Minute}
+use Rattle.device_calls.specs.safety_model.Safe.{Devices}
 use Rattle.run_minutes.specs.declared.keeper.Moment.{Moment}
 use Rattle.run_minutes.specs.Minutes.{KeepingState, Done, Reach, Whole, Short, IsReach}
 use Rattle.run_minutes.specs.Books.{AreBooked, HaveTime}

@@ -8,34 +8,34 @@ use Rattle.trace_model.specs.declared.Action.{Action}
 use Rattle.trace_model.specs.declared.Action.TheVariants.{Withdraw}
 use Rattle.trace_model.specs.Trace.{TraceSecond}
 use Rattle.tach_media.specs.Medium.{State, IsCoherent, LeavesOnly, HasCause, HasBroken}
-use Rattle.card_layout.specs.declared.files.TheConstants.{LARGEST_IMAGE}
-use Rattle.card_session.specs.Sessions.{IsSession}
-use Rattle.card_session.specs.Cards.{IsCardClosing}
-use Rattle.minute_model.specs.declared.Minute.{Minute}
-use Rattle.minute_model.specs.Span.{Span, settled, decided_in, end_of}
+use Rattle.card_files.specs.card_layout.declared.files.TheConstants.{LARGEST_IMAGE}
+use Rattle.device_calls.specs.card_session.Sessions.{IsSession}
+use Rattle.device_calls.specs.card_session.Cards.{IsCardClosing}
+use Rattle.unit_model.specs.minute_model.declared.Minute.{Minute}
+use Rattle.unit_model.specs.minute_model.Span.{Span, settled, decided_in, end_of}
 use Rattle.minute_rules.specs.Kept.{CountsSpan}
 use Rattle.log_model.specs.declared.lines.Break.{Break}
 use Rattle.log_model.specs.Log.{In, RunLog, Phase, is_torn_in, found_in}
 use Rattle.log_model.specs.Slots.{in_slot, refusal, other_slot, same_card}
 use Rattle.log_model.specs.Course.{Course, ToldSecond, Before, went}
-use Rattle.event_model.specs.Events.{course_by}
-use Rattle.run_course.specs.Moment.{found_at}
-use Rattle.run_course.specs.Reached.{course_at}
-use Rattle.run_course.proofs.Reached.{at-by}
+use Rattle.unit_notes.specs.event_model.Events.{course_by}
+use Rattle.run_events.specs.run_course.Moment.{found_at}
+use Rattle.run_events.specs.run_course.Reached.{course_at}
+use Rattle.run_events.proofs.run_course.Reached.{at-by}
 use Rattle.unit_model.specs.Image.{odometer_at}
-use Rattle.unit_rule.specs.Odometer.{odometer_after}
+use Rattle.device_calls.specs.unit_rule.Odometer.{odometer_after}
 use Rattle.unit_notes.specs.Journal.{LeavesJournal}
-use Rattle.safety_model.specs.Safe.{Devices}
-use Rattle.card_slots.specs.Calls.{seat_in, card_in, logged}
+use Rattle.device_calls.specs.safety_model.Safe.{Devices}
+use Rattle.run_crew.specs.card_slots.Calls.{seat_in, card_in, logged}
 use Rattle.run_crew.specs.declared.cards.Accepted.{Accepted}
 use Rattle.run_crew.specs.Cards.{session_of}
-use Rattle.run_devices.specs.Told.{arranged}
+use Rattle.run_minutes.specs.run_devices.Told.{arranged}
 use Rattle.run_outcome.specs.Lines.{Listed}
 use Rattle.run_outcome.specs.declared.outcome.Outcome.{Outcome}
 use Rattle.run_minutes.specs.declared.keeper.Moment.{Moment}
 use Rattle.run_minutes.specs.Minutes.{KeepingState, AreKept}
 use Rattle.run_minutes.specs.Books.{HaveTime}
-use Rattle.run_promise.specs.Origin.{Origin}
+use Rattle.run_minutes.specs.run_promise.Origin.{Origin}
 use Rattle.run_record.specs.Recorded.{Values}
 use Rattle.run_record.specs.Within.{Beginning, IsLeaving}
 use Rattle.run_record.specs.Taking.{IsLeft}
@@ -44,7 +44,7 @@ use Rattle.run_record.proofs.Pulling.{sitting-now}
 use Rattle.run_acts.specs.declared.run.Run.{Run}
 use Rattle.run_acts.specs.Acting.{Closing, Closed, IsClosed, closed_falls, told_of, left_run}
 use Rattle.run_acts.specs.Recording.{log_of, values_of, RunWithin, RunFails, GoesOnOrFails}
-use Rattle.unit_memory.specs.declared.memory.UnitFacts.{UnitFacts}
+use Rattle.run_minutes.specs.unit_memory.declared.memory.UnitFacts.{UnitFacts}
 use Rattle.run_acts.specs.Settling.{settled_run, IsSettledIn, RecordsSettling}
 use Rattle.run_acts.proofs.Apart.{not-both}
 use Rattle.run_acts.proofs.Asked.{allowed-in}
@@ -62,17 +62,17 @@ use Rattle.run_minutes.specs.Later.{IsCalm}
 use Rattle.run_acts.proofs.Closed.{closed-recorded, closed-evented}
 use Rattle.run_acts.specs.RunCards.{StillShow, CardsSettling, PlacesSettling}
 use Rattle.run_acts.proofs.CardStays.{closing-still}
-use Rattle.note_model.specs.Odometer.{SpanFrom}
-use Rattle.run_rings.specs.Spans.{with_second}
+use Rattle.unit_notes.specs.note_model.Odometer.{SpanFrom}
+use Rattle.run_events.specs.run_rings.Spans.{with_second}
 use Rattle.run_note_record.specs.OnCards.{CardsStay}
 use Rattle.run_acts.specs.RunRinged.{AreSpansNow}
 use Rattle.run_note_record.specs.Sessions.{Shuts}
 use Rattle.run_acts.specs.CardWrites.{ClosesCard}
 use Rattle.run_acts.proofs.CardPlaces.{closing-stays}
 use Rattle.run_acts.proofs.SessionsClosed.{closing-shuts}
-use Rattle.note_model.specs.Noted.{Note}
-use Rattle.card_image.specs.Own.{IsOwnValid}
-use Rattle.run_promise.specs.Found.{found_of}
+use Rattle.unit_notes.specs.note_model.Noted.{Note}
+use Rattle.hand_model.specs.card_image.Own.{IsOwnValid}
+use Rattle.run_minutes.specs.run_promise.Found.{found_of}
 use Rattle.run_acts.specs.Closings.{spells_of, last_slot, notes_within}
 use Rattle.run_acts.specs.Comings.{TellMore}
 use Rattle.run_acts.specs.Truths.{truths_within, marked}

@@ -11,25 +11,25 @@ use Rattle.activity_codec.specs.Activity.{same_slot}
 use Rattle.trace_model.specs.declared.Action.{Action}
 use Rattle.trace_model.specs.declared.Action.TheVariants.{Select, Insert, Withdraw, Tear, Place, Manual}
 use Rattle.trace_model.specs.Trace.{TraceSecond}
-use Rattle.minute_model.specs.declared.Minute.{Minute}
-use Rattle.minute_model.specs.Span.{Span, activity_next}
+use Rattle.unit_model.specs.minute_model.declared.Minute.{Minute}
+use Rattle.unit_model.specs.minute_model.Span.{Span, activity_next}
 use Rattle.log_model.specs.declared.lines.Find.{Find}
 use Rattle.log_model.specs.declared.lines.SlotFault.{SlotFault}
 use Rattle.log_model.specs.declared.lines.Verdict.{Verdict}
 use Rattle.log_model.specs.Log.{RunLog, Phase, In, cut_in, is_torn_in, found_in, is_accepting}
 use Rattle.log_model.specs.Slots.{Slots, Sitting, in_slot, refusal}
 use Rattle.log_model.specs.Course.{Course, Visit, Moved, Before, visits, with_slot, leaves, answered, moved_by, slot_told, both_told, begins, is_settling, acted, all_acted, unmoved, fresh, went}
-use Rattle.note_model.specs.Done.{course_powered}
-use Rattle.history_model.specs.Growth.{picking}
-use Rattle.event_model.specs.Events.{course_by}
-use Rattle.run_unit_course.specs.Turn.{span_at}
-use Rattle.safety_model.specs.Safe.{Devices}
-use Rattle.run_course.specs.Kept.{settled_times}
-use Rattle.run_course.specs.Reached.{moved_at, moved_with, course_at, course_with}
-use Rattle.run_promise.specs.Origin.{Origin, rule_of}
+use Rattle.unit_notes.specs.note_model.Done.{course_powered}
+use Rattle.device_calls.specs.history_model.Growth.{picking}
+use Rattle.unit_notes.specs.event_model.Events.{course_by}
+use Rattle.device_calls.specs.run_unit_course.Turn.{span_at}
+use Rattle.device_calls.specs.safety_model.Safe.{Devices}
+use Rattle.run_events.specs.run_course.Kept.{settled_times}
+use Rattle.run_events.specs.run_course.Reached.{moved_at, moved_with, course_at, course_with}
+use Rattle.run_minutes.specs.run_promise.Origin.{Origin, rule_of}
 use Rattle.run_record.specs.Recorded.{Values}
 use Rattle.run_record.specs.Within.{RecordInSecond, course_in}
-use Rattle.run_course.specs.Seconds.{next_told}
+use Rattle.run_events.specs.run_course.Seconds.{next_told}
 use Rattle.run_acts.specs.Words.{picks_of, IsWordOf}
 use Rattle.run_acts.specs.Truths.{past_of, IsWordIn}
 use Rattle.run_acts.proofs.NotesThen.{Parts, split, get-at, actions-at}

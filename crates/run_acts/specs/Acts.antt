@@ -3,16 +3,16 @@ use Rattle.std.specs.Prelude.{ℕ, ◌++◌, ◌+◌, ◌/◌, ◌∷◌, ◌≡
 use Rattle.std.specs.Prelude.{[], false, is_err, is_some, length, not, true, ◌<◌, ◌*◌, ◌≢◌}
 use Rattle.activity_codec.specs.declared.values.Activity.{Activity}
 use Rattle.activity_codec.specs.declared.values.Slot.{Slot}
-use Rattle.card_layout.specs.declared.command.CardState.{CardState}
-use Rattle.card_session.specs.Cards.{IsCardClosing}
-use Rattle.card_session.specs.Sessions.{IsSession, IsValue}
-use Rattle.card_slots.specs.Calls.{card_in, seat_in}
+use Rattle.card_files.specs.card_layout.declared.command.CardState.{CardState}
+use Rattle.device_calls.specs.card_session.Cards.{IsCardClosing}
+use Rattle.device_calls.specs.card_session.Sessions.{IsSession, IsValue}
+use Rattle.run_crew.specs.card_slots.Calls.{card_in, seat_in}
 use Rattle.device_calls.specs.CardNotes.{IsNote}
-use Rattle.event_model.specs.Spans.{gap_of}
+use Rattle.unit_notes.specs.event_model.Spans.{gap_of}
 use Rattle.log_model.specs.Log.{In}
 use Rattle.log_model.specs.declared.lines.Break.{Break}
-use Rattle.minute_model.specs.Span.{Span, decided_in, settled}
-use Rattle.minute_model.specs.declared.Minute.{Minute}
+use Rattle.unit_model.specs.minute_model.Span.{Span, decided_in, settled}
+use Rattle.unit_model.specs.minute_model.declared.Minute.{Minute}
 use Rattle.minute_rules.specs.Kept.{CountsSpan}
 use Rattle.run_crew.specs.Cabin.{CabinIsSound, number_of_seat}
 use Rattle.run_crew.specs.Cards.{known_of, session_of}
@@ -27,10 +27,10 @@ use Rattle.run_minutes.specs.declared.keeper.Moment.{Moment}
 use Rattle.run_outcome.specs.Broken.{BreaksDown}
 use Rattle.run_outcome.specs.Lines.{Listed}
 use Rattle.run_outcome.specs.declared.outcome.Outcome.{Outcome}
-use Rattle.run_promise.specs.Between.{devices}
-use Rattle.run_rings.specs.Same.{LeavesRings}
-use Rattle.run_speeds.specs.Speeds.{LeavesSpeeds}
-use Rattle.safety_model.specs.Safe.{Devices, card_of}
+use Rattle.run_minutes.specs.run_promise.Between.{devices}
+use Rattle.run_events.specs.run_rings.Same.{LeavesRings}
+use Rattle.run_events.specs.run_speeds.Speeds.{LeavesSpeeds}
+use Rattle.device_calls.specs.safety_model.Safe.{Devices, card_of}
 use Rattle.tach_media.specs.Medium.{HasBroken, HasCause, LeavesOnly, State}
 use Rattle.tach_media.specs.declared.fault.Failed.{Failed}
 use Rattle.tacho_types.specs.declared.places.PlaceEntry.{PlaceEntry}
@@ -62,8 +62,8 @@ use Rattle.run_acts.specs.Speeds.{BringsBlock, SpeedsTurn}
 use Rattle.run_acts.specs.Stays.{ClosesOnCard}
 use Rattle.run_acts.specs.Turning.{IsLitTurn, IsTurnOf}
 use Rattle.run_acts.specs.declared.run.Run.{Run}
-use Rattle.event_model.specs.declared.kinds.TheConstants.{POWER_INTERRUPTION}
-use Rattle.message_model.specs.Records.{insertion_ring}
+use Rattle.unit_notes.specs.event_model.declared.kinds.TheConstants.{POWER_INTERRUPTION}
+use Rattle.run_events.specs.message_model.Records.{insertion_ring}
 use Rattle.unit_model.specs.declared.layout.TheConstants.{HIGHEST_ODOMETER}
 
 -- THE CARD OF A SLOT WAS TO BE WITHDRAWN: what became of it, and nothing else has changed

@@ -5,18 +5,18 @@ use Rattle.activity_codec.specs.declared.values.Slot.{Slot}
 use Rattle.trace_model.specs.declared.Action.{Action}
 use Rattle.trace_model.specs.declared.Action.TheVariants.{Withdraw, Place}
 use Rattle.trace_model.specs.Trace.{TraceSecond}
-use Rattle.run_model.specs.declared.Device.{Device}
-use Rattle.run_model.specs.declared.Device.TheVariants.{Unit as Recorder}
+use Rattle.log_model.specs.run_model.declared.Device.{Device}
+use Rattle.log_model.specs.run_model.declared.Device.TheVariants.{Unit as Recorder}
 use Rattle.log_model.specs.declared.lines.Break.{Break}
 use Rattle.log_model.specs.Log.{RunLog, Phase, In}
 use Rattle.log_model.specs.Causes.{RoseBy}
 use Rattle.log_model.specs.Course.{Visit, went}
-use Rattle.safety_model.specs.Safe.{Devices, breakdowns_of}
-use Rattle.run_course.specs.Followed.{Progress}
-use Rattle.run_course.specs.Moment.{Moment as HasReached}
-use Rattle.run_course.specs.Telling.{IsMore, IsLeft}
-use Rattle.run_promise.specs.Origin.{Origin}
-use Rattle.run_promise.specs.Beside.{HaveLeftMore}
+use Rattle.device_calls.specs.safety_model.Safe.{Devices, breakdowns_of}
+use Rattle.run_events.specs.run_course.Followed.{Progress}
+use Rattle.run_events.specs.run_course.Moment.{Moment as HasReached}
+use Rattle.run_events.specs.run_course.Telling.{IsMore, IsLeft}
+use Rattle.run_minutes.specs.run_promise.Origin.{Origin}
+use Rattle.run_minutes.specs.run_promise.Beside.{HaveLeftMore}
 use Rattle.run_outcome.specs.Lines.{Listed}
 use Rattle.run_outcome.specs.declared.outcome.Outcome.{Outcome}
 use Rattle.run_minutes.specs.declared.keeper.Moment.{Moment}

@@ -1,15 +1,15 @@
 -- What the withdrawal of a card leaves of unit and cards, over devices that tell their images (profile).
 use Rattle.std.specs.Prelude.{◌≡◌, ℕ, Bool, true, false, Option, Some, None, List, map}
 use Rattle.trace_model.specs.declared.Card.{Card}
-use Rattle.minute_model.specs.declared.Minute.{Minute}
-use Rattle.device_rule.specs.Rules.{Out}
-use Rattle.run_unit_course.specs.Legs.{Travel, all_travelled}
-use Rattle.unit_rule.specs.Odometer.{HasTravelled, odometer_after}
-use Rattle.safety_model.specs.Safe.{Devices}
+use Rattle.unit_model.specs.minute_model.declared.Minute.{Minute}
+use Rattle.device_calls.specs.device_rule.Rules.{Out}
+use Rattle.device_calls.specs.run_unit_course.Legs.{Travel, all_travelled}
+use Rattle.device_calls.specs.unit_rule.Odometer.{HasTravelled, odometer_after}
+use Rattle.device_calls.specs.safety_model.Safe.{Devices}
 use Rattle.run_crew.specs.declared.cards.Cards.{Cards}
-use Rattle.run_promise.specs.Found.{Found}
-use Rattle.run_promise.specs.Between.{RunLedger}
-use Rattle.run_devices.specs.Told.{DevicesPowered, DevicesUnpowered, with_standing}
+use Rattle.run_minutes.specs.run_promise.Found.{Found}
+use Rattle.run_minutes.specs.run_promise.Between.{RunLedger}
+use Rattle.run_minutes.specs.run_devices.Told.{DevicesPowered, DevicesUnpowered, with_standing}
 use Rattle.run_minutes.specs.declared.keeper.Keeper.{Keeper}
 use Rattle.run_minutes.specs.Minutes.{KeepingState, Done, Reach, Whole, Short}
 use Rattle.run_minutes.specs.Books.{AreBooked, HaveTime}

@@ -1,12 +1,12 @@
 -- What the keeping of a turn leaves of unit and cards, over devices that tell their images (profile).
 use Rattle.std.specs.Prelude.{◌≡◌, ℕ, Bool, true, false, List, map}
-use Rattle.minute_model.specs.declared.Minute.{Minute}
-use Rattle.run_unit_course.specs.Legs.{Travel, all_travelled}
-use Rattle.unit_rule.specs.Odometer.{HasTravelled, odometer_after}
-use Rattle.safety_model.specs.Safe.{Devices}
-use Rattle.run_promise.specs.Found.{Found}
-use Rattle.run_promise.specs.Between.{RunLedger}
-use Rattle.run_devices.specs.Told.{DevicesUnpowered}
+use Rattle.unit_model.specs.minute_model.declared.Minute.{Minute}
+use Rattle.device_calls.specs.run_unit_course.Legs.{Travel, all_travelled}
+use Rattle.device_calls.specs.unit_rule.Odometer.{HasTravelled, odometer_after}
+use Rattle.device_calls.specs.safety_model.Safe.{Devices}
+use Rattle.run_minutes.specs.run_promise.Found.{Found}
+use Rattle.run_minutes.specs.run_promise.Between.{RunLedger}
+use Rattle.run_minutes.specs.run_devices.Told.{DevicesUnpowered}
 use Rattle.run_outcome.specs.declared.outcome.Outcome.{Outcome}
 use Rattle.run_minutes.specs.declared.keeper.Keeper.{Keeper}
 use Rattle.run_minutes.specs.declared.keeper.Moment.{Moment}

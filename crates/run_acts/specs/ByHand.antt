@@ -11,7 +11,7 @@ use Rattle.log_model.specs.ByHand.{minute_on}
 use Rattle.log_model.specs.Slots.{refusal}
 use Rattle.trace_model.specs.declared.Action.{Action}
 use Rattle.trace_model.specs.declared.Action.TheVariants.{Select, Insert, Withdraw, Tear, Place, Manual as EntryByHand}
-use Rattle.card_slots.specs.Calls.{seat_in, card_in, logged}
+use Rattle.run_crew.specs.card_slots.Calls.{seat_in, card_in, logged}
 use Rattle.run_crew.specs.declared.cards.Accepted.{Accepted}
 use Rattle.run_crew.specs.declared.cards.Cards.{Cards}
 use Rattle.run_crew.specs.declared.cabin.Cabin.{Cabin}

@@ -3,14 +3,14 @@ use Rattle.std.specs.Prelude.{◌≡◌, ℕ, ◌||◌, Bool, not, Option, Some,
 use Rattle.trace_model.specs.declared.Card.{Card}
 use Rattle.tach_media.specs.Medium.{State}
 use Rattle.tacho_types.specs.declared.texts.Registration.{Registration}
-use Rattle.card_image.specs.Beside.{HaveSameVehicles}
-use Rattle.card_image.specs.Fields.{file_bytes, current_use}
+use Rattle.hand_model.specs.card_image.Beside.{HaveSameVehicles}
+use Rattle.hand_model.specs.card_image.Fields.{file_bytes, current_use}
 use Rattle.card_files.specs.declared.card_event.CardEvent.{CardEvent}
-use Rattle.event_model.specs.declared.entries.Span.{Span}
-use Rattle.event_model.specs.declared.kinds.TheConstants.{POWER_INTERRUPTION}
-use Rattle.safety_model.specs.Safe.{Devices, card_of}
-use Rattle.card_slots.specs.declared.seats.Seat.{Seat}
-use Rattle.card_slots.specs.Calls.{is_card}
+use Rattle.unit_notes.specs.event_model.declared.entries.Span.{Span}
+use Rattle.unit_notes.specs.event_model.declared.kinds.TheConstants.{POWER_INTERRUPTION}
+use Rattle.device_calls.specs.safety_model.Safe.{Devices, card_of}
+use Rattle.run_crew.specs.card_slots.declared.seats.Seat.{Seat}
+use Rattle.run_crew.specs.card_slots.Calls.{is_card}
 use Rattle.run_crew.specs.declared.cards.Accepted.{Accepted}
 use Rattle.run_crew.specs.declared.cards.Cards.{Cards}
 use Rattle.run_crew.specs.Cards.{session_of}

@@ -6,26 +6,26 @@ use Rattle.activity_codec.specs.declared.values.Slot.{Slot}
 use Rattle.trace_model.specs.declared.Card.{Card}
 use Rattle.tach_media.specs.Medium.{State}
 use Rattle.tacho_types.specs.declared.places.PlaceEntry.{PlaceEntry}
-use Rattle.card_layout.specs.declared.files.Application.{Application}
-use Rattle.card_image.specs.Own.{IsOwnValid}
+use Rattle.card_files.specs.card_layout.declared.files.Application.{Application}
+use Rattle.hand_model.specs.card_image.Own.{IsOwnValid}
 use Rattle.card_files.specs.Noting.{IsPlaceNoted, IsNotingPlace}
 use Rattle.card_files.specs.Rings.{place_ring}
-use Rattle.card_session.specs.Sessions.{IsSession}
-use Rattle.card_session.specs.Cards.{IsCardClosed}
-use Rattle.gated_ring.specs.Ring.{PointsInside}
+use Rattle.device_calls.specs.card_session.Sessions.{IsSession}
+use Rattle.device_calls.specs.card_session.Cards.{IsCardClosed}
+use Rattle.run_events.specs.gated_ring.Ring.{PointsInside}
 use Rattle.log_model.specs.declared.lines.Break.{Break}
-use Rattle.minute_model.specs.declared.Minute.{Minute}
-use Rattle.minute_model.specs.Span.{Span, settled, decided_in, activity_next}
+use Rattle.unit_model.specs.minute_model.declared.Minute.{Minute}
+use Rattle.unit_model.specs.minute_model.Span.{Span, settled, decided_in, activity_next}
 use Rattle.minute_rules.specs.Kept.{CountsSpan}
-use Rattle.run_unit_course.specs.Legs.{Travel}
-use Rattle.unit_rule.specs.Odometer.{HasTravelled, odometer_after}
-use Rattle.safety_model.specs.Safe.{Devices, card_of}
+use Rattle.device_calls.specs.run_unit_course.Legs.{Travel}
+use Rattle.device_calls.specs.unit_rule.Odometer.{HasTravelled, odometer_after}
+use Rattle.device_calls.specs.safety_model.Safe.{Devices, card_of}
 use Rattle.run_crew.specs.declared.cards.Accepted.{Accepted}
 use Rattle.run_crew.specs.Cards.{session_of}
 use Rattle.run_outcome.specs.Lines.{Listed}
 use Rattle.run_outcome.specs.declared.outcome.Outcome.{Outcome}
-use Rattle.run_promise.specs.Found.{Found, found_of}
-use Rattle.run_promise.specs.Between.{RunLedger}
+use Rattle.run_minutes.specs.run_promise.Found.{Found, found_of}
+use Rattle.run_minutes.specs.run_promise.Between.{RunLedger}
 use Rattle.run_minutes.specs.declared.keeper.Moment.{Moment}
 use Rattle.run_minutes.specs.Minutes.{KeepingState}
 use Rattle.run_minutes.specs.Books.{HaveTime}

@@ -6,7 +6,7 @@ use Rattle.trace_model.specs.declared.Card.{Card}
 use Rattle.trace_model.specs.Trace.{TraceSecond}
 use Rattle.log_model.specs.Log.{RunLog, Phase}
 use Rattle.log_model.specs.Slots.{same_card}
-use Rattle.note_model.specs.Noted.{InsertionNote, Note, insertions_of}
+use Rattle.unit_notes.specs.note_model.Noted.{InsertionNote, Note, insertions_of}
 use Rattle.run_note_record.specs.RingsSoFar.{notes_so_far}
 use Rattle.run_record.specs.Within.{Beginning}
 pub use Rattle.run_record.specs.Handed.{actions_to}

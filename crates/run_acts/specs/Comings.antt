@@ -1,10 +1,10 @@
 -- THE VEHICLE BEFORE of each insertion (profile): what the entries of the ring of insertions of a unit tell of it, one
 -- after another, and what calls make of that.
 use Rattle.std.specs.Prelude.{◌≡◌, ◌⊎◌, ℕ, ◌+◌, ◌≤◌, Option, Some, None, List, [], ◌++◌, length, map, replicate}
-use Rattle.card_layout.specs.Fields.{field_at, number_in}
+use Rattle.card_files.specs.card_layout.Fields.{field_at, number_in}
 use Rattle.tach_media.specs.Medium.{State}
-use Rattle.gated_ring.specs.Ring.{PointsInside, IsDense, ring_list}
-use Rattle.message_model.specs.Records.{insertion_ring, insertion_widths}
+use Rattle.run_events.specs.gated_ring.Ring.{PointsInside, IsDense, ring_list}
+use Rattle.run_events.specs.message_model.Records.{insertion_ring, insertion_widths}
 use Rattle.card_files.specs.declared.vehicle.Vehicle.{Vehicle}
 
 -- a vehicle and when it was last used, as an insertion tells them

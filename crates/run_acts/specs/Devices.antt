@@ -1,7 +1,7 @@
 -- What the keeping of minutes leaves of the devices, whatever they tell (profile).
 use Rattle.std.specs.Prelude.{◌≡◌, ◌-◌, ◌≤◌, ℕ, Bool, Option, None, List, is_some}
 use Rattle.tach_media.specs.Medium.{State, HasCause, HasBroken}
-use Rattle.safety_model.specs.Safe.{Devices}
+use Rattle.device_calls.specs.safety_model.Safe.{Devices}
 use Rattle.run_crew.specs.declared.cards.Accepted.{Accepted}
 use Rattle.run_crew.specs.declared.cards.Cards.{Cards}
 use Rattle.run_minutes.specs.Keeping.{HasLeftMore, tears_of}

@@ -5,23 +5,23 @@ use Rattle.trace_model.specs.declared.Card.{Card}
 use Rattle.trace_model.specs.Trace.{TraceSecond}
 use Rattle.tach_media.specs.Medium.{State, IsCoherent, LeavesOnly, Unchanged, HasCause, last_count}
 use Rattle.minute_rules.specs.Kept.{Kept}
-use Rattle.card_image.specs.Own.{own_number, own_view, IsOwnValid}
-use Rattle.card_session.specs.declared.words.TheConstants.{LATEST_MINUTE}
-use Rattle.card_slots.specs.Calls.{seat_in, is_card}
+use Rattle.hand_model.specs.card_image.Own.{own_number, own_view, IsOwnValid}
+use Rattle.device_calls.specs.card_session.declared.words.TheConstants.{LATEST_MINUTE}
+use Rattle.run_crew.specs.card_slots.Calls.{seat_in, is_card}
 use Rattle.log_model.specs.Log.{In, found_in}
 use Rattle.log_model.specs.Slots.{other_slot}
 use Rattle.log_model.specs.Course.{Visit, went}
 use Rattle.log_model.specs.ByHand.{by_slots, stops}
-use Rattle.safety_model.specs.Recording.{card_image, brought}
-use Rattle.safety_model.specs.Safe.{Devices}
+use Rattle.device_calls.specs.safety_model.Recording.{card_image, brought}
+use Rattle.device_calls.specs.safety_model.Safe.{Devices}
 use Rattle.run_crew.specs.declared.cabin.Cabin.{Cabin}
 use Rattle.run_crew.specs.Cards.{session_of}
 use Rattle.run_crew.specs.Cabin.{with_power_lost}
-use Rattle.run_course.specs.Reached.{moved_at}
-use Rattle.run_devices.specs.Told.{arranged}
-use Rattle.run_promise.specs.Found.{found_of}
+use Rattle.run_events.specs.run_course.Reached.{moved_at}
+use Rattle.run_minutes.specs.run_devices.Told.{arranged}
+use Rattle.run_minutes.specs.run_promise.Found.{found_of}
 use Rattle.run_outcome.specs.declared.outcome.Outcome.{Outcome}
-use Rattle.run_promise.specs.Origin.{Origin, first_of}
+use Rattle.run_minutes.specs.run_promise.Origin.{Origin, first_of}
 use Rattle.run_minutes.specs.declared.keeper.Keeper.{Keeper}
 use Rattle.run_minutes.specs.Keeping.{UnitMayBeCalled}
 use Rattle.run_minutes.specs.Later.{IsCalm}

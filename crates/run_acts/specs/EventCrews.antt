@@ -7,21 +7,21 @@ use Rattle.tacho_types.specs.declared.card_number.FullCardNumber.{FullCardNumber
 use Rattle.run_events.specs.Watched.{named}
 use Rattle.log_model.specs.Slots.{Slots}
 use Rattle.log_model.specs.Course.{ToldSecond}
-use Rattle.history_model.specs.Minutes.{HistoryMinute}
-use Rattle.history_model.specs.Presence.{Start}
-use Rattle.event_model.specs.declared.kinds.TheConstants.{CARD_FAULT}
-use Rattle.event_model.specs.Events as events
-use Rattle.event_model.specs.Events.{Event, noted_with}
-use Rattle.card_image.specs.Own.{IsOwnValid}
-use Rattle.run_course.specs.Presence.{SlotsTell}
-use Rattle.card_slots.specs.Calls.{seat_in, is_card}
+use Rattle.device_calls.specs.history_model.Minutes.{HistoryMinute}
+use Rattle.device_calls.specs.history_model.Presence.{Start}
+use Rattle.unit_notes.specs.event_model.declared.kinds.TheConstants.{CARD_FAULT}
+use Rattle.unit_notes.specs.event_model.Events as events
+use Rattle.unit_notes.specs.event_model.Events.{Event, noted_with}
+use Rattle.hand_model.specs.card_image.Own.{IsOwnValid}
+use Rattle.run_events.specs.run_course.Presence.{SlotsTell}
+use Rattle.run_crew.specs.card_slots.Calls.{seat_in, is_card}
 use Rattle.run_crew.specs.declared.cabin.Cabin.{Cabin}
 use Rattle.run_crew.specs.declared.cards.Cards.{Cards}
 use Rattle.run_crew.specs.Cards.{known_of, session_of}
 use Rattle.run_crew.specs.Cabin.{CabinIsSound, torn_out, crew_of}
 use Rattle.run_events.specs.Entries.{number_or_no_card, IsCrewOf}
-use Rattle.run_promise.specs.Found.{Found, found_of}
-use Rattle.run_devices.specs.Told.{AreFoundCards}
+use Rattle.run_minutes.specs.run_promise.Found.{Found, found_of}
+use Rattle.run_minutes.specs.run_devices.Told.{AreFoundCards}
 use Rattle.run_minutes.specs.Keeping.{Fate, Still, Has, Fell}
 use Rattle.run_minutes.specs.Faults.{faults_by}
 use Rattle.run_acts.specs.NotedEvents.{AreTold}

@@ -6,22 +6,22 @@ use Rattle.std.specs.List.{AllByRecursion}
 use Rattle.activity_codec.specs.declared.values.Slot.{Slot}
 use Rattle.trace_model.specs.declared.Action.{Action}
 use Rattle.trace_model.specs.Trace.{TraceSecond, driven}
-use Rattle.minute_model.specs.declared.Minute.{Minute}
+use Rattle.unit_model.specs.minute_model.declared.Minute.{Minute}
 use Rattle.log_model.specs.Log.{RunLog, Phase, In, is_torn_in, found_in}
 use Rattle.log_model.specs.Course.{Visit}
 use Rattle.log_model.specs.Slots.{refusal}
-use Rattle.event_model.specs.Events.{Seen, seen_of, seen_spans, crew_of}
-use Rattle.card_slots.specs.Calls.{logged}
-use Rattle.run_unit_course.specs.Lines.{cut_at}
-use Rattle.run_unit_course.specs.Followed.{UnitPower, Lost as IsLost}
-use Rattle.safety_model.specs.Safe.{Devices}
-use Rattle.run_course.specs.Moments.{and_break}
-use Rattle.run_course.specs.Followed.{Progress}
-use Rattle.run_course.specs.Telling.{begun_by}
+use Rattle.unit_notes.specs.event_model.Events.{Seen, seen_of, seen_spans, crew_of}
+use Rattle.run_crew.specs.card_slots.Calls.{logged}
+use Rattle.device_calls.specs.run_unit_course.Lines.{cut_at}
+use Rattle.device_calls.specs.run_unit_course.Followed.{UnitPower, Lost as IsLost}
+use Rattle.device_calls.specs.safety_model.Safe.{Devices}
+use Rattle.run_events.specs.run_course.Moments.{and_break}
+use Rattle.run_events.specs.run_course.Followed.{Progress}
+use Rattle.run_events.specs.run_course.Telling.{begun_by}
 use Rattle.run_events.specs.Seconds.{last_of, span_before, seen_next}
 use Rattle.run_crew.specs.declared.cabin.Cabin.{Cabin}
 use Rattle.run_outcome.specs.declared.outcome.Outcome.{Outcome}
-use Rattle.run_promise.specs.Origin.{Origin}
+use Rattle.run_minutes.specs.run_promise.Origin.{Origin}
 use Rattle.run_note_record.specs.Evented.{limit_in, Evented}
 use Rattle.run_note_record.specs.Noting.{Stage, Acting}
 use Rattle.run_note_record.specs.EventsSoFar.{EventedNow, puts_into}

@@ -2,8 +2,8 @@
 -- moments: profile).
 use Rattle.std.specs.Prelude.{◌≡◌, ◌⊎◌, ℕ, Bool, true, false, List, ◌++◌}
 use Rattle.tach_media.specs.Medium.{State}
-use Rattle.minute_model.specs.declared.Minute.{Minute}
-use Rattle.minute_model.specs.Span.{Span, settled, decided_in}
+use Rattle.unit_model.specs.minute_model.declared.Minute.{Minute}
+use Rattle.unit_model.specs.minute_model.Span.{Span, settled, decided_in}
 use Rattle.minute_rules.specs.Kept.{CountsSpan}
 use Rattle.run_crew.specs.Cabin.{crew_of}
 use Rattle.run_events.specs.declared.watch.Ended.{Ended}

@@ -2,16 +2,16 @@
 use Rattle.std.specs.Prelude.{◌≡◌, ℕ, ◌-◌, ◌/◌, ◌<◌, ◌≤◌, ◌^◌, true, false, Option, None, Ok, IfSome, is_some, ◌+◌, ◌%◌}
 use Rattle.trace_model.specs.declared.Card.{Card}
 use Rattle.tach_media.specs.Medium.{State}
-use Rattle.card_layout.specs.declared.command.CardState.{CardState}
-use Rattle.card_layout.specs.declared.files.Application.{Application}
-use Rattle.card_layout.specs.declared.files.TheConstants.{LARGEST_IMAGE}
-use Rattle.card_commands.specs.Ports.{IsPort}
-use Rattle.message_model.specs.Records.{insertion_ring}
-use Rattle.minute_model.specs.Span.{Span, end_of, ungiven_of}
+use Rattle.card_files.specs.card_layout.declared.command.CardState.{CardState}
+use Rattle.card_files.specs.card_layout.declared.files.Application.{Application}
+use Rattle.card_files.specs.card_layout.declared.files.TheConstants.{LARGEST_IMAGE}
+use Rattle.device_calls.specs.card_commands.Ports.{IsPort}
+use Rattle.run_events.specs.message_model.Records.{insertion_ring}
+use Rattle.unit_model.specs.minute_model.Span.{Span, end_of, ungiven_of}
 use Rattle.minute_rules.specs.Kept.{CountsSpan}
 use Rattle.unit_model.specs.declared.layout.TheConstants.{HIGHEST_ODOMETER}
 use Rattle.unit_model.specs.Image.{IsUnit}
-use Rattle.card_slots.specs.Calls.{present_in}
+use Rattle.run_crew.specs.card_slots.Calls.{present_in}
 use Rattle.run_crew.specs.declared.cards.Known.{Known}
 use Rattle.run_crew.specs.declared.cabin.Cabin.{Cabin}
 use Rattle.run_crew.specs.Cards.{session_of}

@@ -3,12 +3,12 @@ use Rattle.std.specs.Prelude.{◌≡◌, ℕ, ◌+◌, ◌*◌, ◌%◌, ◌<◌
 use Rattle.activity_codec.specs.declared.values.Slot.{Slot}
 use Rattle.trace_model.specs.declared.Card.{Card}
 use Rattle.tach_media.specs.Medium.{State, HasCause}
-use Rattle.card_layout.specs.declared.command.CardState.{CardState}
-use Rattle.minute_model.specs.declared.Minute.{Minute}
-use Rattle.minute_model.specs.Span.{Span, settled, decided_in}
+use Rattle.card_files.specs.card_layout.declared.command.CardState.{CardState}
+use Rattle.unit_model.specs.minute_model.declared.Minute.{Minute}
+use Rattle.unit_model.specs.minute_model.Span.{Span, settled, decided_in}
 use Rattle.minute_rules.specs.Kept.{CountsSpan}
-use Rattle.safety_model.specs.Safe.{Devices}
-use Rattle.card_slots.specs.Calls.{seat_in}
+use Rattle.device_calls.specs.safety_model.Safe.{Devices}
+use Rattle.run_crew.specs.card_slots.Calls.{seat_in}
 use Rattle.run_crew.specs.Cabin.{CabinIsSound}
 use Rattle.run_events.specs.Watching.{Watches}
 use Rattle.run_events.specs.Blocks.{KnowsNewest}

@@ -2,13 +2,13 @@
 use Rattle.std.specs.Prelude.{Option, Some, None, IfSome, List, ℕ, replicate}
 use Rattle.std.specs.List.{AllByRecursion}
 use Rattle.trace_model.specs.declared.Card.{Card}
-use Rattle.card_layout.specs.declared.files.Fid.{Fid}
-use Rattle.card_image.specs.Own.{own_bad_file, IsOwnValid}
-use Rattle.event_model.specs.Events.{Event, Crew}
-use Rattle.safety_model.specs.Recording.{card_image}
+use Rattle.card_files.specs.card_layout.declared.files.Fid.{Fid}
+use Rattle.hand_model.specs.card_image.Own.{own_bad_file, IsOwnValid}
+use Rattle.unit_notes.specs.event_model.Events.{Event, Crew}
+use Rattle.device_calls.specs.safety_model.Recording.{card_image}
 use Rattle.tacho_types.specs.declared.card_number.FullCardNumber.{FullCardNumber}
 use Rattle.tacho_types.specs.CardNumber.{card_number_of}
-use Rattle.run_promise.specs.Origin.{Origin}
+use Rattle.run_minutes.specs.run_promise.Origin.{Origin}
 use Rattle.run_note_record.specs.Evented.{number_in}
 
 -- a card is valid at the start

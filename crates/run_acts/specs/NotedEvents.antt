@@ -2,14 +2,14 @@
 -- profile).
 use Rattle.std.specs.Prelude.{◌≡◌, ◌≢◌, ℕ, ◌^◌, ◌<◌, Bool, true, false, List, [], ◌∷◌, ◌++◌, Contains}
 use Rattle.trace_model.specs.declared.Card.{Card}
-use Rattle.event_model.specs.declared.kinds.TheConstants.{OVER_SPEEDING}
-use Rattle.event_model.specs.Events.{Event}
-use Rattle.unit_events.specs.Shown.{all_kinds}
+use Rattle.unit_notes.specs.event_model.declared.kinds.TheConstants.{OVER_SPEEDING}
+use Rattle.unit_notes.specs.event_model.Events.{Event}
+use Rattle.run_events.specs.unit_events.Shown.{all_kinds}
 use Rattle.unit_notes.specs.declared.unit_event.UnitEvent.{UnitEvent}
 use Rattle.unit_notes.specs.Fields.{IsEventOf}
-use Rattle.safety_model.specs.Safe.{Devices}
+use Rattle.device_calls.specs.safety_model.Safe.{Devices}
 use Rattle.run_events.specs.Shown.{by_kind, none_sure, AreNumbers}
-use Rattle.run_promise.specs.Origin.{Origin}
+use Rattle.run_minutes.specs.run_promise.Origin.{Origin}
 use Rattle.run_note_record.specs.Evented.{number_in, NotesMore}
 use Rattle.run_note_record.specs.Noting.{NotesThese}
 

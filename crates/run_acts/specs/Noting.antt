@@ -6,31 +6,31 @@ use Rattle.activity_codec.specs.declared.values.Slot.TheVariants.{Driver, CoDriv
 use Rattle.trace_model.specs.declared.Card.{Card}
 use Rattle.trace_model.specs.declared.Action.TheVariants.{Place}
 use Rattle.trace_model.specs.Trace.{TraceSecond}
-use Rattle.event_model.specs.declared.entries.Span.{Span}
-use Rattle.event_model.specs.declared.kinds.TheConstants.{POWER_INTERRUPTION, CARD_FAULT}
+use Rattle.unit_notes.specs.event_model.declared.entries.Span.{Span}
+use Rattle.unit_notes.specs.event_model.declared.kinds.TheConstants.{POWER_INTERRUPTION, CARD_FAULT}
 use Rattle.unit_notes.specs.declared.unit_event.UnitEvent.{UnitEvent}
 use Rattle.run_acts.specs.NotedEvents.{NotesEvents}
 use Rattle.tach_media.specs.Medium.{State}
-use Rattle.minute_model.specs.declared.Minute.{Minute}
-use Rattle.minute_model.specs.Span.{Span as Minutes, settled, decided_in}
+use Rattle.unit_model.specs.minute_model.declared.Minute.{Minute}
+use Rattle.unit_model.specs.minute_model.Span.{Span as Minutes, settled, decided_in}
 use Rattle.minute_rules.specs.Kept.{CountsSpan}
 use Rattle.run_events.specs.Shown.{SaysNothing}
 use Rattle.run_minutes.specs.Minutes.{Reach, IsReach}
 use Rattle.run_minutes.specs.Faults.{faults_to}
 use Rattle.log_model.specs.declared.lines.Break.{Break}
 use Rattle.log_model.specs.Log.{Phase, In}
-use Rattle.safety_model.specs.Safe.{Devices}
-use Rattle.card_slots.specs.Calls.{seat_in, card_in}
+use Rattle.device_calls.specs.safety_model.Safe.{Devices}
+use Rattle.run_crew.specs.card_slots.Calls.{seat_in, card_in}
 use Rattle.run_crew.specs.declared.cards.Cards.{Cards}
 use Rattle.run_crew.specs.Cabin.{crew_of}
 use Rattle.run_events.specs.Entries.{entry_of}
-use Rattle.run_promise.specs.Found.{Found}
-use Rattle.run_promise.specs.Between.{RunLedger}
-use Rattle.run_devices.specs.Told.{AreFoundCards, DevicesPowered, with_standing}
+use Rattle.run_minutes.specs.run_promise.Found.{Found}
+use Rattle.run_minutes.specs.run_promise.Between.{RunLedger}
+use Rattle.run_minutes.specs.run_devices.Told.{AreFoundCards, DevicesPowered, with_standing}
 use Rattle.run_outcome.specs.Lines.{Listed}
 use Rattle.run_outcome.specs.declared.outcome.Outcome.{Outcome}
 use Rattle.run_minutes.specs.declared.keeper.Moment.{Moment}
-use Rattle.run_promise.specs.Origin.{Origin}
+use Rattle.run_minutes.specs.run_promise.Origin.{Origin}
 use Rattle.run_record.specs.Taking.{fallen}
 use Rattle.run_acts.specs.declared.run.Run.{Run}
 use Rattle.run_acts.specs.Acting.{IsNotedIn, IsNotedOn, Closing, Bare, Closed, Fell, IsClosed, told_of, left_run}

@@ -7,19 +7,19 @@ use Rattle.trace_model.specs.declared.Card.{Card}
 use Rattle.trace_model.specs.Trace.{TraceSecond}
 use Rattle.tach_media.specs.Medium.{State}
 use Rattle.tacho_types.specs.declared.texts.Registration.{Registration}
-use Rattle.card_layout.specs.declared.files.Application.{Application}
+use Rattle.card_files.specs.card_layout.declared.files.Application.{Application}
 use Rattle.card_files.specs.declared.card_event.CardEvent.{CardEvent}
 use Rattle.card_files.specs.declared.current_use.CurrentUse.{CurrentUse}
-use Rattle.card_image.specs.Fields.{current_use}
-use Rattle.card_image.specs.Own.{own_sizes}
-use Rattle.card_session.specs.Inserting.{unclosed}
+use Rattle.hand_model.specs.card_image.Fields.{current_use}
+use Rattle.hand_model.specs.card_image.Own.{own_sizes}
+use Rattle.device_calls.specs.card_session.Inserting.{unclosed}
 use Rattle.log_model.specs.declared.lines.Verdict.{Verdict}
 use Rattle.log_model.specs.Log.{RunLog, is_accepting}
 use Rattle.log_model.specs.Slots.{same_card}
-use Rattle.event_model.specs.declared.kinds.TheConstants.{INSERTION_WHILE_DRIVING, SESSION_NOT_CLOSED}
-use Rattle.event_model.specs.declared.kinds.TheConstants.{POWER_INTERRUPTION}
-use Rattle.event_model.specs.Events.{Event, Crew, Seen, Tearing, number_of, seen_of, seen_spans, gap_events}
-use Rattle.note_model.specs.Done.{has_failed_in}
+use Rattle.unit_notes.specs.event_model.declared.kinds.TheConstants.{INSERTION_WHILE_DRIVING, SESSION_NOT_CLOSED}
+use Rattle.unit_notes.specs.event_model.declared.kinds.TheConstants.{POWER_INTERRUPTION}
+use Rattle.unit_notes.specs.event_model.Events.{Event, Crew, Seen, Tearing, number_of, seen_of, seen_spans, gap_events}
+use Rattle.unit_notes.specs.note_model.Done.{has_failed_in}
 use Rattle.run_events.specs.Seconds.{gap_by, seen_next}
 use Rattle.run_insertion.specs.CardEvents.{events_in, all_noted, MayBeNoted}
 

@@ -4,21 +4,21 @@ use Rattle.std.specs.Prelude.{nat_lt, Bool, false, not, ◌&&◌}
 use Rattle.activity_codec.specs.declared.entries.Entry.{Entry}
 use Rattle.trace_model.specs.declared.Card.{Card}
 use Rattle.trace_model.specs.Trace.{TraceSecond}
-use Rattle.minute_model.specs.declared.Minute.{Minute}
-use Rattle.minute_model.specs.declared.Rule.{Rule}
-use Rattle.minute_model.specs.Span.{decided_in, ungiven_of}
+use Rattle.unit_model.specs.minute_model.declared.Minute.{Minute}
+use Rattle.unit_model.specs.minute_model.declared.Rule.{Rule}
+use Rattle.unit_model.specs.minute_model.Span.{decided_in, ungiven_of}
 use Rattle.log_model.specs.Log.{RunLog}
 use Rattle.log_model.specs.declared.lines.Find.{Find}
 use Rattle.log_model.specs.Course.{ToldSecond, Visit, Before, went}
 use Rattle.log_model.specs.Spans.{spans_of}
-use Rattle.event_model.specs.Events.{course_by}
-use Rattle.history_model.specs.Minutes.{HistoryMinute, card_history}
-use Rattle.history_model.specs.Presence.{Start}
-use Rattle.history_model.specs.History.{settlings_of, minutes_after, decided_of}
-use Rattle.history_model.specs.Completeness.{deciding_of}
-use Rattle.run_unit_course.specs.Followed.{as_spans}
-use Rattle.run_unit_course.specs.Turn.{span_at, begins_with}
-use Rattle.run_course.specs.Kept.{settled_times}
+use Rattle.unit_notes.specs.event_model.Events.{course_by}
+use Rattle.device_calls.specs.history_model.Minutes.{HistoryMinute, card_history}
+use Rattle.device_calls.specs.history_model.Presence.{Start}
+use Rattle.device_calls.specs.history_model.History.{settlings_of, minutes_after, decided_of}
+use Rattle.device_calls.specs.history_model.Completeness.{deciding_of}
+use Rattle.device_calls.specs.run_unit_course.Followed.{as_spans}
+use Rattle.device_calls.specs.run_unit_course.Turn.{span_at, begins_with}
+use Rattle.run_events.specs.run_course.Kept.{settled_times}
 
 -- the last of these seconds had power, and kept it
 abbrev pub runs_on : List ToldSecond → Bool

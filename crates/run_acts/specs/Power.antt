@@ -1,13 +1,13 @@
 -- Power lost, and power back (profile).
 use Rattle.std.specs.Prelude.{◌≡◌, ℕ, ◌+◌, ◌-◌, ◌/◌, ◌%◌, ◌==◌, Bool, true, false, None, List, [], ◌∷◌}
-use Rattle.minute_model.specs.declared.Rule.{Rule}
-use Rattle.minute_model.specs.Span.{begin}
+use Rattle.unit_model.specs.minute_model.declared.Rule.{Rule}
+use Rattle.unit_model.specs.minute_model.Span.{begin}
 use Rattle.minute_rules.specs.Kept.{CountsSpan}
 use Rattle.log_model.specs.declared.lines.Break.{Break}
 use Rattle.run_crew.specs.declared.cabin.Cabin.{Cabin}
 use Rattle.run_crew.specs.Cabin.{with_power_lost, with_minute_ended}
 use Rattle.run_events.specs.Watching as watching
-use Rattle.speed_store.specs.Feeding as minute_speeds
+use Rattle.run_events.specs.speed_store.Feeding as minute_speeds
 use Rattle.run_outcome.specs.Lines.{cut_at}
 use Rattle.unit_minutes.specs.declared.notes.Notes.{Notes}
 use Rattle.run_acts.specs.declared.run.Run.{Run}

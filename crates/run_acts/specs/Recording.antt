@@ -3,27 +3,27 @@ use Rattle.std.specs.Prelude.{◌≡◌, ◌+◌, ◌-◌, ◌<◌, Bool, true, 
 use Rattle.trace_model.specs.declared.Action.{Action}
 use Rattle.trace_model.specs.declared.Card.{Card}
 use Rattle.trace_model.specs.Trace.{TraceSecond, driven}
-use Rattle.minute_model.specs.declared.Minute.{Minute}
+use Rattle.unit_model.specs.minute_model.declared.Minute.{Minute}
 use Rattle.log_model.specs.ByHand.{by_slots, stops}
 use Rattle.log_model.specs.Log.{RunLog, Phase, In}
 use Rattle.log_model.specs.Causes.{cuts}
 use Rattle.log_model.specs.Course.{Visit, went}
 use Rattle.log_model.specs.Slots.{refusal}
-use Rattle.card_slots.specs.Calls.{logged}
-use Rattle.run_unit_course.specs.Followed.{UnitPower, Lit as IsLit, Due as IsDue, Lost as IsLost}
+use Rattle.run_crew.specs.card_slots.Calls.{logged}
+use Rattle.device_calls.specs.run_unit_course.Followed.{UnitPower, Lit as IsLit, Due as IsDue, Lost as IsLost}
 use Rattle.unit_model.specs.Decoding.{Decodes}
 use Rattle.unit_model.specs.Image.{odometer_at}
 use Rattle.unit_model.specs.Versions.{rule_of}
-use Rattle.unit_rule.specs.Odometer.{odometer_after}
-use Rattle.unit_rule.specs.Rule.{started}
-use Rattle.card_image.specs.Own.{own_number, IsOwnValid}
-use Rattle.safety_model.specs.Recording.{card_image, brought}
-use Rattle.safety_model.specs.Safe.{Devices}
-use Rattle.run_promise.specs.Found.{found_of}
+use Rattle.device_calls.specs.unit_rule.Odometer.{odometer_after}
+use Rattle.device_calls.specs.unit_rule.Rule.{started}
+use Rattle.hand_model.specs.card_image.Own.{own_number, IsOwnValid}
+use Rattle.device_calls.specs.safety_model.Recording.{card_image, brought}
+use Rattle.device_calls.specs.safety_model.Safe.{Devices}
+use Rattle.run_minutes.specs.run_promise.Found.{found_of}
 use Rattle.run_crew.specs.declared.cabin.Cabin.{Cabin}
 use Rattle.run_crew.specs.Cabin.{with_power_lost}
 use Rattle.run_outcome.specs.declared.outcome.Outcome.{Outcome}
-use Rattle.run_promise.specs.Origin.{Origin}
+use Rattle.run_minutes.specs.run_promise.Origin.{Origin}
 use Rattle.run_note_record.specs.Ringed.{notes_in}
 use Rattle.run_note_record.specs.Uses.{vehicle_in}
 use Rattle.run_minutes.specs.Books.{HaveTime}

@@ -6,11 +6,11 @@ use Rattle.tacho_types.specs.declared.card_number.FullCardNumber.{FullCardNumber
 use Rattle.tacho_types.specs.declared.numbers.Odometer.{Odometer}
 use Rattle.tacho_types.specs.declared.places.PlaceEntry.{PlaceEntry}
 use Rattle.tach_media.specs.Medium.{State}
-use Rattle.gated_ring.specs.Change.{IsAdded}
-use Rattle.message_model.specs.Records.{unit_place_ring}
-use Rattle.minute_model.specs.Span.{Span, travelled_of}
+use Rattle.run_events.specs.gated_ring.Change.{IsAdded}
+use Rattle.run_events.specs.message_model.Records.{unit_place_ring}
+use Rattle.unit_model.specs.minute_model.Span.{Span, travelled_of}
 use Rattle.minute_rules.specs.Kept.{CountsSpan}
-use Rattle.note_model.specs.Rings.{kind_of}
+use Rattle.unit_notes.specs.note_model.Rings.{kind_of}
 use Rattle.unit_model.specs.declared.layout.TheConstants.{HIGHEST_ODOMETER}
 use Rattle.unit_notes.specs.Entries.{unit_place_bytes}
 use Rattle.run_crew.specs.declared.cards.Accepted.{Accepted}

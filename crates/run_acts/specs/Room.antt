@@ -1,7 +1,7 @@
 -- The room that a run needs for what is to come, and what a call takes of it (profile).
 use Rattle.std.specs.Prelude.{◌≡◌, ℕ, ◌+◌, ◌-◌, ◌*◌, ◌/◌, ◌<◌, ◌≤◌, Bool, true, false, Option, Some, None, length}
-use Rattle.card_slots.specs.declared.seats.Seat.{Seat}
-use Rattle.card_slots.specs.Calls.{Seats}
+use Rattle.run_crew.specs.card_slots.declared.seats.Seat.{Seat}
+use Rattle.run_crew.specs.card_slots.Calls.{Seats}
 use Rattle.run_crew.specs.declared.cabin.Cabin.{Cabin}
 use Rattle.run_outcome.specs.declared.outcome.TheConstants.{MOST_OWED}
 use Rattle.run_outcome.specs.declared.outcome.Outcome.{Outcome}

@@ -6,22 +6,22 @@ use Rattle.activity_codec.specs.declared.values.Slot.{Slot}
 use Rattle.trace_model.specs.declared.Card.{Card}
 use Rattle.trace_model.specs.Trace.{TraceSecond}
 use Rattle.tach_media.specs.Medium.{HasBroken}
-use Rattle.run_model.specs.declared.Device.{Device}
-use Rattle.run_model.specs.declared.Device.TheVariants.{Unit as Recorder}
-use Rattle.minute_model.specs.declared.Minute.{Minute}
+use Rattle.log_model.specs.run_model.declared.Device.{Device}
+use Rattle.log_model.specs.run_model.declared.Device.TheVariants.{Unit as Recorder}
+use Rattle.unit_model.specs.minute_model.declared.Minute.{Minute}
 use Rattle.log_model.specs.Causes.{device_of, RoseBy}
 use Rattle.log_model.specs.Course.{went}
-use Rattle.run_unit_course.specs.Legs.{Travel, all_travelled}
+use Rattle.device_calls.specs.run_unit_course.Legs.{Travel, all_travelled}
 use Rattle.unit_model.specs.Image.{odometer_at}
-use Rattle.unit_rule.specs.Odometer.{HasTravelled}
-use Rattle.safety_model.specs.Safe.{Devices, breakdowns_of}
+use Rattle.device_calls.specs.unit_rule.Odometer.{HasTravelled}
+use Rattle.device_calls.specs.safety_model.Safe.{Devices, breakdowns_of}
 use Rattle.run_crew.specs.declared.cards.Cards.{Cards}
 use Rattle.run_crew.specs.Cards.{session_of}
 use Rattle.run_crew.specs.Cabin.{AreTwo}
-use Rattle.run_promise.specs.Between.{RunLedger}
-use Rattle.run_course.specs.Seconds.{kept_all}
-use Rattle.run_devices.specs.Told.{DevicesUnpowered}
-use Rattle.run_promise.specs.Origin.{Origin}
+use Rattle.run_minutes.specs.run_promise.Between.{RunLedger}
+use Rattle.run_events.specs.run_course.Seconds.{kept_all}
+use Rattle.run_minutes.specs.run_devices.Told.{DevicesUnpowered}
+use Rattle.run_minutes.specs.run_promise.Origin.{Origin}
 use Rattle.run_minutes.specs.declared.keeper.Keeper.{Keeper}
 use Rattle.run_minutes.specs.Minutes.{Round, KeepingState, Done, Reach, Whole, AreRounds, IsLast, IsReach, told_by}
 use Rattle.run_minutes.specs.Minutes.{present_at}

@@ -5,29 +5,29 @@ use Rattle.std.specs.Prelude.{List, [], ◌∷◌, ◌++◌, Contains, length, i
 use Rattle.activity_codec.specs.declared.values.Slot.{Slot}
 use Rattle.trace_model.specs.declared.Card.{Card}
 use Rattle.trace_model.specs.Trace.{TraceSecond}
-use Rattle.run_model.specs.declared.Device.{Device}
-use Rattle.run_model.specs.declared.Device.TheVariants.{Unit as Recorder}
-use Rattle.minute_model.specs.declared.Minute.{Minute}
-use Rattle.minute_model.specs.Span.{Span, count_from, ungiven_of}
+use Rattle.log_model.specs.run_model.declared.Device.{Device}
+use Rattle.log_model.specs.run_model.declared.Device.TheVariants.{Unit as Recorder}
+use Rattle.unit_model.specs.minute_model.declared.Minute.{Minute}
+use Rattle.unit_model.specs.minute_model.Span.{Span, count_from, ungiven_of}
 use Rattle.log_model.specs.declared.lines.Break.{Break}
 use Rattle.log_model.specs.declared.lines.Mark.{Mark}
 use Rattle.log_model.specs.Log.{RunLog, Phase, In, Keeping, phase_of}
 use Rattle.log_model.specs.Causes.{device_of, RoseBy}
 use Rattle.log_model.specs.Course.{Course, Visit, went}
-use Rattle.history_model.specs.Minutes.{HistoryMinute}
-use Rattle.device_rule.specs.Rules.{Standing}
-use Rattle.run_unit_course.specs.Turn.{span_at}
+use Rattle.device_calls.specs.history_model.Minutes.{HistoryMinute}
+use Rattle.device_calls.specs.device_rule.Rules.{Standing}
+use Rattle.device_calls.specs.run_unit_course.Turn.{span_at}
 use Rattle.run_crew.specs.declared.cabin.Cabin.{Cabin}
 use Rattle.run_crew.specs.declared.cards.Cards.{Cards}
 use Rattle.run_crew.specs.Cards.{session_of}
-use Rattle.run_promise.specs.Between.{RunLedger}
-use Rattle.run_course.specs.Presence.{SlotsTell}
-use Rattle.run_course.specs.Seconds.{kept_all}
-use Rattle.run_course.specs.Moment.{Moment}
-use Rattle.run_course.specs.Kept.{StaysOut, HasDecided}
-use Rattle.run_devices.specs.Presence.{PresentStand, SessionsStand}
-use Rattle.run_promise.specs.Origin.{Origin, rule_of, start_at}
-use Rattle.run_devices.specs.Told.{AreFoundCards, AreEarly}
+use Rattle.run_minutes.specs.run_promise.Between.{RunLedger}
+use Rattle.run_events.specs.run_course.Presence.{SlotsTell}
+use Rattle.run_events.specs.run_course.Seconds.{kept_all}
+use Rattle.run_events.specs.run_course.Moment.{Moment}
+use Rattle.run_events.specs.run_course.Kept.{StaysOut, HasDecided}
+use Rattle.run_minutes.specs.run_devices.Presence.{PresentStand, SessionsStand}
+use Rattle.run_minutes.specs.run_promise.Origin.{Origin, rule_of, start_at}
+use Rattle.run_minutes.specs.run_devices.Told.{AreFoundCards, AreEarly}
 use Rattle.run_minutes.specs.declared.keeper.Moment.{Moment as KeepingAt}
 use Rattle.run_minutes.specs.Keeping.{Fate, Fell, is_this, tears_of}
 use Rattle.run_minutes.specs.declared.keeper.Keeper.{Keeper}

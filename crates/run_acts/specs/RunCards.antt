@@ -6,26 +6,26 @@ use Rattle.trace_model.specs.declared.Card.{Card}
 use Rattle.trace_model.specs.declared.Action.{Action}
 use Rattle.trace_model.specs.declared.Action.TheVariants.{Withdraw, Place}
 use Rattle.trace_model.specs.Trace.{TraceSecond, driven}
-use Rattle.card_layout.specs.declared.files.Application.{Application}
-use Rattle.card_image.specs.Own.{own_sizes, IsOwnValid}
+use Rattle.card_files.specs.card_layout.declared.files.Application.{Application}
+use Rattle.hand_model.specs.card_image.Own.{own_sizes, IsOwnValid}
 use Rattle.card_files.specs.declared.current_use.CurrentUse.{CurrentUse}
-use Rattle.event_model.specs.Events.{Event, Seen, seen_of, seen_spans}
-use Rattle.minute_model.specs.declared.Minute.{Minute}
+use Rattle.unit_notes.specs.event_model.Events.{Event, Seen, seen_of, seen_spans}
+use Rattle.unit_model.specs.minute_model.declared.Minute.{Minute}
 use Rattle.log_model.specs.Log.{RunLog, In}
 use Rattle.log_model.specs.Slots.{refusal}
 use Rattle.log_model.specs.Course.{ToldSecond, Before, Course, Visit, went}
-use Rattle.note_model.specs.Odometer.{SpanFrom}
-use Rattle.run_rings.specs.Spans.{with_second}
-use Rattle.card_slots.specs.Calls.{logged}
-use Rattle.safety_model.specs.Recording.{card_image}
-use Rattle.safety_model.specs.Safe.{Devices, card_of}
+use Rattle.unit_notes.specs.note_model.Odometer.{SpanFrom}
+use Rattle.run_events.specs.run_rings.Spans.{with_second}
+use Rattle.run_crew.specs.card_slots.Calls.{logged}
+use Rattle.device_calls.specs.safety_model.Recording.{card_image}
+use Rattle.device_calls.specs.safety_model.Safe.{Devices, card_of}
 use Rattle.run_events.specs.Seconds.{gap_by}
 use Rattle.run_note_record.specs.Evented.{images_in}
 pub use Rattle.run_note_record.specs.Uses.{vehicle_of, vehicle_in}
 use Rattle.run_note_record.specs.Uses.{notes_in, notes_now, uses_in}
-use Rattle.run_rings.specs.Notes.{course_behind}
-use Rattle.run_promise.specs.Origin.{Origin}
-use Rattle.run_promise.specs.Whole.{NothingFailed}
+use Rattle.run_events.specs.run_rings.Notes.{course_behind}
+use Rattle.run_minutes.specs.run_promise.Origin.{Origin}
+use Rattle.run_minutes.specs.run_promise.Whole.{NothingFailed}
 use Rattle.run_note_record.specs.OnCards.{CardsStay}
 use Rattle.log_model.specs.declared.lines.Break.{Break}
 use Rattle.run_outcome.specs.Lines.{Listed}

@@ -13,18 +13,18 @@ use Rattle.log_model.specs.Log.{RunLog, In}
 use Rattle.log_model.specs.Slots.{refusal}
 use Rattle.log_model.specs.Course.{ToldSecond, went}
 use Rattle.log_model.specs.Spans.{spans_of}
-use Rattle.card_slots.specs.Calls.{logged}
+use Rattle.run_crew.specs.card_slots.Calls.{logged}
 use Rattle.unit_model.specs.Image.{odometer_at}
-use Rattle.unit_rule.specs.Odometer.{odometer_after}
-use Rattle.note_model.specs.Odometer.{SpanFrom}
-use Rattle.safety_model.specs.Safe.{Devices}
-use Rattle.run_unit_course.specs.Lines.{cut_at}
-use Rattle.run_course.specs.Moments.{and_break}
+use Rattle.device_calls.specs.unit_rule.Odometer.{odometer_after}
+use Rattle.unit_notes.specs.note_model.Odometer.{SpanFrom}
+use Rattle.device_calls.specs.safety_model.Safe.{Devices}
+use Rattle.device_calls.specs.run_unit_course.Lines.{cut_at}
+use Rattle.run_events.specs.run_course.Moments.{and_break}
 use Rattle.run_crew.specs.Cards.{session_of}
 use Rattle.run_outcome.specs.Lines.{Listed}
 use Rattle.run_outcome.specs.declared.outcome.Outcome.{Outcome}
-use Rattle.run_promise.specs.Origin.{Origin}
-use Rattle.run_rings.specs.Spans.{with_second}
+use Rattle.run_minutes.specs.run_promise.Origin.{Origin}
+use Rattle.run_events.specs.run_rings.Spans.{with_second}
 use Rattle.run_record.specs.Within.{Beginning}
 use Rattle.run_note_record.specs.Noting.{Acting}
 use Rattle.run_note_record.specs.Ringed.{Seating}

@@ -3,14 +3,14 @@ use Rattle.std.specs.Prelude.{◌≡◌, ℕ, ◌+◌, ◌/◌, ◌<◌, Bool, t
 use Rattle.activity_codec.specs.declared.values.Slot.{Slot}
 use Rattle.trace_model.specs.declared.Card.{Card}
 use Rattle.trace_model.specs.Trace.{TraceSecond}
-use Rattle.minute_model.specs.declared.Minute.{Minute}
+use Rattle.unit_model.specs.minute_model.declared.Minute.{Minute}
 use Rattle.minute_rules.specs.Kept.{Kept}
 use Rattle.log_model.specs.Log.{Phase, In}
 use Rattle.log_model.specs.Course.{Visit, went}
-use Rattle.safety_model.specs.Safe.{Devices}
+use Rattle.device_calls.specs.safety_model.Safe.{Devices}
 use Rattle.run_crew.specs.Cards.{session_of}
 use Rattle.run_outcome.specs.declared.outcome.Outcome.{Outcome}
-use Rattle.run_promise.specs.Origin.{Origin}
+use Rattle.run_minutes.specs.run_promise.Origin.{Origin}
 use Rattle.run_minutes.specs.declared.keeper.Moment.{Moment}
 use Rattle.run_minutes.specs.Books.{HaveTime}
 use Rattle.run_record.specs.Within.{Beginning, IsLeaving, RecordAtFailure}

@@ -5,14 +5,14 @@ use Rattle.std.specs.Prelude.{◌++◌, length}
 use Rattle.trace_model.specs.Trace.{TraceSecond, driven}
 use Rattle.tach_media.specs.Medium.{State}
 use Rattle.log_model.specs.Log.{RunLog, In}
-use Rattle.event_model.specs.Spans.{SpeedSecond, at_speed}
-use Rattle.speed_model.specs.declared.block.Block.{Block}
-use Rattle.speed_model.specs.Blocks.{blocks_of}
-use Rattle.speed_store.specs.Feeding as minute
-use Rattle.safety_model.specs.Safe.{Devices}
-use Rattle.run_promise.specs.Origin.{Origin}
-use Rattle.run_speeds.specs.Speeds.{HasSpeedRing, HasSpeeds, CarriesBlock}
-use Rattle.run_speeds.specs.Spans.{speed_spans, blocks_by, is_sure_block, last_speeds, speeds_before}
+use Rattle.unit_notes.specs.event_model.Spans.{SpeedSecond, at_speed}
+use Rattle.run_events.specs.speed_model.declared.block.Block.{Block}
+use Rattle.run_events.specs.speed_model.Blocks.{blocks_of}
+use Rattle.run_events.specs.speed_store.Feeding as minute
+use Rattle.device_calls.specs.safety_model.Safe.{Devices}
+use Rattle.run_minutes.specs.run_promise.Origin.{Origin}
+use Rattle.run_events.specs.run_speeds.Speeds.{HasSpeedRing, HasSpeeds, CarriesBlock}
+use Rattle.run_events.specs.run_speeds.Spans.{speed_spans, blocks_by, is_sure_block, last_speeds, speeds_before}
 use Rattle.run_outcome.specs.declared.outcome.Outcome.{Outcome}
 use Rattle.run_minutes.specs.Books.{HaveTime}
 use Rattle.run_acts.specs.declared.run.Run.{Run}

@@ -11,41 +11,41 @@ use Rattle.activity_codec.specs.declared.entries.Entry.{Entry}
 use Rattle.activity_codec.specs.declared.entries.Manual.{Manual}
 use Rattle.trace_model.specs.declared.Card.{Card}
 use Rattle.trace_model.specs.declared.Card.TheVariants.{A, B}
-use Rattle.minute_model.specs.Span.{Span, activity_next}
+use Rattle.unit_model.specs.minute_model.Span.{Span, activity_next}
 use Rattle.minute_rules.specs.Kept.{Kept as Minutes, CountsSpan}
 use Rattle.tach_media.specs.Medium.{State, bytes_at, last_count}
 use Rattle.tacho_types.specs.declared.texts.Registration.{Registration}
 use Rattle.unit_model.specs.declared.layout.TheConstants.{REGISTRATION}
-use Rattle.message_model.specs.Records.{insertion_ring}
+use Rattle.run_events.specs.message_model.Records.{insertion_ring}
 use Rattle.log_model.specs.Log.{RunLog, is_accepting}
 use Rattle.log_model.specs.Causes.{cuts, device_of}
 use Rattle.log_model.specs.Slots.{same_card}
 use Rattle.log_model.specs.declared.lines.Find.{Find}
 use Rattle.log_model.specs.declared.lines.Verdict.{Verdict}
 use Rattle.log_model.specs.declared.lines.Verdict.TheVariants.{Accepted as AcceptedWith, NotValid, TimeOverlap}
-use Rattle.card_image.specs.View.{stored_of}
-use Rattle.card_image.specs.Own.{own_sizes, IsOwnValid}
+use Rattle.hand_model.specs.card_image.View.{stored_of}
+use Rattle.hand_model.specs.card_image.Own.{own_sizes, IsOwnValid}
 use Rattle.card_files.specs.declared.current_use.CurrentUse.{CurrentUse}
 use Rattle.card_files.specs.declared.vehicle.Vehicle.{Vehicle}
-use Rattle.card_image.specs.Fields.{current_use, last_use_of}
-use Rattle.card_session.specs.declared.session.Kept.{Kept}
-use Rattle.card_session.specs.Books.{Book, mark_of}
-use Rattle.card_session.specs.Sessions.{IsSession, book_of}
-use Rattle.card_session.specs.Cards.{IsCardClosed}
-use Rattle.card_session.specs.Inserting.{lacked}
-use Rattle.card_string.specs.Deeds.{Deed, Close}
-use Rattle.note_model.specs.Noted.{Note}
-use Rattle.safety_model.specs.Safe.{Devices, card_of, breakdowns_of}
-use Rattle.device_rule.specs.Views.{other}
-use Rattle.card_slots.specs.Calls.{Seats, is_card, seat_in, card_in}
+use Rattle.hand_model.specs.card_image.Fields.{current_use, last_use_of}
+use Rattle.device_calls.specs.card_session.declared.session.Kept.{Kept}
+use Rattle.device_calls.specs.card_session.Books.{Book, mark_of}
+use Rattle.device_calls.specs.card_session.Sessions.{IsSession, book_of}
+use Rattle.device_calls.specs.card_session.Cards.{IsCardClosed}
+use Rattle.device_calls.specs.card_session.Inserting.{lacked}
+use Rattle.device_calls.specs.card_string.Deeds.{Deed, Close}
+use Rattle.unit_notes.specs.note_model.Noted.{Note}
+use Rattle.device_calls.specs.safety_model.Safe.{Devices, card_of, breakdowns_of}
+use Rattle.device_calls.specs.device_rule.Views.{other}
+use Rattle.run_crew.specs.card_slots.Calls.{Seats, is_card, seat_in, card_in}
 use Rattle.run_crew.specs.declared.cards.Accepted.{Accepted}
 use Rattle.run_crew.specs.declared.cabin.Cabin.{Cabin}
 use Rattle.run_crew.specs.Cards.{session_of}
-use Rattle.run_promise.specs.Found.{CardFound, found_of}
-use Rattle.run_promise.specs.Origin.{Origin}
-use Rattle.run_promise.specs.Whole.{NothingFailed}
+use Rattle.run_minutes.specs.run_promise.Found.{CardFound, found_of}
+use Rattle.run_minutes.specs.run_promise.Origin.{Origin}
+use Rattle.run_minutes.specs.run_promise.Whole.{NothingFailed}
 use Rattle.run_minutes.specs.CardDeeds.{made_by, is_open_in, ShowsBook, keeps, holds_after, last_odometer, opens}
-use Rattle.gated_ring.specs.Ring.{PointsInside}
+use Rattle.run_events.specs.gated_ring.Ring.{PointsInside}
 use Rattle.run_acts.specs.Closings.{Spell, spells_of, with_last_shut, last_slot}
 use Rattle.run_acts.specs.Comings.{VehicleTold, told_of, TellsMore}
 use Rattle.run_acts.specs.Truths.{Truths}

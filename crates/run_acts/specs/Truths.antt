@@ -6,24 +6,24 @@ use Rattle.activity_codec.specs.declared.values.Slot.{Slot}
 use Rattle.trace_model.specs.declared.Action.{Action}
 use Rattle.trace_model.specs.declared.Action.TheVariants.{Insert}
 use Rattle.trace_model.specs.Trace.{TraceSecond}
-use Rattle.minute_model.specs.declared.Rule.{Rule}
-use Rattle.minute_model.specs.Second.{Second}
+use Rattle.unit_model.specs.minute_model.declared.Rule.{Rule}
+use Rattle.unit_model.specs.minute_model.Second.{Second}
 use Rattle.log_model.specs.Log.{RunLog}
 use Rattle.log_model.specs.Course.{ToldSecond, went}
 use Rattle.log_model.specs.Spans.{spans_of, seconds_in}
 use Rattle.log_model.specs.declared.lines.Find.{Find}
 use Rattle.log_model.specs.declared.lines.Mark.{Mark}
 use Rattle.log_model.specs.Causes.{device_of}
-use Rattle.history_model.specs.Completeness.{IsMarked}
-use Rattle.card_session.specs.declared.session.Kept.{Kept}
-use Rattle.run_unit_course.specs.Legs.{whole_legs}
+use Rattle.device_calls.specs.history_model.Completeness.{IsMarked}
+use Rattle.device_calls.specs.card_session.declared.session.Kept.{Kept}
+use Rattle.device_calls.specs.run_unit_course.Legs.{whole_legs}
 use Rattle.unit_model.specs.Image.{odometer_at}
-use Rattle.unit_rule.specs.Odometer.{odometer_after}
-use Rattle.run_promise.specs.Origin.{Origin, rule_of, start_at}
+use Rattle.device_calls.specs.unit_rule.Odometer.{odometer_after}
+use Rattle.run_minutes.specs.run_promise.Origin.{Origin, rule_of, start_at}
 use Rattle.run_acts.specs.Words.{IsWordOf}
 use Rattle.activity_codec.specs.declared.entries.Entry.{Entry}
 use Rattle.trace_model.specs.declared.Card.{Card}
-use Rattle.safety_model.specs.Recording.{brought}
+use Rattle.device_calls.specs.safety_model.Recording.{brought}
 use Rattle.run_acts.specs.Owed.{IsOwed}
 
 -- WHAT IS TRUE of an acceptance (the odometer then), of a minute kept, of a closing (the line of the acceptance, the

@@ -1,7 +1,7 @@
 -- What seconds of one minute do to a run, by value (profile).
 use Rattle.std.specs.Prelude.{◌≡◌, ◌⊎◌, ℕ, ◌+◌, ◌-◌, Bool, true, false, List, [], ◌∷◌, ◌++◌}
-use Rattle.minute_model.specs.declared.Minute.{Minute}
-use Rattle.minute_model.specs.Span.{Span, fed_many, decided_in}
+use Rattle.unit_model.specs.minute_model.declared.Minute.{Minute}
+use Rattle.unit_model.specs.minute_model.Span.{Span, fed_many, decided_in}
 use Rattle.minute_rules.specs.Kept.{CountsSpan}
 use Rattle.run_crew.specs.Cabin.{crew_of}
 use Rattle.run_events.specs.declared.watch.Ended.{Ended}

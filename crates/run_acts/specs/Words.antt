@@ -8,12 +8,12 @@ use Rattle.activity_codec.specs.Activity.{same_slot}
 use Rattle.trace_model.specs.declared.Action.{Action}
 use Rattle.trace_model.specs.declared.Action.TheVariants.{Select, Insert, Withdraw, Tear, Place, Manual}
 use Rattle.trace_model.specs.Trace.{TraceSecond}
-use Rattle.minute_model.specs.declared.Rule.{Rule}
-use Rattle.minute_model.specs.Span.{activity_next}
+use Rattle.unit_model.specs.minute_model.declared.Rule.{Rule}
+use Rattle.unit_model.specs.minute_model.Span.{activity_next}
 use Rattle.log_model.specs.declared.lines.Find.{Find}
 use Rattle.log_model.specs.Course.{ToldSecond}
-use Rattle.history_model.specs.Growth.{picking}
-use Rattle.run_unit_course.specs.Turn.{span_at}
+use Rattle.device_calls.specs.history_model.Growth.{picking}
+use Rattle.device_calls.specs.run_unit_course.Turn.{span_at}
 
 -- what these actions select, in order
 abbrev pub picks_of : List Action → List (Slot × Pick)

@@ -1,6 +1,6 @@
 //! Seconds of one minute.
 ghost use Rattle.std.specs.Prelude.{◌≡◌, ◌+◌, ◌%◌, ◌<◌, ◌≤◌, ◌++◌};
-ghost use Rattle.minute_model.specs.Span.{Span, decided_in, fed_many};
+ghost use Rattle.unit_model.specs.minute_model.Span.{Span, decided_in, fed_many};
 ghost use Rattle.minute_rules.specs.Kept.{CountsSpan};
 ghost use Rattle.run_acts.specs.Going.{largest_number};
 

@@ -1,6 +1,6 @@
 ghost use Rattle.std.specs.Prelude.{ℕ, List, ◌++◌};
 ghost use Rattle.trace_model.specs.declared.Card.{Card};
-ghost use Rattle.event_model.specs.Events.{Event};
+ghost use Rattle.unit_notes.specs.event_model.Events.{Event};
 ghost use Rattle.unit_notes.specs.declared.unit_event.UnitEvent.{UnitEvent};
 ghost use Rattle.run_acts.specs.NotedEvents.{AreTold, IsSplit};
 

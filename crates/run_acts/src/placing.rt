@@ -1,11 +1,11 @@
 //! A place is noted.
 ghost use Rattle.std.specs.Prelude.{◌≡◌, ◌≢◌, ◌+◌, ◌<◌, ◌≤◌, ◌^◌};
 ghost use Rattle.std.specs.Prelude.{length, is_err, if◌then◌else◌};
-ghost use Rattle.minute_model.specs.Span.{Span, travelled_of};
+ghost use Rattle.unit_model.specs.minute_model.Span.{Span, travelled_of};
 ghost use Rattle.minute_rules.specs.Kept.{CountsSpan};
 ghost use Rattle.unit_model.specs.declared.layout.TheConstants.{HIGHEST_ODOMETER};
 ghost use Rattle.run_minutes.specs.Minutes.{odometer_by};
-ghost use Rattle.run_promise.specs.Between.{devices};
+ghost use Rattle.run_minutes.specs.run_promise.Between.{devices};
 ghost use Rattle.run_acts.specs.Going.{IsActing};
 ghost use Rattle.run_acts.specs.Room.{falls_of};
 ghost use Rattle.run_acts.specs.Acts.{AllGoOn, LeavesPlaced, NotesPlaceOn, PlacesSo, PromisesPlace, RunStandsBehind};

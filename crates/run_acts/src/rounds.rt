@@ -1,4 +1,4 @@
-ghost use Rattle.run_promise.specs.Between.{devices};
+ghost use Rattle.run_minutes.specs.run_promise.Between.{devices};
 ghost use Rattle.run_acts.specs.RoundLaws.{TheMinutesMayBeBooked, TheMinutesAreOver, TheMinutesAreKept, TheyLeaveStill};
 ghost use Rattle.run_acts.specs.RoundLaws.{TheKeepingFails, TheNoteFails, TheKeepingIsRecorded};
 

@@ -2,9 +2,9 @@
 ghost use Rattle.std.specs.Prelude.{◌≡◌, ℕ, ◌+◌, ◌<◌, ◌≤◌, ◌∷◌, [], false, None, length};
 ghost use Rattle.unit_model.specs.declared.layout.TheConstants.{HIGHEST_ODOMETER};
 ghost use Rattle.unit_model.specs.Versions.{rule_by};
-ghost use Rattle.minute_model.specs.Span.{Span, begin, travelled_of};
+ghost use Rattle.unit_model.specs.minute_model.Span.{Span, begin, travelled_of};
 ghost use Rattle.minute_rules.specs.Kept.{CountsSpan};
-ghost use Rattle.card_slots.specs.Kept.{nothing_yet};
+ghost use Rattle.run_crew.specs.card_slots.Kept.{nothing_yet};
 ghost use Rattle.run_crew.specs.Cabin.{CabinIsSound};
 ghost use Rattle.run_minutes.specs.Keeping.{with_lines};
 ghost use Rattle.run_minutes.specs.Minutes.{odometer_by};

@@ -1,7 +1,7 @@
 //! The minutes before that of an action are decided and kept.
 ghost use Rattle.std.specs.Prelude.{◌≡◌, ◌/◌, Option, OnOk, is_err};
 ghost use Rattle.trace_model.specs.declared.Card.{Card};
-ghost use Rattle.run_promise.specs.Between.{devices};
+ghost use Rattle.run_minutes.specs.run_promise.Between.{devices};
 ghost use Rattle.run_acts.specs.Going.{CanBeCut, RunHasPower, MaySettle};
 ghost use Rattle.run_acts.specs.Room.{Takes};
 ghost use Rattle.run_acts.specs.Acting.{IsSettled};

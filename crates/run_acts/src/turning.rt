@@ -7,7 +7,7 @@ ghost use Rattle.run_acts.specs.Power.{is_lit, passed};
 ghost use Rattle.run_acts.specs.Going.{IsInsideSecond, IsBetweenSeconds, IsStretch};
 ghost use Rattle.run_acts.specs.Room.{HasRoom, HasRoomWithin};
 ghost use Rattle.run_acts.specs.Evented.{EventsTurn};
-ghost use Rattle.run_promise.specs.Between.{devices};
+ghost use Rattle.run_minutes.specs.run_promise.Between.{devices};
 ghost use Rattle.run_minutes.specs.Kept.{MayKeepAll};
 ghost use Rattle.run_minutes.specs.Stand.{StandsAfter, KeepingGoes, AreBare};
 ghost use Rattle.run_acts.specs.Keepings.{acting, MayWatch, KeepsTurn};

@@ -25,3 +25,6 @@ pub mod Telling
 pub mod Failing
 pub mod Kept
 pub mod Cutting
+pub use Rattle.history_model.proofs as history_model
+pub use Rattle.log_model.proofs as log_model
+pub use Rattle.minute_model.proofs as minute_model

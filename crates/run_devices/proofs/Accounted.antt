@@ -1,16 +1,16 @@
 -- A card is accepted: what the log's accounts ask of the minute that the unit had kept last.
 use Rattle.std.proofs.Common.{◌≡◌, ℕ, ◌<◌, List, [], ◌++◌, refl, subst}
 use Rattle.tach_media.specs.Medium.{State}
-use Rattle.log_model.specs.declared.lines.Mark.{Mark}
-use Rattle.unit_model.specs.Image.{last_kept}
-use Rattle.history_model.specs.Minutes.{HistoryMinute}
-use Rattle.history_model.specs.Book.{Book}
-use Rattle.history_model.proofs.Books.{mark-earlier}
-use Rattle.unit_rule.specs.Rule.{Started, once_mended}
-use Rattle.unit_rule.specs.Marks.{UnitFollowsBook}
-use Rattle.unit_rule.proofs.Moves.{shown-last}
-use Rattle.device_rule.specs.Views.{unit_view}
-use Rattle.unit_rule.specs.Safe.{Devices}
+use Rattle.run_crew.specs.log_model.declared.lines.Mark.{Mark}
+use Rattle.device_calls.specs.unit_model.Image.{last_kept}
+use Rattle.device_calls.specs.history_model.Minutes.{HistoryMinute}
+use Rattle.device_calls.specs.history_model.Book.{Book}
+use Rattle.device_calls.proofs.history_model.Books.{mark-earlier}
+use Rattle.device_calls.specs.unit_rule.Rule.{Started, once_mended}
+use Rattle.device_calls.specs.unit_rule.Marks.{UnitFollowsBook}
+use Rattle.device_calls.proofs.unit_rule.Moves.{shown-last}
+use Rattle.device_calls.specs.device_rule.Views.{unit_view}
+use Rattle.device_calls.specs.unit_rule.Safe.{Devices}
 use Rattle.run_promise.specs.Found.{Found}
 use Rattle.run_promise.specs.Between.{RunLedger, LedgerStandsPowered}
 use Rattle.run_promise.specs.Going.{IsTakenAt}

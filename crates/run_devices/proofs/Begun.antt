@@ -1,28 +1,28 @@
 -- The row of a card is begun that was put in: it is accepted. And a card is torn out, or taken as one that is not accepted.
 use Rattle.std.proofs.Common.{◌≡◌, ◌≢◌, ℕ, max, ◌/◌, ◌≤◌, Bool, true, false, Option, Some, None, is_some, List, [], ◌∷◌, Contains, refl, ap, subst, ◌∙◌, sym, arith}
 use Rattle.std.proofs.lemmas.List.{append-nil}
-use Rattle.activity_codec.specs.declared.entries.Entry.{Entry}
-use Rattle.trace_model.specs.declared.Card.{Card}
-use Rattle.trace_model.specs.declared.Card.TheVariants.{A, B}
+use Rattle.device_calls.specs.activity_codec.declared.entries.Entry.{Entry}
+use Rattle.device_calls.specs.trace_model.declared.Card.{Card}
+use Rattle.device_calls.specs.trace_model.declared.Card.TheVariants.{A, B}
 use Rattle.tach_media.specs.Medium.{State, IsCoherent}
-use Rattle.log_model.specs.declared.lines.Mark.{Mark}
-use Rattle.card_image.specs.Own.{own_view, own_sizes, IsOwnValid}
-use Rattle.hand_model.specs.Written.{Hands}
-use Rattle.card_string.proofs.Since.{later_holds}
-use Rattle.history_model.specs.Book.{Book}
-use Rattle.device_rule.specs.Views.{other}
-use Rattle.device_rule.specs.Rules.{Standing, In, Out, Torn, since, CardRule, IsEntered}
-use Rattle.device_rule.specs.Marked.{of_card, HasBrought}
-use Rattle.device_rule.proofs.Repairing.{repaired-in}
-use Rattle.unit_rule.specs.Rule.{Started, once_mended, IsCards}
-use Rattle.unit_rule.specs.Marks.{UnitFollowsBook}
+use Rattle.run_crew.specs.log_model.declared.lines.Mark.{Mark}
+use Rattle.device_calls.specs.card_image.Own.{own_view, own_sizes, IsOwnValid}
+use Rattle.device_calls.specs.hand_model.Written.{Hands}
+use Rattle.device_calls.proofs.card_string.Since.{later_holds}
+use Rattle.device_calls.specs.history_model.Book.{Book}
+use Rattle.device_calls.specs.device_rule.Views.{other}
+use Rattle.device_calls.specs.device_rule.Rules.{Standing, In, Out, Torn, since, CardRule, IsEntered}
+use Rattle.device_calls.specs.device_rule.Marked.{of_card, HasBrought}
+use Rattle.device_calls.proofs.device_rule.Repairing.{repaired-in}
+use Rattle.device_calls.specs.unit_rule.Rule.{Started, once_mended, IsCards}
+use Rattle.device_calls.specs.unit_rule.Marks.{UnitFollowsBook}
 use Rattle.device_calls.specs.Rule.{Both, opened, number_of, card_seen, CardHolds, IsKeptUp, IsRowTaken}
 use Rattle.device_calls.proofs.PowerBack.{torn}
 use Rattle.device_calls.proofs.TornOut.{torn-out}
 use Rattle.run_crew.specs.declared.cards.Accepted.{Accepted}
 use Rattle.run_crew.specs.declared.cards.Cards.{Cards}
 use Rattle.run_crew.specs.Cards.{session_of}
-use Rattle.unit_rule.proofs.Marking.{holds-dark}
+use Rattle.device_calls.proofs.unit_rule.Marking.{holds-dark}
 use Rattle.run_promise.specs.Found.{CardFound, Found, found_of, unit_seen, AnyKept}
 use Rattle.run_promise.specs.Cards.{brought_by}
 use Rattle.run_promise.specs.Between.{RunLedger}

@@ -1,22 +1,22 @@
 -- The current use of a card, as calls write its file or leave it.
 use Rattle.std.proofs.Common.{◌≡◌, ◌⊎◌, inl, inr, ⊎_elim, ℕ, ◌+◌, ◌<◌, ◌≤◌, ◌^◌, List, [], ◌∷◌, length, sym, ◌∙◌, ap, arith}
-use Rattle.card_layout.specs.Images.{big_number, bytes_at, SameOutside}
-use Rattle.card_layout.proofs.Images.{part_after, part_put, part_in, put_outside}
-use Rattle.card_layout.proofs.Numbers.{big_number-big_bytes}
-use Rattle.tacho_types.specs.declared.texts.Registration.{Registration}
-use Rattle.tacho_types.specs.Numbers.{time_bytes}
-use Rattle.card_layout.specs.declared.files.Application.{Application}
-use Rattle.card_layout.specs.Files.{files_of, place_of, size_of}
-use Rattle.gated_ring.specs.Ring.{place_of as entry_place, size_of as ring_size}
-use Rattle.gated_ring.proofs.Places.{place_high}
-use Rattle.card_files.specs.CurrentUses.{current_use_of}
-use Rattle.card_files.specs.Rings.{event_ring}
-use Rattle.card_files.proofs.Sets.{set_inside}
-use Rattle.card_image.specs.Fields.{file, place_ring, current_use}
-use Rattle.card_session.specs.Cards.{ended}
-use Rattle.card_session.specs.Inserting.{timed, registered, IsOpened}
+use Rattle.tach_media.specs.card_layout.Images.{big_number, bytes_at, SameOutside}
+use Rattle.tach_media.proofs.card_layout.Images.{part_after, part_put, part_in, put_outside}
+use Rattle.tach_media.proofs.card_layout.Numbers.{big_number-big_bytes}
+use Rattle.device_calls.specs.tacho_types.declared.texts.Registration.{Registration}
+use Rattle.device_calls.specs.tacho_types.Numbers.{time_bytes}
+use Rattle.tach_media.specs.card_layout.declared.files.Application.{Application}
+use Rattle.tach_media.specs.card_layout.Files.{files_of, place_of, size_of}
+use Rattle.device_calls.specs.gated_ring.Ring.{place_of as entry_place, size_of as ring_size}
+use Rattle.device_calls.proofs.gated_ring.Places.{place_high}
+use Rattle.device_calls.specs.card_files.CurrentUses.{current_use_of}
+use Rattle.device_calls.specs.card_files.Rings.{event_ring}
+use Rattle.device_calls.proofs.card_files.Sets.{set_inside}
+use Rattle.device_calls.specs.card_image.Fields.{file, place_ring, current_use}
+use Rattle.device_calls.specs.card_session.Cards.{ended}
+use Rattle.device_calls.specs.card_session.Inserting.{timed, registered, IsOpened}
 use Rattle.device_calls.specs.CardNotes.{IsNote}
-use Rattle.card_files.specs.declared.current_use.CurrentUse.{CurrentUse}
+use Rattle.device_calls.specs.card_files.declared.current_use.CurrentUse.{CurrentUse}
 
 -- of this vehicle from this second on; and without a session
 abbrev pub opened : Registration → (second : ℕ) → CurrentUse

@@ -4,61 +4,61 @@ use Rattle.std.specs.Prelude.{nat_eq, not, IfOk, Result, Ok}
 use Rattle.std.proofs.lemmas.Bool.Decides.{nat_tests}
 use Rattle.std.proofs.lemmas.List.{append-nil}
 use Rattle.std.proofs.lemmas.List.Elements.{All-head, All-tail, All-contains, Contains-append_right}
-use Rattle.activity_codec.specs.declared.entries.Entry.{Entry}
-use Rattle.tacho_types.specs.declared.texts.Registration.{Registration}
-use Rattle.trace_model.specs.declared.Card.{Card}
-use Rattle.trace_model.specs.declared.Card.TheVariants.{A, B}
+use Rattle.device_calls.specs.activity_codec.declared.entries.Entry.{Entry}
+use Rattle.device_calls.specs.tacho_types.declared.texts.Registration.{Registration}
+use Rattle.device_calls.specs.trace_model.declared.Card.{Card}
+use Rattle.device_calls.specs.trace_model.declared.Card.TheVariants.{A, B}
 use Rattle.tach_media.specs.Medium.{State, IsCoherent, IsSettled, LeavesOnly, Unchanged}
-use Rattle.log_model.specs.declared.lines.Mark.{Mark}
-use Rattle.log_model.specs.Causes.{device_of}
+use Rattle.run_crew.specs.log_model.declared.lines.Mark.{Mark}
+use Rattle.run_crew.specs.log_model.Causes.{device_of}
 use Rattle.tach_media.proofs.Runs.{at_image, if_told}
-use Rattle.card_layout.specs.declared.files.Application.{Application}
-use Rattle.card_layout.specs.Application.{IsApplication}
-use Rattle.card_layout.specs.Files.{image_size_of}
-use Rattle.card_model.specs.Days.{AreDays}
-use Rattle.card_retention.specs.Entries.{newest_minute}
-use Rattle.card_retention.specs.Retains.{Rise}
-use Rattle.card_retention.specs.Shown.{AllUpTo}
-use Rattle.card_image.specs.Fields.{card_days, end_mark, session_time}
-use Rattle.card_image.specs.Judging.{IsValid}
-use Rattle.card_image.specs.View.{CardView, card_view}
-use Rattle.card_image.specs.Own.{own_view, own_sizes, own_number, IsOwnValid}
-use Rattle.card_session.specs.Sessions.{Session, IsSession}
-use Rattle.card_session.specs.Cards.{MayEnd}
-use Rattle.card_session.specs.Inserting.{AreOwed, Follow, lacked, replayed_count, InsertingOpen, InsertingClosed, InsertsOpen, InsertsClosed, IsCardInserting, IsCardInserted}
-use Rattle.card_session.specs.Repairs.{newest_behind, lacked_by, mark_behind, NewestSoFar}
-use Rattle.card_session.proofs.Ended.{open_ends, none_ends}
-use Rattle.card_session.proofs.Ends.{closed_end, inserted_moment}
-use Rattle.card_session.proofs.InsertingAgain.{inserting_keeps, number_again}
-use Rattle.card_session.proofs.InsertingUse.{use_inside}
-use Rattle.card_session.proofs.Renewing.{newest_first, closed_renews, ends_shut, closed_shut}
-use Rattle.card_session.proofs.Revalid.{again_valid}
-use Rattle.card_session.proofs.Unclosed.{none_valid}
-use Rattle.card_session.proofs.Valid.{above_zero}
-use Rattle.card_by_hand.specs.First.{IsShutAt}
-use Rattle.card_string.specs.Since.{HoldsSince, SitsSince}
-use Rattle.card_string.proofs.Lists.{up_back, follow_behind}
-use Rattle.card_string.proofs.Since.{holds_up, goes_up}
-use Rattle.card_string.proofs.Start.{ends_card}
-use Rattle.hand_model.specs.Written.{Hands, entries_of}
-use Rattle.unit_owed.specs.Owed.{Row, owed_to, row_view}
-use Rattle.unit_model.specs.Image.{last_kept}
-use Rattle.history_model.specs.Minutes.{HistoryMinute, card_history, up_to}
-use Rattle.history_model.specs.Book.{Book, all}
-use Rattle.history_model.proofs.Books.{all-none, up_to-whole}
-use Rattle.history_model.proofs.Filters.{all-back}
-use Rattle.device_rule.specs.Views.{UnitView, unit_view, row, other, owed, owed_in}
-use Rattle.device_rule.specs.Device.{LeavesViews}
-use Rattle.device_rule.specs.Steps.{IsInserting}
-use Rattle.device_rule.specs.Rules.{Standing, Out, CardRule, IsEntered, Meets}
-use Rattle.device_rule.specs.Marked.{of_card}
-use Rattle.device_rule.proofs.OwedView.{owed-seen}
-use Rattle.device_rule.proofs.Pairs.{owed-above}
-use Rattle.device_rule.proofs.Brought.{all-up_to}
-use Rattle.unit_rule.specs.Unit.{marks_of}
-use Rattle.unit_rule.specs.Marks.{UnitFollowsBook}
-use Rattle.unit_rule.proofs.Marking.{holds-read, holds-dark}
-use Rattle.unit_rule.proofs.Moves.{shown-last}
+use Rattle.tach_media.specs.card_layout.declared.files.Application.{Application}
+use Rattle.tach_media.specs.card_layout.Application.{IsApplication}
+use Rattle.tach_media.specs.card_layout.Files.{image_size_of}
+use Rattle.device_calls.specs.card_model.Days.{AreDays}
+use Rattle.device_calls.specs.card_retention.Entries.{newest_minute}
+use Rattle.device_calls.specs.card_retention.Retains.{Rise}
+use Rattle.device_calls.specs.card_retention.Shown.{AllUpTo}
+use Rattle.device_calls.specs.card_image.Fields.{card_days, end_mark, session_time}
+use Rattle.device_calls.specs.card_image.Judging.{IsValid}
+use Rattle.device_calls.specs.card_image.View.{CardView, card_view}
+use Rattle.device_calls.specs.card_image.Own.{own_view, own_sizes, own_number, IsOwnValid}
+use Rattle.device_calls.specs.card_session.Sessions.{Session, IsSession}
+use Rattle.device_calls.specs.card_session.Cards.{MayEnd}
+use Rattle.device_calls.specs.card_session.Inserting.{AreOwed, Follow, lacked, replayed_count, InsertingOpen, InsertingClosed, InsertsOpen, InsertsClosed, IsCardInserting, IsCardInserted}
+use Rattle.device_calls.specs.card_session.Repairs.{newest_behind, lacked_by, mark_behind, NewestSoFar}
+use Rattle.device_calls.proofs.card_session.Ended.{open_ends, none_ends}
+use Rattle.device_calls.proofs.card_session.Ends.{closed_end, inserted_moment}
+use Rattle.device_calls.proofs.card_session.InsertingAgain.{inserting_keeps, number_again}
+use Rattle.device_calls.proofs.card_session.InsertingUse.{use_inside}
+use Rattle.device_calls.proofs.card_session.Renewing.{newest_first, closed_renews, ends_shut, closed_shut}
+use Rattle.device_calls.proofs.card_session.Revalid.{again_valid}
+use Rattle.device_calls.proofs.card_session.Unclosed.{none_valid}
+use Rattle.device_calls.proofs.card_session.Valid.{above_zero}
+use Rattle.device_calls.specs.card_by_hand.First.{IsShutAt}
+use Rattle.device_calls.specs.card_string.Since.{HoldsSince, SitsSince}
+use Rattle.device_calls.proofs.card_string.Lists.{up_back, follow_behind}
+use Rattle.device_calls.proofs.card_string.Since.{holds_up, goes_up}
+use Rattle.device_calls.proofs.card_string.Start.{ends_card}
+use Rattle.device_calls.specs.hand_model.Written.{Hands, entries_of}
+use Rattle.device_calls.specs.unit_owed.Owed.{Row, owed_to, row_view}
+use Rattle.device_calls.specs.unit_model.Image.{last_kept}
+use Rattle.device_calls.specs.history_model.Minutes.{HistoryMinute, card_history, up_to}
+use Rattle.device_calls.specs.history_model.Book.{Book, all}
+use Rattle.device_calls.proofs.history_model.Books.{all-none, up_to-whole}
+use Rattle.device_calls.proofs.history_model.Filters.{all-back}
+use Rattle.device_calls.specs.device_rule.Views.{UnitView, unit_view, row, other, owed, owed_in}
+use Rattle.device_calls.specs.device_rule.Device.{LeavesViews}
+use Rattle.device_calls.specs.device_rule.Steps.{IsInserting}
+use Rattle.device_calls.specs.device_rule.Rules.{Standing, Out, CardRule, IsEntered, Meets}
+use Rattle.device_calls.specs.device_rule.Marked.{of_card}
+use Rattle.device_calls.proofs.device_rule.OwedView.{owed-seen}
+use Rattle.device_calls.proofs.device_rule.Pairs.{owed-above}
+use Rattle.device_calls.proofs.device_rule.Brought.{all-up_to}
+use Rattle.device_calls.specs.unit_rule.Unit.{marks_of}
+use Rattle.device_calls.specs.unit_rule.Marks.{UnitFollowsBook}
+use Rattle.device_calls.proofs.unit_rule.Marking.{holds-read, holds-dark}
+use Rattle.device_calls.proofs.unit_rule.Moves.{shown-last}
 use Rattle.device_calls.specs.declared.entering.Entered.{Entered}
 use Rattle.device_calls.specs.declared.entering.NotEntered.{NotEntered}
 use Rattle.device_calls.specs.Entering.{owed_on, card_failed, IsEntering, IsAccepted, IsAsked}
@@ -68,14 +68,14 @@ use Rattle.device_calls.proofs.Inserted.{inserting_open, inserting_shut}
 use Rattle.device_calls.proofs.OnCard.{AnyStep, own-is, session-is, mark-is}
 use Rattle.device_calls.proofs.Passed.{valid-days}
 use Rattle.device_calls.proofs.PutIn.{number_told}
-use Rattle.card_validity.specs.Judged.{IsLook}
-use Rattle.tacho_types.specs.CardNumber.{card_number_bytes}
+use Rattle.device_calls.specs.card_validity.Judged.{IsLook}
+use Rattle.device_calls.specs.tacho_types.CardNumber.{card_number_bytes}
 use Rattle.run_crew.specs.declared.cards.Accepted.{Accepted}
 use Rattle.run_crew.specs.declared.cards.Cards.{Cards}
 use Rattle.run_crew.specs.Cards.{session_of}
-use Rattle.unit_rule.specs.Rule.{once_mended}
+use Rattle.device_calls.specs.unit_rule.Rule.{once_mended}
 use Rattle.run_promise.specs.Found.{CardFound, Found, found_of, unit_seen, AnyKept}
-use Rattle.unit_rule.specs.Cards.{mark_writes, IsPromptOn}
+use Rattle.device_calls.specs.unit_rule.Cards.{mark_writes, IsPromptOn}
 use Rattle.run_promise.specs.Cards.{brought_by, IsCardHeld, HandMarksHold}
 use Rattle.run_promise.specs.Between.{RunLedger}
 use Rattle.run_promise.proofs.OwedRises.{owed-rises}
@@ -86,7 +86,7 @@ use Rattle.run_devices.proofs.Holders.{inserting-rest}
 use Rattle.run_devices.specs.Registered.{AreRegistered, IsUsedSo}
 use Rattle.run_devices.proofs.Registered.{MayBe, inserting-on}
 use Rattle.run_devices.proofs.Used.{inserting-used}
-use Rattle.card_session.specs.Sessions.{book_of}
+use Rattle.device_calls.specs.card_session.Sessions.{book_of}
 use Rattle.run_devices.proofs.OnCards.{valid-own, valid-or, no-marks, number-own, own-holder-still, Rises, rises-run, none-falls, marks-on, brought-card, bound_of, held-on, held-read, hands-on, hands-read, valid-on}
 use Rattle.run_devices.proofs.StringMore.{mark-own}
 use Rattle.run_devices.proofs.Power.{follow-of}
@@ -95,7 +95,7 @@ use Rattle.run_devices.proofs.Begun.{number-as}
 use Rattle.run_devices.proofs.Left.{own-sizes-same, newest-low}
 use Rattle.run_devices.proofs.Marked.{marked-powered}
 use Rattle.run_devices.proofs.Replayed.{lacks-all, holds-any, replays, replayed-goes, replayed-minute, shut-holds, shut-goes}
-use Rattle.card_string.proofs.MadeSince.{insert_since}
+use Rattle.device_calls.proofs.card_string.MadeSince.{insert_since}
 
 -- ---- small facts
 

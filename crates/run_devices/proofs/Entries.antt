@@ -1,34 +1,34 @@
 -- Each vehicle entry of a card is so, at each moment of each call on it: a keep, a closing, an insertion and a note.
 use Rattle.std.proofs.Common.{◌≡◌, inl, inr, ℕ, suc, ◌+◌, ◌*◌, ◌≤◌, Bool, true, false, cond, Option, Some, None, IfSome, List, [], ◌∷◌, ◌++◌, length, sym, ◌∙◌, ap, subst, arith, option_map}
-use Rattle.activity_codec.specs.declared.values.Activity.{Activity}
-use Rattle.activity_codec.specs.declared.values.Activity.TheVariants.{Rest}
-use Rattle.activity_codec.specs.declared.entries.Entry.{Entry}
-use Rattle.tacho_types.specs.declared.texts.Registration.{Registration}
-use Rattle.card_layout.specs.declared.files.Application.{Application}
-use Rattle.card_layout.specs.Application.{IsApplication}
-use Rattle.card_layout.specs.Files.{place_of, image_size_of}
-use Rattle.gated_ring.specs.Ring.{PointsInside}
-use Rattle.gated_ring.proofs.Elsewhere.{points_elsewhere}
-use Rattle.card_image.specs.Beside.{HaveSameVehicles}
-use Rattle.card_image.specs.Fields.{file, vehicle_ring}
-use Rattle.card_image.specs.Judging.{IsValid}
-use Rattle.card_files.specs.declared.vehicle.Vehicle.{Vehicle}
-use Rattle.card_model.specs.Days.{Day}
-use Rattle.card_retention.specs.Shown.{is_open}
-use Rattle.card_session.specs.Vehicles.{Vehicles, any_stands, on_newest, renewed, behind_first, with_vehicle, with_room}
-use Rattle.card_session.specs.Books.{Book, mark_of, with_entry, closed, closed_days, used, used_until, measured, measured_to, goes_on_with, begun_vehicle, vehicle_counter, vehicles_with, last_used}
-use Rattle.card_session.specs.Sessions.{Session, book_of}
-use Rattle.card_session.specs.Moments.{IsKeepMoment, IsBeforeUse, IsCloseMoment}
-use Rattle.card_session.specs.Cards.{IsCardKeeping, IsCardClosing, ended, grown}
-use Rattle.card_session.specs.Inserting.{lacked, with_cut, with_owed, IsReplaying, repaired, IsRepairMoment, IsStill, IsRepaired, IsShut, InsertingClosed, InsertingOpen, IsCardInserting}
-use Rattle.card_session.proofs.OnCard.{ring_shape}
-use Rattle.card_session.proofs.Composing.{told_book}
-use Rattle.card_session.proofs.InsertingCards.{noted_same, noting_same}
-use Rattle.card_session.proofs.InsertingUse.{use_inside}
-use Rattle.card_session.proofs.InsertingOpen.{opening_same, reopening_same}
-use Rattle.card_session.proofs.InsertingAgain.{noted_keeps}
-use Rattle.card_session.proofs.Stopping.{ended_same}
-use Rattle.card_string.proofs.SameBook.{same_book}
+use Rattle.device_calls.specs.activity_codec.declared.values.Activity.{Activity}
+use Rattle.device_calls.specs.activity_codec.declared.values.Activity.TheVariants.{Rest}
+use Rattle.device_calls.specs.activity_codec.declared.entries.Entry.{Entry}
+use Rattle.device_calls.specs.tacho_types.declared.texts.Registration.{Registration}
+use Rattle.tach_media.specs.card_layout.declared.files.Application.{Application}
+use Rattle.tach_media.specs.card_layout.Application.{IsApplication}
+use Rattle.tach_media.specs.card_layout.Files.{place_of, image_size_of}
+use Rattle.device_calls.specs.gated_ring.Ring.{PointsInside}
+use Rattle.device_calls.proofs.gated_ring.Elsewhere.{points_elsewhere}
+use Rattle.device_calls.specs.card_image.Beside.{HaveSameVehicles}
+use Rattle.device_calls.specs.card_image.Fields.{file, vehicle_ring}
+use Rattle.device_calls.specs.card_image.Judging.{IsValid}
+use Rattle.device_calls.specs.card_files.declared.vehicle.Vehicle.{Vehicle}
+use Rattle.device_calls.specs.card_model.Days.{Day}
+use Rattle.device_calls.specs.card_retention.Shown.{is_open}
+use Rattle.device_calls.specs.card_session.Vehicles.{Vehicles, any_stands, on_newest, renewed, behind_first, with_vehicle, with_room}
+use Rattle.device_calls.specs.card_session.Books.{Book, mark_of, with_entry, closed, closed_days, used, used_until, measured, measured_to, goes_on_with, begun_vehicle, vehicle_counter, vehicles_with, last_used}
+use Rattle.device_calls.specs.card_session.Sessions.{Session, book_of}
+use Rattle.device_calls.specs.card_session.Moments.{IsKeepMoment, IsBeforeUse, IsCloseMoment}
+use Rattle.device_calls.specs.card_session.Cards.{IsCardKeeping, IsCardClosing, ended, grown}
+use Rattle.device_calls.specs.card_session.Inserting.{lacked, with_cut, with_owed, IsReplaying, repaired, IsRepairMoment, IsStill, IsRepaired, IsShut, InsertingClosed, InsertingOpen, IsCardInserting}
+use Rattle.device_calls.proofs.card_session.OnCard.{ring_shape}
+use Rattle.device_calls.proofs.card_session.Composing.{told_book}
+use Rattle.device_calls.proofs.card_session.InsertingCards.{noted_same, noting_same}
+use Rattle.device_calls.proofs.card_session.InsertingUse.{use_inside}
+use Rattle.device_calls.proofs.card_session.InsertingOpen.{opening_same, reopening_same}
+use Rattle.device_calls.proofs.card_session.InsertingAgain.{noted_keeps}
+use Rattle.device_calls.proofs.card_session.Stopping.{ended_same}
+use Rattle.device_calls.proofs.card_string.SameBook.{same_book}
 use Rattle.device_calls.specs.CardNotes.{IsNote}
 use Rattle.run_devices.specs.Registered.{RingIn, AreIn}
 use Rattle.run_devices.proofs.NotedCard.{note-book}

@@ -1,11 +1,11 @@
 -- A minute, with entries by hand before it, may come on a card in its slot, also where a repair has cut words of the start.
 use Rattle.std.proofs.Common.{inl, inr, ⊎_elim, ℕ, suc, max, ◌<◌, ◌≤◌, List, arith}
 use Rattle.std.proofs.lemmas.Bool.{cases_lt}
-use Rattle.activity_codec.specs.declared.entries.Entry.{Entry}
-use Rattle.activity_codec.specs.declared.entries.Manual.{Manual}
-use Rattle.card_image.specs.Own.{own_covered}
-use Rattle.hand_model.specs.Holding.{LieBetween}
-use Rattle.card_by_hand.specs.First.{ComeFrom}
+use Rattle.device_calls.specs.activity_codec.declared.entries.Entry.{Entry}
+use Rattle.device_calls.specs.activity_codec.declared.entries.Manual.{Manual}
+use Rattle.device_calls.specs.card_image.Own.{own_covered}
+use Rattle.device_calls.specs.hand_model.Holding.{LieBetween}
+use Rattle.device_calls.specs.card_by_hand.First.{ComeFrom}
 use Rattle.device_calls.proofs.MinuteSaid.{first_comes}
 use Rattle.run_promise.specs.Found.{CardFound}
 

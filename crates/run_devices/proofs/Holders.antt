@@ -1,29 +1,29 @@
 -- What no call writes of a card stays as it is in each note, keep, closing and insertion, and the places in all but the note of one.
 use Rattle.std.proofs.Common.{◌≡◌, ◌⊎◌, inl, inr, ⊎_elim, ℕ, ◌+◌, ◌<◌, ◌≤◌, List, length, sym, ◌∙◌, ap, subst, arith}
-use Rattle.card_layout.proofs.Images.{part_after, part_before, put_outside}
-use Rattle.activity_codec.specs.declared.values.Activity.{Activity}
-use Rattle.activity_codec.specs.declared.values.Activity.TheVariants.{Rest}
-use Rattle.activity_codec.specs.declared.entries.Entry.{Entry}
-use Rattle.tacho_types.specs.declared.texts.Registration.{Registration}
-use Rattle.tacho_types.specs.Numbers.{time_bytes}
-use Rattle.card_layout.specs.declared.files.Application.{Application}
-use Rattle.card_layout.specs.Files.{files_of, place_of, size_of}
+use Rattle.tach_media.proofs.card_layout.Images.{part_after, part_before, put_outside}
+use Rattle.device_calls.specs.activity_codec.declared.values.Activity.{Activity}
+use Rattle.device_calls.specs.activity_codec.declared.values.Activity.TheVariants.{Rest}
+use Rattle.device_calls.specs.activity_codec.declared.entries.Entry.{Entry}
+use Rattle.device_calls.specs.tacho_types.declared.texts.Registration.{Registration}
+use Rattle.device_calls.specs.tacho_types.Numbers.{time_bytes}
+use Rattle.tach_media.specs.card_layout.declared.files.Application.{Application}
+use Rattle.tach_media.specs.card_layout.Files.{files_of, place_of, size_of}
 use Rattle.tach_media.specs.Medium.{SameOutside, bytes_at}
-use Rattle.card_files.specs.declared.card_event.CardEvent.{CardEvent}
-use Rattle.card_files.specs.Noting.{IsNotingEvent, IsEventNoted}
-use Rattle.card_files.specs.Rings.{event_ring}
-use Rattle.card_files.proofs.Sets.{set_inside}
-use Rattle.card_model.specs.Days.{Day}
-use Rattle.gated_ring.specs.Ring.{place_of as entry_place, size_of as ring_size}
-use Rattle.gated_ring.proofs.Places.{place_high}
-use Rattle.card_image.specs.Fields.{file, day_string, place_ring}
-use Rattle.card_image.specs.Beside.{HaveSame}
-use Rattle.card_session.specs.Cards.{IsCard, IsCardClosing, days_and_vehicles}
-use Rattle.card_session.specs.Vehicles.{Vehicles}
-use Rattle.card_session.specs.Books.{closed}
-use Rattle.card_session.specs.Sessions.{Session, book_of}
-use Rattle.card_session.specs.Moments.{IsBook, IsCloseMoment}
-use Rattle.card_session.specs.Inserting.{repaired, IsRepairMoment, During, IsStill, IsRepaired, IsRepairing, IsNoted, IsNoting, IsShut, IsShutting, IsEnded, IsEnding, IsOpening, IsCardInserting, timed, registered}
+use Rattle.device_calls.specs.card_files.declared.card_event.CardEvent.{CardEvent}
+use Rattle.device_calls.specs.card_files.Noting.{IsNotingEvent, IsEventNoted}
+use Rattle.device_calls.specs.card_files.Rings.{event_ring}
+use Rattle.device_calls.proofs.card_files.Sets.{set_inside}
+use Rattle.device_calls.specs.card_model.Days.{Day}
+use Rattle.device_calls.specs.gated_ring.Ring.{place_of as entry_place, size_of as ring_size}
+use Rattle.device_calls.proofs.gated_ring.Places.{place_high}
+use Rattle.device_calls.specs.card_image.Fields.{file, day_string, place_ring}
+use Rattle.device_calls.specs.card_image.Beside.{HaveSame}
+use Rattle.device_calls.specs.card_session.Cards.{IsCard, IsCardClosing, days_and_vehicles}
+use Rattle.device_calls.specs.card_session.Vehicles.{Vehicles}
+use Rattle.device_calls.specs.card_session.Books.{closed}
+use Rattle.device_calls.specs.card_session.Sessions.{Session, book_of}
+use Rattle.device_calls.specs.card_session.Moments.{IsBook, IsCloseMoment}
+use Rattle.device_calls.specs.card_session.Inserting.{repaired, IsRepairMoment, During, IsStill, IsRepaired, IsRepairing, IsNoted, IsNoting, IsShut, IsShutting, IsEnded, IsEnding, IsOpening, IsCardInserting, timed, registered}
 use Rattle.device_calls.specs.CardNotes.{IsNote}
 use Rattle.run_devices.specs.Strung.{HasSameRest}
 

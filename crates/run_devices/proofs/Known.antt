@@ -3,18 +3,18 @@ use Rattle.std.proofs.Common.{◌≡◌, ℕ, zero, suc, ◌<◌, ◌≤◌, Lis
 use Rattle.std.specs.Prelude.{Result, nat_eq, nat_lt}
 use Rattle.std.proofs.lemmas.Bool.Decides.{nat_tests}
 use Rattle.std.proofs.lemmas.List.Elements.{Contains-push_cases, Contains-append_cases}
-use Rattle.trace_model.specs.declared.Card.{Card}
-use Rattle.trace_model.specs.declared.Card.TheVariants.{A, B}
-use Rattle.tacho_types.specs.CardNumber.{card_number_bytes}
-use Rattle.tacho_types.specs.declared.card_number.FullCardNumber.{FullCardNumber}
-use Rattle.card_layout.specs.declared.files.Application.{Application}
-use Rattle.card_model.specs.Days.{Day}
-use Rattle.card_model.specs.Changes.{trimmed}
-use Rattle.card_retention.specs.Entries.{newest_word}
-use Rattle.card_image.specs.Fields.{card_days, end_mark, session_time}
-use Rattle.card_image.specs.View.{card_view}
-use Rattle.card_image.specs.Own.{own_view, own_sizes, own_covered, IsOwnValid}
-use Rattle.device_rule.specs.Views.{beyond}
+use Rattle.device_calls.specs.trace_model.declared.Card.{Card}
+use Rattle.device_calls.specs.trace_model.declared.Card.TheVariants.{A, B}
+use Rattle.device_calls.specs.tacho_types.CardNumber.{card_number_bytes}
+use Rattle.device_calls.specs.tacho_types.declared.card_number.FullCardNumber.{FullCardNumber}
+use Rattle.tach_media.specs.card_layout.declared.files.Application.{Application}
+use Rattle.device_calls.specs.card_model.Days.{Day}
+use Rattle.device_calls.specs.card_model.Changes.{trimmed}
+use Rattle.device_calls.specs.card_retention.Entries.{newest_word}
+use Rattle.device_calls.specs.card_image.Fields.{card_days, end_mark, session_time}
+use Rattle.device_calls.specs.card_image.View.{card_view}
+use Rattle.device_calls.specs.card_image.Own.{own_view, own_sizes, own_covered, IsOwnValid}
+use Rattle.device_calls.specs.device_rule.Views.{beyond}
 use Rattle.run_crew.specs.declared.cards.Accepted.{Accepted}
 use Rattle.run_crew.specs.declared.cards.Cards.{Cards}
 use Rattle.run_crew.specs.Cards.{known_of, session_of, with_session, with_sizes}

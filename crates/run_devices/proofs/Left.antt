@@ -1,50 +1,50 @@
 -- A card is taken out in order.
 use Rattle.std.proofs.Common.{◌≡◌, ◌≢◌, ◌⊎◌, inl, inr, ⊎_elim, ℕ, suc, max, ◌<◌, ◌≤◌, Bool, true, false, cond, Option, Some, None, List, [], length, refl, ap, subst, ◌∙◌, sym, arith}
 use Rattle.std.proofs.lemmas.List.{append-nil}
-use Rattle.activity_codec.specs.declared.entries.Entry.{Entry}
-use Rattle.activity_codec.specs.declared.values.Activity.{Activity}
-use Rattle.trace_model.specs.declared.Card.{Card}
+use Rattle.device_calls.specs.activity_codec.declared.entries.Entry.{Entry}
+use Rattle.device_calls.specs.activity_codec.declared.values.Activity.{Activity}
+use Rattle.device_calls.specs.trace_model.declared.Card.{Card}
 use Rattle.tach_media.specs.Medium.{State, IsCoherent, LeavesOnly}
 use Rattle.tach_media.proofs.Runs.{at_image, if_told, weaken}
-use Rattle.card_layout.specs.declared.files.Application.{Application}
-use Rattle.card_layout.specs.Application.{application_of, IsApplication}
-use Rattle.card_layout.specs.Files.{files_of, image_size_of}
-use Rattle.card_model.specs.Days.{AreDays}
-use Rattle.card_model.specs.Changes.{trimmed}
-use Rattle.card_retention.specs.Entries.{newest_minute, newest_word, EndsBy}
-use Rattle.card_retention.proofs.Newest.{at_mark}
-use Rattle.card_retention.specs.Shown.{is_open}
-use Rattle.card_image.specs.Fields.{card_days, end_mark, session_time, card_number}
-use Rattle.card_image.specs.Judging.{IsValid}
-use Rattle.card_image.specs.View.{CardView, card_view}
-use Rattle.card_image.specs.Own.{own_view, own_sizes, IsOwnValid}
-use Rattle.card_session.specs.Books.{closed}
-use Rattle.card_session.specs.Moments.{IsBook, IsCloseMoment}
-use Rattle.card_session.specs.Sessions.{IsSession, IsOpenBook, book_of}
-use Rattle.card_session.specs.Cards.{IsCardClosing, IsCardClosed, MayEnd}
-use Rattle.card_image.specs.Beside.{HaveSameSizes, HaveSameIdentification}
-use Rattle.card_session.proofs.InsertingAgain.{ended_keeps}
-use Rattle.card_session.proofs.InsertingUse.{use_inside}
-use Rattle.card_session.proofs.Marks.{number_still}
-use Rattle.card_session.proofs.Ended.{closed_ends}
-use Rattle.card_session.proofs.Valid.{flat_of, close_valid, above_zero}
-use Rattle.card_session.proofs.Stopping.{days_there}
-use Rattle.card_image.proofs.Beside.{number_same}
-use Rattle.card_string.specs.Since.{SitsSince, HoldsSince}
-use Rattle.card_string.proofs.Since.{later_holds}
-use Rattle.card_string.proofs.OfCards.{card_close_holds}
-use Rattle.device_rule.specs.Views.{UnitView, unit_view, other, newest_with}
-use Rattle.device_rule.specs.Steps.{IsClosing}
-use Rattle.device_rule.specs.Device.{LeavesViews}
-use Rattle.device_rule.specs.Rules.{Standing, In, Out, since, CardRule, IsIn}
-use Rattle.device_rule.specs.Marked.{of_card}
+use Rattle.tach_media.specs.card_layout.declared.files.Application.{Application}
+use Rattle.tach_media.specs.card_layout.Application.{application_of, IsApplication}
+use Rattle.tach_media.specs.card_layout.Files.{files_of, image_size_of}
+use Rattle.device_calls.specs.card_model.Days.{AreDays}
+use Rattle.device_calls.specs.card_model.Changes.{trimmed}
+use Rattle.device_calls.specs.card_retention.Entries.{newest_minute, newest_word, EndsBy}
+use Rattle.device_calls.proofs.card_retention.Newest.{at_mark}
+use Rattle.device_calls.specs.card_retention.Shown.{is_open}
+use Rattle.device_calls.specs.card_image.Fields.{card_days, end_mark, session_time, card_number}
+use Rattle.device_calls.specs.card_image.Judging.{IsValid}
+use Rattle.device_calls.specs.card_image.View.{CardView, card_view}
+use Rattle.device_calls.specs.card_image.Own.{own_view, own_sizes, IsOwnValid}
+use Rattle.device_calls.specs.card_session.Books.{closed}
+use Rattle.device_calls.specs.card_session.Moments.{IsBook, IsCloseMoment}
+use Rattle.device_calls.specs.card_session.Sessions.{IsSession, IsOpenBook, book_of}
+use Rattle.device_calls.specs.card_session.Cards.{IsCardClosing, IsCardClosed, MayEnd}
+use Rattle.device_calls.specs.card_image.Beside.{HaveSameSizes, HaveSameIdentification}
+use Rattle.device_calls.proofs.card_session.InsertingAgain.{ended_keeps}
+use Rattle.device_calls.proofs.card_session.InsertingUse.{use_inside}
+use Rattle.device_calls.proofs.card_session.Marks.{number_still}
+use Rattle.device_calls.proofs.card_session.Ended.{closed_ends}
+use Rattle.device_calls.proofs.card_session.Valid.{flat_of, close_valid, above_zero}
+use Rattle.device_calls.proofs.card_session.Stopping.{days_there}
+use Rattle.device_calls.proofs.card_image.Beside.{number_same}
+use Rattle.device_calls.specs.card_string.Since.{SitsSince, HoldsSince}
+use Rattle.device_calls.proofs.card_string.Since.{later_holds}
+use Rattle.device_calls.proofs.card_string.OfCards.{card_close_holds}
+use Rattle.device_calls.specs.device_rule.Views.{UnitView, unit_view, other, newest_with}
+use Rattle.device_calls.specs.device_rule.Steps.{IsClosing}
+use Rattle.device_calls.specs.device_rule.Device.{LeavesViews}
+use Rattle.device_calls.specs.device_rule.Rules.{Standing, In, Out, since, CardRule, IsIn}
+use Rattle.device_calls.specs.device_rule.Marked.{of_card}
 use Rattle.device_calls.proofs.OnCard.{AnyStep, own-is, session-is, sizes-same}
 use Rattle.device_calls.proofs.Inserted.{bound_of}
 use Rattle.device_calls.proofs.Enters.{take-out, closing-step}
 use Rattle.run_crew.specs.declared.cards.Accepted.{Accepted}
 use Rattle.run_crew.specs.declared.cards.Cards.{Cards}
 use Rattle.run_crew.specs.Cards.{session_of}
-use Rattle.unit_rule.specs.Rule.{once_mended}
+use Rattle.device_calls.specs.unit_rule.Rule.{once_mended}
 use Rattle.run_promise.specs.Found.{Found, found_of, unit_seen, AnyKept}
 use Rattle.run_promise.specs.Cards.{brought_by}
 use Rattle.run_promise.specs.Between.{RunLedger}
@@ -54,10 +54,10 @@ use Rattle.run_devices.proofs.Holders.{HaveSameRest, closing-rest}
 use Rattle.run_devices.specs.Registered.{AreIn, IsUsedSo, TellsOfTwo}
 use Rattle.run_devices.proofs.Registered.{MayBe, close-on}
 use Rattle.run_devices.proofs.Used.{close-used}
-use Rattle.tacho_types.specs.declared.texts.Registration.{Registration}
+use Rattle.device_calls.specs.tacho_types.declared.texts.Registration.{Registration}
 use Rattle.run_devices.proofs.OnCards.{own-valid, valid-own, valid-or, no-marks, own-holder-still, Rises, rises-run, none-falls, marks-on, brought-card, held-on, hands-on, valid-on, bound_of as place_on}
-use Rattle.card_string.specs.Deeds.{IsMadeSince}
-use Rattle.card_string.proofs.MadeSince.{close_since}
+use Rattle.device_calls.specs.card_string.Deeds.{IsMadeSince}
+use Rattle.device_calls.proofs.card_string.MadeSince.{close_since}
 
 pub own-sizes-same : (app : Application) (x y : List ℕ) → HaveSameSizes app x y → own_sizes y ≡ own_sizes x
 unfolding own_sizes files_of

@@ -2,30 +2,30 @@
 use Rattle.std.proofs.Common.{◌≡◌, ℕ, ◌<◌, ◌≤◌, true, false, List, [], ◌∷◌, ◌++◌, All, Contains, refl, ap, subst, ◌∙◌, sym, arith, Some}
 use Rattle.std.proofs.lemmas.List.{append-nil}
 use Rattle.std.proofs.lemmas.List.Elements.{All-nil, All-cons, All-head, All-append, filter-append, Contains-append_left, Contains-append_right}
-use Rattle.activity_codec.specs.declared.entries.Entry.{Entry}
-use Rattle.trace_model.specs.declared.Card.{Card}
-use Rattle.trace_model.specs.declared.Card.TheVariants.{A, B}
-use Rattle.run_model.specs.declared.Device.{Device}
-use Rattle.run_model.specs.declared.Device.TheVariants.{Unit as Recorder}
+use Rattle.device_calls.specs.activity_codec.declared.entries.Entry.{Entry}
+use Rattle.device_calls.specs.trace_model.declared.Card.{Card}
+use Rattle.device_calls.specs.trace_model.declared.Card.TheVariants.{A, B}
+use Rattle.device_calls.specs.run_model.declared.Device.{Device}
+use Rattle.device_calls.specs.run_model.declared.Device.TheVariants.{Unit as Recorder}
 use Rattle.tach_media.specs.Medium.{State, IsCoherent, IsSettled}
-use Rattle.log_model.specs.declared.lines.Mark.{Mark}
-use Rattle.log_model.specs.Causes.{device_of}
-use Rattle.card_retention.specs.Retains.{Rise}
-use Rattle.card_image.specs.View.{CardView}
-use Rattle.card_image.specs.Own.{own_view, IsOwnValid, own_sizes}
-use Rattle.history_model.specs.Minutes.{card_history}
-use Rattle.history_model.specs.Book.{Book}
-use Rattle.history_model.proofs.Filters.{filter-none, filter-whole}
-use Rattle.device_rule.specs.Views.{other}
-use Rattle.device_rule.specs.Device.{SettledViews}
-use Rattle.device_rule.specs.Marked.{of_card, HasMarked}
-use Rattle.device_rule.proofs.Holding.{acknowledged}
-use Rattle.unit_rule.specs.Unit.{is_of, marks_of, Increase}
-use Rattle.unit_rule.specs.Rule.{Started, once_mended}
-use Rattle.unit_rule.specs.Marks.{UnitFollowsBook, MarkIsKept as IsUnitHeld}
+use Rattle.run_crew.specs.log_model.declared.lines.Mark.{Mark}
+use Rattle.run_crew.specs.log_model.Causes.{device_of}
+use Rattle.device_calls.specs.card_retention.Retains.{Rise}
+use Rattle.device_calls.specs.card_image.View.{CardView}
+use Rattle.device_calls.specs.card_image.Own.{own_view, IsOwnValid, own_sizes}
+use Rattle.device_calls.specs.history_model.Minutes.{card_history}
+use Rattle.device_calls.specs.history_model.Book.{Book}
+use Rattle.device_calls.proofs.history_model.Filters.{filter-none, filter-whole}
+use Rattle.device_calls.specs.device_rule.Views.{other}
+use Rattle.device_calls.specs.device_rule.Device.{SettledViews}
+use Rattle.device_calls.specs.device_rule.Marked.{of_card, HasMarked}
+use Rattle.device_calls.proofs.device_rule.Holding.{acknowledged}
+use Rattle.device_calls.specs.unit_rule.Unit.{is_of, marks_of, Increase}
+use Rattle.device_calls.specs.unit_rule.Rule.{Started, once_mended}
+use Rattle.device_calls.specs.unit_rule.Marks.{UnitFollowsBook, MarkIsKept as IsUnitHeld}
 use Rattle.run_crew.specs.declared.cards.Cards.{Cards}
 use Rattle.run_promise.specs.Found.{CardFound, Found, found_of}
-use Rattle.unit_rule.specs.Cards.{IsPromptOn}
+use Rattle.device_calls.specs.unit_rule.Cards.{IsPromptOn}
 use Rattle.run_promise.specs.Cards.{IsCardHeld, CardMarksHold}
 use Rattle.run_promise.specs.Between.{RunLedger}
 use Rattle.run_devices.specs.Told.{AreFoundCards, DevicesPowered, arranged, card_marks, with_marks}

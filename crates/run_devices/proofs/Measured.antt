@@ -1,32 +1,32 @@
 -- The vehicle entries of a card are measured: over calls one after another, and at each moment of a keep, a closing and an insertion.
 use Rattle.std.proofs.Common.{◌≡◌, ◌∙◌, ◌⊎◌, inl, inr, ⊎_elim, ℕ, ◌+◌, ◌<◌, ◌≤◌, Option, Some, None, IfSome, List, [], ◌∷◌, Contains, length, refl, sym, ap, subst, arith}
 use Rattle.std.proofs.lemmas.List.Elements.{Contains-push}
-use Rattle.activity_codec.specs.declared.values.Activity.{Activity}
-use Rattle.activity_codec.specs.declared.entries.Entry.{Entry}
+use Rattle.device_calls.specs.activity_codec.declared.values.Activity.{Activity}
+use Rattle.device_calls.specs.activity_codec.declared.entries.Entry.{Entry}
 use Rattle.tach_media.specs.Medium.{State, IsCoherent, LeavesOnly, SameOutside, bytes_at}
 use Rattle.tach_media.proofs.Runs.{at_image}
-use Rattle.tacho_types.specs.declared.numbers.Odometer.{Odometer}
-use Rattle.tacho_types.specs.declared.texts.Registration.{Registration}
-use Rattle.card_layout.proofs.Images.{part_after, part_before}
-use Rattle.card_layout.specs.declared.files.Application.{Application}
-use Rattle.card_layout.specs.Application.{IsApplication}
-use Rattle.card_layout.specs.Files.{files_of, place_of, size_of, image_size_of}
-use Rattle.card_files.specs.declared.card_event.CardEvent.{CardEvent}
-use Rattle.card_files.specs.Noting.{IsNotingEvent, IsEventNoted}
-use Rattle.card_files.specs.Rings.{event_ring}
-use Rattle.card_files.specs.declared.vehicle.Vehicle.{Vehicle}
-use Rattle.card_files.proofs.Sets.{set_inside}
-use Rattle.gated_ring.specs.Ring.{place_of as entry_place, size_of as ring_size}
-use Rattle.gated_ring.proofs.Places.{place_high}
-use Rattle.card_image.specs.Beside.{HaveSameVehicles}
-use Rattle.card_image.specs.Fields.{file, place_ring, vehicle_ring}
-use Rattle.card_session.specs.Vehicles.{Vehicles}
-use Rattle.card_session.specs.Books.{used, measured, begun_vehicle}
-use Rattle.card_session.specs.Sessions.{Session, IsSession, book_of}
-use Rattle.card_session.specs.Cards.{IsCardKeeping, IsCardClosing}
-use Rattle.card_session.specs.Inserting.{IsCardInserting}
-use Rattle.card_session.proofs.OnCard.{ring_shape}
-use Rattle.card_session.proofs.Round.{vehicles_same}
+use Rattle.device_calls.specs.tacho_types.declared.numbers.Odometer.{Odometer}
+use Rattle.device_calls.specs.tacho_types.declared.texts.Registration.{Registration}
+use Rattle.tach_media.proofs.card_layout.Images.{part_after, part_before}
+use Rattle.tach_media.specs.card_layout.declared.files.Application.{Application}
+use Rattle.tach_media.specs.card_layout.Application.{IsApplication}
+use Rattle.tach_media.specs.card_layout.Files.{files_of, place_of, size_of, image_size_of}
+use Rattle.device_calls.specs.card_files.declared.card_event.CardEvent.{CardEvent}
+use Rattle.device_calls.specs.card_files.Noting.{IsNotingEvent, IsEventNoted}
+use Rattle.device_calls.specs.card_files.Rings.{event_ring}
+use Rattle.device_calls.specs.card_files.declared.vehicle.Vehicle.{Vehicle}
+use Rattle.device_calls.proofs.card_files.Sets.{set_inside}
+use Rattle.device_calls.specs.gated_ring.Ring.{place_of as entry_place, size_of as ring_size}
+use Rattle.device_calls.proofs.gated_ring.Places.{place_high}
+use Rattle.device_calls.specs.card_image.Beside.{HaveSameVehicles}
+use Rattle.device_calls.specs.card_image.Fields.{file, place_ring, vehicle_ring}
+use Rattle.device_calls.specs.card_session.Vehicles.{Vehicles}
+use Rattle.device_calls.specs.card_session.Books.{used, measured, begun_vehicle}
+use Rattle.device_calls.specs.card_session.Sessions.{Session, IsSession, book_of}
+use Rattle.device_calls.specs.card_session.Cards.{IsCardKeeping, IsCardClosing}
+use Rattle.device_calls.specs.card_session.Inserting.{IsCardInserting}
+use Rattle.device_calls.proofs.card_session.OnCard.{ring_shape}
+use Rattle.device_calls.proofs.card_session.Round.{vehicles_same}
 use Rattle.run_devices.specs.Registered.{RingIn, AreIn, HasOne, SomeIs}
 use Rattle.run_devices.specs.Measured.{GoesOnFrom, IsMeasured, AreMeasured, vehicles_by, GoesMeasured, MeasuresOn}
 use Rattle.run_devices.proofs.Entries.{keep-is, close-is, close-points, inserting-is, inserting-points, points-by}

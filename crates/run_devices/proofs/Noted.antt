@@ -1,28 +1,28 @@
 -- A note on the unit, of an insertion, a withdrawal, a place or an event, and a note on a card: what is carried stands behind it.
 use Rattle.std.proofs.Common.{◌≡◌, ◌≢◌, ◌⊎◌, inl, inr, ℕ, suc, max, ◌≤◌, true, Option, Some, None, IfSome, List, [], length, Contains, ap, subst, ◌∙◌, sym, arith}
 use Rattle.std.proofs.lemmas.List.{append-nil}
-use Rattle.activity_codec.specs.declared.entries.Entry.{Entry}
-use Rattle.trace_model.specs.declared.Card.{Card}
-use Rattle.trace_model.specs.declared.Card.TheVariants.{A, B}
+use Rattle.device_calls.specs.activity_codec.declared.entries.Entry.{Entry}
+use Rattle.device_calls.specs.trace_model.declared.Card.{Card}
+use Rattle.device_calls.specs.trace_model.declared.Card.TheVariants.{A, B}
 use Rattle.tach_media.specs.Medium.{State, IsCoherent, LeavesOnly}
 use Rattle.tach_media.proofs.Runs.{at_image, if_told}
-use Rattle.card_layout.specs.declared.files.Application.{Application}
-use Rattle.card_layout.specs.Application.{IsApplication}
-use Rattle.card_layout.specs.Files.{image_size_of}
-use Rattle.card_image.specs.Judging.{IsValid}
-use Rattle.card_image.specs.View.{CardView}
-use Rattle.card_image.specs.Own.{own_view, own_sizes, IsOwnValid}
-use Rattle.card_session.specs.Sessions.{IsSession, IsValue}
-use Rattle.card_session.specs.Cards.{MayEnd}
-use Rattle.card_by_hand.specs.First.{IsShutAt}
-use Rattle.card_string.specs.Since.{SitsSince, HoldsSince}
-use Rattle.card_string.proofs.Since.{beside_holds}
+use Rattle.tach_media.specs.card_layout.declared.files.Application.{Application}
+use Rattle.tach_media.specs.card_layout.Application.{IsApplication}
+use Rattle.tach_media.specs.card_layout.Files.{image_size_of}
+use Rattle.device_calls.specs.card_image.Judging.{IsValid}
+use Rattle.device_calls.specs.card_image.View.{CardView}
+use Rattle.device_calls.specs.card_image.Own.{own_view, own_sizes, IsOwnValid}
+use Rattle.device_calls.specs.card_session.Sessions.{IsSession, IsValue}
+use Rattle.device_calls.specs.card_session.Cards.{MayEnd}
+use Rattle.device_calls.specs.card_by_hand.First.{IsShutAt}
+use Rattle.device_calls.specs.card_string.Since.{SitsSince, HoldsSince}
+use Rattle.device_calls.proofs.card_string.Since.{beside_holds}
 use Rattle.device_calls.specs.Journal.{LeavesJournal}
-use Rattle.device_rule.specs.Views.{other}
-use Rattle.device_rule.specs.Device.{LeavesViews}
-use Rattle.device_rule.specs.Rules.{Standing, In, Torn, since, CardDark, CardRule}
-use Rattle.device_rule.specs.Marked.{of_card, HasBrought}
-use Rattle.unit_rule.specs.Safe.{card_of}
+use Rattle.device_calls.specs.device_rule.Views.{other}
+use Rattle.device_calls.specs.device_rule.Device.{LeavesViews}
+use Rattle.device_calls.specs.device_rule.Rules.{Standing, In, Torn, since, CardDark, CardRule}
+use Rattle.device_calls.specs.device_rule.Marked.{of_card, HasBrought}
+use Rattle.device_calls.specs.unit_rule.Safe.{card_of}
 use Rattle.device_calls.specs.Rule.{CardHolds}
 use Rattle.device_calls.specs.CardNotes.{IsNote, IsSound}
 use Rattle.device_calls.proofs.Noted.{noted-holds, noted-card}
@@ -30,8 +30,8 @@ use Rattle.device_calls.proofs.CardNoted.{noted-valid, noted-sizes, noted-own, n
 use Rattle.run_crew.specs.declared.cards.Accepted.{Accepted}
 use Rattle.run_crew.specs.declared.cards.Cards.{Cards}
 use Rattle.run_crew.specs.Cards.{session_of}
-use Rattle.unit_rule.specs.Rule.{once_mended}
-use Rattle.unit_rule.proofs.Marking.{holds-dark}
+use Rattle.device_calls.specs.unit_rule.Rule.{once_mended}
+use Rattle.device_calls.proofs.unit_rule.Marking.{holds-dark}
 use Rattle.run_promise.specs.Found.{Found, found_of, unit_seen, AnyKept}
 use Rattle.run_promise.specs.Cards.{brought_by, CardMarksHold, HandMarksHold}
 use Rattle.run_promise.specs.Between.{RunLedger, devices}
@@ -41,10 +41,10 @@ use Rattle.run_devices.proofs.Parts.{both_of, as-steps, of-steps, CardLit, off-o
 use Rattle.run_devices.proofs.Holders.{note-rest}
 use Rattle.run_devices.proofs.Registered.{MayBe, note-on}
 use Rattle.run_devices.proofs.Used.{note-used}
-use Rattle.card_session.specs.Sessions.{book_of}
+use Rattle.device_calls.specs.card_session.Sessions.{book_of}
 use Rattle.run_devices.proofs.OnCards.{own-holder-still, own-valid, valid-own, valid-or, no-marks, time-of, Rises, rises-run, none-falls, marks-on, brought-card, bound_of, held-on, hands-on, valid-on, told-on}
 use Rattle.run_devices.proofs.NotedCard.{note-ends, note-number, note-book, note-session_time, note-sits, note-shut, note-session}
-use Rattle.card_string.proofs.MadeSince.{since_same}
+use Rattle.device_calls.proofs.card_string.MadeSince.{since_same}
 
 -- ---- ON THE UNIT, whatever is put or owed
 

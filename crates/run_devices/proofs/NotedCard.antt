@@ -1,44 +1,44 @@
 -- An event or a place is noted on a card: its string and its session stay.
 use Rattle.std.proofs.Common.{◌≡◌, inl, inr, ⊎_elim, ℕ, ◌+◌, ◌/◌, ◌<◌, ◌≤◌, Option, option_map, List, [], ◌∷◌, length, refl, ap, subst, ◌∙◌, sym, arith}
 use Rattle.tach_media.specs.Medium.{bytes_at, SameOutside}
-use Rattle.card_layout.specs.Images.{big_number}
+use Rattle.tach_media.specs.card_layout.Images.{big_number}
 use Rattle.tach_media.proofs.Images.{part_after, part_put}
-use Rattle.card_layout.specs.Files.{files_of, image_size_of, place_of, size_of}
-use Rattle.card_files.specs.Rings.{event_ring}
-use Rattle.card_files.proofs.Sets.{set_inside}
-use Rattle.gated_ring.proofs.Places.{place_high}
-use Rattle.card_layout.specs.declared.files.Application.{Application}
-use Rattle.card_layout.specs.Application.{IsApplication, first_bad_field, place_of_field}
-use Rattle.card_model.specs.Days.{Day}
-use Rattle.card_image.specs.Fields.{file, card_number, place_ring, day_string, vehicle_ring, card_days, end_mark, last_use, session_time}
-use Rattle.card_image.specs.Judging.{word_checks, IsValid}
-use Rattle.card_image.specs.Beside.{HaveSameIdentification}
-use Rattle.card_image.proofs.Beside.{days_same, session_same, last_use_same, number_same}
-use Rattle.gated_ring.specs.Ring.{place_of as entry_place, PointsInside, size_of as ring_size}
-use Rattle.gated_ring.proofs.Elsewhere.{points_elsewhere, newest_elsewhere}
-use Rattle.card_days.proofs.Elsewhere.{knows_elsewhere}
-use Rattle.card_days.specs.Held.{Knows}
-use Rattle.card_retention.specs.Shown.{is_open}
-use Rattle.activity_codec.specs.declared.entries.Entry.{Entry}
-use Rattle.card_session.specs.Books.{Book, mark_of}
-use Rattle.card_session.specs.Sessions.{Session, IsSession, IsOpenBook, newest_in, book_of}
-use Rattle.card_session.proofs.OnCard.{ring_shape}
-use Rattle.hand_model.specs.Written.{Hands}
-use Rattle.card_by_hand.specs.First.{IsShutAt}
-use Rattle.card_string.specs.Since.{SitsSince}
-use Rattle.card_string.proofs.SameBook.{same_book}
-use Rattle.card_string.proofs.Since.{goes_still}
+use Rattle.tach_media.specs.card_layout.Files.{files_of, image_size_of, place_of, size_of}
+use Rattle.device_calls.specs.card_files.Rings.{event_ring}
+use Rattle.device_calls.proofs.card_files.Sets.{set_inside}
+use Rattle.device_calls.proofs.gated_ring.Places.{place_high}
+use Rattle.tach_media.specs.card_layout.declared.files.Application.{Application}
+use Rattle.tach_media.specs.card_layout.Application.{IsApplication, first_bad_field, place_of_field}
+use Rattle.device_calls.specs.card_model.Days.{Day}
+use Rattle.device_calls.specs.card_image.Fields.{file, card_number, place_ring, day_string, vehicle_ring, card_days, end_mark, last_use, session_time}
+use Rattle.device_calls.specs.card_image.Judging.{word_checks, IsValid}
+use Rattle.device_calls.specs.card_image.Beside.{HaveSameIdentification}
+use Rattle.device_calls.proofs.card_image.Beside.{days_same, session_same, last_use_same, number_same}
+use Rattle.device_calls.specs.gated_ring.Ring.{place_of as entry_place, PointsInside, size_of as ring_size}
+use Rattle.device_calls.proofs.gated_ring.Elsewhere.{points_elsewhere, newest_elsewhere}
+use Rattle.device_calls.proofs.card_days.Elsewhere.{knows_elsewhere}
+use Rattle.device_calls.specs.card_days.Held.{Knows}
+use Rattle.device_calls.specs.card_retention.Shown.{is_open}
+use Rattle.device_calls.specs.activity_codec.declared.entries.Entry.{Entry}
+use Rattle.device_calls.specs.card_session.Books.{Book, mark_of}
+use Rattle.device_calls.specs.card_session.Sessions.{Session, IsSession, IsOpenBook, newest_in, book_of}
+use Rattle.device_calls.proofs.card_session.OnCard.{ring_shape}
+use Rattle.device_calls.specs.hand_model.Written.{Hands}
+use Rattle.device_calls.specs.card_by_hand.First.{IsShutAt}
+use Rattle.device_calls.specs.card_string.Since.{SitsSince}
+use Rattle.device_calls.proofs.card_string.SameBook.{same_book}
+use Rattle.device_calls.proofs.card_string.Since.{goes_still}
 use Rattle.device_calls.specs.CardNotes.{IsNote}
 use Rattle.device_calls.proofs.CardNoted.{Leaves, left}
 use Rattle.device_calls.proofs.Passed.{Passes, valid-passes, passes-valid, pointer-passes, passes-pointer}
-use Rattle.card_model.specs.Image.{oldest_pointer}
-use Rattle.card_model.specs.Checks.{first_failing}
-use Rattle.card_model.proofs.Elsewhere.{oldest_elsewhere, bad_elsewhere}
-use Rattle.card_session.specs.Cards.{ended, MayEnd}
-use Rattle.card_session.proofs.InsertingAgain.{ended_keeps}
-use Rattle.card_session.proofs.InsertingUse.{use_inside}
-use Rattle.card_session.proofs.Marks.{mark_told}
-use Rattle.card_session.proofs.Stopping.{ended_same, book_days}
+use Rattle.device_calls.specs.card_model.Image.{oldest_pointer}
+use Rattle.device_calls.specs.card_model.Checks.{first_failing}
+use Rattle.device_calls.proofs.card_model.Elsewhere.{oldest_elsewhere, bad_elsewhere}
+use Rattle.device_calls.specs.card_session.Cards.{ended, MayEnd}
+use Rattle.device_calls.proofs.card_session.InsertingAgain.{ended_keeps}
+use Rattle.device_calls.proofs.card_session.InsertingUse.{use_inside}
+use Rattle.device_calls.proofs.card_session.Marks.{mark_told}
+use Rattle.device_calls.proofs.card_session.Stopping.{ended_same, book_days}
 
 -- the number lies behind
 module _ (app : Application) where

@@ -1,41 +1,41 @@
 -- A call on a card, by what it leaves of its images: what it has acknowledged, what was brought, its string.
 use Rattle.std.proofs.Common.{◌≡◌, ◌-◌, ◌⊎◌, inl, inr, ⊎_elim, ℕ, suc, max, ◌/◌, ◌≤◌, true, Option, Some, None, is_some, List, [], ◌∷◌, All, Contains, refl, ap, subst, ◌∙◌, sym, arith}
 use Rattle.std.proofs.lemmas.List.Elements.{All-weaker, All-nil, All-cons, All-head, All-tail}
-use Rattle.activity_codec.specs.declared.entries.Manual.{Manual}
-use Rattle.trace_model.specs.declared.Card.{Card}
+use Rattle.device_calls.specs.activity_codec.declared.entries.Manual.{Manual}
+use Rattle.device_calls.specs.trace_model.declared.Card.{Card}
 use Rattle.tach_media.specs.Medium.{State, IsCoherent, LeavesOnly, Unchanged, IsSettled}
 use Rattle.tach_media.proofs.Runs.{weaken}
-use Rattle.log_model.specs.declared.lines.Mark.{Mark}
-use Rattle.log_model.specs.Causes.{device_of}
-use Rattle.card_layout.specs.declared.files.Application.{Application}
-use Rattle.card_layout.specs.declared.files.Fid.{Fid}
-use Rattle.card_layout.specs.Application.{IsApplication}
-use Rattle.card_image.specs.View.{CardView}
-use Rattle.card_image.specs.Judging.{IsValid}
-use Rattle.card_retention.specs.Retains.{is_day}
-use Rattle.card_retention.specs.Shown.{sizes}
-use Rattle.card_image.specs.Fields.{card_days, card_number, file_bytes}
-use Rattle.card_image.specs.Own.{own_view, own_sizes, own_number, own_bad_file, IsOwnValid}
-use Rattle.card_string.specs.Since.{HoldsSince}
-use Rattle.card_string.proofs.Images.{holds_part, holds_all, holds_stay, holds_sure}
-use Rattle.card_string.proofs.Kept.{holds_kept}
-use Rattle.hand_model.specs.AtStart.{HasDayOf}
-use Rattle.hand_model.specs.ByHand.{by_hand_in}
-use Rattle.hand_model.specs.Holding.{AreOfDay}
-use Rattle.hand_model.specs.Written.{Hands}
-use Rattle.history_model.specs.Book.{Book}
-use Rattle.device_rule.specs.Device.{LeavesViews}
-use Rattle.device_rule.specs.Rules.{Standing, In, since, CardDark}
-use Rattle.device_rule.specs.Marked.{of_card, HasBrought}
-use Rattle.device_rule.proofs.Staying.{marks-stay}
-use Rattle.device_rule.proofs.Viewed.{seen-run}
-use Rattle.unit_rule.specs.Unit.{marks_of}
-use Rattle.unit_rule.specs.Rule.{Started}
-use Rattle.unit_rule.specs.Marks.{UnitFollowsBook}
+use Rattle.run_crew.specs.log_model.declared.lines.Mark.{Mark}
+use Rattle.run_crew.specs.log_model.Causes.{device_of}
+use Rattle.tach_media.specs.card_layout.declared.files.Application.{Application}
+use Rattle.tach_media.specs.card_layout.declared.files.Fid.{Fid}
+use Rattle.tach_media.specs.card_layout.Application.{IsApplication}
+use Rattle.device_calls.specs.card_image.View.{CardView}
+use Rattle.device_calls.specs.card_image.Judging.{IsValid}
+use Rattle.device_calls.specs.card_retention.Retains.{is_day}
+use Rattle.device_calls.specs.card_retention.Shown.{sizes}
+use Rattle.device_calls.specs.card_image.Fields.{card_days, card_number, file_bytes}
+use Rattle.device_calls.specs.card_image.Own.{own_view, own_sizes, own_number, own_bad_file, IsOwnValid}
+use Rattle.device_calls.specs.card_string.Since.{HoldsSince}
+use Rattle.device_calls.proofs.card_string.Images.{holds_part, holds_all, holds_stay, holds_sure}
+use Rattle.device_calls.proofs.card_string.Kept.{holds_kept}
+use Rattle.device_calls.specs.hand_model.AtStart.{HasDayOf}
+use Rattle.device_calls.specs.hand_model.ByHand.{by_hand_in}
+use Rattle.device_calls.specs.hand_model.Holding.{AreOfDay}
+use Rattle.device_calls.specs.hand_model.Written.{Hands}
+use Rattle.device_calls.specs.history_model.Book.{Book}
+use Rattle.device_calls.specs.device_rule.Device.{LeavesViews}
+use Rattle.device_calls.specs.device_rule.Rules.{Standing, In, since, CardDark}
+use Rattle.device_calls.specs.device_rule.Marked.{of_card, HasBrought}
+use Rattle.device_calls.proofs.device_rule.Staying.{marks-stay}
+use Rattle.device_calls.proofs.device_rule.Viewed.{seen-run}
+use Rattle.device_calls.specs.unit_rule.Unit.{marks_of}
+use Rattle.device_calls.specs.unit_rule.Rule.{Started}
+use Rattle.device_calls.specs.unit_rule.Marks.{UnitFollowsBook}
 use Rattle.run_promise.specs.Found.{CardFound, Found, found_of, unit_seen, AnyKept}
-use Rattle.unit_rule.specs.Cards.{mark_writes, IsPromptOn, HasStood}
-use Rattle.card_string.specs.Deeds.{IsMadeSince}
-use Rattle.card_string.proofs.MadeSince.{since_then, since_same}
+use Rattle.device_calls.specs.unit_rule.Cards.{mark_writes, IsPromptOn, HasStood}
+use Rattle.device_calls.specs.card_string.Deeds.{IsMadeSince}
+use Rattle.device_calls.proofs.card_string.MadeSince.{since_then, since_same}
 use Rattle.run_promise.specs.Cards.{brought_by, IsCardHeld, CardMarksHold, FirstKeep, IsFirstHeld, HandMarksHold}
 use Rattle.run_devices.specs.Registered.{TellsOfTwo}
 use Rattle.run_devices.specs.Strung.{HasSameRest, CardHoldsString, HasSameHolder}
@@ -43,7 +43,7 @@ use Rattle.run_promise.specs.Stays.{NoMarkFalls}
 use Rattle.run_promise.proofs.Stays.{stays, adds-none}
 use Rattle.run_devices.proofs.Parts.{left-one}
 use Rattle.run_devices.proofs.Holders.{HaveSameRest}
-use Rattle.run_model.specs.declared.Device.{Device}
+use Rattle.device_calls.specs.run_model.declared.Device.{Device}
 
 -- ---- validity by the card's own sizes
 
@@ -151,13 +151,13 @@ pub marks-on : (f : CardFound) (c : Card) (b : Book) (marks : List Mark) (R : Li
     LeavesViews (of_card X) (of_card Y) Rises → CardMarksHold f c b marks X → CardMarksHold f c b marks Y
 marks-on f c b marks R X Y whole run made views h = record {
   held = All-weaker (IsCardHeld f c b X) (IsCardHeld f c b Y) (λ m k. record {
-      began = k.began;
-      holds = marks-stay Rises X Y whole views (λ v w on le. le) m.minute m.clock k.holds;
-      prompt = prompt-on X Y m run.keeps k.holds.0 k.prompt;
-      stood = stood-on (own_sizes f.image) R X Y m whole run k.holds.0
-          (λ x y is on. made m.minute x y is (k.holds.1 (own_view x) (x, whole.counts_now m.clock x k.holds.0 (whole.is_left x is), refl)) on) k.stood;
-      sure = k.sure;
-    }) (marks_of (device_of c) marks) h.held;
+    began = k.began;
+    holds = marks-stay Rises X Y whole views (λ v w on le. le) m.minute m.clock k.holds;
+    prompt = prompt-on X Y m run.keeps k.holds.0 k.prompt;
+    stood = stood-on (own_sizes f.image) R X Y m whole run k.holds.0
+        (λ x y is on. made m.minute x y is (k.holds.1 (own_view x) (x, whole.counts_now m.clock x k.holds.0 (whole.is_left x is), refl)) on) k.stood;
+    sure = k.sure;
+  }) (marks_of (device_of c) marks) h.held;
   rise = h.rise;
   none = h.none;
 }

@@ -3,33 +3,33 @@ use Rattle.std.proofs.Common.{◌≡◌, ℕ, zero, suc, max, ◌/◌, ◌<◌, 
 use Rattle.std.specs.Prelude.{◌&&◌, nat_lt, nat_eq}
 use Rattle.std.proofs.lemmas.Bool.Decides.{nat_tests}
 use Rattle.std.proofs.lemmas.List.{append-nil}
-use Rattle.activity_codec.specs.declared.entries.Entry.{Entry}
-use Rattle.trace_model.specs.declared.Card.{Card}
+use Rattle.device_calls.specs.activity_codec.declared.entries.Entry.{Entry}
+use Rattle.device_calls.specs.trace_model.declared.Card.{Card}
 use Rattle.tach_media.specs.Medium.{State, IsCoherent}
-use Rattle.card_layout.specs.declared.files.Application.{Application}
-use Rattle.card_layout.specs.Application.{IsApplication}
-use Rattle.card_model.specs.Changes.{trimmed}
-use Rattle.card_retention.specs.Entries.{newest_word}
-use Rattle.card_image.specs.Fields.{card_days, end_mark, session_time}
-use Rattle.card_image.specs.View.{CardView, card_view}
-use Rattle.card_image.specs.Own.{own_view, own_sizes, own_number, IsOwnValid}
-use Rattle.card_session.specs.Inserting.{Follow}
-use Rattle.card_session.specs.Repairs.{first_minute}
-use Rattle.hand_model.specs.AtStart.{all_at, hands_at, StaysTold}
-use Rattle.hand_model.specs.ByHand.{by_hand_in}
-use Rattle.hand_model.specs.Written.{IsPartOf, no_hands}
-use Rattle.card_string.specs.Since.{HoldsSince}
-use Rattle.card_string.specs.Each.{KeepsSince}
-use Rattle.card_string.proofs.Kept.{holds_kept}
-use Rattle.card_string.proofs.Small.{card_small, trimmed_small, last_of_small}
-use Rattle.card_string.proofs.Start.{starts_open, starts_shut}
-use Rattle.history_model.specs.Book.{not_begun}
-use Rattle.history_model.specs.Presence.{CardStart}
-use Rattle.history_model.proofs.Books.{history-none}
-use Rattle.device_rule.specs.Views.{UnitView, unit_view, row, owed, counts, is_session, beyond}
-use Rattle.device_rule.specs.Rules.{Out}
-use Rattle.device_rule.proofs.Pairs.{owed-above}
-use Rattle.unit_rule.specs.Safe.{Devices, card_of}
+use Rattle.tach_media.specs.card_layout.declared.files.Application.{Application}
+use Rattle.tach_media.specs.card_layout.Application.{IsApplication}
+use Rattle.device_calls.specs.card_model.Changes.{trimmed}
+use Rattle.device_calls.specs.card_retention.Entries.{newest_word}
+use Rattle.device_calls.specs.card_image.Fields.{card_days, end_mark, session_time}
+use Rattle.device_calls.specs.card_image.View.{CardView, card_view}
+use Rattle.device_calls.specs.card_image.Own.{own_view, own_sizes, own_number, IsOwnValid}
+use Rattle.device_calls.specs.card_session.Inserting.{Follow}
+use Rattle.device_calls.specs.card_session.Repairs.{first_minute}
+use Rattle.device_calls.specs.hand_model.AtStart.{all_at, hands_at, StaysTold}
+use Rattle.device_calls.specs.hand_model.ByHand.{by_hand_in}
+use Rattle.device_calls.specs.hand_model.Written.{IsPartOf, no_hands}
+use Rattle.device_calls.specs.card_string.Since.{HoldsSince}
+use Rattle.device_calls.specs.card_string.Each.{KeepsSince}
+use Rattle.device_calls.proofs.card_string.Kept.{holds_kept}
+use Rattle.device_calls.proofs.card_string.Small.{card_small, trimmed_small, last_of_small}
+use Rattle.device_calls.proofs.card_string.Start.{starts_open, starts_shut}
+use Rattle.device_calls.specs.history_model.Book.{not_begun}
+use Rattle.device_calls.specs.history_model.Presence.{CardStart}
+use Rattle.device_calls.proofs.history_model.Books.{history-none}
+use Rattle.device_calls.specs.device_rule.Views.{UnitView, unit_view, row, owed, counts, is_session, beyond}
+use Rattle.device_calls.specs.device_rule.Rules.{Out}
+use Rattle.device_calls.proofs.device_rule.Pairs.{owed-above}
+use Rattle.device_calls.specs.unit_rule.Safe.{Devices, card_of}
 use Rattle.device_calls.proofs.OnCard.{own-is, session-is}
 use Rattle.device_calls.proofs.Inserted.{bound_of as bound_in, beyond_shut}
 use Rattle.run_promise.specs.Found.{Found, found_of}

@@ -2,31 +2,31 @@
 use Rattle.std.proofs.Common.{◌≡◌, ◌≢◌, ℕ, suc, max, ◌≤◌, true, false, Option, Some, None, is_some, List, [], ◌++◌, All, Contains, refl, ap, subst, ◌∙◌, sym, arith}
 use Rattle.std.specs.Prelude.{option_to_list}
 use Rattle.std.proofs.lemmas.List.Elements.{All-nil}
-use Rattle.activity_codec.specs.declared.entries.Entry.{Entry}
-use Rattle.trace_model.specs.declared.Card.{Card}
-use Rattle.trace_model.specs.declared.Card.TheVariants.{A, B}
+use Rattle.device_calls.specs.activity_codec.declared.entries.Entry.{Entry}
+use Rattle.device_calls.specs.trace_model.declared.Card.{Card}
+use Rattle.device_calls.specs.trace_model.declared.Card.TheVariants.{A, B}
 use Rattle.tach_media.specs.Medium.{State, IsCoherent}
-use Rattle.log_model.specs.declared.lines.Mark.{Mark}
-use Rattle.card_retention.specs.Retains.{Rise}
-use Rattle.card_image.specs.Own.{own_view, own_sizes, IsOwnValid}
-use Rattle.card_string.specs.Since.{HoldsSince}
-use Rattle.card_string.specs.Each.{KeepsSince}
-use Rattle.history_model.specs.Minutes.{HistoryMinute, card_history}
-use Rattle.history_model.specs.Presence.{CardStart}
-use Rattle.hand_model.specs.Written.{Hands}
-use Rattle.history_model.specs.Book.{Book}
-use Rattle.history_model.proofs.Books.{history-none}
-use Rattle.device_rule.specs.Views.{UnitView, other}
-use Rattle.device_rule.specs.Rules.{Standing, since, CardDark, CardRule}
-use Rattle.device_rule.specs.Marked.{of_card, HasBrought}
-use Rattle.unit_rule.specs.Safe.{Devices, card_of}
-use Rattle.unit_rule.specs.Rule.{Started, once_mended}
-use Rattle.unit_rule.specs.Marks.{UnitFollowsBook}
+use Rattle.run_crew.specs.log_model.declared.lines.Mark.{Mark}
+use Rattle.device_calls.specs.card_retention.Retains.{Rise}
+use Rattle.device_calls.specs.card_image.Own.{own_view, own_sizes, IsOwnValid}
+use Rattle.device_calls.specs.card_string.Since.{HoldsSince}
+use Rattle.device_calls.specs.card_string.Each.{KeepsSince}
+use Rattle.device_calls.specs.history_model.Minutes.{HistoryMinute, card_history}
+use Rattle.device_calls.specs.history_model.Presence.{CardStart}
+use Rattle.device_calls.specs.hand_model.Written.{Hands}
+use Rattle.device_calls.specs.history_model.Book.{Book}
+use Rattle.device_calls.proofs.history_model.Books.{history-none}
+use Rattle.device_calls.specs.device_rule.Views.{UnitView, other}
+use Rattle.device_calls.specs.device_rule.Rules.{Standing, since, CardDark, CardRule}
+use Rattle.device_calls.specs.device_rule.Marked.{of_card, HasBrought}
+use Rattle.device_calls.specs.unit_rule.Safe.{Devices, card_of}
+use Rattle.device_calls.specs.unit_rule.Rule.{Started, once_mended}
+use Rattle.device_calls.specs.unit_rule.Marks.{UnitFollowsBook}
 use Rattle.device_calls.specs.Rule.{Both, CardHolds, CardRests}
 use Rattle.run_crew.specs.declared.cards.Accepted.{Accepted}
 use Rattle.run_crew.specs.declared.cards.Cards.{Cards}
 use Rattle.run_crew.specs.Cards.{session_of}
-use Rattle.unit_rule.proofs.Marking.{holds-dark}
+use Rattle.device_calls.proofs.unit_rule.Marking.{holds-dark}
 use Rattle.run_promise.specs.Found.{CardFound, Found, found_of, unit_seen, AnyKept}
 use Rattle.run_promise.specs.Cards.{brought_by, FirstKeep, HandMarksHold, CardMarksHold, IsStrung}
 use Rattle.run_promise.specs.Between.{RunLedger, LedgerStandsPowered, LedgerStands, devices}

@@ -3,39 +3,39 @@ use Rattle.std.proofs.Common.{◌≡◌, ◌≢◌, inl, ⊎_elim, ℕ, ◌<◌,
 use Rattle.std.specs.Prelude.{option_to_list}
 use Rattle.std.proofs.lemmas.List.{append-nil}
 use Rattle.std.proofs.lemmas.List.Elements.{All-weaker, All-head, Contains-append_left}
-use Rattle.activity_codec.specs.declared.entries.Entry.{Entry}
-use Rattle.trace_model.specs.declared.Card.{Card}
-use Rattle.trace_model.specs.declared.Card.TheVariants.{A, B}
+use Rattle.device_calls.specs.activity_codec.declared.entries.Entry.{Entry}
+use Rattle.device_calls.specs.trace_model.declared.Card.{Card}
+use Rattle.device_calls.specs.trace_model.declared.Card.TheVariants.{A, B}
 use Rattle.tach_media.specs.Medium.{State, IsCoherent, LeavesOnly, Unchanged}
-use Rattle.log_model.specs.declared.lines.Mark.{Mark}
-use Rattle.log_model.specs.Causes.{device_of}
-use Rattle.card_retention.specs.Retains.{Rise}
-use Rattle.card_image.specs.Own.{own_view, IsOwnValid}
-use Rattle.card_session.specs.Inserting.{Follow}
-use Rattle.card_session.specs.Repairs.{first_minute}
-use Rattle.unit_model.specs.Image.{last_kept}
-use Rattle.history_model.specs.Minutes.{HistoryMinute, card_history, up_to}
-use Rattle.history_model.specs.Book.{Book, found}
-use Rattle.history_model.proofs.Books.{history-append, all-found, up_to-all, up_to-one}
-use Rattle.history_model.proofs.Filters.{all-back}
-use Rattle.hand_model.specs.Written.{Hands}
-use Rattle.device_rule.specs.Views.{unit_view}
-use Rattle.device_rule.specs.Device.{LeavesViews, Nothing}
-use Rattle.device_rule.specs.Rules.{Standing, Out}
-use Rattle.device_rule.specs.Marked.{of_card, IsBeside}
-use Rattle.device_rule.specs.Filling.{FillsDays}
-use Rattle.device_rule.proofs.CardLaws.{dark-beside}
-use Rattle.device_rule.proofs.Holding.{rise-back}
-use Rattle.device_rule.proofs.Staying.{note-stays}
-use Rattle.device_rule.proofs.UnitLaws.{sure-found}
-use Rattle.device_rule.proofs.Viewed.{seen-run}
-use Rattle.unit_rule.specs.Safe.{Devices, card_of}
-use Rattle.unit_rule.specs.Unit.{marks_of}
-use Rattle.unit_rule.specs.Rule.{Started, seen_unit}
-use Rattle.unit_rule.specs.Marks.{UnitFollowsBook}
-use Rattle.unit_rule.proofs.Found.{one-image}
-use Rattle.unit_rule.proofs.Marking.{holds-found, holds-read}
-use Rattle.unit_rule.proofs.Moves.{shown-last}
+use Rattle.run_crew.specs.log_model.declared.lines.Mark.{Mark}
+use Rattle.run_crew.specs.log_model.Causes.{device_of}
+use Rattle.device_calls.specs.card_retention.Retains.{Rise}
+use Rattle.device_calls.specs.card_image.Own.{own_view, IsOwnValid}
+use Rattle.device_calls.specs.card_session.Inserting.{Follow}
+use Rattle.device_calls.specs.card_session.Repairs.{first_minute}
+use Rattle.device_calls.specs.unit_model.Image.{last_kept}
+use Rattle.device_calls.specs.history_model.Minutes.{HistoryMinute, card_history, up_to}
+use Rattle.device_calls.specs.history_model.Book.{Book, found}
+use Rattle.device_calls.proofs.history_model.Books.{history-append, all-found, up_to-all, up_to-one}
+use Rattle.device_calls.proofs.history_model.Filters.{all-back}
+use Rattle.device_calls.specs.hand_model.Written.{Hands}
+use Rattle.device_calls.specs.device_rule.Views.{unit_view}
+use Rattle.device_calls.specs.device_rule.Device.{LeavesViews, Nothing}
+use Rattle.device_calls.specs.device_rule.Rules.{Standing, Out}
+use Rattle.device_calls.specs.device_rule.Marked.{of_card, IsBeside}
+use Rattle.device_calls.specs.device_rule.Filling.{FillsDays}
+use Rattle.device_calls.proofs.device_rule.CardLaws.{dark-beside}
+use Rattle.device_calls.proofs.device_rule.Holding.{rise-back}
+use Rattle.device_calls.proofs.device_rule.Staying.{note-stays}
+use Rattle.device_calls.proofs.device_rule.UnitLaws.{sure-found}
+use Rattle.device_calls.proofs.device_rule.Viewed.{seen-run}
+use Rattle.device_calls.specs.unit_rule.Safe.{Devices, card_of}
+use Rattle.device_calls.specs.unit_rule.Unit.{marks_of}
+use Rattle.device_calls.specs.unit_rule.Rule.{Started, seen_unit}
+use Rattle.device_calls.specs.unit_rule.Marks.{UnitFollowsBook}
+use Rattle.device_calls.proofs.unit_rule.Found.{one-image}
+use Rattle.device_calls.proofs.unit_rule.Marking.{holds-found, holds-read}
+use Rattle.device_calls.proofs.unit_rule.Moves.{shown-last}
 use Rattle.device_calls.specs.Rule.{Both, CardRests, IsTakenUp, IsHeldMended}
 use Rattle.device_calls.proofs.PowerBack.{found-rests}
 use Rattle.run_crew.specs.declared.cards.Accepted.{Accepted}

@@ -3,20 +3,20 @@ use Rattle.std.proofs.Common.{◌≡◌, ◌⊎◌, inl, inr, ⊎_elim, ℕ, zer
 use Rattle.std.specs.Prelude.{option_map, option_to_list}
 use Rattle.std.proofs.lemmas.Bool.Decides.{nat_tests}
 use Rattle.std.proofs.lemmas.List.Elements.{All-head, All-tail, Contains-append_left, Contains-push}
-use Rattle.activity_codec.specs.declared.entries.Entry.{Entry}
-use Rattle.activity_codec.specs.declared.values.Slot.{Slot}
-use Rattle.activity_codec.specs.declared.values.Slot.TheVariants.{Driver, CoDriver}
-use Rattle.trace_model.specs.declared.Card.{Card}
-use Rattle.log_model.specs.Slots.{Sitting, same_card, in_slot}
-use Rattle.log_model.specs.Course.{ToldSecond, Course}
-use Rattle.history_model.specs.Minutes.{HistoryMinute, Seat as HistorySeat, is_crew, entry_in}
-use Rattle.history_model.specs.Presence.{Start, CardStart, card_start}
-use Rattle.device_rule.specs.Rules.{Standing, In, Torn, IsPresent}
-use Rattle.card_slots.specs.declared.seats.Seat.{Seat}
-use Rattle.card_slots.specs.declared.seats.Ended.{Ended}
-use Rattle.card_slots.specs.declared.seats.Present.{Present}
-use Rattle.card_slots.specs.Calls.{ended_in, present_in, present_of, is_earlier, ending}
-use Rattle.card_slots.specs.Kept.{Kept, KnowsNewest, left_in}
+use Rattle.device_calls.specs.activity_codec.declared.entries.Entry.{Entry}
+use Rattle.device_calls.specs.activity_codec.declared.values.Slot.{Slot}
+use Rattle.device_calls.specs.activity_codec.declared.values.Slot.TheVariants.{Driver, CoDriver}
+use Rattle.device_calls.specs.trace_model.declared.Card.{Card}
+use Rattle.run_crew.specs.log_model.Slots.{Sitting, same_card, in_slot}
+use Rattle.run_crew.specs.log_model.Course.{ToldSecond, Course}
+use Rattle.device_calls.specs.history_model.Minutes.{HistoryMinute, Seat as HistorySeat, is_crew, entry_in}
+use Rattle.device_calls.specs.history_model.Presence.{Start, CardStart, card_start}
+use Rattle.device_calls.specs.device_rule.Rules.{Standing, In, Torn, IsPresent}
+use Rattle.run_crew.specs.card_slots.declared.seats.Seat.{Seat}
+use Rattle.run_crew.specs.card_slots.declared.seats.Ended.{Ended}
+use Rattle.run_crew.specs.card_slots.declared.seats.Present.{Present}
+use Rattle.run_crew.specs.card_slots.Calls.{ended_in, present_in, present_of, is_earlier, ending}
+use Rattle.run_crew.specs.card_slots.Kept.{Kept, KnowsNewest, left_in}
 use Rattle.run_crew.specs.declared.cabin.Cabin.{Cabin}
 use Rattle.run_crew.specs.declared.cards.Accepted.{Accepted}
 use Rattle.run_crew.specs.declared.cards.Cards.{Cards}
@@ -24,8 +24,8 @@ use Rattle.run_crew.specs.Cards.{session_of}
 use Rattle.run_crew.specs.Cabin.{SeatAnswers, AnswersTo}
 use Rattle.run_crew.proofs.Sessions.{same_self, same_is}
 use Rattle.run_promise.specs.Found.{Found, found_of}
-use Rattle.run_course.specs.Presence.{IsNewestAt, IsNewest, SitsAs}
-use Rattle.run_course.specs.Kept.{BrokenSince, StaysOut}
+use Rattle.run_promise.specs.run_course.Presence.{IsNewestAt, IsNewest, SitsAs}
+use Rattle.run_promise.specs.run_course.Kept.{BrokenSince, StaysOut}
 use Rattle.run_devices.specs.Presence.{IsIn, StandsIn, IsSeated, sits, NoneIsToBeKept, SessionsStand, AMinuteEndsSo, AStepLeavesSo, TheNextBeginsSo, WhatAMinuteSays}
 
 -- MINUTES that have ended are over

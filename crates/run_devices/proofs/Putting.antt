@@ -1,16 +1,16 @@
 -- A card that sits in a slot is put in: however it stood before, by the sizes that it was measured by.
 use Rattle.std.proofs.Common.{◌≡◌, ◌⊎◌, ⊎_elim, ℕ, ◌/◌, ◌^◌, ◌<◌, ◌≤◌, true, None, IfSome, is_some, length, refl, subst}
 use Rattle.std.specs.Prelude.{IfOk, Result, Ok}
-use Rattle.tacho_types.specs.declared.texts.Registration.{Registration}
-use Rattle.trace_model.specs.declared.Card.{Card}
+use Rattle.device_calls.specs.tacho_types.declared.texts.Registration.{Registration}
+use Rattle.device_calls.specs.trace_model.declared.Card.{Card}
 use Rattle.tach_media.specs.Medium.{State, IsCoherent, IsSettled}
 use Rattle.tach_media.proofs.Runs.{at_image}
-use Rattle.card_layout.specs.declared.files.Application.{Application}
-use Rattle.card_layout.specs.Files.{image_size_of}
-use Rattle.card_image.specs.Judging.{IsValid}
-use Rattle.card_image.specs.View.{card_view}
-use Rattle.card_image.specs.Own.{own_sizes, IsOwnValid}
-use Rattle.device_rule.specs.Rules.{Standing, Out}
+use Rattle.tach_media.specs.card_layout.declared.files.Application.{Application}
+use Rattle.tach_media.specs.card_layout.Files.{image_size_of}
+use Rattle.device_calls.specs.card_image.Judging.{IsValid}
+use Rattle.device_calls.specs.card_image.View.{card_view}
+use Rattle.device_calls.specs.card_image.Own.{own_sizes, IsOwnValid}
+use Rattle.device_calls.specs.device_rule.Rules.{Standing, Out}
 use Rattle.device_calls.specs.declared.entering.Entered.{Entered}
 use Rattle.device_calls.specs.declared.entering.NotEntered.{NotEntered}
 use Rattle.device_calls.specs.Entering.{IsEntering, IsAccepted}

@@ -1,17 +1,17 @@
 -- Each vehicle entry has a registration that may be, at each moment of each call on a card: a keep, a closing, an insertion and a note.
 use Rattle.std.proofs.Common.{◌≡◌, ◌⊎◌, inl, inr, ℕ, ◌≤◌, Option, Some, None, IfSome, List, [], ◌∷◌, length, refl}
-use Rattle.activity_codec.specs.declared.values.Activity.{Activity}
-use Rattle.activity_codec.specs.declared.entries.Entry.{Entry}
-use Rattle.tacho_types.specs.declared.texts.Registration.{Registration}
-use Rattle.card_layout.specs.declared.files.Application.{Application}
-use Rattle.card_layout.specs.Application.{IsApplication}
-use Rattle.card_layout.specs.Files.{image_size_of}
-use Rattle.card_image.specs.Judging.{IsValid}
-use Rattle.card_files.specs.declared.vehicle.Vehicle.{Vehicle}
-use Rattle.card_session.specs.Vehicles.{Vehicles}
-use Rattle.card_session.specs.Sessions.{Session, book_of}
-use Rattle.card_session.specs.Cards.{IsCardKeeping, IsCardClosing}
-use Rattle.card_session.specs.Inserting.{IsCardInserting}
+use Rattle.device_calls.specs.activity_codec.declared.values.Activity.{Activity}
+use Rattle.device_calls.specs.activity_codec.declared.entries.Entry.{Entry}
+use Rattle.device_calls.specs.tacho_types.declared.texts.Registration.{Registration}
+use Rattle.tach_media.specs.card_layout.declared.files.Application.{Application}
+use Rattle.tach_media.specs.card_layout.Application.{IsApplication}
+use Rattle.tach_media.specs.card_layout.Files.{image_size_of}
+use Rattle.device_calls.specs.card_image.Judging.{IsValid}
+use Rattle.device_calls.specs.card_files.declared.vehicle.Vehicle.{Vehicle}
+use Rattle.device_calls.specs.card_session.Vehicles.{Vehicles}
+use Rattle.device_calls.specs.card_session.Sessions.{Session, book_of}
+use Rattle.device_calls.specs.card_session.Cards.{IsCardKeeping, IsCardClosing}
+use Rattle.device_calls.specs.card_session.Inserting.{IsCardInserting}
 use Rattle.device_calls.specs.CardNotes.{IsNote}
 use Rattle.run_devices.specs.Registered.{RingIn, AreIn, HasOne, IsNamed, AreRegistered}
 use Rattle.run_devices.proofs.Entries.{keep-is, close-is, note-is, inserting-is}

@@ -2,27 +2,27 @@
 use Rattle.std.proofs.Common.{◌≡◌, ◌⊎◌, inl, inr, ⊎_elim, ℕ, max, ◌<◌, ◌≤◌, Bool, true, cond, List, [], ◌∷◌, ◌++◌, length, refl, ap, subst, ◌∙◌, sym, arith}
 use Rattle.std.specs.Prelude.{nat_lt}
 use Rattle.std.proofs.lemmas.Bool.Decides.{nat_tests}
-use Rattle.activity_codec.specs.declared.entries.Entry.{Entry}
-use Rattle.tacho_types.specs.declared.texts.Registration.{Registration}
-use Rattle.card_layout.specs.declared.files.Application.{Application}
-use Rattle.card_layout.specs.Application.{IsApplication}
-use Rattle.card_layout.specs.Files.{image_size_of}
-use Rattle.card_retention.specs.Entries.{newest_minute, newest_word}
-use Rattle.card_retention.specs.Shown.{AllUpTo}
-use Rattle.card_image.specs.Fields.{card_days, end_mark, session_time}
-use Rattle.card_image.specs.Judging.{IsValid}
-use Rattle.card_image.specs.View.{card_view}
-use Rattle.card_session.specs.Sessions.{Session, IsSession, newest_in, book_of}
-use Rattle.card_session.specs.Inserting.{AreOwed, Follow, lacked, InsertsClosed, InsertingClosed, InsertsOpen, InsertingOpen}
-use Rattle.card_session.specs.Repairs.{first_minute, newest_behind, lacked_by}
-use Rattle.card_session.proofs.Ends.{closed_end}
-use Rattle.card_session.proofs.InsertingBooks.{lacked_follow}
-use Rattle.card_session.proofs.NewestStays.{view_word}
-use Rattle.hand_model.specs.Written.{Hands, entries_of}
-use Rattle.card_string.specs.Since.{GoesSince, BrokeSince, HoldsSince, SitsSince}
-use Rattle.card_string.proofs.Lists.{SameParts, same_parts}
-use Rattle.card_string.proofs.OfCards.{open_holds, all_at, sits_at, shut_goes, shut_inserting}
-use Rattle.card_string.proofs.Since.{later_holds, holds_up}
+use Rattle.device_calls.specs.activity_codec.declared.entries.Entry.{Entry}
+use Rattle.device_calls.specs.tacho_types.declared.texts.Registration.{Registration}
+use Rattle.tach_media.specs.card_layout.declared.files.Application.{Application}
+use Rattle.tach_media.specs.card_layout.Application.{IsApplication}
+use Rattle.tach_media.specs.card_layout.Files.{image_size_of}
+use Rattle.device_calls.specs.card_retention.Entries.{newest_minute, newest_word}
+use Rattle.device_calls.specs.card_retention.Shown.{AllUpTo}
+use Rattle.device_calls.specs.card_image.Fields.{card_days, end_mark, session_time}
+use Rattle.device_calls.specs.card_image.Judging.{IsValid}
+use Rattle.device_calls.specs.card_image.View.{card_view}
+use Rattle.device_calls.specs.card_session.Sessions.{Session, IsSession, newest_in, book_of}
+use Rattle.device_calls.specs.card_session.Inserting.{AreOwed, Follow, lacked, InsertsClosed, InsertingClosed, InsertsOpen, InsertingOpen}
+use Rattle.device_calls.specs.card_session.Repairs.{first_minute, newest_behind, lacked_by}
+use Rattle.device_calls.proofs.card_session.Ends.{closed_end}
+use Rattle.device_calls.proofs.card_session.InsertingBooks.{lacked_follow}
+use Rattle.device_calls.proofs.card_session.NewestStays.{view_word}
+use Rattle.device_calls.specs.hand_model.Written.{Hands, entries_of}
+use Rattle.device_calls.specs.card_string.Since.{GoesSince, BrokeSince, HoldsSince, SitsSince}
+use Rattle.device_calls.proofs.card_string.Lists.{SameParts, same_parts}
+use Rattle.device_calls.proofs.card_string.OfCards.{open_holds, all_at, sits_at, shut_goes, shut_inserting}
+use Rattle.device_calls.proofs.card_string.Since.{later_holds, holds_up}
 
 -- entries that follow an end mark are all lacked
 is-later : (m n : ℕ) → m < n → nat_lt m n ≡ true

@@ -1,24 +1,24 @@
 -- A card that is to have an entry more, which it lacks: its string is held still, and so is the rest that is carried of it.
 use Rattle.std.proofs.Common.{◌≡◌, ◌∙◌, inl, inr, ⊎_elim, ℕ, suc, max, ◌<◌, ◌≤◌, List, [], ◌∷◌, ◌++◌, All, ap, subst, sym, arith, append_assoc}
 use Rattle.std.proofs.lemmas.List.Elements.{All-nil, All-cons}
-use Rattle.activity_codec.specs.declared.entries.Entry.{Entry}
-use Rattle.trace_model.specs.declared.Card.{Card}
+use Rattle.device_calls.specs.activity_codec.declared.entries.Entry.{Entry}
+use Rattle.device_calls.specs.trace_model.declared.Card.{Card}
 use Rattle.tach_media.specs.Medium.{State}
-use Rattle.card_layout.specs.declared.files.Application.{Application}
-use Rattle.card_retention.specs.Retains.{Rise}
-use Rattle.card_image.specs.Fields.{end_mark}
-use Rattle.card_image.specs.View.{card_view}
-use Rattle.card_image.specs.Own.{own_view, own_sizes, KeepsOf}
-use Rattle.card_session.specs.Inserting.{Follow}
-use Rattle.card_session.specs.Repairs.{first_minute}
-use Rattle.hand_model.specs.Written.{Hands, Written, entries_of}
-use Rattle.card_string.specs.Inserts.{IsOnDay}
-use Rattle.card_string.specs.Since.{all_since, IsTied, HoldsSince}
-use Rattle.card_string.specs.Each.{KeepsSince}
-use Rattle.card_string.proofs.Since.{tied_wider}
-use Rattle.history_model.specs.Book.{Book}
-use Rattle.device_rule.specs.Rules.{Standing, since}
-use Rattle.device_rule.proofs.Holding.{rise-back}
+use Rattle.tach_media.specs.card_layout.declared.files.Application.{Application}
+use Rattle.device_calls.specs.card_retention.Retains.{Rise}
+use Rattle.device_calls.specs.card_image.Fields.{end_mark}
+use Rattle.device_calls.specs.card_image.View.{card_view}
+use Rattle.device_calls.specs.card_image.Own.{own_view, own_sizes, KeepsOf}
+use Rattle.device_calls.specs.card_session.Inserting.{Follow}
+use Rattle.device_calls.specs.card_session.Repairs.{first_minute}
+use Rattle.device_calls.specs.hand_model.Written.{Hands, Written, entries_of}
+use Rattle.device_calls.specs.card_string.Inserts.{IsOnDay}
+use Rattle.device_calls.specs.card_string.Since.{all_since, IsTied, HoldsSince}
+use Rattle.device_calls.specs.card_string.Each.{KeepsSince}
+use Rattle.device_calls.proofs.card_string.Since.{tied_wider}
+use Rattle.device_calls.specs.history_model.Book.{Book}
+use Rattle.device_calls.specs.device_rule.Rules.{Standing, since}
+use Rattle.device_calls.proofs.device_rule.Holding.{rise-back}
 use Rattle.run_promise.specs.Found.{CardFound}
 use Rattle.run_promise.specs.Cards.{brought_by}
 use Rattle.run_promise.proofs.Waiting.{counted-more}

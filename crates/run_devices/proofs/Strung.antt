@@ -1,26 +1,26 @@
 -- Where each image of a card holds its string, that is carried.
 use Rattle.std.proofs.Common.{◌≡◌, ◌⊎◌, inl, inr, ⊎_elim, ℕ, suc, max, ◌≤◌, List, [], ◌∷◌, ◌++◌, refl, ap, subst, ◌∙◌, sym, arith}
 use Rattle.std.proofs.lemmas.List.{append_cancel_left}
-use Rattle.activity_codec.specs.declared.entries.Entry.{Entry}
-use Rattle.trace_model.specs.declared.Card.{Card}
+use Rattle.device_calls.specs.activity_codec.declared.entries.Entry.{Entry}
+use Rattle.device_calls.specs.trace_model.declared.Card.{Card}
 use Rattle.tach_media.specs.Medium.{State}
-use Rattle.card_image.specs.View.{CardView}
-use Rattle.card_image.specs.Own.{own_view, own_sizes, KeepsFrom, KeepsOf}
-use Rattle.card_session.specs.Repairs.{first_minute}
-use Rattle.card_image.specs.Fields.{end_mark}
-use Rattle.card_session.specs.Inserting.{Follow}
-use Rattle.hand_model.specs.Written.{Hands, entries_of}
-use Rattle.card_string.specs.Since.{GoesSince, BrokeSince, HoldsSince}
-use Rattle.card_string.proofs.Since.{later_holds}
-use Rattle.card_string.proofs.Kept.{holds_counted, holds_from}
-use Rattle.history_model.specs.Minutes.{HistoryMinute, card_history, up_to}
-use Rattle.history_model.specs.Presence.{CardStart}
-use Rattle.history_model.specs.Book.{Book, all}
-use Rattle.history_model.proofs.Books.{all-none, up_to-whole}
-use Rattle.history_model.proofs.Filters.{all-back}
-use Rattle.device_rule.specs.Views.{UnitView, unit_view, owed, newest_with}
-use Rattle.device_rule.specs.Rules.{Standing, Out, since, comes_from, Meets}
-use Rattle.device_rule.proofs.Pairs.{owed-above}
+use Rattle.device_calls.specs.card_image.View.{CardView}
+use Rattle.device_calls.specs.card_image.Own.{own_view, own_sizes, KeepsFrom, KeepsOf}
+use Rattle.device_calls.specs.card_session.Repairs.{first_minute}
+use Rattle.device_calls.specs.card_image.Fields.{end_mark}
+use Rattle.device_calls.specs.card_session.Inserting.{Follow}
+use Rattle.device_calls.specs.hand_model.Written.{Hands, entries_of}
+use Rattle.device_calls.specs.card_string.Since.{GoesSince, BrokeSince, HoldsSince}
+use Rattle.device_calls.proofs.card_string.Since.{later_holds}
+use Rattle.device_calls.proofs.card_string.Kept.{holds_counted, holds_from}
+use Rattle.device_calls.specs.history_model.Minutes.{HistoryMinute, card_history, up_to}
+use Rattle.device_calls.specs.history_model.Presence.{CardStart}
+use Rattle.device_calls.specs.history_model.Book.{Book, all}
+use Rattle.device_calls.proofs.history_model.Books.{all-none, up_to-whole}
+use Rattle.device_calls.proofs.history_model.Filters.{all-back}
+use Rattle.device_calls.specs.device_rule.Views.{UnitView, unit_view, owed, newest_with}
+use Rattle.device_calls.specs.device_rule.Rules.{Standing, Out, since, comes_from, Meets}
+use Rattle.device_calls.proofs.device_rule.Pairs.{owed-above}
 use Rattle.run_promise.specs.Found.{CardFound, Found, found_of, AnyKept}
 use Rattle.run_promise.specs.Cards.{brought_by, counted_to, StringGoesOn, IsStrung}
 use Rattle.run_promise.proofs.Entries.{counted-front, keeps-later}

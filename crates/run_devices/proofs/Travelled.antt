@@ -1,16 +1,16 @@
 -- The odometer, over the steps on the unit beside the keeping of a minute.
 use Rattle.std.proofs.Common.{ℕ, Option, List}
 use Rattle.tach_media.specs.Medium.{State, IsCoherent, LeavesOnly}
-use Rattle.unit_owed.specs.Rows.{IsRowBeginning}
-use Rattle.unit_minutes.specs.declared.notes.Notes.{Notes}
-use Rattle.unit_minutes.specs.Mends.{IsMending}
+use Rattle.device_calls.specs.unit_owed.Rows.{IsRowBeginning}
+use Rattle.device_calls.specs.unit_minutes.declared.notes.Notes.{Notes}
+use Rattle.device_calls.specs.unit_minutes.Mends.{IsMending}
 use Rattle.device_calls.specs.Journal.{LeavesJournal}
-use Rattle.history_model.specs.Book.{Book}
-use Rattle.run_unit_course.specs.Legs.{Travel}
-use Rattle.unit_rule.specs.Odometer.{HasTravelled}
-use Rattle.unit_rule.proofs.Elsewhere.{rows-elsewhere, travelled-elsewhere}
-use Rattle.unit_rule.proofs.Mending.{mending-travel}
-use Rattle.unit_rule.proofs.Travelling.{travelled-aside}
+use Rattle.device_calls.specs.history_model.Book.{Book}
+use Rattle.device_calls.specs.run_unit_course.Legs.{Travel}
+use Rattle.device_calls.specs.unit_rule.Odometer.{HasTravelled}
+use Rattle.device_calls.proofs.unit_rule.Elsewhere.{rows-elsewhere, travelled-elsewhere}
+use Rattle.device_calls.proofs.unit_rule.Mending.{mending-travel}
+use Rattle.device_calls.proofs.unit_rule.Travelling.{travelled-aside}
 use Rattle.device_calls.proofs.Noted.{same_journal}
 
 module _ (start : ℕ) (b : Book) (g : Travel) {U V : State} (t : HasTravelled start b g U) (whole : IsCoherent U) where

@@ -1,26 +1,26 @@
 -- A card tells of no open session in a third vehicle, at each moment of each call on it: a keep, a closing, an insertion and a note.
 use Rattle.std.proofs.Common.{◌≡◌, ◌⊎◌, inl, inr, ℕ, ◌+◌, ◌<◌, ◌≤◌, ◌^◌, List, length, refl, sym, ◌∙◌, ap, subst, arith}
-use Rattle.activity_codec.specs.declared.values.Activity.{Activity}
-use Rattle.activity_codec.specs.declared.values.Activity.TheVariants.{Rest}
-use Rattle.activity_codec.specs.declared.entries.Entry.{Entry}
-use Rattle.card_layout.specs.Images.{big_number, SameOutside}
-use Rattle.card_layout.proofs.Images.{part_before, part_put, put_outside}
-use Rattle.card_layout.proofs.Numbers.{big_number-big_bytes}
-use Rattle.tacho_types.specs.declared.texts.Registration.{Registration}
-use Rattle.tacho_types.specs.Numbers.{time_bytes}
-use Rattle.card_layout.specs.declared.files.Application.{Application}
-use Rattle.card_layout.specs.Files.{place_of, image_size_of}
-use Rattle.card_files.specs.declared.current_use.CurrentUse.{CurrentUse}
-use Rattle.card_image.specs.Fields.{file, current_use, session_time}
-use Rattle.card_session.specs.Books.{closed}
-use Rattle.card_session.specs.Sessions.{Session, book_of}
-use Rattle.card_session.specs.Moments.{IsBook, IsKeepMoment, IsCloseMoment}
-use Rattle.card_session.specs.Cards.{IsCardKeeping, IsCardClosing, grown}
-use Rattle.card_session.specs.Inserting.{repaired, IsRepairMoment, IsStill, IsRepaired, IsNoted, IsNoting, IsShut, IsEnded, IsEnding, IsOpening, InsertingClosed, InsertingOpen, IsCardInserting, timed, registered, unclosed}
-use Rattle.card_session.proofs.InsertingCards.{use_same}
-use Rattle.card_session.proofs.InsertingUse.{use_inside}
-use Rattle.card_session.proofs.InsertingAgain.{noted_keeps}
-use Rattle.card_session.proofs.Stopping.{session_told, closed_session}
+use Rattle.device_calls.specs.activity_codec.declared.values.Activity.{Activity}
+use Rattle.device_calls.specs.activity_codec.declared.values.Activity.TheVariants.{Rest}
+use Rattle.device_calls.specs.activity_codec.declared.entries.Entry.{Entry}
+use Rattle.tach_media.specs.card_layout.Images.{big_number, SameOutside}
+use Rattle.tach_media.proofs.card_layout.Images.{part_before, part_put, put_outside}
+use Rattle.tach_media.proofs.card_layout.Numbers.{big_number-big_bytes}
+use Rattle.device_calls.specs.tacho_types.declared.texts.Registration.{Registration}
+use Rattle.device_calls.specs.tacho_types.Numbers.{time_bytes}
+use Rattle.tach_media.specs.card_layout.declared.files.Application.{Application}
+use Rattle.tach_media.specs.card_layout.Files.{place_of, image_size_of}
+use Rattle.device_calls.specs.card_files.declared.current_use.CurrentUse.{CurrentUse}
+use Rattle.device_calls.specs.card_image.Fields.{file, current_use, session_time}
+use Rattle.device_calls.specs.card_session.Books.{closed}
+use Rattle.device_calls.specs.card_session.Sessions.{Session, book_of}
+use Rattle.device_calls.specs.card_session.Moments.{IsBook, IsKeepMoment, IsCloseMoment}
+use Rattle.device_calls.specs.card_session.Cards.{IsCardKeeping, IsCardClosing, grown}
+use Rattle.device_calls.specs.card_session.Inserting.{repaired, IsRepairMoment, IsStill, IsRepaired, IsNoted, IsNoting, IsShut, IsEnded, IsEnding, IsOpening, InsertingClosed, InsertingOpen, IsCardInserting, timed, registered, unclosed}
+use Rattle.device_calls.proofs.card_session.InsertingCards.{use_same}
+use Rattle.device_calls.proofs.card_session.InsertingUse.{use_inside}
+use Rattle.device_calls.proofs.card_session.InsertingAgain.{noted_keeps}
+use Rattle.device_calls.proofs.card_session.Stopping.{session_told, closed_session}
 use Rattle.device_calls.specs.CardNotes.{IsNote}
 use Rattle.run_devices.specs.Registered.{IsUsedSo}
 use Rattle.run_devices.proofs.CardUse.{note-use, event-use, opened-use}

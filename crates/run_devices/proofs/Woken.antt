@@ -2,15 +2,15 @@
 use Rattle.std.proofs.Common.{◌≡◌, ◌⊎◌, inl, inr, ⊎_elim, ℕ, ◌≤◌, true, false, Option, Some, None, is_some, List, [], subst, ◌∙◌, sym}
 use Rattle.std.specs.Prelude.{Result, Ok, Err}
 use Rattle.std.proofs.lemmas.List.{append-nil}
-use Rattle.tacho_types.specs.declared.texts.Registration.{Registration}
-use Rattle.trace_model.specs.declared.Card.{Card}
+use Rattle.device_calls.specs.tacho_types.declared.texts.Registration.{Registration}
+use Rattle.device_calls.specs.trace_model.declared.Card.{Card}
 use Rattle.tach_media.specs.Medium.{State, IsCoherent, LeavesOnly, Unchanged, Reads}
-use Rattle.card_layout.specs.declared.files.Application.{Application}
-use Rattle.card_image.specs.Own.{own_sizes, IsOwnValid}
-use Rattle.device_rule.specs.Views.{other}
-use Rattle.device_rule.specs.Rules.{Standing, Out}
-use Rattle.unit_rule.specs.Marks.{UnitFollowsBook}
-use Rattle.unit_rule.proofs.Marking.{holds-read, holds-dark}
+use Rattle.tach_media.specs.card_layout.declared.files.Application.{Application}
+use Rattle.device_calls.specs.card_image.Own.{own_sizes, IsOwnValid}
+use Rattle.device_calls.specs.device_rule.Views.{other}
+use Rattle.device_calls.specs.device_rule.Rules.{Standing, Out}
+use Rattle.device_calls.specs.unit_rule.Marks.{UnitFollowsBook}
+use Rattle.device_calls.proofs.unit_rule.Marking.{holds-read, holds-dark}
 use Rattle.device_calls.specs.declared.entering.Entered.{Entered}
 use Rattle.device_calls.specs.declared.entering.NotEntered.{NotEntered}
 use Rattle.device_calls.specs.declared.entering.NotEntered.TheVariants.{UnitFailed, CardFailed, NotValid, TimeOverlap}
@@ -19,7 +19,7 @@ use Rattle.device_calls.proofs.Enters.{unit-read, card-read, entering-moments}
 use Rattle.run_crew.specs.declared.cards.Accepted.{Accepted}
 use Rattle.run_crew.specs.declared.cards.Cards.{Cards}
 use Rattle.run_crew.specs.Cards.{session_of}
-use Rattle.unit_rule.specs.Rule.{once_mended}
+use Rattle.device_calls.specs.unit_rule.Rule.{once_mended}
 use Rattle.run_promise.specs.Found.{CardFound, Found, found_of}
 use Rattle.run_promise.specs.Cards.{brought_by, IsUntouched}
 use Rattle.run_promise.specs.Between.{RunLedger}

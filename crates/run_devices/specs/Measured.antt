@@ -1,12 +1,12 @@
 -- Of which odometer values the vehicle entries of a card tell (profile): over calls, whatever of them failed.
 use Rattle.std.specs.Prelude.{◌≡◌, ◌⊎◌, ℕ, List, Contains}
 use Rattle.tach_media.specs.Medium.{State}
-use Rattle.card_layout.specs.declared.files.Application.{Application}
-use Rattle.card_files.specs.declared.vehicle.Vehicle.{Vehicle}
-use Rattle.gated_ring.specs.Ring.{PointsInside}
-use Rattle.card_image.specs.Fields.{vehicle_ring}
-use Rattle.card_session.specs.Vehicles.{Vehicles}
-use Rattle.card_session.specs.Sessions.{book_of}
+use Rattle.tach_media.specs.card_layout.declared.files.Application.{Application}
+use Rattle.device_calls.specs.card_files.declared.vehicle.Vehicle.{Vehicle}
+use Rattle.device_calls.specs.gated_ring.Ring.{PointsInside}
+use Rattle.device_calls.specs.card_image.Fields.{vehicle_ring}
+use Rattle.device_calls.specs.card_session.Vehicles.{Vehicles}
+use Rattle.device_calls.specs.card_session.Sessions.{book_of}
 use Rattle.run_devices.specs.Registered.{AreIn, SomeIs}
 
 -- a vehicle entry goes on: it has the vehicle, the first use and the odometer at the begin of another

@@ -1,25 +1,25 @@
 -- How the cards stand that were present in the minutes that are still to be kept (profile).
 use Rattle.std.specs.Prelude.{◌≡◌, ◌⊎◌, ℕ, ◌+◌, ◌*◌, ◌/◌, ◌<◌, ◌≤◌, true, false, Option, Some, None, List, [], ◌∷◌}
 use Rattle.std.specs.Prelude.{◌++◌, Contains, is_some}
-use Rattle.activity_codec.specs.declared.values.Slot.{Slot}
-use Rattle.trace_model.specs.declared.Card.{Card}
-use Rattle.log_model.specs.Slots.{Sitting, in_slot}
-use Rattle.log_model.specs.Course.{ToldSecond, Course, Visit, fresh}
-use Rattle.history_model.specs.Minutes.{HistoryMinute, on_card}
-use Rattle.history_model.specs.Presence.{Start, card_start}
-use Rattle.card_image.specs.Own.{IsOwnValid}
-use Rattle.device_rule.specs.Rules.{Standing, In, Torn, IsPresent}
-use Rattle.card_slots.specs.declared.seats.Present.{Present}
-use Rattle.card_slots.specs.Calls.{present_in}
-use Rattle.card_slots.specs.Kept.{KnowsNewest}
+use Rattle.device_calls.specs.activity_codec.declared.values.Slot.{Slot}
+use Rattle.device_calls.specs.trace_model.declared.Card.{Card}
+use Rattle.run_crew.specs.log_model.Slots.{Sitting, in_slot}
+use Rattle.run_crew.specs.log_model.Course.{ToldSecond, Course, Visit, fresh}
+use Rattle.device_calls.specs.history_model.Minutes.{HistoryMinute, on_card}
+use Rattle.device_calls.specs.history_model.Presence.{Start, card_start}
+use Rattle.device_calls.specs.card_image.Own.{IsOwnValid}
+use Rattle.device_calls.specs.device_rule.Rules.{Standing, In, Torn, IsPresent}
+use Rattle.run_crew.specs.card_slots.declared.seats.Present.{Present}
+use Rattle.run_crew.specs.card_slots.Calls.{present_in}
+use Rattle.run_crew.specs.card_slots.Kept.{KnowsNewest}
 use Rattle.run_crew.specs.declared.cabin.Cabin.{Cabin}
 use Rattle.run_crew.specs.declared.cards.Accepted.{Accepted}
 use Rattle.run_crew.specs.declared.cards.Cards.{Cards}
 use Rattle.run_crew.specs.Cards.{session_of}
 use Rattle.run_crew.specs.Cabin.{CabinIsSound, with_minute_ended}
 use Rattle.run_promise.specs.Found.{Found, found_of}
-use Rattle.run_course.specs.Presence.{SlotsTell}
-use Rattle.run_course.specs.Kept.{BrokenSince, StaysOut}
+use Rattle.run_promise.specs.run_course.Presence.{SlotsTell}
+use Rattle.run_promise.specs.run_course.Kept.{BrokenSince, StaysOut}
 
 -- a card was present in one of the slots
 abbrev pub IsIn : Present → Card → Type 0

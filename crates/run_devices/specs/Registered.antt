@@ -1,12 +1,12 @@
 -- Of which vehicles a card tells over a run, whatever calls failed (profile): in its vehicle entries, and in its
 -- current use.
 use Rattle.std.specs.Prelude.{◌≡◌, ◌⊎◌, ℕ, Option, Some, None, IfSome, List, [], ◌∷◌}
-use Rattle.tacho_types.specs.declared.texts.Registration.{Registration}
-use Rattle.card_layout.specs.declared.files.Application.{Application}
-use Rattle.card_files.specs.declared.vehicle.Vehicle.{Vehicle}
-use Rattle.card_image.specs.Fields.{current_use, session_time}
-use Rattle.card_session.specs.Vehicles.{Vehicles}
-use Rattle.card_session.specs.Sessions.{book_of}
+use Rattle.device_calls.specs.tacho_types.declared.texts.Registration.{Registration}
+use Rattle.tach_media.specs.card_layout.declared.files.Application.{Application}
+use Rattle.device_calls.specs.card_files.declared.vehicle.Vehicle.{Vehicle}
+use Rattle.device_calls.specs.card_image.Fields.{current_use, session_time}
+use Rattle.device_calls.specs.card_session.Vehicles.{Vehicles}
+use Rattle.device_calls.specs.card_session.Sessions.{book_of}
 
 -- each of these that stands is so
 abbrev pub RingIn : (P : Vehicle → Type 0) → List (Option Vehicle) → Type 0

@@ -1,7 +1,7 @@
 -- How the session of a card goes on, by Current_Usage of its images (profile): over calls, whatever of them failed.
 use Rattle.std.specs.Prelude.{◌≡◌, ◌⊎◌, ℕ, List}
-use Rattle.card_layout.specs.declared.files.Application.{Application}
-use Rattle.card_image.specs.Fields.{session_time}
+use Rattle.tach_media.specs.card_layout.declared.files.Application.{Application}
+use Rattle.device_calls.specs.card_image.Fields.{session_time}
 
 -- THE SESSION OF AN IMAGE GOES ON, by these sizes: it is that of another image, or none, or one that may come
 abbrev pub SessionGoes : Application → (May : ℕ → Type 0) → (x y : List ℕ) → Type 0

@@ -1,22 +1,22 @@
 -- What is known of a card's string where each of its images holds it (profile).
 use Rattle.std.specs.Prelude.{◌≡◌, ℕ, suc, max, ◌≤◌, true, None, List, ◌++◌, All, is_some}
-use Rattle.trace_model.specs.declared.Card.{Card}
+use Rattle.device_calls.specs.trace_model.declared.Card.{Card}
 use Rattle.tach_media.specs.Medium.{State, bytes_at}
-use Rattle.card_layout.specs.declared.files.Application.{Application}
-use Rattle.card_layout.specs.Application.{IsApplication}
-use Rattle.card_layout.specs.Files.{place_of}
-use Rattle.card_retention.specs.Retains.{Rise}
-use Rattle.card_image.specs.Fields.{file, file_bytes}
-use Rattle.card_image.specs.Own.{own_view, own_sizes, own_number, IsOwnValid}
-use Rattle.hand_model.specs.AtStart.{all_at, hands_at, StaysTold}
-use Rattle.hand_model.specs.ByHand.{by_hand_in}
-use Rattle.hand_model.specs.Written.{Hands, IsPartOf}
-use Rattle.card_string.specs.Since.{HoldsSince}
-use Rattle.card_string.specs.Each.{KeepsSince}
-use Rattle.history_model.specs.Book.{Book}
-use Rattle.device_rule.specs.Views.{UnitView}
-use Rattle.device_rule.specs.Rules.{Standing, since, CardDark}
-use Rattle.device_rule.specs.Marked.{of_card}
+use Rattle.tach_media.specs.card_layout.declared.files.Application.{Application}
+use Rattle.tach_media.specs.card_layout.Application.{IsApplication}
+use Rattle.tach_media.specs.card_layout.Files.{place_of}
+use Rattle.device_calls.specs.card_retention.Retains.{Rise}
+use Rattle.device_calls.specs.card_image.Fields.{file, file_bytes}
+use Rattle.device_calls.specs.card_image.Own.{own_view, own_sizes, own_number, IsOwnValid}
+use Rattle.device_calls.specs.hand_model.AtStart.{all_at, hands_at, StaysTold}
+use Rattle.device_calls.specs.hand_model.ByHand.{by_hand_in}
+use Rattle.device_calls.specs.hand_model.Written.{Hands, IsPartOf}
+use Rattle.device_calls.specs.card_string.Since.{HoldsSince}
+use Rattle.device_calls.specs.card_string.Each.{KeepsSince}
+use Rattle.device_calls.specs.history_model.Book.{Book}
+use Rattle.device_calls.specs.device_rule.Views.{UnitView}
+use Rattle.device_calls.specs.device_rule.Rules.{Standing, since, CardDark}
+use Rattle.device_calls.specs.device_rule.Marked.{of_card}
 use Rattle.run_promise.specs.Found.{CardFound, Found, found_of, unit_seen, AnyKept}
 use Rattle.run_promise.specs.Cards.{brought_by}
 use Rattle.run_devices.specs.Registered.{TellsOfTwo}

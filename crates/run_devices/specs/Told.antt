@@ -2,30 +2,30 @@
 -- image of a card holds its string, and the sessions of the cards that are in their slots.
 use Rattle.std.specs.Prelude.{◌≡◌, ◌≢◌, ℕ, suc, max, ◌<◌, ◌≤◌, true, Option, Some, None, IfSome, List, [], ◌∷◌, ◌++◌}
 use Rattle.std.specs.Prelude.{All, Contains, length, map, is_some, option_to_list}
-use Rattle.activity_codec.specs.declared.entries.Entry.{Entry}
-use Rattle.activity_codec.specs.declared.entries.Manual.{Manual}
-use Rattle.trace_model.specs.declared.Card.{Card}
-use Rattle.trace_model.specs.declared.Card.TheVariants.{A, B}
+use Rattle.device_calls.specs.activity_codec.declared.entries.Entry.{Entry}
+use Rattle.device_calls.specs.activity_codec.declared.entries.Manual.{Manual}
+use Rattle.device_calls.specs.trace_model.declared.Card.{Card}
+use Rattle.device_calls.specs.trace_model.declared.Card.TheVariants.{A, B}
 use Rattle.tach_media.specs.Medium.{State}
-use Rattle.tacho_types.specs.CardNumber.{card_number_bytes}
-use Rattle.log_model.specs.declared.lines.Mark.{Mark}
-use Rattle.log_model.specs.Causes.{device_of}
-use Rattle.card_layout.specs.Application.{IsApplication}
-use Rattle.card_retention.specs.Retains.{Rise}
-use Rattle.card_image.specs.Own.{own_view, own_sizes, own_covered, IsOwnValid}
-use Rattle.card_session.specs.Sessions.{Session, IsSession}
-use Rattle.card_session.specs.Cards.{MayEnd}
-use Rattle.hand_model.specs.Written.{Hands, and_sure, and_given}
-use Rattle.card_by_hand.specs.First.{IsShutAt}
-use Rattle.card_string.specs.Since.{SitsSince}
-use Rattle.history_model.specs.Minutes.{card_history}
-use Rattle.history_model.specs.Book.{Book, found}
-use Rattle.device_rule.specs.Views.{unit_view, owed}
-use Rattle.device_rule.specs.Rules.{Standing, In, Out, since, CardRule, IsEntered}
-use Rattle.device_rule.specs.Marked.{of_card, HasBrought}
-use Rattle.unit_rule.specs.Safe.{Devices, card_of}
-use Rattle.unit_rule.specs.Rule.{once_mended, IsCards}
-use Rattle.unit_rule.specs.Marks.{UnitFollowsBook}
+use Rattle.device_calls.specs.tacho_types.CardNumber.{card_number_bytes}
+use Rattle.run_crew.specs.log_model.declared.lines.Mark.{Mark}
+use Rattle.run_crew.specs.log_model.Causes.{device_of}
+use Rattle.tach_media.specs.card_layout.Application.{IsApplication}
+use Rattle.device_calls.specs.card_retention.Retains.{Rise}
+use Rattle.device_calls.specs.card_image.Own.{own_view, own_sizes, own_covered, IsOwnValid}
+use Rattle.device_calls.specs.card_session.Sessions.{Session, IsSession}
+use Rattle.device_calls.specs.card_session.Cards.{MayEnd}
+use Rattle.device_calls.specs.hand_model.Written.{Hands, and_sure, and_given}
+use Rattle.device_calls.specs.card_by_hand.First.{IsShutAt}
+use Rattle.device_calls.specs.card_string.Since.{SitsSince}
+use Rattle.device_calls.specs.history_model.Minutes.{card_history}
+use Rattle.device_calls.specs.history_model.Book.{Book, found}
+use Rattle.device_calls.specs.device_rule.Views.{unit_view, owed}
+use Rattle.device_calls.specs.device_rule.Rules.{Standing, In, Out, since, CardRule, IsEntered}
+use Rattle.device_calls.specs.device_rule.Marked.{of_card, HasBrought}
+use Rattle.device_calls.specs.unit_rule.Safe.{Devices, card_of}
+use Rattle.device_calls.specs.unit_rule.Rule.{once_mended, IsCards}
+use Rattle.device_calls.specs.unit_rule.Marks.{UnitFollowsBook}
 use Rattle.device_calls.specs.Minute.{IsNotIn}
 use Rattle.run_crew.specs.declared.cards.Accepted.{Accepted}
 use Rattle.run_crew.specs.declared.cards.Cards.{Cards}

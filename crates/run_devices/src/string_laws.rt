@@ -1,8 +1,8 @@
 ghost use Rattle.std.specs.Prelude.{ℕ, List};
-ghost use Rattle.trace_model.specs.declared.Card.{Card};
-ghost use Rattle.hand_model.specs.Written.{Hands};
-ghost use Rattle.history_model.specs.Book.{Book};
-ghost use Rattle.device_rule.specs.Rules.{Standing, Out};
+ghost use Rattle.device_calls.specs.trace_model.declared.Card.{Card};
+ghost use Rattle.device_calls.specs.hand_model.Written.{Hands};
+ghost use Rattle.device_calls.specs.history_model.Book.{Book};
+ghost use Rattle.device_calls.specs.device_rule.Rules.{Standing, Out};
 ghost use Rattle.run_promise.specs.Found.{Found, found_of};
 ghost use Rattle.run_promise.specs.Cards.{IsStrung};
 ghost use Rattle.run_devices.specs.Strung.{EachIsStrung, CardHoldsString};

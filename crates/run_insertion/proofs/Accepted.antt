@@ -9,11 +9,11 @@ use Rattle.log_model.specs.declared.lines.Break.{Break}
 use Rattle.log_model.specs.declared.lines.Find.{Find}
 use Rattle.log_model.specs.declared.lines.Mark.{Mark}
 use Rattle.log_model.specs.declared.lines.Verdict.TheVariants as verdict
-use Rattle.event_model.specs.declared.kinds.TheConstants.{INSERTION_WHILE_DRIVING, SESSION_NOT_CLOSED}
-use Rattle.card_files.specs.declared.card_event.CardEvent.{CardEvent}
-use Rattle.card_files.specs.Noting as card
+use Rattle.unit_notes.specs.event_model.declared.kinds.TheConstants.{INSERTION_WHILE_DRIVING, SESSION_NOT_CLOSED}
+use Rattle.run_events.specs.card_files.declared.card_event.CardEvent.{CardEvent}
+use Rattle.run_events.specs.card_files.Noting as card
 use Rattle.unit_notes.specs.declared.unit_event.UnitEvent.{UnitEvent}
-use Rattle.unit_memory.specs.declared.format.Identity.{Identity}
+use Rattle.run_minutes.specs.unit_memory.declared.format.Identity.{Identity}
 use Rattle.run_crew.specs.declared.cards.Crew.{Crew}
 use Rattle.run_events.specs.Entries.{entry_of, card_entry}
 use Rattle.device_calls.specs.declared.entering.Entered.{Entered}

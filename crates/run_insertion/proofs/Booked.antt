@@ -13,22 +13,22 @@ use Rattle.card_layout.specs.Application.{IsApplication}
 use Rattle.card_layout.specs.Files.{image_size_of}
 use Rattle.card_session.specs.Inserting.{IsCardInserting, IsCardInserted}
 use Rattle.device_calls.proofs.TimedCalls.{inserting-timed}
-use Rattle.card_image.specs.Fields.{session_time}
-use Rattle.card_image.specs.Judging.{IsValid}
-use Rattle.card_image.specs.View.{CardView, card_view}
-use Rattle.card_image.specs.Own.{own_sizes, own_view, IsOwnValid}
+use Rattle.card_validity.specs.card_image.Fields.{session_time}
+use Rattle.card_validity.specs.card_image.Judging.{IsValid}
+use Rattle.card_validity.specs.card_image.View.{CardView, card_view}
+use Rattle.card_validity.specs.card_image.Own.{own_sizes, own_view, IsOwnValid}
 use Rattle.card_session.specs.Sessions.{IsSession, newest_in, book_of}
 use Rattle.card_session.proofs.Renewing.{closed_answered}
-use Rattle.history_model.specs.Minutes.{HistoryMinute, card_history, up_to}
-use Rattle.history_model.specs.Presence.{trimmed_by}
-use Rattle.history_model.specs.Book.{all, Ordered}
-use Rattle.history_model.proofs.Books.{all-none, up_to-whole, mark-earlier}
-use Rattle.device_rule.specs.Views.{UnitView, unit_view, row, other, owed, owed_in, newest_with}
-use Rattle.device_rule.specs.Marked.{of_card}
-use Rattle.device_rule.proofs.Owing.{owed-new}
-use Rattle.device_rule.specs.Filling.{FillsDays}
+use Rattle.device_calls.specs.history_model.Minutes.{HistoryMinute, card_history, up_to}
+use Rattle.device_calls.specs.history_model.Presence.{trimmed_by}
+use Rattle.device_calls.specs.history_model.Book.{all, Ordered}
+use Rattle.device_calls.proofs.history_model.Books.{all-none, up_to-whole, mark-earlier}
+use Rattle.device_calls.specs.device_rule.Views.{UnitView, unit_view, row, other, owed, owed_in, newest_with}
+use Rattle.device_calls.specs.device_rule.Marked.{of_card}
+use Rattle.device_calls.proofs.device_rule.Owing.{owed-new}
+use Rattle.device_calls.specs.device_rule.Filling.{FillsDays}
 use Rattle.device_calls.proofs.OnCard.{own-is, session-is}
-use Rattle.device_rule.specs.Rules.{Out, Meets, Shows, IsEntered}
+use Rattle.device_calls.specs.device_rule.Rules.{Out, Meets, Shows, IsEntered}
 use Rattle.unit_notes.specs.Journal.{LeavesJournal}
 use Rattle.device_calls.specs.declared.entering.Entered.{Entered}
 use Rattle.device_calls.specs.declared.entering.NotEntered.{NotEntered}
@@ -37,16 +37,16 @@ use Rattle.run_crew.specs.declared.cards.Accepted.{Accepted}
 use Rattle.run_crew.specs.declared.cards.Cards.{Cards}
 use Rattle.run_crew.specs.Cards.{session_of, with_session, with_sizes}
 use Rattle.run_crew.specs.Cabin.{with_sizes_of}
-use Rattle.run_promise.specs.Found.{Found, found_of, unit_seen, AnyKept}
-use Rattle.run_promise.specs.Cards.{IsUntouched, brought_by}
-use Rattle.run_promise.specs.Between.{RunLedger}
-use Rattle.run_devices.specs.Told.{AreFoundCards, DevicesPowered, DevicesUnpowered, arranged, with_standing, card_marks, with_marks}
-use Rattle.run_devices.proofs.Parts.{told-one, UnitLit, CardLit, AreParts, parts-of, powered-of}
-use Rattle.run_devices.proofs.Known.{session-sized, found-sizes, found-session}
-use Rattle.run_devices.proofs.Begun.{out-powered}
-use Rattle.run_devices.proofs.Woken.{read-powered, untouched-read, untouched-entered, MayHaveWritten as MayWrite}
-use Rattle.run_devices.proofs.Entered.{measured-own, entered-powered-by, entered-powerless-by, accepted-put-by, accepted-marked-by, accepted-number-by, accepted-found-by, accepted-whole-by}
-use Rattle.run_devices.proofs.Putting.{out-now, put-valid}
+use Rattle.run_minutes.specs.run_promise.Found.{Found, found_of, unit_seen, AnyKept}
+use Rattle.run_minutes.specs.run_promise.Cards.{IsUntouched, brought_by}
+use Rattle.run_minutes.specs.run_promise.Between.{RunLedger}
+use Rattle.run_minutes.specs.run_devices.Told.{AreFoundCards, DevicesPowered, DevicesUnpowered, arranged, with_standing, card_marks, with_marks}
+use Rattle.run_minutes.proofs.run_devices.Parts.{told-one, UnitLit, CardLit, AreParts, parts-of, powered-of}
+use Rattle.run_minutes.proofs.run_devices.Known.{session-sized, found-sizes, found-session}
+use Rattle.run_minutes.proofs.run_devices.Begun.{out-powered}
+use Rattle.run_minutes.proofs.run_devices.Woken.{read-powered, untouched-read, untouched-entered, MayHaveWritten as MayWrite}
+use Rattle.run_minutes.proofs.run_devices.Entered.{measured-own, entered-powered-by, entered-powerless-by, accepted-put-by, accepted-marked-by, accepted-number-by, accepted-found-by, accepted-whole-by}
+use Rattle.run_minutes.proofs.run_devices.Putting.{out-now, put-valid}
 use Rattle.run_minutes.specs.declared.keeper.Keeper.{Keeper}
 use Rattle.run_insertion.specs.declared.lines.Entering.{Entering}
 use Rattle.run_insertion.specs.Entering.{Ending, Unfit, Ahead, Fell, Unasked, Unnoted, Seated, Lost, taken_as, fallen, most_owed}

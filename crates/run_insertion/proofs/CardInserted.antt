@@ -13,13 +13,13 @@ use Rattle.tacho_types.specs.declared.texts.Registration.{Registration}
 use Rattle.tacho_types.specs.Numbers.{time_bytes}
 use Rattle.card_layout.specs.declared.files.Application.{Application}
 use Rattle.card_layout.specs.Files.{files_of, place_of, size_of}
-use Rattle.gated_ring.specs.Ring.{entry_at}
-use Rattle.card_files.specs.declared.card_event.CardEvent.{CardEvent}
-use Rattle.card_files.specs.declared.current_use.CurrentUse.{CurrentUse}
-use Rattle.card_files.specs.Events.{event_of}
-use Rattle.card_files.specs.Rings.{event_ring}
-use Rattle.card_model.specs.Days.{Day}
-use Rattle.card_image.specs.Fields.{file, current_use, session_time}
+use Rattle.run_events.specs.gated_ring.Ring.{entry_at}
+use Rattle.run_events.specs.card_files.declared.card_event.CardEvent.{CardEvent}
+use Rattle.run_events.specs.card_files.declared.current_use.CurrentUse.{CurrentUse}
+use Rattle.run_events.specs.card_files.Events.{event_of}
+use Rattle.run_events.specs.card_files.Rings.{event_ring}
+use Rattle.device_calls.specs.card_model.Days.{Day}
+use Rattle.card_validity.specs.card_image.Fields.{file, current_use, session_time}
 use Rattle.card_session.specs.Vehicles.{Vehicles}
 use Rattle.card_session.specs.Books.{closed}
 use Rattle.card_session.specs.Cards.{IsCard, IsCardKeeping, IsCardClosing, ended, grown}
@@ -29,7 +29,7 @@ use Rattle.card_session.specs.Inserting.{repaired, IsRepairMoment, IsStill, IsRe
 use Rattle.card_session.proofs.Marks.{events_same}
 use Rattle.card_session.proofs.InsertingCards.{use_same}
 use Rattle.card_session.proofs.InsertingAgain.{noted_keeps, ended_keeps}
-use Rattle.event_model.specs.declared.kinds.TheConstants.{SESSION_NOT_CLOSED}
+use Rattle.unit_notes.specs.event_model.declared.kinds.TheConstants.{SESSION_NOT_CLOSED}
 use Rattle.run_insertion.specs.CardEvents.{events_in, kind_of, begin_of, is_held, is_told, AreBeingNoted, of_type, ShowsThese, ShowsMore, IsOnCards, unclosed_on}
 use Rattle.run_insertion.proofs.CardTables.{one-holds, where-holds, length-events, event-at, same-file, noted-here, noted-elsewhere, being-unbegun, being-all, with-new, with-held, shows-behind, more-then, more-begun}
 

@@ -1,8 +1,8 @@
 -- Worked rows: which place an event takes on a card, and what is left at a moment.
 use Rattle.std.proofs.Common.{◌≡◌, ℕ, List, [], ◌∷◌, inl, inr, refl}
 use Rattle.std.specs.Prelude.{replicate}
-use Rattle.card_files.specs.declared.card_event.CardEvent.{CardEvent}
-use Rattle.card_files.specs.Events.{event_bytes}
+use Rattle.run_events.specs.card_files.declared.card_event.CardEvent.{CardEvent}
+use Rattle.run_events.specs.card_files.Events.{event_bytes}
 use Rattle.run_insertion.specs.CardEvents.{noted_in, with_event, all_noted, AreBeingNoted, of_type}
 
 abbrev event : (kind begin : ℕ) → CardEvent

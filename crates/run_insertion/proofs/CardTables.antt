@@ -12,17 +12,17 @@ use Rattle.card_layout.proofs.Images.{part_before, part_after, part_in}
 use Rattle.card_layout.proofs.Spelled.{number_within}
 use Rattle.card_layout.specs.declared.files.Application.{Application}
 use Rattle.card_layout.specs.Files.{place_of as place_of_file, size_of as size_of_file}
-use Rattle.gated_ring.specs.Ring.{Shape, entry_at, gate_of, place_of}
-use Rattle.gated_ring.specs.Change.{SameOthers, IsReplaced, IsAbsent}
-use Rattle.gated_ring.proofs.Places.{place_high}
-use Rattle.card_files.specs.declared.card_event.CardEvent.{CardEvent}
-use Rattle.card_files.specs.Events.{event_bytes}
-use Rattle.card_files.specs.Rings.{file, event_ring, set_of, set_size}
-use Rattle.card_files.specs.Noting.{TakesPlace, IsNotingEvent, IsEventNoted}
-use Rattle.card_files.proofs.Sets.{set_inside}
-use Rattle.card_image.specs.Fields.{file_bytes}
-use Rattle.event_model.specs.Places.{earliest}
-use Rattle.event_model.specs.declared.kinds.TheConstants.{SESSION_NOT_CLOSED}
+use Rattle.run_events.specs.gated_ring.Ring.{Shape, entry_at, gate_of, place_of}
+use Rattle.run_events.specs.gated_ring.Change.{SameOthers, IsReplaced, IsAbsent}
+use Rattle.run_events.proofs.gated_ring.Places.{place_high}
+use Rattle.run_events.specs.card_files.declared.card_event.CardEvent.{CardEvent}
+use Rattle.run_events.specs.card_files.Events.{event_bytes}
+use Rattle.run_events.specs.card_files.Rings.{file, event_ring, set_of, set_size}
+use Rattle.run_events.specs.card_files.Noting.{TakesPlace, IsNotingEvent, IsEventNoted}
+use Rattle.run_events.proofs.card_files.Sets.{set_inside}
+use Rattle.card_validity.specs.card_image.Fields.{file_bytes}
+use Rattle.unit_notes.specs.event_model.Places.{earliest}
+use Rattle.unit_notes.specs.event_model.declared.kinds.TheConstants.{SESSION_NOT_CLOSED}
 use Rattle.run_insertion.specs.Noted.{AreDone, AreBeingDone}
 use Rattle.run_insertion.specs.CardEvents.{events_in, begin_of, written, noted_in, is_held, is_told, with_event, all_noted, IsEmptied, AreBeingNoted, of_type, ShowsThese, ShowsMore, IsOnCards, IsPlain}
 

@@ -12,22 +12,22 @@ use Rattle.tacho_types.specs.CardNumber.{card_number_bytes}
 use Rattle.tacho_types.specs.declared.card_number.FullCardNumber.{FullCardNumber}
 use Rattle.card_layout.specs.declared.files.Application.{Application}
 use Rattle.card_layout.specs.Files.{image_size_of}
-use Rattle.card_files.specs.declared.card_event.CardEvent.{CardEvent}
-use Rattle.card_files.specs.Noting.{IsNotingEvent}
-use Rattle.card_image.specs.Judging.{IsValid}
-use Rattle.card_image.specs.Own.{own_sizes, IsOwnValid}
+use Rattle.run_events.specs.card_files.declared.card_event.CardEvent.{CardEvent}
+use Rattle.run_events.specs.card_files.Noting.{IsNotingEvent}
+use Rattle.card_validity.specs.card_image.Judging.{IsValid}
+use Rattle.card_validity.specs.card_image.Own.{own_sizes, IsOwnValid}
 use Rattle.card_validity.specs.declared.looking.CardLook.{CardLook}
 use Rattle.card_session.specs.Sessions.{Session, IsValue}
 use Rattle.hand_model.specs.Holding.{none_held}
 use Rattle.log_model.specs.declared.lines.Mark.{Mark}
-use Rattle.history_model.specs.Book.{Book}
-use Rattle.history_model.proofs.Books.{mark-earlier}
-use Rattle.device_rule.specs.Views.{other, row, owed_in}
-use Rattle.device_rule.specs.Marked.{of_card, HasBrought}
-use Rattle.device_rule.proofs.Owing.{owed-new}
-use Rattle.device_rule.specs.Rules.{Standing, Out, In, IsEntered}
-use Rattle.unit_rule.specs.Rule.{Started, IsCards}
-use Rattle.unit_rule.specs.Marks.{UnitFollowsBook}
+use Rattle.device_calls.specs.history_model.Book.{Book}
+use Rattle.device_calls.proofs.history_model.Books.{mark-earlier}
+use Rattle.device_calls.specs.device_rule.Views.{other, row, owed_in}
+use Rattle.device_calls.specs.device_rule.Marked.{of_card, HasBrought}
+use Rattle.device_calls.proofs.device_rule.Owing.{owed-new}
+use Rattle.device_calls.specs.device_rule.Rules.{Standing, Out, In, IsEntered}
+use Rattle.device_calls.specs.unit_rule.Rule.{Started, IsCards}
+use Rattle.device_calls.specs.unit_rule.Marks.{UnitFollowsBook}
 use Rattle.unit_notes.specs.Journal.{LeavesJournal}
 use Rattle.device_calls.specs.Rule.{Both, opened, number_of, card_seen, CardHolds, IsKeptUp, IsRowTaken}
 use Rattle.run_crew.specs.declared.cards.Accepted.{Accepted}
@@ -36,16 +36,16 @@ use Rattle.run_crew.specs.declared.cabin.Cabin.{Cabin}
 use Rattle.device_calls.specs.CardNotes.{IsNote}
 use Rattle.run_crew.specs.Cards.{known_of, session_of, with_session}
 use Rattle.run_crew.specs.Cabin.{with_accepted}
-use Rattle.run_promise.specs.Found.{Found, found_of}
-use Rattle.run_promise.specs.Between.{RunLedger}
-use Rattle.safety_model.specs.Safe.{Devices}
+use Rattle.run_minutes.specs.run_promise.Found.{Found, found_of}
+use Rattle.run_minutes.specs.run_promise.Between.{RunLedger}
+use Rattle.device_calls.specs.safety_model.Safe.{Devices}
 use Rattle.device_calls.specs.declared.entering.Entered.{Entered}
-use Rattle.run_devices.specs.Told.{AreFoundCards, GoesOwing, DevicesPowered, DevicesUnpowered, arranged, for_card}
-use Rattle.run_devices.proofs.Parts.{CardLit, AreParts, parts-of, powered-of, at-card, at-other}
+use Rattle.run_minutes.specs.run_devices.Told.{AreFoundCards, GoesOwing, DevicesPowered, DevicesUnpowered, arranged, for_card}
+use Rattle.run_minutes.proofs.run_devices.Parts.{CardLit, AreParts, parts-of, powered-of, at-card, at-other}
 use Rattle.device_calls.proofs.TimedCalls.{noting-timed}
-use Rattle.run_devices.proofs.OnCards.{own-valid}
-use Rattle.run_devices.proofs.Noted.{noted-powered, noted-powerless, noted-on, noted-off}
-use Rattle.run_devices.proofs.Begun.{begun-powered, begun-powerless}
+use Rattle.run_minutes.proofs.run_devices.OnCards.{own-valid}
+use Rattle.run_minutes.proofs.run_devices.Noted.{noted-powered, noted-powerless, noted-on, noted-off}
+use Rattle.run_minutes.proofs.run_devices.Begun.{begun-powered, begun-powerless}
 use Rattle.run_minutes.specs.declared.keeper.Keeper.{Keeper}
 use Rattle.run_insertion.specs.declared.lines.Entering.{Entering}
 use Rattle.run_insertion.specs.Entering.{and_one, seated, fallen, taken_as}

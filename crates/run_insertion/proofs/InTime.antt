@@ -3,9 +3,9 @@ use Rattle.std.proofs.Common.{◌≡◌, ◌⊎◌, inl, inr, ⊎_elim, ℕ, ◌
 use Rattle.tach_media.specs.Medium.{State, IsCoherent, LeavesOnly, Unchanged}
 use Rattle.tach_media.proofs.Runs.{goes_same, at_image, if_told, both_told, from_told, told_too, revived}
 use Rattle.card_layout.specs.declared.files.Application.{Application}
-use Rattle.card_image.specs.Own.{own_sizes, own_view}
-use Rattle.card_image.specs.Judging.{IsValid}
-use Rattle.card_image.specs.View.{CardView, card_view}
+use Rattle.card_validity.specs.card_image.Own.{own_sizes, own_view}
+use Rattle.card_validity.specs.card_image.Judging.{IsValid}
+use Rattle.card_validity.specs.card_image.View.{CardView, card_view}
 use Rattle.device_calls.specs.Entering.{IsInTime}
 use Rattle.device_calls.proofs.OnCard.{own-is}
 use Rattle.run_insertion.specs.declared.lines.Entering.{Entering}

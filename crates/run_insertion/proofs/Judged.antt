@@ -10,10 +10,10 @@ use Rattle.card_layout.specs.declared.files.Application.{Application}
 use Rattle.card_layout.specs.declared.files.Fid.{Fid}
 use Rattle.card_layout.specs.Application.{application_in, first_bad_field}
 use Rattle.card_layout.specs.Files.{image_size_of}
-use Rattle.card_image.specs.Fields.{session_time, end_mark}
-use Rattle.card_image.specs.Own.{own_sizes}
-use Rattle.card_image.specs.Judging.{IsValid}
-use Rattle.card_image.specs.View.{card_view}
+use Rattle.card_validity.specs.card_image.Fields.{session_time, end_mark}
+use Rattle.card_validity.specs.card_image.Own.{own_sizes}
+use Rattle.card_validity.specs.card_image.Judging.{IsValid}
+use Rattle.card_validity.specs.card_image.View.{card_view}
 use Rattle.card_validity.specs.Judged.{IsLook}
 use Rattle.card_session.specs.Inserting.{IsCardInserted, IsCardInserting, replayed_count}
 use Rattle.log_model.specs.declared.lines.Break.{Break}

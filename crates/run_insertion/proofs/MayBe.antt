@@ -1,6 +1,6 @@
 -- Events that may have been noted on a card, each for itself.
 use Rattle.std.proofs.Common.{◌≡◌, inl, inr, ℕ, List, [], ◌∷◌, ◌++◌, refl, subst}
-use Rattle.card_files.specs.declared.card_event.CardEvent.{CardEvent}
+use Rattle.run_events.specs.card_files.declared.card_event.CardEvent.{CardEvent}
 use Rattle.run_insertion.specs.CardEvents.{with_event, all_noted, AreBeingNoted, MayBeNoted}
 
 -- nothing has come of them

@@ -4,14 +4,14 @@ use Rattle.std.specs.Prelude.{nat_eq, nat_lt, if◌then◌else◌, option_map, R
 use Rattle.std.proofs.lemmas.Bool.Decides.{nat_tests}
 use Rattle.tach_media.specs.Medium.{State, LeavesOnly, Unchanged}
 use Rattle.tach_media.proofs.Runs.{starts, weaken, goes_on, after_reads, at_image, where_told, through, ok_gives}
-use Rattle.event_model.specs.declared.kinds.TheConstants.{INSERTION_WHILE_DRIVING, SESSION_NOT_CLOSED, CARD_FAULT}
+use Rattle.unit_notes.specs.event_model.declared.kinds.TheConstants.{INSERTION_WHILE_DRIVING, SESSION_NOT_CLOSED, CARD_FAULT}
 use Rattle.run_crew.specs.declared.cabin.Cabin.{Cabin}
 use Rattle.tacho_types.specs.CardNumber.{card_number_bytes}
 use Rattle.tacho_types.specs.declared.card_number.FullCardNumber.{FullCardNumber}
 use Rattle.tacho_types.specs.declared.texts.Registration.{Registration}
-use Rattle.gated_ring.specs.Change.{IsAdded, IsAdding}
-use Rattle.message_model.specs.Records.{insertion_ring}
-use Rattle.unit_owed.specs.Rows.{IsRowBegun, IsRowBeginning}
+use Rattle.run_events.specs.gated_ring.Change.{IsAdded, IsAdding}
+use Rattle.run_events.specs.message_model.Records.{insertion_ring}
+use Rattle.device_calls.specs.unit_owed.Rows.{IsRowBegun, IsRowBeginning}
 use Rattle.unit_notes.specs.declared.insertion.Insertion.{Insertion}
 use Rattle.unit_notes.specs.Entries.{insertion_bytes, fault_bytes}
 use Rattle.unit_notes.specs.Noting.{IsNotingEvent, IsEventNoted}

@@ -6,8 +6,8 @@ use Rattle.tach_media.specs.Medium.{State, IsCoherent, LeavesOnly, Unchanged, Re
 use Rattle.tacho_types.specs.declared.texts.Registration.{Registration}
 use Rattle.card_layout.specs.declared.files.Application.{Application}
 use Rattle.card_layout.specs.Application.{IsApplication}
-use Rattle.card_image.specs.Judging.{IsValid}
-use Rattle.card_image.specs.Own.{own_sizes}
+use Rattle.card_validity.specs.card_image.Judging.{IsValid}
+use Rattle.card_validity.specs.card_image.Own.{own_sizes}
 use Rattle.card_session.specs.Books.{mark_of}
 use Rattle.card_session.specs.Inserting.{lacked}
 use Rattle.device_calls.specs.CardNotes.{IsNote}
@@ -15,11 +15,11 @@ use Rattle.device_calls.specs.declared.entering.Entered.{Entered}
 use Rattle.device_calls.specs.declared.entering.NotEntered.{NotEntered}
 use Rattle.device_calls.specs.declared.entering.NotEntered.TheVariants.{UnitFailed, CardFailed, NotValid, TimeOverlap}
 use Rattle.device_calls.specs.Entering.{IsRefused}
-use Rattle.run_promise.specs.Found.{CardFound, Found, found_of}
-use Rattle.run_devices.proofs.Woken.{MayHaveWritten}
-use Rattle.run_devices.proofs.NotedCard.{note-book}
+use Rattle.run_minutes.specs.run_promise.Found.{CardFound, Found, found_of}
+use Rattle.run_minutes.proofs.run_devices.Woken.{MayHaveWritten}
+use Rattle.run_minutes.proofs.run_devices.NotedCard.{note-book}
 use Rattle.run_minutes.specs.CardDeeds.{made_by, is_open_in, opens, begun_use, DoesOn, OpensOn}
-use Rattle.run_devices.proofs.CardUse.{note-use}
+use Rattle.run_minutes.proofs.run_devices.CardUse.{note-use}
 use Rattle.run_minutes.proofs.CardDeeds.{does-none}
 use Rattle.run_insertion.specs.declared.lines.Entering.{Entering}
 use Rattle.run_insertion.specs.Entering.{Ending, Unfit, Ahead, Fell, Unasked, Unnoted, Seated, Lost, taken_as}

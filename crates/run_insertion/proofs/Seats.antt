@@ -7,8 +7,8 @@ use Rattle.trace_model.specs.declared.Card.TheVariants.{A, B}
 use Rattle.tach_media.specs.Medium.{State}
 use Rattle.tacho_types.specs.CardNumber.{card_number_bytes}
 use Rattle.tacho_types.specs.declared.card_number.FullCardNumber.{FullCardNumber}
-use Rattle.unit_owed.specs.Rows.{IsRowAt}
-use Rattle.device_rule.specs.Views.{other}
+use Rattle.device_calls.specs.unit_owed.Rows.{IsRowAt}
+use Rattle.device_calls.specs.device_rule.Views.{other}
 use Rattle.run_crew.specs.declared.cards.Accepted.{Accepted}
 use Rattle.run_crew.specs.declared.cards.Known.{Known}
 use Rattle.run_crew.specs.declared.cabin.Cabin.{Cabin}
@@ -18,7 +18,7 @@ use Rattle.card_layout.specs.declared.files.Application.{Application}
 use Rattle.card_layout.specs.declared.command.CardState.{CardState}
 use Rattle.card_layout.specs.Application.{application_in}
 use Rattle.card_commands.specs.Ports.{IsPort, IsJudged}
-use Rattle.card_image.specs.Own.{own_sizes}
+use Rattle.card_validity.specs.card_image.Own.{own_sizes}
 use Rattle.card_validity.specs.declared.looking.CardLook.{CardLook}
 use Rattle.card_session.specs.Sessions.{Session}
 use Rattle.run_minutes.specs.declared.keeper.Keeper.{Keeper}

@@ -6,7 +6,7 @@ use Rattle.card_commands.specs.Ports.{IsPort}
 use Rattle.card_layout.specs.declared.command.CardState.{CardState}
 use Rattle.card_layout.specs.declared.files.Application.{Application}
 use Rattle.card_session.specs.declared.words.TheConstants.{LATEST_MINUTE}
-use Rattle.card_slots.specs.Calls.{is_card, seat_in}
+use Rattle.run_crew.specs.card_slots.Calls.{is_card, seat_in}
 use Rattle.device_calls.specs.declared.entering.Entered.{Entered}
 use Rattle.log_model.specs.Slots.{other_slot}
 use Rattle.log_model.specs.declared.lines.Break.{Break}
@@ -25,7 +25,7 @@ use Rattle.unit_notes.specs.Noting.{IsEventNoted, IsNotingEvent}
 use Rattle.run_insertion.specs.Entered.{FitsInsertion}
 use Rattle.run_insertion.specs.Entering.{most_owed}
 use Rattle.run_insertion.specs.declared.lines.Entering.{Entering}
-use Rattle.card_image.specs.Own.{own_sizes}
+use Rattle.card_validity.specs.card_image.Own.{own_sizes}
 use Rattle.card_validity.specs.Judged.{TellsSizes}
 
 -- HOW IT STANDS BEHIND A CALL ON THE CARD THAT ENTERS: the unit may be called where it did not fail, with the rows of

@@ -3,8 +3,8 @@ use Rattle.std.specs.Prelude.{◌≡◌, ℕ, Bool, true, false, List, [], ◌�
 use Rattle.tach_media.specs.Medium.{State}
 use Rattle.tacho_types.specs.declared.texts.Registration.{Registration}
 use Rattle.card_layout.specs.declared.files.Application.{Application}
-use Rattle.card_files.specs.declared.card_event.CardEvent.{CardEvent}
-use Rattle.card_image.specs.Own.{own_sizes}
+use Rattle.run_events.specs.card_files.declared.card_event.CardEvent.{CardEvent}
+use Rattle.card_validity.specs.card_image.Own.{own_sizes}
 use Rattle.run_insertion.specs.declared.lines.Entering.{Entering}
 use Rattle.run_insertion.specs.Entering.{Ending, Unfit, Ahead, Fell, Unasked, Unnoted, Seated, Lost, Way, Unread}
 use Rattle.run_insertion.specs.Entering.{Unsized, Judged}

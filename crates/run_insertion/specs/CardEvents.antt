@@ -6,15 +6,15 @@ use Rattle.std.specs.List.{range_with_len, list_any}
 use Rattle.card_layout.specs.Fields.{number_in}
 use Rattle.tach_media.specs.Medium.{State}
 use Rattle.card_layout.specs.declared.files.Application.{Application}
-use Rattle.gated_ring.specs.Ring.{entry_at}
-use Rattle.card_files.specs.declared.card_event.CardEvent.{CardEvent}
-use Rattle.card_files.specs.Events.{event_widths, event_bytes}
-use Rattle.card_files.specs.Rings.{event_ring}
-use Rattle.card_image.specs.Fields.{current_use, session_time}
+use Rattle.run_events.specs.gated_ring.Ring.{entry_at}
+use Rattle.run_events.specs.card_files.declared.card_event.CardEvent.{CardEvent}
+use Rattle.run_events.specs.card_files.Events.{event_widths, event_bytes}
+use Rattle.run_events.specs.card_files.Rings.{event_ring}
+use Rattle.card_validity.specs.card_image.Fields.{current_use, session_time}
 use Rattle.card_session.specs.Inserting.{unclosed}
-use Rattle.event_model.specs.declared.kinds.TheConstants.{INSERTION_WHILE_DRIVING, SESSION_NOT_CLOSED}
-use Rattle.event_model.specs.declared.kinds.TheConstants.{POWER_INTERRUPTION}
-use Rattle.event_model.specs.Places.{earliest}
+use Rattle.unit_notes.specs.event_model.declared.kinds.TheConstants.{INSERTION_WHILE_DRIVING, SESSION_NOT_CLOSED}
+use Rattle.unit_notes.specs.event_model.declared.kinds.TheConstants.{POWER_INTERRUPTION}
+use Rattle.unit_notes.specs.event_model.Places.{earliest}
 
 -- ---- what stands there
 

@@ -8,16 +8,16 @@ use Rattle.card_layout.specs.declared.files.Application.{Application}
 use Rattle.card_layout.specs.Application.{application_in, first_bad_field}
 use Rattle.card_layout.specs.declared.command.CardState.{CardState}
 use Rattle.card_commands.specs.Ports.{IsPort}
-use Rattle.card_image.specs.Own.{own_sizes}
-use Rattle.card_image.specs.Fields.{session_time, end_mark}
-use Rattle.card_image.specs.Judging.{first_bad_file, IsValid}
-use Rattle.card_image.specs.View.{card_view}
+use Rattle.card_validity.specs.card_image.Own.{own_sizes}
+use Rattle.card_validity.specs.card_image.Fields.{session_time, end_mark}
+use Rattle.card_validity.specs.card_image.Judging.{first_bad_file, IsValid}
+use Rattle.card_validity.specs.card_image.View.{card_view}
 use Rattle.card_validity.specs.declared.looking.CardLook.{CardLook}
 use Rattle.card_validity.specs.Judged.{TellsSizes, IsLook}
 use Rattle.card_session.specs.Sessions.{Session}
 use Rattle.card_session.specs.Inserting.{AreOwed, replayed_count}
-use Rattle.gated_ring.specs.Ring.{PointsInside, taken}
-use Rattle.message_model.specs.Records.{insertion_ring}
+use Rattle.run_events.specs.gated_ring.Ring.{PointsInside, taken}
+use Rattle.run_events.specs.message_model.Records.{insertion_ring}
 use Rattle.log_model.specs.declared.lines.Break.{Break}
 use Rattle.device_calls.specs.declared.entering.Entered.{Entered}
 use Rattle.device_calls.specs.Entering.{owed_on}

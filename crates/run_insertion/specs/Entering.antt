@@ -8,12 +8,12 @@ use Rattle.activity_codec.specs.declared.values.Slot.TheVariants.{Driver, CoDriv
 use Rattle.tacho_types.specs.declared.texts.Registration.{Registration}
 use Rattle.card_layout.specs.declared.files.Application.{Application}
 use Rattle.card_layout.specs.declared.files.Fid.{Fid}
-use Rattle.card_files.specs.declared.vehicle.Vehicle.{Vehicle}
+use Rattle.run_events.specs.card_files.declared.vehicle.Vehicle.{Vehicle}
 use Rattle.card_session.specs.Sessions.{Session}
 use Rattle.card_layout.specs.Application.{place_of_field}
 use Rattle.card_validity.specs.declared.looking.CardLook.{CardLook}
 use Rattle.unit_notes.specs.declared.insertion.Insertion.{Insertion}
-use Rattle.run_model.specs.declared.Device.{Device}
+use Rattle.log_model.specs.run_model.declared.Device.{Device}
 use Rattle.log_model.specs.declared.lines.Break.{Break}
 use Rattle.log_model.specs.declared.lines.Find.{Find}
 use Rattle.log_model.specs.declared.lines.Mark.{Mark}

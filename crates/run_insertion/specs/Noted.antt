@@ -6,21 +6,22 @@ use Rattle.tacho_types.specs.CardNumber.{card_number_bytes}
 use Rattle.tacho_types.specs.declared.card_number.FullCardNumber.{FullCardNumber}
 use Rattle.tacho_types.specs.declared.texts.Registration.{Registration}
 use Rattle.card_layout.specs.declared.files.Application.{Application}
-use Rattle.card_files.specs.declared.card_event.CardEvent.{CardEvent}
-use Rattle.card_files.specs.Noting as card
+use Rattle.run_events.specs.card_files.declared.card_event.CardEvent.{CardEvent}
+use Rattle.run_events.specs.card_files.Noting as card
 use Rattle.card_session.specs.Inserting.{IsCardInserted, IsCardInserting}
-use Rattle.gated_ring.specs.Change.{IsAdded, IsAdding}
-use Rattle.message_model.specs.Records.{insertion_ring}
-use Rattle.unit_owed.specs.Rows.{IsRowBegun, IsRowBeginning}
-use Rattle.event_model.specs.declared.kinds.TheConstants.{CARD_NOT_VALID, TIME_OVERLAP, INSERTION_WHILE_DRIVING}
-use Rattle.event_model.specs.declared.kinds.TheConstants.{SESSION_NOT_CLOSED, CARD_FAULT}
+use Rattle.run_events.specs.gated_ring.Change.{IsAdded, IsAdding}
+use Rattle.run_events.specs.message_model.Records.{insertion_ring}
+use Rattle.device_calls.specs.unit_owed.Rows.{IsRowBegun, IsRowBeginning}
+use Rattle.unit_notes.specs.event_model.declared.kinds.TheConstants.{CARD_NOT_VALID, TIME_OVERLAP}
+use Rattle.unit_notes.specs.event_model.declared.kinds.TheConstants.{INSERTION_WHILE_DRIVING}
+use Rattle.unit_notes.specs.event_model.declared.kinds.TheConstants.{SESSION_NOT_CLOSED, CARD_FAULT}
 use Rattle.unit_notes.specs.declared.insertion.Insertion.{Insertion}
 use Rattle.unit_notes.specs.declared.unit_event.UnitEvent.{UnitEvent}
 use Rattle.unit_notes.specs.Entries.{insertion_bytes, fault_bytes}
 use Rattle.unit_notes.specs.Noting.{IsNotingEvent, IsEventNoted}
 use Rattle.card_validity.specs.declared.looking.CardLook.{CardLook}
 use Rattle.device_calls.specs.Entering.{owed_on}
-use Rattle.device_rule.specs.Views.{other}
+use Rattle.device_calls.specs.device_rule.Views.{other}
 use Rattle.run_crew.specs.declared.cabin.Cabin.{Cabin}
 use Rattle.run_crew.specs.Cards.{known_of}
 use Rattle.run_crew.specs.Cabin.{torn_out, crew_of}

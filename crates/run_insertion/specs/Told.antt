@@ -5,23 +5,24 @@ use Rattle.trace_model.specs.declared.Card.{Card}
 use Rattle.tach_media.specs.Medium.{State, LeavesOnly, Unchanged, last_count}
 use Rattle.tacho_types.specs.CardNumber.{card_number_bytes}
 use Rattle.tacho_types.specs.declared.texts.Registration.{Registration}
-use Rattle.card_image.specs.Own.{own_view, own_sizes, IsOwnValid}
-use Rattle.history_model.specs.Book.{Book}
-use Rattle.history_model.specs.Presence.{trimmed_by}
+use Rattle.card_validity.specs.card_image.Own.{own_view, own_sizes, IsOwnValid}
+use Rattle.device_calls.specs.history_model.Book.{Book}
+use Rattle.device_calls.specs.history_model.Presence.{trimmed_by}
 use Rattle.card_session.specs.Sessions.{Session, IsValue}
 use Rattle.device_calls.specs.Times.{AreTimedSince}
 use Rattle.card_layout.specs.declared.files.Application.{Application}
-use Rattle.device_rule.specs.Rules.{Out, In, Torn}
+use Rattle.device_calls.specs.device_rule.Rules.{Out, In, Torn}
 use Rattle.run_crew.specs.declared.cards.Accepted.{Accepted}
 use Rattle.run_crew.specs.Cards.{session_of}
-use Rattle.safety_model.specs.Safe.{Devices}
+use Rattle.device_calls.specs.safety_model.Safe.{Devices}
 use Rattle.card_validity.specs.declared.looking.CardLook.{CardLook}
 use Rattle.run_crew.specs.declared.cards.Cards.{Cards}
-use Rattle.run_promise.specs.Found.{CardFound, Found, found_of}
-use Rattle.run_promise.specs.Cards.{IsUntouched, brought_by}
-use Rattle.run_promise.specs.Between.{RunLedger}
-use Rattle.run_devices.specs.Told.{AreFoundCards, IsPutIn, DevicesPowered, DevicesUnpowered, HasFoundSo, for_card}
-use Rattle.run_devices.specs.Told.{arranged, with_standing, with_acceptance, card_marks, with_marks}
+use Rattle.run_minutes.specs.run_promise.Found.{CardFound, Found, found_of}
+use Rattle.run_minutes.specs.run_promise.Cards.{IsUntouched, brought_by}
+use Rattle.run_minutes.specs.run_promise.Between.{RunLedger}
+use Rattle.run_minutes.specs.run_devices.Told.{AreFoundCards, IsPutIn, DevicesPowered, DevicesUnpowered, HasFoundSo}
+use Rattle.run_minutes.specs.run_devices.Told.{for_card}
+use Rattle.run_minutes.specs.run_devices.Told.{arranged, with_standing, with_acceptance, card_marks, with_marks}
 use Rattle.run_minutes.specs.declared.keeper.Keeper.{Keeper}
 use Rattle.run_minutes.specs.CardDeeds.{DoesOn, OpensOn}
 use Rattle.device_calls.specs.declared.entering.Entered.{Entered}

@@ -5,7 +5,7 @@ ghost use Rattle.run_crew.specs.Cards.{known_of};
 ghost use Rattle.run_minutes.specs.Keeping.{UnitMayBeCalled};
 ghost use Rattle.card_layout.specs.declared.files.TheConstants.{LARGEST_IMAGE};
 ghost use Rattle.run_insertion.specs.Told.{BooksJudged, BooksEntered, IsEarly, WasInTime};
-ghost use Rattle.card_model.specs.declared.lengths.TheConstants.{DAYS_MOST};
+ghost use Rattle.device_calls.specs.card_model.declared.lengths.TheConstants.{DAYS_MOST};
 ghost use Rattle.run_insertion.specs.Entering.{Ending, Way, Unfit, Ahead, outcome_by, most_owed};
 ghost use Rattle.run_insertion.specs.Noted.{HasNoted, IsOnUnit, IsComing, notes_by};
 ghost use Rattle.run_insertion.specs.Entered.{IsJudgedSo, HasEntered};

@@ -1,6 +1,6 @@
 //! What is told of a card that enters.
 ghost use Rattle.std.specs.Prelude.{◌≡◌, ◌<◌, ◌≤◌, ◌+◌, ◌∷◌, [], length};
-ghost use Rattle.device_rule.specs.Views.{other};
+ghost use Rattle.device_calls.specs.device_rule.Views.{other};
 ghost use Rattle.log_model.specs.Causes.{device_of};
 ghost use Rattle.run_minutes.specs.Keeping.{with_lines};
 ghost use Rattle.run_insertion.specs.Entering.{find_of, and_mark, and_marks, last_of, most_owed, slot_number};

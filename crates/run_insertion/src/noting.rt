@@ -1,7 +1,8 @@
 //! What the unit notes of a card that enters.
 ghost use Rattle.std.specs.Prelude.{◌≢◌};
-ghost use Rattle.event_model.specs.declared.kinds.TheConstants.{CARD_NOT_VALID, TIME_OVERLAP, INSERTION_WHILE_DRIVING};
-ghost use Rattle.event_model.specs.declared.kinds.TheConstants.{SESSION_NOT_CLOSED};
+ghost use Rattle.unit_notes.specs.event_model.declared.kinds.TheConstants.{CARD_NOT_VALID, TIME_OVERLAP};
+ghost use Rattle.unit_notes.specs.event_model.declared.kinds.TheConstants.{INSERTION_WHILE_DRIVING};
+ghost use Rattle.unit_notes.specs.event_model.declared.kinds.TheConstants.{SESSION_NOT_CLOSED};
 ghost use Rattle.unit_notes.specs.Entries.{fault_bytes};
 ghost use Rattle.run_events.specs.Entries.{entry_of};
 ghost use Rattle.run_crew.specs.Cabin.{crew_of};

@@ -2,12 +2,12 @@
 ghost use Rattle.std.specs.Prelude.{◌≡◌, ℕ, ◌+◌, ◌/◌, ◌≤◌, Bool, Option};
 ghost use Rattle.std.specs.Prelude.{length, is_err, option_map};
 ghost use Rattle.tacho_types.specs.CardNumber.{card_number_bytes};
-ghost use Rattle.device_rule.specs.Views.{other};
+ghost use Rattle.device_calls.specs.device_rule.Views.{other};
 ghost use Rattle.run_crew.specs.Cards.{known_of};
 ghost use Rattle.run_minutes.specs.Keeping.{UnitMayBeCalled};
 ghost use Rattle.run_insertion.specs.Entering.{taken_as, most_owed};
 ghost use Rattle.card_session.specs.Sessions.{IsValue};
-ghost use Rattle.run_devices.specs.Told.{arranged};
+ghost use Rattle.run_minutes.specs.run_devices.Told.{arranged};
 ghost use Rattle.run_insertion.specs.Told.{BooksSeat, BooksNotes, TimesNotes, BooksTaken};
 ghost use Rattle.run_insertion.specs.Entered.{FitsInsertion, IsSeated, IsMoved, IsNotedOn, IsEntry, IsTaken};
 ghost use Rattle.run_insertion.specs.Calls.{CardGoesBy, IsWithinBounds, MayComeIn, StandsEntered};

@@ -7,24 +7,24 @@ use Rattle.trace_model.specs.declared.Card.TheVariants.{A, B}
 use Rattle.tach_media.specs.Medium.{State, IsCoherent, LeavesOnly, last_count}
 use Rattle.tacho_types.specs.CardNumber.{card_number_bytes}
 use Rattle.log_model.specs.declared.lines.Mark.{Mark}
-use Rattle.card_image.specs.Own.{IsOwnValid}
+use Rattle.hand_model.specs.card_image.Own.{IsOwnValid}
 use Rattle.card_session.specs.declared.session.Kept.{Kept}
 use Rattle.hand_model.specs.Holding.{Holding}
 use Rattle.unit_notes.specs.Journal.{LeavesJournal}
-use Rattle.device_rule.specs.Rules.{CardDark, CardRule}
-use Rattle.device_rule.specs.Marked.{of_card, HasBrought}
-use Rattle.safety_model.specs.Safe.{Devices, card_of}
-use Rattle.unit_rule.specs.Rule.{once_mended}
-use Rattle.unit_rule.specs.Marks.{UnitFollowsBook}
-use Rattle.unit_rule.proofs.Marking.{holds-beside, holds-dark}
+use Rattle.run_devices.specs.device_rule.Rules.{CardDark, CardRule}
+use Rattle.run_devices.specs.device_rule.Marked.{of_card, HasBrought}
+use Rattle.run_devices.specs.safety_model.Safe.{Devices, card_of}
+use Rattle.device_calls.specs.unit_rule.Rule.{once_mended}
+use Rattle.device_calls.specs.unit_rule.Marks.{UnitFollowsBook}
+use Rattle.device_calls.proofs.unit_rule.Marking.{holds-beside, holds-dark}
 use Rattle.device_calls.proofs.Noted.{noted-holds, noted-rests}
 use Rattle.run_crew.specs.declared.cards.Accepted.{Accepted}
 use Rattle.run_crew.specs.declared.cards.Cards.{Cards}
 use Rattle.run_crew.specs.declared.cabin.Cabin.{Cabin}
 use Rattle.run_crew.specs.Cards.{known_of, session_of, with_session}
-use Rattle.run_promise.specs.Found.{Found, found_of, unit_seen, AnyKept}
-use Rattle.run_promise.specs.Cards.{CardMarksHold, HandMarksHold}
-use Rattle.run_promise.specs.Between.{RunLedger, devices}
+use Rattle.run_devices.specs.run_promise.Found.{Found, found_of, unit_seen, AnyKept}
+use Rattle.run_devices.specs.run_promise.Cards.{CardMarksHold, HandMarksHold}
+use Rattle.run_devices.specs.run_promise.Between.{RunLedger, devices}
 use Rattle.run_devices.specs.Strung.{CardHoldsString}
 use Rattle.run_devices.specs.Told.{AreFoundCards, GoesOwing, AllGo, IsLitOwing, DevicesUnpowered, arranged, owes_nothing}
 use Rattle.run_devices.proofs.Parts.{both_of, as-rests, of-rests, brought-on, CardOff, powerless-of}

@@ -7,28 +7,28 @@ use Rattle.trace_model.specs.declared.Card.TheVariants.{A, B}
 use Rattle.tach_media.specs.Medium.{State, IsCoherent, LeavesOnly, IsSettled, last_count}
 use Rattle.tach_media.proofs.Runs.{if_told}
 use Rattle.log_model.specs.declared.lines.Mark.{Mark}
-use Rattle.card_layout.specs.declared.command.CardState.{CardState}
-use Rattle.card_layout.specs.declared.files.Application.{Application}
-use Rattle.card_layout.specs.Files.{image_size_of}
-use Rattle.card_layout.proofs.Sizes.{largest_image}
-use Rattle.card_commands.specs.Ports.{IsPort}
+use Rattle.tach_media.specs.card_layout.declared.command.CardState.{CardState}
+use Rattle.tach_media.specs.card_layout.declared.files.Application.{Application}
+use Rattle.tach_media.specs.card_layout.Files.{image_size_of}
+use Rattle.tach_media.proofs.card_layout.Sizes.{largest_image}
+use Rattle.device_calls.specs.card_commands.Ports.{IsPort}
 use Rattle.card_session.specs.declared.session.Kept.{Kept}
 use Rattle.card_session.specs.Sessions.{IsSession}
 use Rattle.activity_codec.specs.declared.entries.Manual.{Manual}
 use Rattle.hand_model.specs.Holding.{Holding, begun_by}
 use Rattle.hand_model.specs.Written.{Hands}
-use Rattle.card_by_hand.specs.First.{IsFirstKept, IsFirstKeeping}
+use Rattle.device_calls.specs.card_by_hand.First.{IsFirstKept, IsFirstKeeping}
 use Rattle.device_calls.specs.OnCard.{hands_for}
-use Rattle.card_image.specs.Own.{own_sizes}
+use Rattle.hand_model.specs.card_image.Own.{own_sizes}
 use Rattle.device_calls.proofs.TimedCalls.{keeping-timed}
-use Rattle.history_model.specs.Book.{Book}
-use Rattle.device_rule.specs.Rules.{Standing}
+use Rattle.run_devices.specs.history_model.Book.{Book}
+use Rattle.run_devices.specs.device_rule.Rules.{Standing}
 use Rattle.run_crew.specs.declared.cards.Accepted.{Accepted}
 use Rattle.run_crew.specs.declared.cards.Cards.{Cards}
 use Rattle.run_crew.specs.Cards.{known_of, session_of, with_session}
 use Rattle.run_crew.specs.Cabin.{IsReadyFor, MayKeepAt}
-use Rattle.run_promise.specs.Found.{Found, found_of}
-use Rattle.run_promise.specs.Cards.{FirstKeep}
+use Rattle.run_devices.specs.run_promise.Found.{Found, found_of}
+use Rattle.run_devices.specs.run_promise.Cards.{FirstKeep}
 use Rattle.run_minutes.specs.Keeping.{Still, Has, Fell, CardMayBeCalled, marks_by, held_in}
 use Rattle.run_minutes.specs.Books.{StaysOn, standing_by, hands_by, firsts_by}
 use Rattle.run_minutes.specs.Owing.{CardOwing, BooksCard}

@@ -11,32 +11,32 @@ use Rattle.tach_media.specs.Medium.{State, IsCoherent, LeavesOnly, IsSettled}
 use Rattle.tach_media.proofs.Runs.{at_image, weaken}
 use Rattle.log_model.specs.declared.lines.Mark.{Mark}
 use Rattle.log_model.specs.Causes.{device_of}
-use Rattle.card_layout.specs.Application.{IsApplication}
-use Rattle.card_layout.specs.Files.{image_size_of}
-use Rattle.card_image.specs.Fields.{end_mark, session_time}
-use Rattle.card_image.specs.View.{CardView}
-use Rattle.card_image.specs.Own.{own_view, own_sizes, own_covered, own_number, IsOwnValid}
+use Rattle.tach_media.specs.card_layout.Application.{IsApplication}
+use Rattle.tach_media.specs.card_layout.Files.{image_size_of}
+use Rattle.hand_model.specs.card_image.Fields.{end_mark, session_time}
+use Rattle.hand_model.specs.card_image.View.{CardView}
+use Rattle.hand_model.specs.card_image.Own.{own_view, own_sizes, own_covered, own_number, IsOwnValid}
 use Rattle.hand_model.specs.Holding.{Holding, of_day, first_of, begun_by}
 use Rattle.hand_model.specs.Written.{Written, Hands, entries_of, and_sure, and_given}
 use Rattle.hand_model.proofs.OfDay.{spans}
 use Rattle.card_session.specs.Sessions.{Session, IsSession}
-use Rattle.card_by_hand.specs.First.{IsFirstKept, IsFirstKeeping, AreHandsOf, IsShutAt, ComeFrom}
+use Rattle.device_calls.specs.card_by_hand.First.{IsFirstKept, IsFirstKeeping, AreHandsOf, IsShutAt, ComeFrom}
 use Rattle.card_session.proofs.Marks.{mark_told}
-use Rattle.card_by_hand.proofs.Fresh.{first_valid}
-use Rattle.card_string.specs.Since.{HoldsSince, SitsSince, bound_since, counted_since, all_since}
-use Rattle.card_string.specs.Each.{EachHolds}
-use Rattle.history_model.specs.Minutes.{HistoryMinute, card_history}
-use Rattle.history_model.specs.Book.{Book, all}
-use Rattle.history_model.proofs.Books.{all-none}
-use Rattle.device_rule.specs.Views.{UnitView, unit_view}
-use Rattle.device_rule.specs.Device.{LeavesViews, EndsWith}
-use Rattle.device_rule.specs.Steps.{IsOnCard, IsNowOnCard}
-use Rattle.device_rule.specs.Rules.{Standing, Out, In, Torn, since, IsPresent, CardRule}
-use Rattle.device_rule.specs.Marked.{of_card, AnyAdded, HasBrought}
-use Rattle.device_rule.proofs.Staying.{keep-stays}
-use Rattle.device_rule.proofs.Viewed.{seen-run}
-use Rattle.unit_rule.specs.Rule.{once_mended}
-use Rattle.unit_rule.specs.Marks.{UnitFollowsBook}
+use Rattle.device_calls.proofs.card_by_hand.Fresh.{first_valid}
+use Rattle.device_calls.specs.card_string.Since.{HoldsSince, SitsSince, bound_since, counted_since, all_since}
+use Rattle.device_calls.specs.card_string.Each.{EachHolds}
+use Rattle.run_devices.specs.history_model.Minutes.{HistoryMinute, card_history}
+use Rattle.run_devices.specs.history_model.Book.{Book, all}
+use Rattle.run_devices.proofs.history_model.Books.{all-none}
+use Rattle.run_devices.specs.device_rule.Views.{UnitView, unit_view}
+use Rattle.run_devices.specs.device_rule.Device.{LeavesViews, EndsWith}
+use Rattle.run_devices.specs.device_rule.Steps.{IsOnCard, IsNowOnCard}
+use Rattle.run_devices.specs.device_rule.Rules.{Standing, Out, In, Torn, since, IsPresent, CardRule}
+use Rattle.run_devices.specs.device_rule.Marked.{of_card, AnyAdded, HasBrought}
+use Rattle.run_devices.proofs.device_rule.Staying.{keep-stays}
+use Rattle.run_devices.proofs.device_rule.Viewed.{seen-run}
+use Rattle.device_calls.specs.unit_rule.Rule.{once_mended}
+use Rattle.device_calls.specs.unit_rule.Marks.{UnitFollowsBook}
 use Rattle.device_calls.specs.Rule.{opened, CardHolds}
 use Rattle.device_calls.specs.OnCard.{CardMayTake, IsOnItsCard, hands_for}
 use Rattle.device_calls.specs.Minute.{IsNotIn}
@@ -44,14 +44,14 @@ use Rattle.device_calls.proofs.OnCard.{own-is, session-is, first-sizes, hands-ar
 use Rattle.run_crew.specs.declared.cards.Accepted.{Accepted}
 use Rattle.run_crew.specs.declared.cards.Cards.{Cards}
 use Rattle.run_crew.specs.Cabin.{MayKeepAt}
-use Rattle.run_promise.specs.Found.{CardFound, Found, found_of, unit_seen, AnyKept}
-use Rattle.run_promise.specs.Cards.{brought_by, CardMarksHold, FirstKeep, and_first, HandMarksHold}
+use Rattle.run_devices.specs.run_promise.Found.{CardFound, Found, found_of, unit_seen, AnyKept}
+use Rattle.run_devices.specs.run_promise.Cards.{brought_by, CardMarksHold, FirstKeep, and_first, HandMarksHold}
 use Rattle.run_devices.specs.Registered.{AreIn, IsUsedSo, TellsOfTwo}
 use Rattle.run_devices.proofs.Registered.{MayBe}
 use Rattle.run_minutes.proofs.FirstTold.{first-on, first-used}
 use Rattle.tacho_types.specs.declared.texts.Registration.{Registration}
 use Rattle.card_session.specs.Sessions.{book_of}
-use Rattle.card_layout.specs.declared.files.Application.{Application}
+use Rattle.tach_media.specs.card_layout.declared.files.Application.{Application}
 use Rattle.run_devices.specs.Strung.{CardHoldsString, HasSameHolder}
 use Rattle.run_devices.specs.Told.{AreFoundCards, SessionIsOnCard}
 use Rattle.run_devices.proofs.Parts.{both_of, as-steps, of-steps, left-one, told-one}
@@ -64,8 +64,8 @@ use Rattle.run_minutes.proofs.FirstSame.{first-holder}
 use Rattle.run_minutes.proofs.HandsOn.{hands-run, hands-sure, hands-first}
 use Rattle.run_minutes.proofs.MarksOn.{moment-hold, kept-hold, same-marks}
 use Rattle.run_minutes.proofs.OnTheCard.{ready-here, each-kept, moment-holds, each-sure, session-on, goes-on, ends-on}
-use Rattle.card_string.specs.Deeds.{IsMadeSince}
-use Rattle.card_string.proofs.MadeSince.{keep_since}
+use Rattle.device_calls.specs.card_string.Deeds.{IsMadeSince}
+use Rattle.device_calls.proofs.card_string.MadeSince.{keep_since}
 
 -- later than the words at the start, as the steps have them
 fresh-steps : (f : Found) (two : f.card_a.number ≢ f.card_b.number) (c : Card) (m : ℕ) → (found_of f c).start.word < m → (opened (both_of f two) c).start.word < m

@@ -12,18 +12,18 @@ use Rattle.tach_media.proofs.Runs.{at_image, told_too}
 use Rattle.tacho_types.specs.declared.numbers.Odometer.{Odometer}
 use Rattle.tacho_types.specs.declared.texts.Registration.{Registration}
 use Rattle.tacho_types.specs.Numbers.{time_bytes}
-use Rattle.card_layout.proofs.Images.{put_outside}
-use Rattle.card_layout.specs.declared.files.Application.{Application}
-use Rattle.card_layout.specs.Application.{IsApplication}
-use Rattle.card_layout.specs.Files.{place_of, image_size_of}
-use Rattle.card_files.specs.declared.current_use.CurrentUse.{CurrentUse}
-use Rattle.card_image.specs.Fields.{file, current_use, session_time}
+use Rattle.tach_media.proofs.card_layout.Images.{put_outside}
+use Rattle.tach_media.specs.card_layout.declared.files.Application.{Application}
+use Rattle.tach_media.specs.card_layout.Application.{IsApplication}
+use Rattle.tach_media.specs.card_layout.Files.{place_of, image_size_of}
+use Rattle.run_events.specs.card_files.declared.current_use.CurrentUse.{CurrentUse}
+use Rattle.hand_model.specs.card_image.Fields.{file, current_use, session_time}
 use Rattle.card_session.specs.declared.session.Kept.{Kept}
 use Rattle.card_session.specs.Books.{Book, mark_of, with_entry, closed}
 use Rattle.card_session.specs.Sessions.{Session, IsSession, book_of}
 use Rattle.card_session.specs.Moments.{IsBook}
 use Rattle.card_session.specs.Cards.{IsCardClosed, ended, grown}
-use Rattle.card_by_hand.specs.First.{IsFirstKept}
+use Rattle.device_calls.specs.card_by_hand.First.{IsFirstKept}
 use Rattle.card_session.specs.Inserting.{lacked, with_cut, with_owed, repaired, InsertsClosed, InsertsOpen, IsCardInserted}
 use Rattle.card_session.proofs.Composing.{told_book}
 use Rattle.card_session.proofs.InsertingCards.{noted_same, use_same}
@@ -31,8 +31,8 @@ use Rattle.card_session.proofs.InsertingUse.{use_inside}
 use Rattle.card_session.proofs.InsertingOpen.{opening_same, reopening_same}
 use Rattle.card_session.proofs.InsertingAgain.{noted_keeps}
 use Rattle.card_session.proofs.Stopping.{ended_same}
-use Rattle.card_string.specs.Deeds.{Deed, Keep, Close, after}
-use Rattle.card_string.proofs.SameBook.{same_book}
+use Rattle.device_calls.specs.card_string.Deeds.{Deed, Keep, Close, after}
+use Rattle.device_calls.proofs.card_string.SameBook.{same_book}
 use Rattle.run_minutes.specs.CardDeeds.{made_by, is_open_in, ShowsBook, DoesOn, enters, keeps, holds_after, last_odometer, owed_keeps, opens, begun_use, ended_use, OpensOn, ClosesOn}
 use Rattle.run_devices.proofs.CardUse.{opened-use, ended-use}
 use Rattle.run_minutes.proofs.FirstEnds.{first-book}

@@ -4,12 +4,12 @@ use Rattle.activity_codec.specs.declared.entries.Entry.{Entry}
 use Rattle.activity_codec.specs.declared.entries.Manual.{Manual}
 use Rattle.tach_media.specs.Medium.{State, IsCoherent, LeavesOnly}
 use Rattle.tach_media.proofs.Runs.{at_image}
-use Rattle.card_layout.specs.declared.files.Application.{Application}
-use Rattle.card_image.specs.Fields.{file_bytes}
-use Rattle.card_image.specs.Own.{own_sizes}
+use Rattle.tach_media.specs.card_layout.declared.files.Application.{Application}
+use Rattle.hand_model.specs.card_image.Fields.{file_bytes}
+use Rattle.hand_model.specs.card_image.Own.{own_sizes}
 use Rattle.card_session.specs.Sessions.{Session, IsSession}
-use Rattle.card_by_hand.specs.First.{IsFirstKeeping}
-use Rattle.run_promise.specs.Found.{CardFound}
+use Rattle.device_calls.specs.card_by_hand.First.{IsFirstKeeping}
+use Rattle.run_devices.specs.run_promise.Found.{CardFound}
 use Rattle.run_devices.proofs.Measured.{measures-self, measures-then, measures-more}
 use Rattle.run_minutes.specs.CardEvents.{LeavesEvents}
 use Rattle.run_minutes.specs.Books.{StaysOn}

@@ -6,7 +6,7 @@ use Rattle.std.proofs.lemmas.List.Elements.{All-get_or}
 use Rattle.activity_codec.specs.declared.values.Activity.TheVariants.{Rest}
 use Rattle.trace_model.specs.declared.Card.{Card}
 use Rattle.tach_media.specs.Medium.{State}
-use Rattle.minute_model.specs.declared.Minute.{Minute}
+use Rattle.unit_model.specs.minute_model.declared.Minute.{Minute}
 use Rattle.unit_minutes.specs.declared.kept.KeptMinute.{KeptMinute}
 use Rattle.card_slots.specs.declared.seats.Present.{Present}
 use Rattle.run_crew.specs.declared.cards.Cards.{Cards}

@@ -5,20 +5,20 @@ use Rattle.std.proofs.lemmas.List.{map-append, take_all}
 use Rattle.std.proofs.lemmas.List.Elements.{All-nil, All-cons, All-head, All-tail, All-take, All-weaker, Contains-append_left, Contains-append_right, Contains-push, Contains-push_cases}
 use Rattle.trace_model.specs.declared.Card.{Card}
 use Rattle.tach_media.specs.Medium.{State}
-use Rattle.minute_model.specs.declared.Minute.{Minute}
+use Rattle.unit_model.specs.minute_model.declared.Minute.{Minute}
 use Rattle.log_model.specs.declared.lines.Mark.{Mark}
-use Rattle.card_image.specs.Own.{IsOwnValid}
+use Rattle.hand_model.specs.card_image.Own.{IsOwnValid}
 use Rattle.unit_minutes.specs.declared.kept.KeptMinute.{KeptMinute}
-use Rattle.history_model.specs.Minutes.{HistoryMinute, on_card}
-use Rattle.history_model.specs.Presence.{CardStart}
-use Rattle.device_rule.specs.Rules.{Standing, Out, In, Torn, IsPresent}
-use Rattle.safety_model.specs.Safe.{Devices, card_of}
-use Rattle.run_unit_course.specs.Legs.{Travel, travelled, all_travelled}
-use Rattle.unit_rule.specs.Odometer.{HasTravelled, odometer_by, odometer_after}
+use Rattle.run_devices.specs.history_model.Minutes.{HistoryMinute, on_card}
+use Rattle.run_devices.specs.history_model.Presence.{CardStart}
+use Rattle.run_devices.specs.device_rule.Rules.{Standing, Out, In, Torn, IsPresent}
+use Rattle.run_devices.specs.safety_model.Safe.{Devices, card_of}
+use Rattle.run_devices.specs.run_unit_course.Legs.{Travel, travelled, all_travelled}
+use Rattle.device_calls.specs.unit_rule.Odometer.{HasTravelled, odometer_by, odometer_after}
 use Rattle.card_slots.specs.declared.seats.Present.{Present}
 use Rattle.run_crew.specs.declared.cabin.Cabin.{Cabin}
-use Rattle.run_promise.specs.Found.{Found, found_of}
-use Rattle.run_promise.specs.Between.{RunLedger}
+use Rattle.run_devices.specs.run_promise.Found.{Found, found_of}
+use Rattle.run_devices.specs.run_promise.Between.{RunLedger}
 use Rattle.run_devices.specs.Told.{AreFoundCards}
 use Rattle.run_minutes.specs.declared.keeper.Keeper.{Keeper}
 use Rattle.run_minutes.specs.declared.keeper.Moment.{Moment}

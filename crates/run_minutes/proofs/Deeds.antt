@@ -6,26 +6,26 @@ use Rattle.activity_codec.specs.declared.values.Slot.TheVariants.{Driver, CoDriv
 use Rattle.trace_model.specs.declared.Card.{Card}
 use Rattle.trace_model.specs.declared.Card.TheVariants.{A, B}
 use Rattle.tach_media.specs.Medium.{State, IsCoherent}
-use Rattle.minute_model.specs.declared.Minute.{Minute}
+use Rattle.unit_model.specs.minute_model.declared.Minute.{Minute}
 use Rattle.tacho_types.specs.declared.numbers.Odometer.{Odometer}
 use Rattle.tacho_types.specs.declared.texts.Registration.{Registration}
-use Rattle.card_layout.specs.declared.files.Application.{Application}
-use Rattle.card_image.specs.Own.{own_sizes}
+use Rattle.tach_media.specs.card_layout.declared.files.Application.{Application}
+use Rattle.hand_model.specs.card_image.Own.{own_sizes}
 use Rattle.card_session.specs.declared.session.Kept.{Kept}
 use Rattle.card_session.specs.Sessions.{IsSession}
 use Rattle.activity_codec.specs.declared.entries.Manual.{Manual}
 use Rattle.hand_model.specs.Holding.{Holding, begun_by, first_of}
-use Rattle.card_by_hand.specs.First.{IsFirstKept}
+use Rattle.device_calls.specs.card_by_hand.First.{IsFirstKept}
 use Rattle.device_calls.specs.OnCard.{hands_for}
-use Rattle.card_string.specs.Deeds.{Deed}
+use Rattle.device_calls.specs.card_string.Deeds.{Deed}
 use Rattle.unit_minutes.specs.declared.kept.KeptMinute.{KeptMinute}
-use Rattle.safety_model.specs.Safe.{Devices, card_of}
+use Rattle.run_devices.specs.safety_model.Safe.{Devices, card_of}
 use Rattle.card_slots.specs.declared.seats.Present.{Present}
 use Rattle.run_crew.specs.declared.cards.Accepted.{Accepted}
 use Rattle.run_crew.specs.declared.cards.Cards.{Cards}
 use Rattle.run_crew.specs.Cards.{session_of, with_session}
-use Rattle.run_promise.specs.Found.{CardFound, Found, found_of}
-use Rattle.run_promise.specs.Between.{devices}
+use Rattle.run_devices.specs.run_promise.Found.{CardFound, Found, found_of}
+use Rattle.run_devices.specs.run_promise.Between.{devices}
 use Rattle.run_devices.specs.Told.{arranged}
 use Rattle.run_minutes.specs.declared.keeper.Keeper.{Keeper}
 use Rattle.run_minutes.specs.Keeping.{kept_in, is_this}

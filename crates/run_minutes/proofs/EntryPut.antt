@@ -6,26 +6,26 @@ use Rattle.trace_model.specs.declared.Card.TheVariants.{A, B}
 use Rattle.tach_media.specs.Medium.{State, IsCoherent, HasCause}
 use Rattle.tacho_types.specs.declared.card_number.FullCardNumber.{FullCardNumber}
 use Rattle.tacho_types.specs.CardNumber.{card_number_bytes}
-use Rattle.unit_owed.specs.Rows.{IsRowAt}
+use Rattle.unit_minutes.specs.unit_owed.Rows.{IsRowAt}
 use Rattle.log_model.specs.declared.lines.Mark.{Mark}
-use Rattle.card_image.specs.Own.{IsOwnValid}
-use Rattle.history_model.specs.Presence.{CardStart}
-use Rattle.history_model.specs.Book.{Book}
-use Rattle.device_rule.specs.Views.{other}
-use Rattle.device_rule.specs.Rules.{Standing, IsPresent, CardDark, CardRule}
-use Rattle.device_rule.specs.Marked.{of_card, HasBrought}
-use Rattle.safety_model.specs.Safe.{card_of}
-use Rattle.unit_rule.specs.Rule.{Started, once_mended, IsCards}
-use Rattle.unit_rule.specs.Marks.{UnitFollowsBook}
-use Rattle.unit_rule.proofs.Marking.{holds-dark}
+use Rattle.hand_model.specs.card_image.Own.{IsOwnValid}
+use Rattle.run_devices.specs.history_model.Presence.{CardStart}
+use Rattle.run_devices.specs.history_model.Book.{Book}
+use Rattle.run_devices.specs.device_rule.Views.{other}
+use Rattle.run_devices.specs.device_rule.Rules.{Standing, IsPresent, CardDark, CardRule}
+use Rattle.run_devices.specs.device_rule.Marked.{of_card, HasBrought}
+use Rattle.run_devices.specs.safety_model.Safe.{card_of}
+use Rattle.device_calls.specs.unit_rule.Rule.{Started, once_mended, IsCards}
+use Rattle.device_calls.specs.unit_rule.Marks.{UnitFollowsBook}
+use Rattle.device_calls.proofs.unit_rule.Marking.{holds-dark}
 use Rattle.device_calls.specs.Rule.{Both, opened, number_of, CardHolds, IsKeptUp}
 use Rattle.device_calls.proofs.EntryOwed.{worked}
 use Rattle.run_events.specs.Entries.{number_or_no_card}
 use Rattle.run_crew.specs.declared.cards.Cards.{Cards}
 use Rattle.run_crew.specs.declared.cards.Known.{Known}
 use Rattle.run_crew.specs.Cards.{known_of}
-use Rattle.run_promise.specs.Found.{Found, found_of, unit_seen, AnyKept}
-use Rattle.run_promise.specs.Between.{RunLedger, devices}
+use Rattle.run_devices.specs.run_promise.Found.{Found, found_of, unit_seen, AnyKept}
+use Rattle.run_devices.specs.run_promise.Between.{RunLedger, devices}
 use Rattle.run_devices.specs.Told.{AreFoundCards, owes_nothing, AllGo, IsLitWith, DevicesUnpowered}
 use Rattle.run_devices.proofs.Parts.{both_of, as-steps, of-steps, of-rests, brought-on, CardOff, powerless-of}
 use Rattle.run_minutes.specs.Keeping.{HasItsRow}

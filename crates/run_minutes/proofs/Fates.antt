@@ -16,7 +16,7 @@ use Rattle.run_minutes.specs.declared.keeper.Keeper.{Keeper}
 use Rattle.run_minutes.specs.declared.keeper.Moment.{Moment}
 use Rattle.run_minutes.specs.Keeping.{Still, Has, Fell, IsBrought, IsFateOf, IsFaultNoted, GoesOnWith, with_lines, tear_of, fault_of}
 use Rattle.unit_notes.specs.Noting.{IsEventNoted}
-use Rattle.event_model.specs.declared.kinds.TheConstants.{CARD_FAULT}
+use Rattle.unit_notes.specs.event_model.declared.kinds.TheConstants.{CARD_FAULT}
 
 -- no more lines
 pub no-lines : {T : Type 0} (l : Listed T) → l ≡ with_lines [] l

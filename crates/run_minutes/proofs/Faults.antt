@@ -3,7 +3,7 @@ use Rattle.std.proofs.Common.{◌≡◌, ◌⊎◌, inl, inr, ⊎_elim, ℕ, Boo
 use Rattle.tach_media.specs.Medium.{State, IsCoherent, LeavesOnly, HasCause}
 use Rattle.unit_model.specs.declared.layout.TheConstants.{OWED}
 use Rattle.unit_model.specs.Days.{UnitMinute}
-use Rattle.unit_owed.specs.Rows.{IsPutting}
+use Rattle.unit_minutes.specs.unit_owed.Rows.{IsPutting}
 use Rattle.unit_minutes.specs.Keeping.{IsKeeping}
 use Rattle.activity_codec.specs.declared.entries.Entry.{Entry}
 use Rattle.card_session.specs.declared.session.Kept.{Kept}
@@ -12,8 +12,8 @@ use Rattle.log_model.specs.declared.lines.Mark.{Mark}
 use Rattle.trace_model.specs.declared.Card.{Card}
 use Rattle.card_slots.specs.declared.seats.Present.{Present}
 use Rattle.run_outcome.specs.Lines.{Listed}
-use Rattle.event_model.specs.declared.kinds.TheConstants.{CARD_FAULT}
-use Rattle.unit_events.proofs.EventFrames.{besides-keeps}
+use Rattle.unit_notes.specs.event_model.declared.kinds.TheConstants.{CARD_FAULT}
+use Rattle.run_events.proofs.unit_events.EventFrames.{besides-keeps}
 use Rattle.unit_notes.specs.declared.unit_event.UnitEvent.{UnitEvent}
 use Rattle.unit_notes.specs.Entries.{fault_bytes}
 use Rattle.unit_notes.specs.Noting.{IsEventNoted}
@@ -21,8 +21,8 @@ use Rattle.run_crew.specs.declared.cabin.Cabin.{Cabin}
 use Rattle.run_crew.specs.Cabin.{crew_of}
 use Rattle.run_events.specs.Shown.{SaysNothing}
 use Rattle.run_events.proofs.Frames.{between-nothing, keeps-nothing}
-use Rattle.run_rings.specs.Same.{HasSameRings, LeavesRings}
-use Rattle.run_rings.proofs.Same.{same-rings, then-same, outside-both, table-outside, behind-same}
+use Rattle.run_events.specs.run_rings.Same.{HasSameRings, LeavesRings}
+use Rattle.run_events.proofs.run_rings.Same.{same-rings, then-same, outside-both, table-outside, behind-same}
 use Rattle.run_minutes.specs.declared.keeper.Keeper.{Keeper}
 use Rattle.run_minutes.specs.declared.keeper.Moment.{Moment}
 use Rattle.run_minutes.specs.Keeping.{Fate, Still, Has, Fell, has_fallen, cabin_by, IsBrought, IsNotingFault, IsFaultNoted}

@@ -5,11 +5,11 @@ use Rattle.activity_codec.specs.declared.entries.Entry.{Entry}
 use Rattle.activity_codec.specs.declared.entries.Manual.{Manual}
 use Rattle.tacho_types.specs.declared.numbers.Odometer.{Odometer}
 use Rattle.tacho_types.specs.declared.texts.Registration.{Registration}
-use Rattle.card_layout.specs.declared.files.Application.{Application}
-use Rattle.card_layout.specs.Application.{IsApplication}
-use Rattle.card_layout.specs.Files.{image_size_of}
-use Rattle.card_image.specs.Fields.{current_use, session_time}
-use Rattle.card_image.specs.Judging.{IsValid}
+use Rattle.tach_media.specs.card_layout.declared.files.Application.{Application}
+use Rattle.tach_media.specs.card_layout.Application.{IsApplication}
+use Rattle.tach_media.specs.card_layout.Files.{image_size_of}
+use Rattle.hand_model.specs.card_image.Fields.{current_use, session_time}
+use Rattle.hand_model.specs.card_image.Judging.{IsValid}
 use Rattle.hand_model.proofs.OfDay.{spans}
 use Rattle.card_session.specs.Books.{Book, with_entry}
 use Rattle.card_session.specs.Sessions.{Session, IsSession, book_of}
@@ -22,10 +22,10 @@ use Rattle.card_session.proofs.InsertingCards.{use_same}
 use Rattle.card_session.proofs.Preparing.{used_at}
 use Rattle.card_session.proofs.Stopping.{asked_at, days_there, mark_at}
 use Rattle.card_session.proofs.Valid.{above_zero}
-use Rattle.card_by_hand.specs.First.{AreEntered, IsEntering, IsFirstKept, AreHandsOf}
-use Rattle.card_by_hand.proofs.Along.{rest_hands}
-use Rattle.card_by_hand.proofs.FirstLaws.{IsSame, same_first, entered_same, ended}
-use Rattle.card_by_hand.proofs.Fresh.{first_valid}
+use Rattle.device_calls.specs.card_by_hand.First.{AreEntered, IsEntering, IsFirstKept, AreHandsOf}
+use Rattle.device_calls.proofs.card_by_hand.Along.{rest_hands}
+use Rattle.device_calls.proofs.card_by_hand.FirstLaws.{IsSame, same_first, entered_same, ended}
+use Rattle.device_calls.proofs.card_by_hand.Fresh.{first_valid}
 use Rattle.run_minutes.specs.CardDeeds.{made_by, enters}
 
 -- ---- behind the entries by hand

@@ -5,12 +5,12 @@ use Rattle.activity_codec.specs.declared.entries.Entry.{Entry}
 use Rattle.activity_codec.specs.declared.entries.Manual.{Manual}
 use Rattle.tach_media.specs.Medium.{State, IsCoherent, LeavesOnly}
 use Rattle.tach_media.proofs.Runs.{at_image}
-use Rattle.card_layout.specs.declared.files.Application.{Application}
-use Rattle.card_model.specs.Days.{Day}
+use Rattle.tach_media.specs.card_layout.declared.files.Application.{Application}
+use Rattle.device_calls.specs.card_model.Days.{Day}
 use Rattle.card_session.specs.Vehicles.{Vehicles}
 use Rattle.card_session.specs.Sessions.{Session, IsSession, book_of}
 use Rattle.card_session.specs.Cards.{IsCard}
-use Rattle.card_by_hand.specs.First.{AreEntered, IsEntering, IsFirstKeeping}
+use Rattle.device_calls.specs.card_by_hand.First.{AreEntered, IsEntering, IsFirstKeeping}
 use Rattle.run_devices.specs.Measured.{vehicles_by, GoesMeasured, MeasuresOn}
 use Rattle.run_devices.proofs.Measured.{measured-same, goes-itself, goes-then, keep-goes}
 use Rattle.run_minutes.proofs.FirstEnds.{entered-session}

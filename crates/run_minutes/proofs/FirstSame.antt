@@ -3,17 +3,17 @@
 use Rattle.std.proofs.Common.{◌≡◌, ◌∙◌, inl, inr, ℕ, List, [], ◌∷◌, refl, sym, subst, arith}
 use Rattle.activity_codec.specs.declared.entries.Entry.{Entry}
 use Rattle.activity_codec.specs.declared.entries.Manual.{Manual}
-use Rattle.card_layout.specs.declared.files.Application.{Application}
-use Rattle.card_layout.specs.Files.{files_of, place_of}
-use Rattle.card_model.specs.Days.{Day}
-use Rattle.card_image.specs.Fields.{file, file_bytes, card_number}
-use Rattle.card_image.specs.Own.{own_sizes}
-use Rattle.card_image.proofs.Beside.{number_same}
+use Rattle.tach_media.specs.card_layout.declared.files.Application.{Application}
+use Rattle.tach_media.specs.card_layout.Files.{files_of, place_of}
+use Rattle.device_calls.specs.card_model.Days.{Day}
+use Rattle.hand_model.specs.card_image.Fields.{file, file_bytes, card_number}
+use Rattle.hand_model.specs.card_image.Own.{own_sizes}
+use Rattle.hand_model.proofs.card_image.Beside.{number_same}
 use Rattle.card_session.specs.Vehicles.{Vehicles}
 use Rattle.card_session.specs.Sessions.{Session}
 use Rattle.card_session.specs.Cards.{IsCard}
 use Rattle.card_session.proofs.Marks.{sizes_still, behind_vehicles, events_same, current_same}
-use Rattle.card_by_hand.specs.First.{AreEntered, IsEntering, IsFirstKeeping}
+use Rattle.device_calls.specs.card_by_hand.First.{AreEntered, IsEntering, IsFirstKeeping}
 use Rattle.device_calls.proofs.OnCard.{sizes-same}
 use Rattle.run_devices.specs.Strung.{HasSameHolder}
 use Rattle.run_devices.proofs.Holders.{card-rest, card-places}

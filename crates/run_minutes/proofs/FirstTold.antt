@@ -3,11 +3,11 @@ use Rattle.std.proofs.Common.{◌≡◌, ◌∙◌, inl, inr, ℕ, List, [], ◌
 use Rattle.activity_codec.specs.declared.entries.Entry.{Entry}
 use Rattle.activity_codec.specs.declared.entries.Manual.{Manual}
 use Rattle.tacho_types.specs.declared.texts.Registration.{Registration}
-use Rattle.card_layout.specs.declared.files.Application.{Application}
-use Rattle.card_image.specs.Fields.{current_use}
+use Rattle.tach_media.specs.card_layout.declared.files.Application.{Application}
+use Rattle.hand_model.specs.card_image.Fields.{current_use}
 use Rattle.card_session.specs.Sessions.{Session, book_of}
 use Rattle.card_session.proofs.InsertingCards.{use_same}
-use Rattle.card_by_hand.specs.First.{AreEntered, IsEntering, IsFirstKeeping}
+use Rattle.device_calls.specs.card_by_hand.First.{AreEntered, IsEntering, IsFirstKeeping}
 use Rattle.run_devices.specs.Registered.{AreIn, IsUsedSo}
 use Rattle.run_devices.proofs.Registered.{keep-on}
 use Rattle.run_devices.proofs.Used.{same-used}

@@ -5,7 +5,7 @@ use Rattle.trace_model.specs.declared.Card.TheVariants.{A, B}
 use Rattle.tach_media.specs.Medium.{State, HasCause}
 use Rattle.tach_media.proofs.Runs.{cause_after, no_reads}
 use Rattle.tach_media.proofs.Breakdowns.{none_broken, both_broken, fewer_broken}
-use Rattle.card_layout.specs.declared.command.CardState.{CardState}
+use Rattle.tach_media.specs.card_layout.declared.command.CardState.{CardState}
 use Rattle.unit_model.specs.Image.{IsUnit}
 use Rattle.log_model.specs.declared.lines.Break.{Break}
 use Rattle.log_model.specs.declared.lines.Mark.{Mark}
@@ -14,7 +14,7 @@ use Rattle.run_crew.specs.declared.cabin.Cabin.{Cabin}
 use Rattle.run_crew.specs.declared.cards.Accepted.{Accepted}
 use Rattle.run_crew.specs.declared.cards.Cards.{Cards}
 use Rattle.run_outcome.specs.Lines.{Listed}
-use Rattle.run_promise.specs.Between.{devices}
+use Rattle.run_devices.specs.run_promise.Between.{devices}
 use Rattle.run_minutes.specs.declared.keeper.Keeper.{Keeper}
 use Rattle.run_minutes.specs.declared.keeper.Moment.{Moment}
 use Rattle.run_minutes.specs.Keeping.{Fate, Still, Has, Fell, IsBrought, UnitMayBeCalled, CardMayBeCalled, HasItsRow, HasLeftMore, AreEmptied, SessionsGoOn, cabin_by, tears_of, most_tears}

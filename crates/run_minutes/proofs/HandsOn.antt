@@ -5,19 +5,19 @@ use Rattle.activity_codec.specs.declared.entries.Entry.{Entry}
 use Rattle.activity_codec.specs.declared.entries.Manual.{Manual}
 use Rattle.tach_media.specs.Medium.{State, IsCoherent, LeavesOnly, IsSettled}
 use Rattle.log_model.specs.declared.lines.Mark.{Mark}
-use Rattle.card_layout.specs.declared.files.Application.{Application}
-use Rattle.card_retention.specs.Retains.{is_day}
-use Rattle.card_retention.specs.Shown.{sizes}
-use Rattle.card_image.specs.Fields.{card_days}
-use Rattle.card_image.specs.Own.{own_sizes}
+use Rattle.tach_media.specs.card_layout.declared.files.Application.{Application}
+use Rattle.run_devices.specs.card_retention.Retains.{is_day}
+use Rattle.run_devices.specs.card_retention.Shown.{sizes}
+use Rattle.hand_model.specs.card_image.Fields.{card_days}
+use Rattle.hand_model.specs.card_image.Own.{own_sizes}
 use Rattle.hand_model.specs.ByHand.{by_hand_in}
 use Rattle.hand_model.specs.Holding.{AreOfDay}
 use Rattle.hand_model.specs.Written.{Hands, and_sure, and_given}
-use Rattle.card_string.specs.Each.{EachHolds}
-use Rattle.card_string.specs.Since.{HoldsSince}
-use Rattle.card_string.proofs.Images.{holds_sure}
-use Rattle.run_promise.specs.Found.{CardFound}
-use Rattle.run_promise.specs.Cards.{FirstKeep, and_first, IsFirstHeld, HandMarksHold}
+use Rattle.device_calls.specs.card_string.Each.{EachHolds}
+use Rattle.device_calls.specs.card_string.Since.{HoldsSince}
+use Rattle.device_calls.proofs.card_string.Images.{holds_sure}
+use Rattle.run_devices.specs.run_promise.Found.{CardFound}
+use Rattle.run_devices.specs.run_promise.Cards.{FirstKeep, and_first, IsFirstHeld, HandMarksHold}
 
 -- entries by hand that are sure are told by an image that has their day
 told-all : (app : Application) (image : List ℕ) (h : Hands) (brought : List Entry) (next : ℕ) (x : List ℕ) → HoldsSince app image h brought next x → (day : ℕ) → is_day day (sizes (card_days app x)) ≡ true → (hs : List Manual) → AreOfDay day hs → All (λ e. Contains h.sure e) hs

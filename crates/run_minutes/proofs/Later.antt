@@ -1,10 +1,10 @@
 -- What holds of devices after any calls, from call to call.
 use Rattle.std.proofs.Common.{◌≡◌, ◌∙◌, ◌⊎◌, ℕ, ◌≤◌, Bool, true, false, inl, inr, refl, ⊎_elim, arith}
 use Rattle.tach_media.specs.Medium.{State, HasCause, Rose, revivable}
-use Rattle.safety_model.specs.Safe.{Devices}
-use Rattle.run_promise.specs.Between.{devices}
-use Rattle.run_speeds.specs.Speeds.{LeavesSpeeds}
-use Rattle.run_speeds.proofs.Leaving.{leaves-none, leaves-then}
+use Rattle.run_devices.specs.safety_model.Safe.{Devices}
+use Rattle.run_devices.specs.run_promise.Between.{devices}
+use Rattle.run_events.specs.run_speeds.Speeds.{LeavesSpeeds}
+use Rattle.run_events.proofs.run_speeds.Leaving.{leaves-none, leaves-then}
 use Rattle.run_minutes.specs.Later.{IsLater, AreAfter, AreLater}
 
 -- ---- one device

@@ -33,3 +33,6 @@ pub mod Rests
 pub mod Goes
 pub mod SoFar
 pub mod Writes
+pub use Rattle.card_slots.proofs as card_slots
+pub use Rattle.run_devices.proofs as run_devices
+pub use Rattle.run_devices.proofs.run_promise as run_promise

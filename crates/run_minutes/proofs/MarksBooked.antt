@@ -1,8 +1,8 @@
 -- The marks that are carried behind decided minutes are those that are told, also where the unit failed in one of them.
 use Rattle.std.proofs.Common.{◌≡◌, List, [], ◌∷◌, ap}
 use Rattle.log_model.specs.declared.lines.Mark.{Mark}
-use Rattle.minute_model.specs.declared.Minute.{Minute}
-use Rattle.run_promise.specs.Between.{RunLedger}
+use Rattle.unit_model.specs.minute_model.declared.Minute.{Minute}
+use Rattle.run_devices.specs.run_promise.Between.{RunLedger}
 use Rattle.run_minutes.specs.declared.keeper.Keeper.{Keeper}
 use Rattle.run_minutes.specs.declared.keeper.Moment.{Moment}
 use Rattle.run_minutes.specs.Minutes.{Round, KeepingState, Done, told_after, told_by, marks_after, present_at}

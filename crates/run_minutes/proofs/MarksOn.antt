@@ -9,20 +9,20 @@ use Rattle.run_model.specs.declared.Device.TheVariants.{Unit as Recorder, CardA,
 use Rattle.tach_media.specs.Medium.{State, IsCoherent, IsSettled, LeavesOnly}
 use Rattle.log_model.specs.declared.lines.Mark.{Mark}
 use Rattle.log_model.specs.Causes.{device_of}
-use Rattle.card_image.specs.View.{CardView}
-use Rattle.card_image.specs.Own.{IsOwnValid, own_view, own_sizes}
-use Rattle.history_model.specs.Minutes.{card_history}
-use Rattle.history_model.specs.Book.{Book}
-use Rattle.device_rule.specs.Views.{other}
-use Rattle.device_rule.specs.Device.{LeavesViews, EndsWith}
-use Rattle.device_rule.specs.Steps.{IsOnCard, IsNowOnCard}
-use Rattle.device_rule.specs.Marked.{of_card, AnyAdded}
-use Rattle.device_rule.proofs.Staying.{kept-marks, kept-marked}
-use Rattle.safety_model.specs.Unit.{marks_of, is_of, Increase}
-use Rattle.run_promise.specs.Found.{CardFound}
-use Rattle.unit_rule.specs.Cards.{mark_writes, IsPromptOn}
-use Rattle.run_promise.specs.Cards.{IsCardHeld, CardMarksHold}
-use Rattle.card_string.specs.Deeds.{IsMadeSince}
+use Rattle.hand_model.specs.card_image.View.{CardView}
+use Rattle.hand_model.specs.card_image.Own.{IsOwnValid, own_view, own_sizes}
+use Rattle.run_devices.specs.history_model.Minutes.{card_history}
+use Rattle.run_devices.specs.history_model.Book.{Book}
+use Rattle.run_devices.specs.device_rule.Views.{other}
+use Rattle.run_devices.specs.device_rule.Device.{LeavesViews, EndsWith}
+use Rattle.run_devices.specs.device_rule.Steps.{IsOnCard, IsNowOnCard}
+use Rattle.run_devices.specs.device_rule.Marked.{of_card, AnyAdded}
+use Rattle.run_devices.proofs.device_rule.Staying.{kept-marks, kept-marked}
+use Rattle.run_devices.specs.safety_model.Unit.{marks_of, is_of, Increase}
+use Rattle.run_devices.specs.run_promise.Found.{CardFound}
+use Rattle.device_calls.specs.unit_rule.Cards.{mark_writes, IsPromptOn}
+use Rattle.run_devices.specs.run_promise.Cards.{IsCardHeld, CardMarksHold}
+use Rattle.device_calls.specs.card_string.Deeds.{IsMadeSince}
 use Rattle.run_devices.proofs.OnCards.{prompt-on, stood-on, stood-now}
 use Rattle.run_minutes.specs.Keeping.{Fate, Still, Has, Fell, marks_by}
 

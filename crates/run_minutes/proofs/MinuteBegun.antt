@@ -9,29 +9,29 @@ use Rattle.trace_model.specs.declared.Card.TheVariants.{A, B}
 use Rattle.tach_media.specs.Medium.{State, IsCoherent, HasCause}
 use Rattle.log_model.specs.declared.lines.Mark.{Mark}
 use Rattle.log_model.specs.Slots.{same_card}
-use Rattle.card_image.specs.Own.{IsOwnValid}
+use Rattle.hand_model.specs.card_image.Own.{IsOwnValid}
 use Rattle.unit_model.specs.Days.{UnitMinute}
 use Rattle.unit_minutes.specs.declared.kept.KeptMinute.{KeptMinute}
 use Rattle.unit_minutes.specs.Kept.{kept_minute}
-use Rattle.history_model.specs.Minutes.{HistoryMinute, on_card}
-use Rattle.history_model.specs.Book.{Book}
-use Rattle.device_rule.specs.Device.{LeavesViews}
-use Rattle.device_rule.specs.Filling.{seen_by_unit, KeepsMinute, GivesUpDay}
-use Rattle.device_rule.specs.Marked.{of_card, of_unit}
-use Rattle.device_rule.specs.Steps.{IsKeeping}
-use Rattle.device_rule.specs.Rules.{Standing, Fits, IsPresent, CardRule}
-use Rattle.safety_model.specs.Safe.{card_of}
-use Rattle.unit_rule.specs.Rule.{Started, once_mended}
-use Rattle.unit_rule.specs.Marks.{UnitFollowsBook}
-use Rattle.run_unit_course.specs.Legs.{Travel}
-use Rattle.unit_rule.specs.Odometer.{HasTravelled, odometer_by, odometer_after}
+use Rattle.run_devices.specs.history_model.Minutes.{HistoryMinute, on_card}
+use Rattle.run_devices.specs.history_model.Book.{Book}
+use Rattle.run_devices.specs.device_rule.Device.{LeavesViews}
+use Rattle.run_devices.specs.device_rule.Filling.{seen_by_unit, KeepsMinute, GivesUpDay}
+use Rattle.run_devices.specs.device_rule.Marked.{of_card, of_unit}
+use Rattle.run_devices.specs.device_rule.Steps.{IsKeeping}
+use Rattle.run_devices.specs.device_rule.Rules.{Standing, Fits, IsPresent, CardRule}
+use Rattle.run_devices.specs.safety_model.Safe.{card_of}
+use Rattle.device_calls.specs.unit_rule.Rule.{Started, once_mended}
+use Rattle.device_calls.specs.unit_rule.Marks.{UnitFollowsBook}
+use Rattle.run_devices.specs.run_unit_course.Legs.{Travel}
+use Rattle.device_calls.specs.unit_rule.Odometer.{HasTravelled, odometer_by, odometer_after}
 use Rattle.device_calls.specs.Rule.{Both, opened, CardHolds, IsCommitted, IsHeldUp}
 use Rattle.device_calls.specs.Travel.{HasGone}
 use Rattle.card_slots.specs.declared.seats.Present.{Present}
 use Rattle.run_crew.specs.declared.cards.Cards.{Cards}
 use Rattle.run_crew.specs.Cabin.{AreTwo}
-use Rattle.run_promise.specs.Found.{Found, found_of, unit_seen, AnyKept}
-use Rattle.run_promise.specs.Between.{RunLedger, devices}
+use Rattle.run_devices.specs.run_promise.Found.{Found, found_of, unit_seen, AnyKept}
+use Rattle.run_devices.specs.run_promise.Between.{RunLedger, devices}
 use Rattle.run_devices.specs.Told.{owes_nothing, AllGo, IsLitWith}
 use Rattle.run_devices.proofs.Parts.{both_of, as-steps, owing-of}
 use Rattle.run_outcome.specs.Lines.{Listed}

@@ -12,23 +12,23 @@ use Rattle.log_model.specs.declared.lines.Mark.{Mark}
 use Rattle.card_session.specs.declared.session.Kept.{Kept}
 use Rattle.unit_minutes.specs.declared.kept.KeptMinute.{KeptMinute}
 use Rattle.unit_notes.specs.Journal.{LeavesJournal}
-use Rattle.run_unit_course.specs.Legs.{Travel, travelled}
-use Rattle.unit_rule.specs.Odometer.{HasTravelled, odometer_by, odometer_after}
+use Rattle.run_devices.specs.run_unit_course.Legs.{Travel, travelled}
+use Rattle.device_calls.specs.unit_rule.Odometer.{HasTravelled, odometer_by, odometer_after}
 use Rattle.hand_model.specs.Holding.{Holding, none_held}
 use Rattle.hand_model.specs.Written.{Hands}
-use Rattle.history_model.specs.Minutes.{HistoryMinute, on_card}
-use Rattle.history_model.specs.Book.{kept}
-use Rattle.device_rule.specs.Rules.{Standing, IsPresent, CardRule}
-use Rattle.device_rule.specs.Marked.{of_card}
-use Rattle.safety_model.specs.Safe.{Devices, card_of}
+use Rattle.run_devices.specs.history_model.Minutes.{HistoryMinute, on_card}
+use Rattle.run_devices.specs.history_model.Book.{kept}
+use Rattle.run_devices.specs.device_rule.Rules.{Standing, IsPresent, CardRule}
+use Rattle.run_devices.specs.device_rule.Marked.{of_card}
+use Rattle.run_devices.specs.safety_model.Safe.{Devices, card_of}
 use Rattle.card_slots.specs.declared.seats.Present.{Present}
 use Rattle.run_crew.specs.declared.cards.Cards.{Cards}
 use Rattle.run_crew.specs.Cards.{session_of}
 use Rattle.run_crew.specs.Cabin.{AreTwo}
 use Rattle.run_outcome.specs.Lines.{Listed}
-use Rattle.run_promise.specs.Found.{Found, found_of, unit_seen, AnyKept}
-use Rattle.run_promise.specs.Cards.{FirstKeep}
-use Rattle.run_promise.specs.Between.{RunLedger, devices}
+use Rattle.run_devices.specs.run_promise.Found.{Found, found_of, unit_seen, AnyKept}
+use Rattle.run_devices.specs.run_promise.Cards.{FirstKeep}
+use Rattle.run_devices.specs.run_promise.Between.{RunLedger, devices}
 use Rattle.run_devices.specs.Told.{AreFoundCards, owes_nothing, GoesOwing, AllGo, IsLitOwing, DevicesPowered, DevicesUnpowered}
 use Rattle.run_devices.proofs.Parts.{lit-of}
 use Rattle.run_devices.proofs.Travelled.{travelled-noted}

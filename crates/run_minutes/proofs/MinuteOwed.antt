@@ -9,36 +9,36 @@ use Rattle.trace_model.specs.declared.Card.TheVariants.{A, B}
 use Rattle.tach_media.specs.Medium.{State, IsCoherent, HasCause, last_count}
 use Rattle.log_model.specs.declared.lines.Mark.{Mark}
 use Rattle.log_model.specs.Causes.{device_of}
-use Rattle.card_retention.specs.Retains.{Rise}
-use Rattle.card_image.specs.Own.{own_view, IsOwnValid, KeepsOf}
+use Rattle.run_devices.specs.card_retention.Retains.{Rise}
+use Rattle.hand_model.specs.card_image.Own.{own_view, IsOwnValid, KeepsOf}
 use Rattle.card_session.specs.Inserting.{Follow}
 use Rattle.card_session.specs.Repairs.{first_minute}
 use Rattle.hand_model.specs.Written.{Hands}
-use Rattle.history_model.specs.Minutes.{HistoryMinute, card_history, on_card, up_to}
-use Rattle.history_model.specs.Presence.{CardStart}
-use Rattle.history_model.specs.Book.{Book, all, kept, broken}
-use Rattle.history_model.proofs.Books.{history-append, history-one, all-none, all-kept, up_to-whole, on_card-minute, mark-earlier}
-use Rattle.history_model.proofs.Filters.{all-back}
-use Rattle.device_rule.specs.Views.{UnitView, unit_view, owed}
-use Rattle.device_rule.specs.Device.{Seen, LeavesViews}
-use Rattle.device_rule.specs.Filling.{KeepsMinute, GivesUpDay}
-use Rattle.device_rule.specs.Steps.{IsKeeping}
-use Rattle.device_rule.specs.Rules.{Standing, Out, In, Torn, since, IsPresent, MeetsStanding, Fits, CardRule, Meets}
-use Rattle.device_rule.specs.Marked.{of_card, HasBrought}
-use Rattle.device_rule.proofs.Staying.{commit-stays}
-use Rattle.card_image.specs.View.{CardView}
-use Rattle.safety_model.specs.Unit.{marks_of, Increase}
-use Rattle.safety_model.specs.Safe.{card_of}
-use Rattle.run_unit_course.specs.Legs.{Travel}
+use Rattle.run_devices.specs.history_model.Minutes.{HistoryMinute, card_history, on_card, up_to}
+use Rattle.run_devices.specs.history_model.Presence.{CardStart}
+use Rattle.run_devices.specs.history_model.Book.{Book, all, kept, broken}
+use Rattle.run_devices.proofs.history_model.Books.{history-append, history-one, all-none, all-kept, up_to-whole, on_card-minute, mark-earlier}
+use Rattle.run_devices.proofs.history_model.Filters.{all-back}
+use Rattle.run_devices.specs.device_rule.Views.{UnitView, unit_view, owed}
+use Rattle.run_devices.specs.device_rule.Device.{Seen, LeavesViews}
+use Rattle.run_devices.specs.device_rule.Filling.{KeepsMinute, GivesUpDay}
+use Rattle.run_devices.specs.device_rule.Steps.{IsKeeping}
+use Rattle.run_devices.specs.device_rule.Rules.{Standing, Out, In, Torn, since, IsPresent, MeetsStanding, Fits, CardRule, Meets}
+use Rattle.run_devices.specs.device_rule.Marked.{of_card, HasBrought}
+use Rattle.run_devices.proofs.device_rule.Staying.{commit-stays}
+use Rattle.hand_model.specs.card_image.View.{CardView}
+use Rattle.run_devices.specs.safety_model.Unit.{marks_of, Increase}
+use Rattle.run_devices.specs.safety_model.Safe.{card_of}
+use Rattle.run_devices.specs.run_unit_course.Legs.{Travel}
 use Rattle.device_calls.specs.Rule.{IsCommitted, IsHeldUp}
 use Rattle.device_calls.specs.Travel.{HasGone}
 use Rattle.device_calls.proofs.EntryOwed.{worked}
 use Rattle.run_crew.specs.declared.cards.Cards.{Cards}
-use Rattle.run_promise.specs.Found.{CardFound, Found, found_of, unit_seen, AnyKept}
-use Rattle.run_promise.specs.Cards.{brought_by, counted_to, StringHolds, IsStrung, IsCardHeld, CardMarksHold}
-use Rattle.run_promise.specs.Between.{RunLedger, devices}
-use Rattle.run_promise.proofs.Behind.{owed-until}
-use Rattle.run_promise.proofs.Waiting.{string-broken, comes-broken, strung-kept}
+use Rattle.run_devices.specs.run_promise.Found.{CardFound, Found, found_of, unit_seen, AnyKept}
+use Rattle.run_devices.specs.run_promise.Cards.{brought_by, counted_to, StringHolds, IsStrung, IsCardHeld, CardMarksHold}
+use Rattle.run_devices.specs.run_promise.Between.{RunLedger, devices}
+use Rattle.run_devices.proofs.run_promise.Behind.{owed-until}
+use Rattle.run_devices.proofs.run_promise.Waiting.{string-broken, comes-broken, strung-kept}
 use Rattle.run_devices.specs.Strung.{CardHoldsString}
 use Rattle.run_devices.specs.Told.{AreFoundCards, sure_of, CardHoldsStringUnpowered, owes_nothing, AllGo, IsLitWith, IsLitOwing, DevicesUnpowered, AreEarly}
 use Rattle.run_devices.proofs.Parts.{both_of, of-steps, of-rests, told-one, held-same, sure-same, strung-with}

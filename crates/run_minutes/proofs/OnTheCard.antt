@@ -4,22 +4,22 @@ use Rattle.activity_codec.specs.declared.entries.Entry.{Entry}
 use Rattle.activity_codec.specs.declared.entries.Manual.{Manual}
 use Rattle.tach_media.specs.Medium.{State, IsCoherent, LeavesOnly}
 use Rattle.tach_media.proofs.Runs.{at_image, if_told, told_too, weaken}
-use Rattle.card_layout.specs.declared.files.Application.{Application}
-use Rattle.card_layout.specs.Application.{IsApplication}
-use Rattle.card_layout.specs.Files.{image_size_of}
-use Rattle.card_image.specs.Fields.{end_mark, session_time}
-use Rattle.card_image.specs.Judging.{IsValid}
-use Rattle.card_image.specs.Own.{own_sizes, own_covered}
+use Rattle.tach_media.specs.card_layout.declared.files.Application.{Application}
+use Rattle.tach_media.specs.card_layout.Application.{IsApplication}
+use Rattle.tach_media.specs.card_layout.Files.{image_size_of}
+use Rattle.hand_model.specs.card_image.Fields.{end_mark, session_time}
+use Rattle.hand_model.specs.card_image.Judging.{IsValid}
+use Rattle.hand_model.specs.card_image.Own.{own_sizes, own_covered}
 use Rattle.hand_model.specs.Written.{Written, Hands, entries_of, and_sure, and_given}
 use Rattle.hand_model.proofs.OfDay.{spans}
 use Rattle.card_session.specs.Sessions.{Session, IsSession}
 use Rattle.card_session.specs.Cards.{MayEnd}
-use Rattle.card_by_hand.specs.First.{IsFirstKept, IsFirstKeeping, AreHandsOf, IsShutAt, ComeFrom}
-use Rattle.card_string.specs.Since.{HoldsSince, SitsSince, IsReadySince, bound_since, counted_since, all_since}
-use Rattle.card_string.specs.Each.{EachHolds}
-use Rattle.card_string.proofs.Since.{may_come, later_holds}
-use Rattle.card_string.proofs.OfCards.{card_keep_holds, card_kept, kept_keeping_of}
-use Rattle.card_string.proofs.Images.{each_keeping, each_sure}
+use Rattle.device_calls.specs.card_by_hand.First.{IsFirstKept, IsFirstKeeping, AreHandsOf, IsShutAt, ComeFrom}
+use Rattle.device_calls.specs.card_string.Since.{HoldsSince, SitsSince, IsReadySince, bound_since, counted_since, all_since}
+use Rattle.device_calls.specs.card_string.Each.{EachHolds}
+use Rattle.device_calls.proofs.card_string.Since.{may_come, later_holds}
+use Rattle.device_calls.proofs.card_string.OfCards.{card_keep_holds, card_kept, kept_keeping_of}
+use Rattle.device_calls.proofs.card_string.Images.{each_keeping, each_sure}
 use Rattle.device_calls.specs.OnCard.{CardMayTake}
 use Rattle.run_minutes.proofs.FirstEnds.{first-ends}
 

@@ -4,14 +4,14 @@ use Rattle.tacho_types.specs.CardNumber.{card_number_bytes}
 use Rattle.tach_media.specs.Medium.{State, IsCoherent, LeavesOnly, HasCause}
 use Rattle.tach_media.proofs.Runs.{cause_after, no_reads}
 use Rattle.unit_model.specs.Image.{IsUnit}
-use Rattle.unit_owed.specs.Rows.{IsRowAt}
+use Rattle.unit_minutes.specs.unit_owed.Rows.{IsRowAt}
 use Rattle.unit_minutes.specs.Image.{Agrees}
 use Rattle.unit_minutes.specs.declared.notes.Notes.{Notes}
 use Rattle.run_crew.specs.Cards.{known_of}
 use Rattle.run_events.specs.Shown.{SaysNothing}
-use Rattle.run_rings.specs.Same.{HasSameRings}
-use Rattle.run_speeds.specs.Speeds.{HasSameSpeeds}
-use Rattle.run_speeds.proofs.Leaving.{leaves-none, leaves-then, leaves-moments}
+use Rattle.run_events.specs.run_rings.Same.{HasSameRings}
+use Rattle.run_events.specs.run_speeds.Speeds.{HasSameSpeeds}
+use Rattle.run_events.proofs.run_speeds.Leaving.{leaves-none, leaves-then, leaves-moments}
 use Rattle.run_minutes.specs.declared.keeper.Keeper.{Keeper}
 use Rattle.run_minutes.specs.Keeping.{UnitMayBeCalled}
 use Rattle.run_minutes.specs.Stand.{UnitGoes, UnitStands}

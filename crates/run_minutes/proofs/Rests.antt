@@ -10,8 +10,8 @@ use Rattle.run_crew.specs.declared.cards.Cards.{Cards}
 use Rattle.run_crew.specs.Cards.{session_of}
 use Rattle.run_crew.proofs.Sessions.{session_set}
 use Rattle.run_outcome.specs.Lines.{Listed}
-use Rattle.safety_model.specs.Safe.{Devices}
-use Rattle.run_promise.specs.Between.{devices}
+use Rattle.run_devices.specs.safety_model.Safe.{Devices}
+use Rattle.run_devices.specs.run_promise.Between.{devices}
 use Rattle.run_minutes.specs.declared.keeper.Keeper.{Keeper}
 use Rattle.run_minutes.specs.declared.keeper.Moment.{Moment}
 use Rattle.run_minutes.specs.Keeping.{Fate, Still, Has, Fell, IsFateOf, IsOnCard, IsBrought, GoesOnFrom, SessionsGoOn, cabin_by, tears_of}

@@ -3,14 +3,14 @@ use Rattle.std.proofs.Common.{◌∙◌, ℕ, List, take, drop, sym, ap, arith}
 use Rattle.std.proofs.lemmas.List.{drop-drop}
 use Rattle.activity_codec.specs.declared.entries.Entry.{Entry}
 use Rattle.tach_media.specs.Medium.{State, IsCoherent, LeavesOnly}
-use Rattle.event_model.specs.declared.kinds.TheConstants.{CARD_FAULT}
+use Rattle.unit_notes.specs.event_model.declared.kinds.TheConstants.{CARD_FAULT}
 use Rattle.unit_model.specs.declared.layout.TheConstants.{OWED}
 use Rattle.unit_model.specs.Days.{UnitMinute}
 use Rattle.unit_minutes.specs.Keeping.{IsKeeping}
-use Rattle.unit_owed.specs.Rows.{IsPutting}
+use Rattle.unit_minutes.specs.unit_owed.Rows.{IsPutting}
 use Rattle.run_crew.specs.declared.cards.Crew.{Crew}
-use Rattle.run_speeds.specs.Speeds.{HasSameSpeeds, LeavesSpeeds}
-use Rattle.run_speeds.proofs.Leaving.{leaves-moments, same-before}
+use Rattle.run_events.specs.run_speeds.Speeds.{HasSameSpeeds, LeavesSpeeds}
+use Rattle.run_events.proofs.run_speeds.Leaving.{leaves-moments, same-before}
 use Rattle.run_events.proofs.NoteSpeeds.{event-speeds}
 use Rattle.run_minutes.specs.Keeping.{Fate, Still, Has, Fell, IsNotingFault, fault_of}
 

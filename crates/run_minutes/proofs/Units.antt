@@ -1,13 +1,13 @@
 -- The unit over a note: it is the same, what the journal knows is so still, and each row is there; and what might be left of a device.
 use Rattle.std.proofs.Common.{◌≡◌, ◌∙◌, ⊎_elim, ℕ, ◌-◌, ◌<◌, ◌≤◌, true, Option, List, IfSome, ap, subst, sym, arith}
 use Rattle.std.specs.Prelude.{Result}
-use Rattle.card_layout.proofs.Images.{part_in}
+use Rattle.tach_media.proofs.card_layout.Images.{part_in}
 use Rattle.tach_media.specs.Medium.{State, IsCoherent, LeavesOnly, bytes_at}
 use Rattle.tach_media.proofs.Runs.{at_image, if_told}
 use Rattle.unit_model.specs.Image.{IsUnit}
 use Rattle.unit_model.specs.declared.layout.TheConstants.{INSERTIONS, OWED, SPARE_COUNTS}
-use Rattle.unit_owed.specs.Owed.{rows_in, row_index}
-use Rattle.unit_owed.specs.Rows.{begun_index, IsRowAt, IsRowFor}
+use Rattle.unit_minutes.specs.unit_owed.Owed.{rows_in, row_index}
+use Rattle.unit_minutes.specs.unit_owed.Rows.{begun_index, IsRowAt, IsRowFor}
 use Rattle.unit_minutes.specs.declared.notes.Notes.{Notes}
 use Rattle.unit_minutes.specs.Image.{Agrees}
 use Rattle.unit_minutes.proofs.Beside.{agrees_beside}
@@ -15,7 +15,7 @@ use Rattle.unit_notes.specs.Journal.{KeepsJournal, LeavesJournal}
 use Rattle.unit_notes.proofs.Journals.{same_journal}
 use Rattle.trace_model.specs.declared.Card.{Card}
 use Rattle.trace_model.specs.declared.Card.TheVariants.{A, B}
-use Rattle.card_layout.specs.declared.files.Application.{Application}
+use Rattle.tach_media.specs.card_layout.declared.files.Application.{Application}
 use Rattle.tacho_types.specs.CardNumber.{card_number_bytes}
 use Rattle.run_crew.specs.declared.cards.Accepted.{Accepted}
 use Rattle.run_crew.specs.declared.cards.Cards.{Cards}

@@ -1,8 +1,8 @@
 -- Writes that calls begin, from call to call.
 use Rattle.std.proofs.Common.{ℕ, ◌+◌, ◌*◌, ◌≤◌, arith}
 use Rattle.tach_media.specs.Medium.{State}
-use Rattle.safety_model.specs.Safe.{Devices}
-use Rattle.run_promise.specs.Between.{devices}
+use Rattle.run_devices.specs.safety_model.Safe.{Devices}
+use Rattle.run_devices.specs.run_promise.Between.{devices}
 use Rattle.run_minutes.specs.Writes.{WroteAtMost, minute_most}
 
 pub wrote-none : (u n : ℕ) (d : Devices) → WroteAtMost u n d d

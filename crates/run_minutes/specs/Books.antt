@@ -5,24 +5,24 @@ use Rattle.std.specs.Prelude.{◌∷◌, if◌then◌else◌}
 use Rattle.trace_model.specs.declared.Card.{Card}
 use Rattle.tach_media.specs.Medium.{State, last_count}
 use Rattle.log_model.specs.declared.lines.Mark.{Mark}
-use Rattle.card_image.specs.Own.{own_sizes, IsOwnValid}
+use Rattle.hand_model.specs.card_image.Own.{own_sizes, IsOwnValid}
 use Rattle.device_calls.specs.Times.{AreTimedSince}
 use Rattle.unit_minutes.specs.declared.kept.KeptMinute.{KeptMinute}
-use Rattle.history_model.specs.Minutes.{HistoryMinute, on_card}
-use Rattle.history_model.specs.Book.{kept, broken}
-use Rattle.device_rule.specs.Rules.{Standing, Out, In, Torn, IsPresent}
+use Rattle.run_devices.specs.history_model.Minutes.{HistoryMinute, on_card}
+use Rattle.run_devices.specs.history_model.Book.{kept, broken}
+use Rattle.run_devices.specs.device_rule.Rules.{Standing, Out, In, Torn, IsPresent}
 use Rattle.hand_model.specs.Holding.{Holding, none_held}
 use Rattle.hand_model.specs.Written.{Hands, and_sure, and_given}
 use Rattle.log_model.specs.Causes.{device_of}
 use Rattle.device_calls.specs.OnCard.{hands_for}
-use Rattle.safety_model.specs.Safe.{Devices, card_of}
-use Rattle.run_unit_course.specs.Legs.{Travel, travelled, stranded}
-use Rattle.unit_rule.specs.Odometer.{HasTravelled, odometer_by, odometer_after}
+use Rattle.run_devices.specs.safety_model.Safe.{Devices, card_of}
+use Rattle.run_devices.specs.run_unit_course.Legs.{Travel, travelled, stranded}
+use Rattle.device_calls.specs.unit_rule.Odometer.{HasTravelled, odometer_by, odometer_after}
 use Rattle.card_slots.specs.declared.seats.Present.{Present}
 use Rattle.run_crew.specs.declared.cards.Cards.{Cards}
-use Rattle.run_promise.specs.Found.{CardFound, Found, found_of}
-use Rattle.run_promise.specs.Cards.{FirstKeep, and_first}
-use Rattle.run_promise.specs.Between.{RunLedger}
+use Rattle.run_devices.specs.run_promise.Found.{CardFound, Found, found_of}
+use Rattle.run_devices.specs.run_promise.Cards.{FirstKeep, and_first}
+use Rattle.run_devices.specs.run_promise.Between.{RunLedger}
 use Rattle.run_devices.specs.Measured.{MeasuresOn}
 use Rattle.run_devices.specs.Told.{AreFoundCards, DevicesPowered, DevicesUnpowered, AreEarly}
 use Rattle.run_minutes.specs.CardEvents.{LeavesEvents}

@@ -2,10 +2,10 @@
 use Rattle.std.specs.Prelude.{ℕ, ◌+◌, ◌/◌, ◌<◌, ◌^◌, ◌∷◌, ◌≡◌, ◌≢◌, ◌≤◌, IfSome, OnOk, Option, Result, [], is_err}
 use Rattle.std.specs.Prelude.{is_some, length, OnErr}
 use Rattle.activity_codec.specs.declared.values.Slot.{Slot}
-use Rattle.card_layout.specs.declared.command.CardState.{CardState}
+use Rattle.tach_media.specs.card_layout.declared.command.CardState.{CardState}
 use Rattle.card_session.specs.declared.session.Kept.{Kept}
 use Rattle.card_session.specs.declared.words.TheConstants.{LATEST_MINUTE}
-use Rattle.event_model.specs.declared.kinds.TheConstants.{CARD_FAULT}
+use Rattle.unit_notes.specs.event_model.declared.kinds.TheConstants.{CARD_FAULT}
 use Rattle.log_model.specs.declared.lines.Break.{Break}
 use Rattle.log_model.specs.declared.lines.Mark.{Mark}
 use Rattle.run_crew.specs.Cabin.{IsReadyFor, crew_of, torn_out, AreTwo}

@@ -9,15 +9,15 @@ use Rattle.hand_model.specs.Holding.{of_day}
 use Rattle.tach_media.specs.Medium.{State}
 use Rattle.tacho_types.specs.declared.numbers.Odometer.{Odometer}
 use Rattle.tacho_types.specs.declared.texts.Registration.{Registration}
-use Rattle.card_layout.specs.declared.files.Application.{Application}
-use Rattle.card_files.specs.declared.current_use.CurrentUse.{CurrentUse}
-use Rattle.card_image.specs.Fields.{current_use}
+use Rattle.tach_media.specs.card_layout.declared.files.Application.{Application}
+use Rattle.run_events.specs.card_files.declared.current_use.CurrentUse.{CurrentUse}
+use Rattle.hand_model.specs.card_image.Fields.{current_use}
 use Rattle.card_session.specs.declared.session.Kept.{Kept}
 use Rattle.card_session.specs.Books.{Book, mark_of}
 use Rattle.card_session.specs.Sessions.{book_of}
 use Rattle.card_session.specs.Cards.{grown}
 use Rattle.card_session.specs.Inserting.{lacked}
-use Rattle.card_string.specs.Deeds.{Deed, Keep, Enter, Close, Cut, after}
+use Rattle.device_calls.specs.card_string.Deeds.{Deed, Keep, Enter, Close, Cut, after}
 
 -- what deeds make of a book, one after another
 abbrev pub made_by : (size : ℕ) → List Deed → Book → Book

@@ -1,8 +1,8 @@
 -- Calls that leave the events of a card, its current use and its places as they are (profile).
 use Rattle.std.specs.Prelude.{◌≡◌, ℕ, List}
 use Rattle.tach_media.specs.Medium.{State}
-use Rattle.card_layout.specs.declared.files.Application.{Application}
-use Rattle.card_image.specs.Fields.{file_bytes}
+use Rattle.tach_media.specs.card_layout.declared.files.Application.{Application}
+use Rattle.hand_model.specs.card_image.Fields.{file_bytes}
 
 -- CALLS LEAVE THE EVENTS OF A CARD of these sizes as they are: each image that it may leave behind them has those of
 -- one before, its current use and its places

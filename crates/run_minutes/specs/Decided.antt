@@ -1,15 +1,15 @@
 -- What the keeping of some decided minutes leaves of unit and cards, over devices that tell their images (profile).
 use Rattle.std.specs.Prelude.{◌≡◌, ◌⊎◌, ℕ, ◌+◌, ◌<◌, ◌≤◌, Bool, true, false, Option, List, [], ◌∷◌, All, map}
 use Rattle.trace_model.specs.declared.Card.{Card}
-use Rattle.minute_model.specs.declared.Minute.{Minute}
-use Rattle.card_image.specs.Own.{IsOwnValid}
-use Rattle.history_model.specs.Minutes.{HistoryMinute, on_card}
-use Rattle.device_rule.specs.Rules.{IsPresent}
-use Rattle.safety_model.specs.Safe.{Devices}
-use Rattle.run_unit_course.specs.Legs.{Travel, all_travelled}
-use Rattle.unit_rule.specs.Odometer.{HasTravelled, odometer_after}
-use Rattle.run_promise.specs.Found.{Found, found_of}
-use Rattle.run_promise.specs.Between.{RunLedger}
+use Rattle.unit_model.specs.minute_model.declared.Minute.{Minute}
+use Rattle.hand_model.specs.card_image.Own.{IsOwnValid}
+use Rattle.run_devices.specs.history_model.Minutes.{HistoryMinute, on_card}
+use Rattle.run_devices.specs.device_rule.Rules.{IsPresent}
+use Rattle.run_devices.specs.safety_model.Safe.{Devices}
+use Rattle.run_devices.specs.run_unit_course.Legs.{Travel, all_travelled}
+use Rattle.device_calls.specs.unit_rule.Odometer.{HasTravelled, odometer_after}
+use Rattle.run_devices.specs.run_promise.Found.{Found, found_of}
+use Rattle.run_devices.specs.run_promise.Between.{RunLedger}
 use Rattle.run_minutes.specs.declared.keeper.Keeper.{Keeper}
 use Rattle.run_minutes.specs.Minutes.{Round, Done, Reach, Whole, Short, KeepingState, present_at, minute_of}
 use Rattle.run_minutes.specs.Deeds.{AllKeep, kepts_on}

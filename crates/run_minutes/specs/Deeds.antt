@@ -3,16 +3,16 @@ use Rattle.std.specs.Prelude.{◌≡◌, ◌++◌, Option, Some, None, List, [],
 use Rattle.activity_codec.specs.declared.values.Slot.TheVariants.{Driver, CoDriver}
 use Rattle.trace_model.specs.declared.Card.{Card}
 use Rattle.tach_media.specs.Medium.{State}
-use Rattle.minute_model.specs.declared.Minute.{Minute}
-use Rattle.card_image.specs.Own.{own_sizes, IsOwnValid}
+use Rattle.unit_model.specs.minute_model.declared.Minute.{Minute}
+use Rattle.hand_model.specs.card_image.Own.{own_sizes, IsOwnValid}
 use Rattle.card_session.specs.declared.session.Kept.{Kept}
 use Rattle.unit_minutes.specs.declared.kept.KeptMinute.{KeptMinute}
-use Rattle.safety_model.specs.Safe.{Devices, card_of}
+use Rattle.run_devices.specs.safety_model.Safe.{Devices, card_of}
 use Rattle.card_slots.specs.declared.seats.Present.{Present}
 use Rattle.run_crew.specs.declared.cards.Accepted.{Accepted}
 use Rattle.run_crew.specs.declared.cards.Cards.{Cards}
 use Rattle.run_crew.specs.Cards.{session_of}
-use Rattle.run_promise.specs.Found.{CardFound, Found, found_of}
+use Rattle.run_devices.specs.run_promise.Found.{CardFound, Found, found_of}
 use Rattle.run_minutes.specs.declared.keeper.Keeper.{Keeper}
 use Rattle.run_minutes.specs.CardDeeds.{DoesOn, keeps, holds_after, last_odometer}
 use Rattle.run_minutes.specs.Keeping.{kept_in, is_this}

@@ -1,7 +1,7 @@
 -- The faults that the keeping of minutes notes on the unit, of cards that were torn out (profile).
 use Rattle.std.specs.Prelude.{◌≡◌, ◌⊎◌, ℕ, Bool, true, false, Option, Some, None, List, [], ◌∷◌, ◌++◌, length}
 use Rattle.tach_media.specs.Medium.{State}
-use Rattle.event_model.specs.declared.kinds.TheConstants.{CARD_FAULT}
+use Rattle.unit_notes.specs.event_model.declared.kinds.TheConstants.{CARD_FAULT}
 use Rattle.unit_notes.specs.declared.unit_event.UnitEvent.{UnitEvent}
 use Rattle.unit_notes.specs.Entries.{fault_bytes}
 use Rattle.unit_notes.specs.Noting.{IsEventNoted, IsNotingEvent}
@@ -10,7 +10,7 @@ use Rattle.run_crew.specs.declared.cards.Crew.{Crew}
 use Rattle.run_crew.specs.Cabin.{crew_of}
 use Rattle.run_events.specs.Entries.{entry_of}
 use Rattle.run_events.specs.Shown.{SaysNothing}
-use Rattle.run_rings.specs.Same.{HasSameRings}
+use Rattle.run_events.specs.run_rings.Same.{HasSameRings}
 use Rattle.card_slots.specs.declared.seats.Present.{Present}
 use Rattle.run_minutes.specs.declared.keeper.Keeper.{Keeper}
 use Rattle.run_minutes.specs.declared.keeper.Moment.{Moment}

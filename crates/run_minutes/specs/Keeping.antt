@@ -8,18 +8,18 @@ use Rattle.activity_codec.specs.declared.values.Slot.TheVariants.{Driver, CoDriv
 use Rattle.trace_model.specs.declared.Card.{Card}
 use Rattle.trace_model.specs.declared.Card.TheVariants.{A, B}
 use Rattle.tach_media.specs.Medium.{State, HasCause}
-use Rattle.card_layout.specs.declared.command.CardState.{CardState}
-use Rattle.card_layout.specs.declared.files.Application.{Application}
-use Rattle.card_commands.specs.Ports.{IsPort}
+use Rattle.tach_media.specs.card_layout.declared.command.CardState.{CardState}
+use Rattle.tach_media.specs.card_layout.declared.files.Application.{Application}
+use Rattle.device_calls.specs.card_commands.Ports.{IsPort}
 use Rattle.card_session.specs.declared.session.Kept.{Kept}
 use Rattle.tacho_types.specs.CardNumber.{card_number_bytes}
 use Rattle.tacho_types.specs.declared.card_number.FullCardNumber.{FullCardNumber}
 use Rattle.unit_model.specs.Image.{IsUnit}
-use Rattle.unit_owed.specs.Rows.{IsRowAt}
+use Rattle.unit_minutes.specs.unit_owed.Rows.{IsRowAt}
 use Rattle.unit_minutes.specs.Image.{Agrees}
 use Rattle.unit_minutes.specs.declared.kept.KeptMinute.{KeptMinute}
 use Rattle.unit_minutes.specs.Kept.{is_crew}
-use Rattle.event_model.specs.declared.kinds.TheConstants.{CARD_FAULT}
+use Rattle.unit_notes.specs.event_model.declared.kinds.TheConstants.{CARD_FAULT}
 use Rattle.unit_notes.specs.Entries.{fault_bytes}
 use Rattle.unit_notes.specs.Noting.{IsNotingEvent, IsEventNoted}
 use Rattle.hand_model.specs.Holding.{Holding, none_held, begun_by}

@@ -3,8 +3,8 @@ use Rattle.std.specs.Prelude.{◌≡◌, ◌⊎◌, ◌≤◌, ◌<◌, ◌+◌,
 use Rattle.tach_media.specs.Medium.{State, Rose, last_count}
 use Rattle.log_model.specs.declared.lines.Break.{Break}
 use Rattle.log_model.specs.Causes.{is_cut, has_failed}
-use Rattle.safety_model.specs.Safe.{Devices}
-use Rattle.run_speeds.specs.Speeds.{LeavesSpeeds}
+use Rattle.run_devices.specs.safety_model.Safe.{Devices}
+use Rattle.run_events.specs.run_speeds.Speeds.{LeavesSpeeds}
 use Rattle.run_crew.specs.declared.cards.Accepted.{Accepted}
 use Rattle.run_crew.specs.declared.cards.Cards.{Cards}
 use Rattle.run_minutes.specs.Keeping.{tears_of}

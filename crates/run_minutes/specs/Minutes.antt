@@ -3,11 +3,11 @@ use Rattle.std.specs.Prelude.{◌≡◌, ◌⊎◌, ℕ, ◌<◌, ◌≤◌, Boo
 use Rattle.std.specs.Prelude.{is_some}
 use Rattle.activity_codec.specs.declared.values.Slot.TheVariants.{Driver, CoDriver}
 use Rattle.tach_media.specs.Medium.{State}
-use Rattle.minute_model.specs.declared.Minute.{Minute}
+use Rattle.unit_model.specs.minute_model.declared.Minute.{Minute}
 use Rattle.run_model.specs.declared.Device.TheVariants.{Unit as Recorder}
 use Rattle.card_session.specs.declared.words.TheConstants.{LATEST_MINUTE}
 use Rattle.unit_minutes.specs.declared.kept.KeptMinute.{KeptMinute}
-pub use Rattle.unit_rule.specs.Odometer.{odometer_by}
+pub use Rattle.device_calls.specs.unit_rule.Odometer.{odometer_by}
 use Rattle.unit_minutes.specs.declared.notes.Notes.{Notes}
 use Rattle.hand_model.specs.Holding.{Holding}
 use Rattle.log_model.specs.declared.lines.Break.{Break}

@@ -5,27 +5,27 @@ use Rattle.activity_codec.specs.declared.entries.Entry.{Entry}
 use Rattle.trace_model.specs.declared.Card.{Card}
 use Rattle.tach_media.specs.Medium.{State, last_count}
 use Rattle.log_model.specs.declared.lines.Mark.{Mark}
-use Rattle.card_image.specs.Own.{IsOwnValid}
+use Rattle.hand_model.specs.card_image.Own.{IsOwnValid}
 use Rattle.card_session.specs.declared.session.Kept.{Kept}
 use Rattle.unit_minutes.specs.declared.kept.KeptMinute.{KeptMinute}
 use Rattle.hand_model.specs.Holding.{Holding}
 use Rattle.hand_model.specs.Written.{Hands}
-use Rattle.history_model.specs.Minutes.{HistoryMinute, on_card}
-use Rattle.history_model.specs.Book.{Book, kept}
-use Rattle.device_rule.specs.Rules.{Standing, CardRule, IsPresent}
-use Rattle.device_rule.specs.Marked.{of_card, HasBrought}
-use Rattle.safety_model.specs.Safe.{Devices, card_of}
-use Rattle.run_unit_course.specs.Legs.{Travel, travelled}
-use Rattle.unit_rule.specs.Odometer.{HasTravelled, odometer_by, odometer_after}
-use Rattle.unit_rule.specs.Rule.{once_mended}
-use Rattle.unit_rule.specs.Marks.{UnitFollowsBook}
+use Rattle.run_devices.specs.history_model.Minutes.{HistoryMinute, on_card}
+use Rattle.run_devices.specs.history_model.Book.{Book, kept}
+use Rattle.run_devices.specs.device_rule.Rules.{Standing, CardRule, IsPresent}
+use Rattle.run_devices.specs.device_rule.Marked.{of_card, HasBrought}
+use Rattle.run_devices.specs.safety_model.Safe.{Devices, card_of}
+use Rattle.run_devices.specs.run_unit_course.Legs.{Travel, travelled}
+use Rattle.device_calls.specs.unit_rule.Odometer.{HasTravelled, odometer_by, odometer_after}
+use Rattle.device_calls.specs.unit_rule.Rule.{once_mended}
+use Rattle.device_calls.specs.unit_rule.Marks.{UnitFollowsBook}
 use Rattle.card_slots.specs.declared.seats.Present.{Present}
 use Rattle.run_crew.specs.declared.cards.Accepted.{Accepted}
 use Rattle.run_crew.specs.declared.cards.Cards.{Cards}
 use Rattle.run_crew.specs.Cards.{session_of}
-use Rattle.run_promise.specs.Found.{Found, found_of, unit_seen, AnyKept}
-use Rattle.run_promise.specs.Cards.{CardMarksHold, FirstKeep, HandMarksHold}
-use Rattle.run_promise.specs.Between.{RunLedger}
+use Rattle.run_devices.specs.run_promise.Found.{Found, found_of, unit_seen, AnyKept}
+use Rattle.run_devices.specs.run_promise.Cards.{CardMarksHold, FirstKeep, HandMarksHold}
+use Rattle.run_devices.specs.run_promise.Between.{RunLedger}
 use Rattle.run_devices.specs.Strung.{CardHoldsString}
 use Rattle.run_devices.specs.Told.{GoesOwing, AreFoundCards, AllGo, owes_nothing, IsLitWith, IsLitOwing}
 use Rattle.run_devices.specs.Told.{DevicesUnpowered}

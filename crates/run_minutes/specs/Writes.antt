@@ -1,6 +1,6 @@
 -- How many writes some calls begin at most (profile).
 use Rattle.std.specs.Prelude.{ℕ, ◌+◌, ◌≤◌}
-use Rattle.safety_model.specs.Safe.{Devices}
+use Rattle.run_devices.specs.safety_model.Safe.{Devices}
 
 -- A KEEP of a minute begins so many on its card: 17, and 4 for each of the eight entries by hand that a session's first
 -- one may have before it; and a minute those of two keeps.

@@ -9,7 +9,7 @@ ghost use Rattle.run_minutes.specs.Owing.{BooksCard, BooksBrought};
 ghost use Rattle.run_minutes.specs.Kept.{IsAnother};
 ghost use Rattle.run_minutes.specs.Stand.{StandsAfter, CallsOnly, standing, KeepingGoesWithin};
 ghost use Rattle.run_minutes.specs.Writes.{keep_most};
-ghost use Rattle.run_promise.specs.Between.{devices};
+ghost use Rattle.run_devices.specs.run_promise.Between.{devices};
 ghost use Rattle.run_minutes.specs.Keeping.{UnitMayBeCalled, CardMayBeCalled};
 ghost use Rattle.run_minutes.specs.Keeping.{DevicesMayBeCalled, Fate, IsBrought, IsNotingFault, tears_of};
 ghost use Rattle.run_minutes.specs.Keeping.{state_at};

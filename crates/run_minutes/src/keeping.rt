@@ -7,7 +7,7 @@ ghost use Rattle.run_minutes.specs.Kept.{IsAbsent, MayKeep, Keeps};
 ghost use Rattle.run_minutes.specs.Stand.{UnitStands, StandsAfter, CallsOnly, standing};
 ghost use Rattle.run_minutes.specs.Stand.{KeepingGoesWithin, UnitGoesWithin};
 ghost use Rattle.run_minutes.specs.Writes.{minute_most};
-ghost use Rattle.run_promise.specs.Between.{devices};
+ghost use Rattle.run_devices.specs.run_promise.Between.{devices};
 ghost use Rattle.run_minutes.specs.Calls.{Acknowledges, MayAcknowledge};
 
 use crate::bringing::SlotSaid;

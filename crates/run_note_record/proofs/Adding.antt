@@ -1,37 +1,37 @@
 -- What a second has brought so far, as it begins, with each step, and as it ends.
 use Rattle.std.proofs.Common.{◌≡◌, ℕ, ◌+◌, true, false, not, ◌&&◌, List, [], ◌∷◌, ◌++◌, Contains, refl, ap, sym, subst, ◌∙◌, arith, append_assoc, append-nil}
 use Rattle.std.specs.List.{AllByRecursion, list_any}
-use Rattle.activity_codec.specs.declared.values.Slot.{Slot}
-use Rattle.activity_codec.specs.Activity.{same_slot}
-use Rattle.trace_model.specs.declared.Card.{Card}
-use Rattle.trace_model.specs.Trace.{TraceSecond}
-use Rattle.card_image.specs.Own.{IsOwnValid}
-use Rattle.log_model.specs.declared.lines.Verdict.{Verdict}
-use Rattle.log_model.specs.Log.{RunLog, In, same_phase, is_accepting}
-use Rattle.log_model.specs.Course.{ToldSecond, Visit, Before, Course, has_power, second_told, went, Went}
-use Rattle.event_model.specs.Events.{Event, Seen, Tearing, seen_by, seen_of, seen_spans, events_of}
-use Rattle.run_unit_course.specs.Followed.{Lit}
-use Rattle.run_unit_course.specs.Turn.{begins_with}
-use Rattle.note_model.specs.Done.{done_by}
-use Rattle.note_model.specs.Noted.{Note, noted_in}
-use Rattle.safety_model.specs.Recording.{card_image}
-use Rattle.safety_model.specs.Safe.{Devices}
-use Rattle.unit_events.specs.Shown.{all_kinds}
-use Rattle.unit_events.proofs.Shows.{each-kind}
-use Rattle.run_course.specs.Followed.{Progress}
-use Rattle.run_course.specs.Seconds.{GoesOnBy}
-use Rattle.run_course.proofs.Steps.{with-supply, went-same_}
-use Rattle.run_course.proofs.Told.{lit-power, lit-starts, lit-told}
-use Rattle.run_course.specs.Moment.{goes_on}
-use Rattle.run_course.proofs.Reached.{second-reached}
+use Rattle.run_events.specs.activity_codec.declared.values.Slot.{Slot}
+use Rattle.run_events.specs.activity_codec.Activity.{same_slot}
+use Rattle.run_devices.specs.trace_model.declared.Card.{Card}
+use Rattle.run_devices.specs.trace_model.Trace.{TraceSecond}
+use Rattle.run_devices.specs.card_image.Own.{IsOwnValid}
+use Rattle.run_devices.specs.log_model.declared.lines.Verdict.{Verdict}
+use Rattle.run_devices.specs.log_model.Log.{RunLog, In, same_phase, is_accepting}
+use Rattle.run_devices.specs.log_model.Course.{ToldSecond, Visit, Before, Course, has_power, second_told, went, Went}
+use Rattle.run_devices.specs.event_model.Events.{Event, Seen, Tearing, seen_by, seen_of, seen_spans, events_of}
+use Rattle.run_devices.specs.run_unit_course.Followed.{Lit}
+use Rattle.run_devices.specs.run_unit_course.Turn.{begins_with}
+use Rattle.run_devices.specs.note_model.Done.{done_by}
+use Rattle.run_devices.specs.note_model.Noted.{Note, noted_in}
+use Rattle.run_devices.specs.safety_model.Recording.{card_image}
+use Rattle.run_devices.specs.safety_model.Safe.{Devices}
+use Rattle.run_events.specs.unit_events.Shown.{all_kinds}
+use Rattle.run_events.proofs.unit_events.Shows.{each-kind}
+use Rattle.run_devices.specs.run_course.Followed.{Progress}
+use Rattle.run_devices.specs.run_course.Seconds.{GoesOnBy}
+use Rattle.run_devices.proofs.run_course.Steps.{with-supply, went-same_}
+use Rattle.run_devices.proofs.run_course.Told.{lit-power, lit-starts, lit-told}
+use Rattle.run_devices.specs.run_course.Moment.{goes_on}
+use Rattle.run_devices.proofs.run_course.Reached.{second-reached}
 use Rattle.run_events.specs.Shown.{by_kind, all_sure, ShowsSince}
 use Rattle.run_events.specs.Seconds.{second_events, seen_next}
 use Rattle.run_events.specs.Choice.{IsTornIn}
 use Rattle.run_events.proofs.Later.{told-number}
 use Rattle.run_events.proofs.Shows.{nothing-more}
-use Rattle.run_promise.specs.Origin.{Origin, rule_of, start_at, first_of}
-use Rattle.run_promise.specs.Beside.{HaveLeftMore}
-use Rattle.run_promise.specs.Whole.{NothingFailed}
+use Rattle.run_devices.specs.run_promise.Origin.{Origin, rule_of, start_at, first_of}
+use Rattle.run_devices.specs.run_promise.Beside.{HaveLeftMore}
+use Rattle.run_devices.specs.run_promise.Whole.{NothingFailed}
 use Rattle.run_note_record.specs.Opened.{IsOpenSo}
 use Rattle.run_note_record.specs.Uses.{times_of, opened_in, notes_in, notes_now, uses_in, AreExactIn, FindsNone}
 use Rattle.run_note_record.specs.Evented.{number_in, limit_in, brought_now}

@@ -1,18 +1,18 @@
 -- A call that writes a ring, and other bytes before and behind that.
 use Rattle.std.proofs.Common.{◌≡◌, inl, ℕ, Option, Some, None, IfSome, List, [], ◌∷◌, ◌++◌, refl}
-use Rattle.trace_model.specs.declared.Card.{Card}
-use Rattle.trace_model.specs.declared.Card.TheVariants.{A, B}
-use Rattle.gated_ring.specs.Change.{IsAdded}
-use Rattle.message_model.specs.Records.{insertion_ring, unit_place_ring}
-use Rattle.log_model.specs.Log.{RunLog}
-use Rattle.note_model.specs.Odometer.{SpanFrom, odometer_at}
-use Rattle.note_model.specs.Noted.{Withdrawal, InsertionNote, PlaceNote, Note, Accepts, Withdraws, Enters}
-use Rattle.safety_model.specs.Recording.{card_image}
-use Rattle.safety_model.specs.Safe.{Devices, card_of}
-use Rattle.run_promise.specs.Found.{found_of}
+use Rattle.run_devices.specs.trace_model.declared.Card.{Card}
+use Rattle.run_devices.specs.trace_model.declared.Card.TheVariants.{A, B}
+use Rattle.run_events.specs.gated_ring.Change.{IsAdded}
+use Rattle.run_events.specs.message_model.Records.{insertion_ring, unit_place_ring}
+use Rattle.run_devices.specs.log_model.Log.{RunLog}
+use Rattle.run_devices.specs.note_model.Odometer.{SpanFrom, odometer_at}
+use Rattle.run_devices.specs.note_model.Noted.{Withdrawal, InsertionNote, PlaceNote, Note, Accepts, Withdraws, Enters}
+use Rattle.run_devices.specs.safety_model.Recording.{card_image}
+use Rattle.run_devices.specs.safety_model.Safe.{Devices, card_of}
+use Rattle.run_devices.specs.run_promise.Found.{found_of}
 use Rattle.run_note_record.specs.Beside.{HaveLeftMore}
 use Rattle.run_note_record.specs.Ringed.{holder_in, TellsIn, IsInsertionIn, Seating, Ringed, HasSameRings, WritesRing, IsAddedAt, MayBeAdded, IsWithdrawnAt, MayBeWithdrawn, AnInsertionIsNoted, APlaceIsNoted, AWithdrawalIsNoted, AWithdrawalIsBroken, AnInsertionIsBroken, APlaceIsBroken, Since}
-use Rattle.card_image.specs.Own.{own_sizes}
+use Rattle.run_devices.specs.card_image.Own.{own_sizes}
 use Rattle.run_devices.proofs.Measured.{goes-itself}
 use Rattle.run_note_record.specs.OnCards.{PlacesStay, IsReading, VehiclesGo, SessionsGo, NoOtherComes, CardsGo, CardsStay, PlaceIsTaken}
 use Rattle.run_note_record.specs.Sessions.{IsBrokenSince, OpensSince, Shuts}

@@ -4,27 +4,27 @@ use Rattle.std.specs.List.{AllByRecursion, list_any}
 use Rattle.std.proofs.lemmas.List.{same_from_push}
 use Rattle.std.proofs.lemmas.List.Elements.{Contains-append_left, filter-append}
 use Rattle.std.proofs.lemmas.Bool.Decides.{nat_tests}
-use Rattle.minute_model.specs.Activity.{last}
-use Rattle.minute_model.specs.declared.Minute.{Minute}
-use Rattle.minute_model.specs.declared.Rule.{Rule}
-use Rattle.unit_model.specs.Image.{last_kept, odometer_at}
-use Rattle.log_model.specs.declared.lines.Break.{Break}
-use Rattle.log_model.specs.declared.lines.Break.TheVariants.{Cut, Tear}
-use Rattle.log_model.specs.Causes.{is_cut, has_failed, second_of}
-use Rattle.log_model.specs.Course.{ToldSecond}
-use Rattle.log_model.specs.Log.{RunLog, kept_after}
-use Rattle.log_model.specs.Spans.{first_in}
-use Rattle.history_model.specs.History.{decided_of, cut_second, limit_by}
-use Rattle.run_unit_course.specs.Lines.{log_of, cut_at, with_kept, found_from, tells_cut}
-use Rattle.run_unit_course.proofs.Lines.{kept-known, kept-now, tells-append, tells-found, tells-front, tells-behind, take-front, take-all}
-use Rattle.note_model.specs.Done.{has_failed_in}
-use Rattle.note_model.specs.Odometer.{SpanFrom, MayStore, OfStart, OfKept, OfCut, found_kept, last_second, BeginsFrom, HaveBases}
-use Rattle.safety_model.specs.Safe.{Devices}
-use Rattle.run_course.specs.Moments.{and_break}
-use Rattle.run_course.proofs.Lookups.{kept-by}
-use Rattle.run_course.proofs.Logs.{found_log, kept-found}
+use Rattle.run_devices.specs.minute_model.Activity.{last}
+use Rattle.run_devices.specs.minute_model.declared.Minute.{Minute}
+use Rattle.run_devices.specs.minute_model.declared.Rule.{Rule}
+use Rattle.run_devices.specs.unit_model.Image.{last_kept, odometer_at}
+use Rattle.run_devices.specs.log_model.declared.lines.Break.{Break}
+use Rattle.run_devices.specs.log_model.declared.lines.Break.TheVariants.{Cut, Tear}
+use Rattle.run_devices.specs.log_model.Causes.{is_cut, has_failed, second_of}
+use Rattle.run_devices.specs.log_model.Course.{ToldSecond}
+use Rattle.run_devices.specs.log_model.Log.{RunLog, kept_after}
+use Rattle.run_devices.specs.log_model.Spans.{first_in}
+use Rattle.run_devices.specs.history_model.History.{decided_of, cut_second, limit_by}
+use Rattle.run_devices.specs.run_unit_course.Lines.{log_of, cut_at, with_kept, found_from, tells_cut}
+use Rattle.run_devices.proofs.run_unit_course.Lines.{kept-known, kept-now, tells-append, tells-found, tells-front, tells-behind, take-front, take-all}
+use Rattle.run_devices.specs.note_model.Done.{has_failed_in}
+use Rattle.run_devices.specs.note_model.Odometer.{SpanFrom, MayStore, OfStart, OfKept, OfCut, found_kept, last_second, BeginsFrom, HaveBases}
+use Rattle.run_devices.specs.safety_model.Safe.{Devices}
+use Rattle.run_devices.specs.run_course.Moments.{and_break}
+use Rattle.run_devices.proofs.run_course.Lookups.{kept-by}
+use Rattle.run_devices.proofs.run_course.Logs.{found_log, kept-found}
 use Rattle.run_note_record.specs.Origin.{Origin, rule_of, first_of}
-use Rattle.run_rings.specs.Spans.{go_on_from, with_second}
+use Rattle.run_events.specs.run_rings.Spans.{go_on_from, with_second}
 use Rattle.run_note_record.specs.RingsSoFar.{HasMoreBreaks}
 use Rattle.run_note_record.specs.Stored.{IsFoundEnd, IsOpenEnd, limited, minutes_kept, IsNewest, StandsOn, StoresOn, SinceRead, StoresOff}
 use Rattle.run_note_record.proofs.SoFar.{failed-more}

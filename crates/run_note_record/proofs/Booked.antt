@@ -3,32 +3,32 @@ use Rattle.std.proofs.Common.{◌≡◌, ◌⊎◌, inl, inr, ⊎_elim, ℕ, zer
 use Rattle.std.specs.Prelude.{max}
 use Rattle.std.proofs.lemmas.List.{map-append, append_cancel_right, same_from_push, length-append}
 use Rattle.std.proofs.lemmas.List.Elements.{filter-append, All-map, Contains-push_cases, Contains-append_cases}
-use Rattle.trace_model.specs.Trace.{TraceSecond}
-use Rattle.minute_model.specs.Activity.{last}
-use Rattle.minute_model.specs.declared.Minute.{Minute}
-use Rattle.minute_model.specs.declared.Rule.{Rule}
-use Rattle.minute_model.specs.Minute.{minutes_ahead}
-use Rattle.minute_model.specs.Span.{AreNumbered, count_from, end_of, latest, ungiven_of}
-use Rattle.minute_model.proofs.Counted.{decided-minutes}
-use Rattle.log_model.specs.Course.{ToldSecond, went}
-use Rattle.log_model.specs.Log.{RunLog}
-use Rattle.log_model.specs.Spans.{seconds_in, first_in, spans_of}
-use Rattle.history_model.specs.Minutes.{HistoryMinute, up_to}
-use Rattle.history_model.specs.Presence.{Start}
-use Rattle.history_model.specs.History.{seated, minutes_after, span_minutes, settlings_of, decided_of, limit_by, limited_to, history_by, cut_second}
-use Rattle.history_model.specs.Completeness.{deciding_of}
-use Rattle.history_model.specs.Growth.{as_span, closed_limit, closed_history}
-use Rattle.history_model.specs.Book.{Book, all, found, IsMark}
-use Rattle.history_model.proofs.Books.{up_to-within, contains-up_to}
-use Rattle.history_model.proofs.Deciding.{counted, span-settled}
-use Rattle.run_unit_course.specs.Followed.{UnitPower, Lit, going_on, as_spans}
-use Rattle.run_unit_course.specs.Turn.{span_at}
-use Rattle.note_model.specs.Odometer.{SpanFrom}
-use Rattle.run_course.specs.Followed.{Progress, BookFollowsRun, IsShut, IsTied}
-use Rattle.run_course.proofs.Deciding.{added, decides-now}
-use Rattle.run_course.proofs.Steps.{lit-parts, span-end}
+use Rattle.run_devices.specs.trace_model.Trace.{TraceSecond}
+use Rattle.run_devices.specs.minute_model.Activity.{last}
+use Rattle.run_devices.specs.minute_model.declared.Minute.{Minute}
+use Rattle.run_devices.specs.minute_model.declared.Rule.{Rule}
+use Rattle.run_devices.specs.minute_model.Minute.{minutes_ahead}
+use Rattle.run_devices.specs.minute_model.Span.{AreNumbered, count_from, end_of, latest, ungiven_of}
+use Rattle.run_devices.proofs.minute_model.Counted.{decided-minutes}
+use Rattle.run_devices.specs.log_model.Course.{ToldSecond, went}
+use Rattle.run_devices.specs.log_model.Log.{RunLog}
+use Rattle.run_devices.specs.log_model.Spans.{seconds_in, first_in, spans_of}
+use Rattle.run_devices.specs.history_model.Minutes.{HistoryMinute, up_to}
+use Rattle.run_devices.specs.history_model.Presence.{Start}
+use Rattle.run_devices.specs.history_model.History.{seated, minutes_after, span_minutes, settlings_of, decided_of, limit_by, limited_to, history_by, cut_second}
+use Rattle.run_devices.specs.history_model.Completeness.{deciding_of}
+use Rattle.run_devices.specs.history_model.Growth.{as_span, closed_limit, closed_history}
+use Rattle.run_devices.specs.history_model.Book.{Book, all, found, IsMark}
+use Rattle.run_devices.proofs.history_model.Books.{up_to-within, contains-up_to}
+use Rattle.run_devices.proofs.history_model.Deciding.{counted, span-settled}
+use Rattle.run_devices.specs.run_unit_course.Followed.{UnitPower, Lit, going_on, as_spans}
+use Rattle.run_devices.specs.run_unit_course.Turn.{span_at}
+use Rattle.run_devices.specs.note_model.Odometer.{SpanFrom}
+use Rattle.run_devices.specs.run_course.Followed.{Progress, BookFollowsRun, IsShut, IsTied}
+use Rattle.run_devices.proofs.run_course.Deciding.{added, decides-now}
+use Rattle.run_devices.proofs.run_course.Steps.{lit-parts, span-end}
 use Rattle.run_note_record.specs.Origin.{Origin}
-use Rattle.run_rings.specs.Spans.{go_on_from, with_second}
+use Rattle.run_events.specs.run_rings.Spans.{go_on_from, with_second}
 use Rattle.run_note_record.specs.Stored.{limited, minutes_kept, IsNewest, StandsOn, StoresOn}
 use Rattle.run_note_record.proofs.Stored.{numbers, mapped, AtEnd, nothing, push, at-end}
 use Rattle.run_note_record.proofs.Bases.{with-next, with-first, goes-on}

@@ -6,38 +6,38 @@ use Rattle.std.proofs.lemmas.Bool.{eqb-true, ne_eqb, eqb-false}
 use Rattle.std.proofs.lemmas.Bool.Decides.{nat_tests}
 use Rattle.std.proofs.lemmas.List.{map-append}
 use Rattle.std.proofs.lemmas.List.Folds.{list_any-append}
-use Rattle.activity_codec.specs.declared.values.Slot.{Slot}
-use Rattle.activity_codec.specs.declared.values.Slot.TheVariants.{Driver, CoDriver}
-use Rattle.activity_codec.specs.Activity.{same_slot}
-use Rattle.trace_model.specs.declared.Card.{Card}
-use Rattle.trace_model.specs.declared.Action.{Action}
-use Rattle.trace_model.specs.declared.Action.TheVariants.{Select, Insert, Withdraw, Tear as Pull, Place, Manual}
-use Rattle.trace_model.specs.Trace.{TraceSecond}
-use Rattle.log_model.specs.declared.lines.Break.{Break}
-use Rattle.log_model.specs.declared.lines.SlotFault.{SlotFault}
-use Rattle.log_model.specs.declared.lines.Verdict.{Verdict}
-use Rattle.log_model.specs.Log.{RunLog, Phase, In, Keeping, same_phase, kept_by, kept_after, tears_here, is_torn_in, found_in}
-use Rattle.log_model.specs.Slots.{Slots, Sitting, in_slot, other_slot, refusal}
-use Rattle.log_model.specs.Course.{ToldSecond, Visit, Course, Before, Moved, card_in, visits, has_power, answered, moved_by, both_told, went}
-use Rattle.event_model.specs.declared.kinds.TheConstants.{DRIVING_WITHOUT_CARD, OVER_SPEEDING, POWER_INTERRUPTION, CARD_FAULT}
-use Rattle.event_model.specs.declared.entries.Span.{Span}
-use Rattle.event_model.specs.Spans.{gap_of}
-use Rattle.event_model.specs.Events.{Event, Seen, Tearing, number_of, last_number, noted_with, with_card, accepted_card, crew_of, course_by, moved_by_action, within_by, seen_by, seen_of, seen_spans, torn_at, accepted_at, standing, gap_event, beside_judged, crew_judged, found_events, is_first, beside_torn, fault_of, torn_in_turn}
-use Rattle.run_unit_course.specs.Followed.{Lit}
-use Rattle.run_course.specs.Moments.{and_break}
-use Rattle.run_course.specs.Followed.{Progress, BookFollowsRun}
-use Rattle.run_course.specs.Seconds.{GoesOnBy}
-use Rattle.run_course.proofs.Lookups.{break-more}
-use Rattle.run_course.proofs.Steps.{with-supply, went-same_}
-use Rattle.run_course.proofs.Told.{lit-power, lit-told}
-use Rattle.run_course.specs.Reached.{IsBehind, IsMoment, IsUpTo, Reaches, course_with, moved_with, begun_at, moved_at, course_at, IsTearAt}
-use Rattle.run_course.specs.Moment.{goes_on}
-use Rattle.run_course.specs.Telling.{IsOneOut}
-use Rattle.run_course.proofs.Reached.{at-by, lines-reached}
+use Rattle.run_events.specs.activity_codec.declared.values.Slot.{Slot}
+use Rattle.run_events.specs.activity_codec.declared.values.Slot.TheVariants.{Driver, CoDriver}
+use Rattle.run_events.specs.activity_codec.Activity.{same_slot}
+use Rattle.run_devices.specs.trace_model.declared.Card.{Card}
+use Rattle.run_devices.specs.trace_model.declared.Action.{Action}
+use Rattle.run_devices.specs.trace_model.declared.Action.TheVariants.{Select, Insert, Withdraw, Tear as Pull, Place, Manual}
+use Rattle.run_devices.specs.trace_model.Trace.{TraceSecond}
+use Rattle.run_devices.specs.log_model.declared.lines.Break.{Break}
+use Rattle.run_devices.specs.log_model.declared.lines.SlotFault.{SlotFault}
+use Rattle.run_devices.specs.log_model.declared.lines.Verdict.{Verdict}
+use Rattle.run_devices.specs.log_model.Log.{RunLog, Phase, In, Keeping, same_phase, kept_by, kept_after, tears_here, is_torn_in, found_in}
+use Rattle.run_devices.specs.log_model.Slots.{Slots, Sitting, in_slot, other_slot, refusal}
+use Rattle.run_devices.specs.log_model.Course.{ToldSecond, Visit, Course, Before, Moved, card_in, visits, has_power, answered, moved_by, both_told, went}
+use Rattle.run_devices.specs.event_model.declared.kinds.TheConstants.{DRIVING_WITHOUT_CARD, OVER_SPEEDING, POWER_INTERRUPTION, CARD_FAULT}
+use Rattle.run_devices.specs.event_model.declared.entries.Span.{Span}
+use Rattle.run_devices.specs.event_model.Spans.{gap_of}
+use Rattle.run_devices.specs.event_model.Events.{Event, Seen, Tearing, number_of, last_number, noted_with, with_card, accepted_card, crew_of, course_by, moved_by_action, within_by, seen_by, seen_of, seen_spans, torn_at, accepted_at, standing, gap_event, beside_judged, crew_judged, found_events, is_first, beside_torn, fault_of, torn_in_turn}
+use Rattle.run_devices.specs.run_unit_course.Followed.{Lit}
+use Rattle.run_devices.specs.run_course.Moments.{and_break}
+use Rattle.run_devices.specs.run_course.Followed.{Progress, BookFollowsRun}
+use Rattle.run_devices.specs.run_course.Seconds.{GoesOnBy}
+use Rattle.run_devices.proofs.run_course.Lookups.{break-more}
+use Rattle.run_devices.proofs.run_course.Steps.{with-supply, went-same_}
+use Rattle.run_devices.proofs.run_course.Told.{lit-power, lit-told}
+use Rattle.run_devices.specs.run_course.Reached.{IsBehind, IsMoment, IsUpTo, Reaches, course_with, moved_with, begun_at, moved_at, course_at, IsTearAt}
+use Rattle.run_devices.specs.run_course.Moment.{goes_on}
+use Rattle.run_devices.specs.run_course.Telling.{IsOneOut}
+use Rattle.run_devices.proofs.run_course.Reached.{at-by, lines-reached}
 use Rattle.run_events.specs.Shown.{by_kind}
 use Rattle.run_events.specs.Seconds.{span_before, bares_by, overs_by, gap_before, gap_by, faults_by, found_by, second_events, seen_next}
 use Rattle.run_events.proofs.Later.{told-number, seen-same}
-use Rattle.run_promise.specs.Origin.{Origin, rule_of, start_at, first_of}
+use Rattle.run_devices.specs.run_promise.Origin.{Origin, rule_of, start_at, first_of}
 use Rattle.run_note_record.specs.Evented.{limit_in, brought_now}
 use Rattle.run_note_record.specs.Noting.{Acting, is_told}
 use Rattle.run_note_record.specs.EventsSoFar.{fault_with as fault_left}

@@ -4,18 +4,18 @@ use Rattle.std.specs.Prelude.{flat_map, slice_get}
 use Rattle.std.specs.List.{AllByRecursion}
 use Rattle.std.proofs.lemmas.List.{map-append}
 use Rattle.std.proofs.lemmas.Grind.{flat_map-append}
-use Rattle.activity_codec.specs.declared.values.Slot.{Slot}
-use Rattle.activity_codec.specs.declared.values.Slot.TheVariants.{Driver, CoDriver}
-use Rattle.trace_model.specs.declared.Action.{Action}
-use Rattle.trace_model.specs.Trace.{TraceSecond}
-use Rattle.log_model.specs.declared.lines.Verdict.{Verdict}
-use Rattle.log_model.specs.Log.{RunLog, Phase, In, Keeping, is_torn_in, found_in}
-use Rattle.log_model.specs.Slots.{refusal}
-use Rattle.log_model.specs.Course.{Visit, Course, Before, Moved, has_power, second_told, answered, lit_course}
-use Rattle.event_model.specs.Events.{Event, Seen, Tearing, course_by, moved_by_action, within_by, seen_by, number_of, found_events, fault_of, torn_in_turn}
-use Rattle.run_course.specs.Moments.{SameUpTo}
-use Rattle.run_course.proofs.Moments.{later-lines}
-use Rattle.run_course.specs.Reached.{IsBehind, IsMoment, IsUpTo, course_with, moved_with, begun_at, moved_at}
+use Rattle.run_events.specs.activity_codec.declared.values.Slot.{Slot}
+use Rattle.run_events.specs.activity_codec.declared.values.Slot.TheVariants.{Driver, CoDriver}
+use Rattle.run_devices.specs.trace_model.declared.Action.{Action}
+use Rattle.run_devices.specs.trace_model.Trace.{TraceSecond}
+use Rattle.run_devices.specs.log_model.declared.lines.Verdict.{Verdict}
+use Rattle.run_devices.specs.log_model.Log.{RunLog, Phase, In, Keeping, is_torn_in, found_in}
+use Rattle.run_devices.specs.log_model.Slots.{refusal}
+use Rattle.run_devices.specs.log_model.Course.{Visit, Course, Before, Moved, has_power, second_told, answered, lit_course}
+use Rattle.run_devices.specs.event_model.Events.{Event, Seen, Tearing, course_by, moved_by_action, within_by, seen_by, number_of, found_events, fault_of, torn_in_turn}
+use Rattle.run_devices.specs.run_course.Moments.{SameUpTo}
+use Rattle.run_devices.proofs.run_course.Moments.{later-lines}
+use Rattle.run_devices.specs.run_course.Reached.{IsBehind, IsMoment, IsUpTo, course_with, moved_with, begun_at, moved_at}
 use Rattle.run_events.specs.Seconds.{faults_by, found_by}
 use Rattle.run_events.proofs.Later.{told-number}
 use Rattle.run_note_record.specs.Bringing.{ChoiceBefore}

@@ -1,24 +1,24 @@
 -- What the bytes of an insertion and of a place tell, as note_model has an entry stand for a note.
 use Rattle.std.proofs.Common.{◌≡◌, ◌∙◌, ℕ, ◌<◌, ◌^◌, None, List, [], length, refl, ap}
 use Rattle.std.specs.Prelude.{slice_index_or}
-use Rattle.card_layout.specs.Fields.{field_at, number_in}
-use Rattle.card_layout.proofs.Cuts.{cut-joined}
+use Rattle.tach_media.specs.card_layout.Fields.{field_at, number_in}
+use Rattle.tach_media.proofs.card_layout.Cuts.{cut-joined}
 use Rattle.byteorder.specs.Numbers.{length-bytes_high_first}
-use Rattle.activity_codec.specs.Words.{slot_number}
-use Rattle.trace_model.specs.declared.Card.{Card}
-use Rattle.tacho_types.specs.CardNumber.{card_number_bytes}
-use Rattle.tacho_types.specs.Numbers.{time_bytes}
-use Rattle.tacho_types.specs.declared.card_number.FullCardNumber.{FullCardNumber}
-use Rattle.tacho_types.specs.declared.places.PlaceEntry.{PlaceEntry}
-use Rattle.message_model.specs.Records.{insertion_widths}
-use Rattle.log_model.specs.Log.{RunLog}
-use Rattle.note_model.specs.Odometer.{SpanFrom, odometer_at}
-use Rattle.note_model.specs.Noted.{Acceptance, PlaceNote}
-use Rattle.note_model.specs.Rings.{Holder, IsInsertion, IsPlace, kind_of}
-use Rattle.unit_notes.specs.declared.insertion.Insertion.{Insertion}
-use Rattle.unit_notes.specs.Entries.{insertion_fields, insertion_bytes, unit_place_bytes}
-use Rattle.unit_notes.specs.Fields.{InsertionFits}
-use Rattle.unit_notes.proofs.EntryFields.{tells_insertion, tells_place}
+use Rattle.run_events.specs.activity_codec.Words.{slot_number}
+use Rattle.run_devices.specs.trace_model.declared.Card.{Card}
+use Rattle.run_devices.specs.tacho_types.CardNumber.{card_number_bytes}
+use Rattle.run_devices.specs.tacho_types.Numbers.{time_bytes}
+use Rattle.run_devices.specs.tacho_types.declared.card_number.FullCardNumber.{FullCardNumber}
+use Rattle.run_devices.specs.tacho_types.declared.places.PlaceEntry.{PlaceEntry}
+use Rattle.run_events.specs.message_model.Records.{insertion_widths}
+use Rattle.run_devices.specs.log_model.Log.{RunLog}
+use Rattle.run_devices.specs.note_model.Odometer.{SpanFrom, odometer_at}
+use Rattle.run_devices.specs.note_model.Noted.{Acceptance, PlaceNote}
+use Rattle.run_devices.specs.note_model.Rings.{Holder, IsInsertion, IsPlace, kind_of}
+use Rattle.run_events.specs.unit_notes.declared.insertion.Insertion.{Insertion}
+use Rattle.run_events.specs.unit_notes.Entries.{insertion_fields, insertion_bytes, unit_place_bytes}
+use Rattle.run_events.specs.unit_notes.Fields.{InsertionFits}
+use Rattle.run_events.proofs.unit_notes.EntryFields.{tells_insertion, tells_place}
 
 -- the expiry stands there byte by byte
 expiry-field : (v : Insertion) → InsertionFits v → field_at insertion_widths 3 (insertion_bytes v) ≡ time_bytes v.expiry

@@ -3,18 +3,18 @@ use Rattle.std.proofs.Common.{◌≡◌, ◌⊎◌, inl, inr, ⊎_elim, ℕ, zer
 use Rattle.std.specs.Prelude.{slice_get}
 use Rattle.std.specs.List.{AllByRecursion, list_any}
 use Rattle.std.proofs.lemmas.Bool.{eqb-true}
-use Rattle.activity_codec.specs.declared.values.Slot.{Slot}
-use Rattle.activity_codec.specs.declared.values.Slot.TheVariants.{Driver, CoDriver}
-use Rattle.activity_codec.specs.Activity.{same_slot}
-use Rattle.trace_model.specs.declared.Card.{Card}
-use Rattle.trace_model.specs.declared.Action.{Action}
-use Rattle.trace_model.specs.declared.Action.TheVariants.{Select, Insert, Withdraw, Tear as Pull, Place, Manual}
-use Rattle.trace_model.specs.Trace.{TraceSecond}
-use Rattle.log_model.specs.declared.lines.SlotFault.{SlotFault}
-use Rattle.log_model.specs.Log.{RunLog, Phase, In, Keeping, same_phase, cut_in, is_torn_in, is_accepting}
-use Rattle.log_model.specs.Slots.{Slots, Sitting, other_slot, refusal}
-use Rattle.log_model.specs.Course.{Visit, Course, Before, Moved, card_in, visits, has_power, second_told, lit_course, slot_told, both_told, moved_by, unmoved, begins, is_settling, fresh, acted, all_acted, answered, cut_told}
-use Rattle.event_model.specs.Events.{Seen, Tearing, number_of, seen_by, is_first}
+use Rattle.run_events.specs.activity_codec.declared.values.Slot.{Slot}
+use Rattle.run_events.specs.activity_codec.declared.values.Slot.TheVariants.{Driver, CoDriver}
+use Rattle.run_events.specs.activity_codec.Activity.{same_slot}
+use Rattle.run_devices.specs.trace_model.declared.Card.{Card}
+use Rattle.run_devices.specs.trace_model.declared.Action.{Action}
+use Rattle.run_devices.specs.trace_model.declared.Action.TheVariants.{Select, Insert, Withdraw, Tear as Pull, Place, Manual}
+use Rattle.run_devices.specs.trace_model.Trace.{TraceSecond}
+use Rattle.run_devices.specs.log_model.declared.lines.SlotFault.{SlotFault}
+use Rattle.run_devices.specs.log_model.Log.{RunLog, Phase, In, Keeping, same_phase, cut_in, is_torn_in, is_accepting}
+use Rattle.run_devices.specs.log_model.Slots.{Slots, Sitting, other_slot, refusal}
+use Rattle.run_devices.specs.log_model.Course.{Visit, Course, Before, Moved, card_in, visits, has_power, second_told, lit_course, slot_told, both_told, moved_by, unmoved, begins, is_settling, fresh, acted, all_acted, answered, cut_told}
+use Rattle.run_devices.specs.event_model.Events.{Seen, Tearing, number_of, seen_by, is_first}
 use Rattle.run_events.specs.Choice.{IsTornIn}
 use Rattle.run_events.proofs.Later.{told-number}
 use Rattle.run_note_record.specs.Noting.{Stage}

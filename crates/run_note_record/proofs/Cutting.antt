@@ -3,40 +3,40 @@ use Rattle.std.proofs.Common.{◌≡◌, inr, ℕ, zero, suc, ◌+◌, ◌<◌, 
 use Rattle.std.specs.Prelude.{◌==◌, flat_map, option_map, option_to_list, slice_get}
 use Rattle.std.specs.List.{AllByRecursion, list_any, filter_map}
 use Rattle.std.proofs.lemmas.Bool.Decides.{nat_tests}
-use Rattle.activity_codec.specs.declared.values.Slot.{Slot}
-use Rattle.activity_codec.specs.declared.values.Slot.TheVariants.{Driver, CoDriver}
-use Rattle.activity_codec.specs.Activity.{same_slot}
-use Rattle.trace_model.specs.declared.Action.{Action}
-use Rattle.trace_model.specs.Trace.{TraceSecond}
-use Rattle.run_model.specs.declared.Device.{Device}
-use Rattle.run_model.specs.declared.Device.TheVariants.{Unit as Recorder}
-use Rattle.log_model.specs.declared.lines.Break.{Break}
-use Rattle.log_model.specs.declared.lines.Verdict.{Verdict}
-use Rattle.log_model.specs.Log.{RunLog, Phase, In, Keeping, same_phase, cut_in, kept_after, is_torn_in, is_accepting}
-use Rattle.log_model.specs.Slots.{is_accepted, refusal}
-use Rattle.log_model.specs.Causes.{RoseBy}
-use Rattle.log_model.specs.Course.{ToldSecond, Visit, Course, Before, has_power, second_told, answered, went, Went}
-use Rattle.event_model.specs.declared.kinds.TheConstants.{DRIVING_WITHOUT_CARD, OVER_SPEEDING, POWER_INTERRUPTION, CARD_FAULT}
-use Rattle.event_model.specs.declared.entries.Span.{Span}
-use Rattle.event_model.specs.Spans.{gap_of}
-use Rattle.event_model.specs.Runs.{last_run}
-use Rattle.event_model.specs.Events.{Event, Seen, Tearing, number_of, last_number, noted_with, course_by, moved_by_action, within_by, seen_by, seen_of, seen_spans, is_bare, bare_event, over_event, first_card, standing, found_events, fault_of, torn_in_turn}
-use Rattle.run_unit_course.specs.Lines.{cut_at, tells_cut}
-use Rattle.run_unit_course.specs.Followed.{UnitPower, Lit}
-use Rattle.run_unit_course.specs.Turn.{begins_with}
-use Rattle.safety_model.specs.Safe.{Devices}
-use Rattle.unit_events.specs.Shown.{all_kinds}
-use Rattle.run_course.specs.Moments.{and_break}
-use Rattle.run_course.specs.Followed.{Progress}
-use Rattle.run_course.specs.Seconds.{GoesOnBy}
-use Rattle.run_course.specs.Reached.{IsMoment, course_at}
-use Rattle.run_course.proofs.Lookups.{break-more}
-use Rattle.run_course.proofs.Moments.{later-lines}
-use Rattle.run_course.proofs.Reached.{at-by}
-use Rattle.run_course.proofs.Steps.{went-same_}
-use Rattle.run_course.specs.Moment.{Moment, goes_on}
-use Rattle.run_course.specs.Telling.{IsMore, begun_by, IsLeft}
-use Rattle.run_course.proofs.Telling.{cut-ends_told}
+use Rattle.run_events.specs.activity_codec.declared.values.Slot.{Slot}
+use Rattle.run_events.specs.activity_codec.declared.values.Slot.TheVariants.{Driver, CoDriver}
+use Rattle.run_events.specs.activity_codec.Activity.{same_slot}
+use Rattle.run_devices.specs.trace_model.declared.Action.{Action}
+use Rattle.run_devices.specs.trace_model.Trace.{TraceSecond}
+use Rattle.run_devices.specs.run_model.declared.Device.{Device}
+use Rattle.run_devices.specs.run_model.declared.Device.TheVariants.{Unit as Recorder}
+use Rattle.run_devices.specs.log_model.declared.lines.Break.{Break}
+use Rattle.run_devices.specs.log_model.declared.lines.Verdict.{Verdict}
+use Rattle.run_devices.specs.log_model.Log.{RunLog, Phase, In, Keeping, same_phase, cut_in, kept_after, is_torn_in, is_accepting}
+use Rattle.run_devices.specs.log_model.Slots.{is_accepted, refusal}
+use Rattle.run_devices.specs.log_model.Causes.{RoseBy}
+use Rattle.run_devices.specs.log_model.Course.{ToldSecond, Visit, Course, Before, has_power, second_told, answered, went, Went}
+use Rattle.run_devices.specs.event_model.declared.kinds.TheConstants.{DRIVING_WITHOUT_CARD, OVER_SPEEDING, POWER_INTERRUPTION, CARD_FAULT}
+use Rattle.run_devices.specs.event_model.declared.entries.Span.{Span}
+use Rattle.run_devices.specs.event_model.Spans.{gap_of}
+use Rattle.run_devices.specs.event_model.Runs.{last_run}
+use Rattle.run_devices.specs.event_model.Events.{Event, Seen, Tearing, number_of, last_number, noted_with, course_by, moved_by_action, within_by, seen_by, seen_of, seen_spans, is_bare, bare_event, over_event, first_card, standing, found_events, fault_of, torn_in_turn}
+use Rattle.run_devices.specs.run_unit_course.Lines.{cut_at, tells_cut}
+use Rattle.run_devices.specs.run_unit_course.Followed.{UnitPower, Lit}
+use Rattle.run_devices.specs.run_unit_course.Turn.{begins_with}
+use Rattle.run_devices.specs.safety_model.Safe.{Devices}
+use Rattle.run_events.specs.unit_events.Shown.{all_kinds}
+use Rattle.run_devices.specs.run_course.Moments.{and_break}
+use Rattle.run_devices.specs.run_course.Followed.{Progress}
+use Rattle.run_devices.specs.run_course.Seconds.{GoesOnBy}
+use Rattle.run_devices.specs.run_course.Reached.{IsMoment, course_at}
+use Rattle.run_devices.proofs.run_course.Lookups.{break-more}
+use Rattle.run_devices.proofs.run_course.Moments.{later-lines}
+use Rattle.run_devices.proofs.run_course.Reached.{at-by}
+use Rattle.run_devices.proofs.run_course.Steps.{went-same_}
+use Rattle.run_devices.specs.run_course.Moment.{Moment, goes_on}
+use Rattle.run_devices.specs.run_course.Telling.{IsMore, begun_by, IsLeft}
+use Rattle.run_devices.proofs.run_course.Telling.{cut-ends_told}
 use Rattle.run_events.specs.Shown.{by_kind, AreTheFirst}
 use Rattle.run_events.specs.Seconds.{last_of, span_before, bares_by, overs_by, is_fast, gap_before, gap_by, faults_by, found_by, second_events}
 use Rattle.run_events.specs.Gaps.{CutIsTold, OfLast, IsKnownLast, HasGaps}
@@ -44,7 +44,7 @@ use Rattle.run_events.specs.Choice.{IsTornIn}
 use Rattle.run_events.specs.Running.{IsCutOff}
 use Rattle.run_events.proofs.Later.{told-number}
 use Rattle.run_events.proofs.Offs.{cut_seen, seen-off, faults-off, flat-off}
-use Rattle.run_promise.specs.Origin.{Origin, rule_of, start_at, first_of}
+use Rattle.run_devices.specs.run_promise.Origin.{Origin, rule_of, start_at, first_of}
 use Rattle.run_note_record.specs.Evented.{limit_in, brought_now}
 use Rattle.run_note_record.specs.Noting.{Stage, Waking, Acting, Ended, is_told}
 use Rattle.run_note_record.specs.EventsSoFar.{FitsSoFar, SoFar, BeginsNow, AFailureCuts}
@@ -58,7 +58,7 @@ use Rattle.run_note_record.proofs.Bringing.{brought-as}
 use Rattle.run_note_record.proofs.Choices.{fits-in}
 use Rattle.run_note_record.proofs.Noting.{cut-by}
 use Rattle.run_note_record.proofs.Adding.{power-now, starts-now, next-as, open-by, open-of, later-images, evented-in}
-use Rattle.run_course.proofs.Told.{lit-told}
+use Rattle.run_devices.proofs.run_course.Told.{lit-told}
 
 -- ---- by type
 kinds-as : (a b c d : Bool) (p q r v w p' q' r' v' w' : List Event) → (a ≡ true → p' ≡ p) → q' ≡ q → r' ≡ r → v' ≡ v → w' ≡ w → cond a p' (cond b q' (cond c r' (cond d v' w'))) ≡ cond a p (cond b q (cond c r (cond d v w)))

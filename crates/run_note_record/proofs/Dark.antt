@@ -4,30 +4,30 @@ use Rattle.std.specs.List.{list_any}
 use Rattle.std.proofs.lemmas.Bool.Decides.{nat_tests}
 use Rattle.std.proofs.lemmas.List.Elements.{Contains-push_cases}
 use Rattle.std.proofs.lemmas.List.Folds.{list_any-append}
-use Rattle.activity_codec.specs.declared.values.Slot.{Slot}
-use Rattle.activity_codec.specs.declared.values.Slot.TheVariants.{Driver, CoDriver}
-use Rattle.activity_codec.specs.Activity.{same_slot}
-use Rattle.trace_model.specs.declared.Card.{Card}
-use Rattle.trace_model.specs.Trace.{TraceSecond}
-use Rattle.log_model.specs.declared.lines.Verdict.{Verdict}
-use Rattle.log_model.specs.declared.lines.Break.{Break}
-use Rattle.log_model.specs.Log.{RunLog, In, same_phase, kept_after}
-use Rattle.log_model.specs.Same.{SameAt}
-use Rattle.log_model.specs.Slots.{Slots, Sitting}
-use Rattle.log_model.specs.Course.{ToldSecond, Visit, Went, Before, visits, card_in, fresh, has_power, second_told, went}
-use Rattle.event_model.specs.Events.{Seen, number_of, torn_at, entered_at}
-use Rattle.note_model.specs.Done.{has_failed_in}
-use Rattle.unit_events.specs.Noted.{StayFailed}
-use Rattle.unit_events.proofs.Failing.{failed-here}
-use Rattle.run_unit_course.specs.Lines.{log_of, cut_at}
-use Rattle.run_unit_course.specs.Followed.{UnitPower, Lit, Due, Lost, MayPower, MayFail, IsDark, cuts_from}
-use Rattle.safety_model.specs.Safe.{Devices}
-use Rattle.run_course.specs.Moments.{and_break}
-use Rattle.run_course.specs.Seconds.{GoesOnBy, next_told}
-use Rattle.run_course.proofs.Logs.{all-before, refused-at, went-refused}
-use Rattle.run_course.proofs.Told.{told-lit}
-use Rattle.log_model.proofs.Growth.{went-more}
-use Rattle.run_course.proofs.Failing.{power-on_cut}
+use Rattle.run_events.specs.activity_codec.declared.values.Slot.{Slot}
+use Rattle.run_events.specs.activity_codec.declared.values.Slot.TheVariants.{Driver, CoDriver}
+use Rattle.run_events.specs.activity_codec.Activity.{same_slot}
+use Rattle.run_devices.specs.trace_model.declared.Card.{Card}
+use Rattle.run_devices.specs.trace_model.Trace.{TraceSecond}
+use Rattle.run_devices.specs.log_model.declared.lines.Verdict.{Verdict}
+use Rattle.run_devices.specs.log_model.declared.lines.Break.{Break}
+use Rattle.run_devices.specs.log_model.Log.{RunLog, In, same_phase, kept_after}
+use Rattle.run_devices.specs.log_model.Same.{SameAt}
+use Rattle.run_devices.specs.log_model.Slots.{Slots, Sitting}
+use Rattle.run_devices.specs.log_model.Course.{ToldSecond, Visit, Went, Before, visits, card_in, fresh, has_power, second_told, went}
+use Rattle.run_devices.specs.event_model.Events.{Seen, number_of, torn_at, entered_at}
+use Rattle.run_devices.specs.note_model.Done.{has_failed_in}
+use Rattle.run_events.specs.unit_events.Noted.{StayFailed}
+use Rattle.run_events.proofs.unit_events.Failing.{failed-here}
+use Rattle.run_devices.specs.run_unit_course.Lines.{log_of, cut_at}
+use Rattle.run_devices.specs.run_unit_course.Followed.{UnitPower, Lit, Due, Lost, MayPower, MayFail, IsDark, cuts_from}
+use Rattle.run_devices.specs.safety_model.Safe.{Devices}
+use Rattle.run_devices.specs.run_course.Moments.{and_break}
+use Rattle.run_devices.specs.run_course.Seconds.{GoesOnBy, next_told}
+use Rattle.run_devices.proofs.run_course.Logs.{all-before, refused-at, went-refused}
+use Rattle.run_devices.proofs.run_course.Told.{told-lit}
+use Rattle.run_devices.proofs.log_model.Growth.{went-more}
+use Rattle.run_devices.proofs.run_course.Failing.{power-on_cut}
 use Rattle.run_events.specs.Shown.{none, none_sure, SaysNothing}
 use Rattle.run_events.specs.Seconds.{seen_next}
 use Rattle.run_events.specs.Gaps.{TellsMore}
@@ -39,8 +39,8 @@ use Rattle.run_events.proofs.Quiet.{dark-shown}
 use Rattle.run_events.proofs.Running.{lines-shown}
 use Rattle.run_events.proofs.Later.{told-number}
 use Rattle.run_events.proofs.Shows.{nothing-more}
-use Rattle.run_promise.specs.Origin.{rule_of, start_at, first_of}
-use Rattle.safety_model.specs.Recording.{card_image}
+use Rattle.run_devices.specs.run_promise.Origin.{rule_of, start_at, first_of}
+use Rattle.run_devices.specs.safety_model.Recording.{card_image}
 use Rattle.run_note_record.proofs.Opened.{first-more}
 use Rattle.run_note_record.specs.Opened.{IsFirst}
 use Rattle.run_note_record.specs.Evented.{number_in, limit_in, brought_now, IsChosen, APowerOnIsBroken, ADarkSecondBringsNothing}

@@ -2,13 +2,13 @@
 use Rattle.std.proofs.Common.{◌≡◌, ℕ, Bool, true, false, cond, List, [], ◌∷◌, ◌++◌, Contains, nat_eq, refl, ap, sym, subst, ◌∙◌, arith, append-nil}
 use Rattle.std.specs.List.{AllByRecursion}
 use Rattle.std.proofs.lemmas.Bool.{eqb-false}
-use Rattle.log_model.specs.Course.{went}
-use Rattle.event_model.specs.declared.kinds.TheConstants.{DRIVING_WITHOUT_CARD, OVER_SPEEDING}
-use Rattle.event_model.specs.Events.{Event, Seen, seen_of, seen_spans}
-use Rattle.safety_model.specs.Safe.{Devices}
-use Rattle.unit_events.specs.Shown.{all_kinds}
-use Rattle.unit_events.proofs.Shows.{each-kind}
-use Rattle.run_course.proofs.Told.{lit-told}
+use Rattle.run_devices.specs.log_model.Course.{went}
+use Rattle.run_devices.specs.event_model.declared.kinds.TheConstants.{DRIVING_WITHOUT_CARD, OVER_SPEEDING}
+use Rattle.run_devices.specs.event_model.Events.{Event, Seen, seen_of, seen_spans}
+use Rattle.run_devices.specs.safety_model.Safe.{Devices}
+use Rattle.run_events.specs.unit_events.Shown.{all_kinds}
+use Rattle.run_events.proofs.unit_events.Shows.{each-kind}
+use Rattle.run_devices.proofs.run_course.Told.{lit-told}
 use Rattle.run_events.specs.Shown.{by_kind}
 use Rattle.run_events.specs.Seconds.{span_before, bares_by, overs_by, seen_next}
 use Rattle.run_events.specs.Choice.{plain}

@@ -4,35 +4,35 @@ use Rattle.std.specs.Prelude.{◌==◌}
 use Rattle.std.specs.List.{AllByRecursion}
 use Rattle.std.proofs.lemmas.Bool.Decides.{nat_tests}
 use Rattle.std.proofs.lemmas.List.Elements.{Contains-push_cases, Contains-append_left, Contains-push}
-use Rattle.trace_model.specs.declared.Card.{Card}
-use Rattle.trace_model.specs.Trace.{TraceSecond}
-use Rattle.card_image.specs.Own.{own_number, IsOwnValid}
-use Rattle.log_model.specs.declared.lines.Break.{Break}
-use Rattle.log_model.specs.declared.lines.Break.TheVariants.{Cut, Tear}
-use Rattle.log_model.specs.declared.lines.Verdict.{Verdict}
-use Rattle.log_model.specs.Log.{RunLog, In, cut_in, is_torn_in, kept_after}
-use Rattle.log_model.specs.Causes.{second_of}
-use Rattle.log_model.specs.Same.{SameAt}
-use Rattle.log_model.specs.Spans.{AreInOrder}
-use Rattle.log_model.specs.Course.{ToldSecond, Visit, Went, begins, has_power, second_told, went}
-use Rattle.log_model.proofs.Growth.{went-more}
-use Rattle.event_model.specs.declared.kinds.TheConstants.{DRIVING_WITHOUT_CARD, OVER_SPEEDING, POWER_INTERRUPTION, CARD_FAULT}
-use Rattle.event_model.specs.Events.{Event, Seen, Tearing, AreTorn, number_of, seen_of, events_of}
-use Rattle.run_unit_course.specs.Lines.{log_of, cut_at, tells_cut}
-use Rattle.run_unit_course.specs.Followed.{UnitPower, Lit, Lost}
-use Rattle.unit_model.specs.declared.layout.TheConstants.{SPEED_LIMIT}
-use Rattle.unit_model.specs.Image as image
-use Rattle.unit_events.specs.Noted.{StayFailed}
-use Rattle.note_model.specs.Done.{done_of}
-use Rattle.note_model.specs.Noted.{Note, notes_of}
-use Rattle.safety_model.specs.Recording.{card_image, told_of}
-use Rattle.safety_model.specs.Safe.{Devices, card_of}
-use Rattle.run_course.specs.Moments.{and_break}
-use Rattle.run_course.specs.Followed.{Progress, BookFollowsRun, IsBreakBefore, HadActions}
-use Rattle.run_course.specs.Seconds.{next_told}
-use Rattle.run_course.proofs.Lookups.{cut-by, cut-first, cut-nothing, break-more}
-use Rattle.run_course.proofs.Logs.{other-number, all-before, same-at, kept-later, front-later, went-later}
-use Rattle.run_course.proofs.Told.{told-lit}
+use Rattle.run_devices.specs.trace_model.declared.Card.{Card}
+use Rattle.run_devices.specs.trace_model.Trace.{TraceSecond}
+use Rattle.run_devices.specs.card_image.Own.{own_number, IsOwnValid}
+use Rattle.run_devices.specs.log_model.declared.lines.Break.{Break}
+use Rattle.run_devices.specs.log_model.declared.lines.Break.TheVariants.{Cut, Tear}
+use Rattle.run_devices.specs.log_model.declared.lines.Verdict.{Verdict}
+use Rattle.run_devices.specs.log_model.Log.{RunLog, In, cut_in, is_torn_in, kept_after}
+use Rattle.run_devices.specs.log_model.Causes.{second_of}
+use Rattle.run_devices.specs.log_model.Same.{SameAt}
+use Rattle.run_devices.specs.log_model.Spans.{AreInOrder}
+use Rattle.run_devices.specs.log_model.Course.{ToldSecond, Visit, Went, begins, has_power, second_told, went}
+use Rattle.run_devices.proofs.log_model.Growth.{went-more}
+use Rattle.run_devices.specs.event_model.declared.kinds.TheConstants.{DRIVING_WITHOUT_CARD, OVER_SPEEDING, POWER_INTERRUPTION, CARD_FAULT}
+use Rattle.run_devices.specs.event_model.Events.{Event, Seen, Tearing, AreTorn, number_of, seen_of, events_of}
+use Rattle.run_devices.specs.run_unit_course.Lines.{log_of, cut_at, tells_cut}
+use Rattle.run_devices.specs.run_unit_course.Followed.{UnitPower, Lit, Lost}
+use Rattle.run_devices.specs.unit_model.declared.layout.TheConstants.{SPEED_LIMIT}
+use Rattle.run_devices.specs.unit_model.Image as image
+use Rattle.run_events.specs.unit_events.Noted.{StayFailed}
+use Rattle.run_devices.specs.note_model.Done.{done_of}
+use Rattle.run_devices.specs.note_model.Noted.{Note, notes_of}
+use Rattle.run_devices.specs.safety_model.Recording.{card_image, told_of}
+use Rattle.run_devices.specs.safety_model.Safe.{Devices, card_of}
+use Rattle.run_devices.specs.run_course.Moments.{and_break}
+use Rattle.run_devices.specs.run_course.Followed.{Progress, BookFollowsRun, IsBreakBefore, HadActions}
+use Rattle.run_devices.specs.run_course.Seconds.{next_told}
+use Rattle.run_devices.proofs.run_course.Lookups.{cut-by, cut-first, cut-nothing, break-more}
+use Rattle.run_devices.proofs.run_course.Logs.{other-number, all-before, same-at, kept-later, front-later, went-later}
+use Rattle.run_devices.proofs.run_course.Told.{told-lit}
 use Rattle.run_events.specs.Shown.{none, is_sure_by}
 use Rattle.run_events.proofs.Unsure.{unsure-same}
 use Rattle.run_events.specs.Seconds.{seen_next}
@@ -43,10 +43,10 @@ use Rattle.run_events.proofs.Gaps.{gaps-begin, stay-later}
 use Rattle.run_events.proofs.Later.{told-number}
 use Rattle.run_events.proofs.Offs.{seen-off, off-shown, off-gaps}
 use Rattle.run_events.proofs.Shows.{noted-begins, noted-then, nothing-more}
-use Rattle.run_rings.specs.Notes.{notes_to, TellSameTo}
-use Rattle.run_rings.proofs.Notes.{later-lines, second-noted}
-use Rattle.run_promise.specs.Origin.{Origin, rule_of, start_at, first_of}
-use Rattle.run_promise.specs.Whole.{NothingFailed}
+use Rattle.run_events.specs.run_rings.Notes.{notes_to, TellSameTo}
+use Rattle.run_events.proofs.run_rings.Notes.{later-lines, second-noted}
+use Rattle.run_devices.specs.run_promise.Origin.{Origin, rule_of, start_at, first_of}
+use Rattle.run_devices.specs.run_promise.Whole.{NothingFailed}
 use Rattle.run_note_record.specs.Opened.{IsFirst}
 use Rattle.run_note_record.specs.Uses.{uses_from, vehicle_of, use_in, insertions_on, times_of, opened_on, notes_in, noted_next, uses_in}
 use Rattle.run_note_record.proofs.Opened.{come-as}

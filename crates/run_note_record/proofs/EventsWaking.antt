@@ -6,34 +6,34 @@ use Rattle.std.proofs.lemmas.Bool.{eqb-true, eqb-false}
 use Rattle.std.proofs.lemmas.List.{map-append}
 use Rattle.std.proofs.lemmas.List.Folds.{list_any-append}
 use Rattle.std.proofs.lemmas.Grind.{flat_map-append}
-use Rattle.activity_codec.specs.declared.values.Slot.{Slot}
-use Rattle.activity_codec.specs.declared.values.Slot.TheVariants.{Driver, CoDriver}
-use Rattle.activity_codec.specs.Activity.{same_slot}
-use Rattle.trace_model.specs.declared.Card.{Card}
-use Rattle.trace_model.specs.Trace.{TraceSecond}
-use Rattle.log_model.specs.declared.lines.Break.{Break}
-use Rattle.log_model.specs.declared.lines.Verdict.{Verdict}
-use Rattle.log_model.specs.Log.{RunLog, Phase, In, same_phase, kept_by, kept_after, is_torn_in, found_in, is_accepting}
-use Rattle.log_model.specs.Slots.{Slots, Sitting, in_slot, other_slot}
-use Rattle.log_model.specs.Course.{Visit, Course, Before, Moved, card_in, visits, has_power, went}
-use Rattle.event_model.specs.declared.kinds.TheConstants.{DRIVING_WITHOUT_CARD, OVER_SPEEDING, POWER_INTERRUPTION, CARD_FAULT}
-use Rattle.event_model.specs.declared.entries.Span.{Span}
-use Rattle.event_model.specs.Spans.{gap_of}
-use Rattle.event_model.specs.Events.{Event, Crew, Seen, Tearing, number_of, last_number, noted_with, crew_of, with_card, accepted_card, seen_by, seen_of, seen_spans, torn_at, first_card, accepted_at, standing, beside_judged, found_events, beside_torn, fault_of, is_codriver_first, torn_in_turn}
-use Rattle.safety_model.specs.Safe.{Devices}
-use Rattle.unit_events.specs.Shown.{all_kinds}
-use Rattle.run_course.specs.Moments.{and_break}
-use Rattle.run_course.specs.Followed.{Progress}
-use Rattle.run_course.proofs.Lookups.{break-more}
-use Rattle.run_course.proofs.Told.{lit-told}
-use Rattle.run_course.specs.Reached.{IsUpTo, Reaches, begun_at, moved_at, course_at, IsTearAt}
-use Rattle.run_course.proofs.Reached.{lines-reached}
-use Rattle.run_course.proofs.Lines.{who-sits}
+use Rattle.run_events.specs.activity_codec.declared.values.Slot.{Slot}
+use Rattle.run_events.specs.activity_codec.declared.values.Slot.TheVariants.{Driver, CoDriver}
+use Rattle.run_events.specs.activity_codec.Activity.{same_slot}
+use Rattle.run_devices.specs.trace_model.declared.Card.{Card}
+use Rattle.run_devices.specs.trace_model.Trace.{TraceSecond}
+use Rattle.run_devices.specs.log_model.declared.lines.Break.{Break}
+use Rattle.run_devices.specs.log_model.declared.lines.Verdict.{Verdict}
+use Rattle.run_devices.specs.log_model.Log.{RunLog, Phase, In, same_phase, kept_by, kept_after, is_torn_in, found_in, is_accepting}
+use Rattle.run_devices.specs.log_model.Slots.{Slots, Sitting, in_slot, other_slot}
+use Rattle.run_devices.specs.log_model.Course.{Visit, Course, Before, Moved, card_in, visits, has_power, went}
+use Rattle.run_devices.specs.event_model.declared.kinds.TheConstants.{DRIVING_WITHOUT_CARD, OVER_SPEEDING, POWER_INTERRUPTION, CARD_FAULT}
+use Rattle.run_devices.specs.event_model.declared.entries.Span.{Span}
+use Rattle.run_devices.specs.event_model.Spans.{gap_of}
+use Rattle.run_devices.specs.event_model.Events.{Event, Crew, Seen, Tearing, number_of, last_number, noted_with, crew_of, with_card, accepted_card, seen_by, seen_of, seen_spans, torn_at, first_card, accepted_at, standing, beside_judged, found_events, beside_torn, fault_of, is_codriver_first, torn_in_turn}
+use Rattle.run_devices.specs.safety_model.Safe.{Devices}
+use Rattle.run_events.specs.unit_events.Shown.{all_kinds}
+use Rattle.run_devices.specs.run_course.Moments.{and_break}
+use Rattle.run_devices.specs.run_course.Followed.{Progress}
+use Rattle.run_devices.proofs.run_course.Lookups.{break-more}
+use Rattle.run_devices.proofs.run_course.Told.{lit-told}
+use Rattle.run_devices.specs.run_course.Reached.{IsUpTo, Reaches, begun_at, moved_at, course_at, IsTearAt}
+use Rattle.run_devices.proofs.run_course.Reached.{lines-reached}
+use Rattle.run_devices.proofs.run_course.Lines.{who-sits}
 use Rattle.run_events.specs.Shown.{by_kind}
 use Rattle.run_events.specs.Seconds.{last_of, span_before, bares_by, overs_by, gap_before, gap_by, faults_by, found_by, second_events}
 use Rattle.run_events.proofs.Later.{told-number}
 use Rattle.run_events.proofs.Notes.{OfKind, of-itself, of-other}
-use Rattle.run_promise.specs.Origin.{Origin}
+use Rattle.run_devices.specs.run_promise.Origin.{Origin}
 use Rattle.run_note_record.specs.Evented.{limit_in, brought_now}
 use Rattle.run_note_record.specs.Noting.{Stage, Waking, Acting, is_told}
 use Rattle.run_note_record.specs.EventsSoFar.{FitsSoFar, SoFar, BeginsNow, AreBare, ComesInTurn, fault_with, crew_at, interruption, AWakingTearAdds, FallsAt, AnInterruptionAdds}

@@ -6,35 +6,35 @@ use Rattle.std.proofs.lemmas.Bool.Decides.{nat_tests}
 use Rattle.std.proofs.lemmas.Grind.{flat_map-append}
 use Rattle.std.proofs.lemmas.List.{take-append-drop}
 use Rattle.std.proofs.lemmas.List.Elements.{filter-append, All-nil, All-cons, Contains-append_left, Contains-append_right, Contains-push}
-use Rattle.activity_codec.specs.declared.values.Slot.{Slot}
-use Rattle.trace_model.specs.declared.Card.{Card}
-use Rattle.trace_model.specs.declared.Action.{Action}
-use Rattle.trace_model.specs.declared.Action.TheVariants.{Select, Insert, Withdraw, Tear as Pull, Place, Manual}
-use Rattle.trace_model.specs.Trace.{TraceSecond}
-use Rattle.log_model.specs.declared.lines.Break.{Break}
-use Rattle.log_model.specs.declared.lines.Break.TheVariants.{Cut, Tear}
-use Rattle.log_model.specs.declared.lines.Verdict.{Verdict}
-use Rattle.log_model.specs.Log.{RunLog, Phase, In, same_phase, is_torn_in, is_accepting}
-use Rattle.log_model.specs.Causes.{is_cut, has_failed}
-use Rattle.log_model.specs.Same.{SameAt}
-use Rattle.log_model.specs.Slots.{same_card, in_slot}
-use Rattle.log_model.specs.Course.{ToldSecond, Visit, Before, Went, has_power, second_told, went}
-use Rattle.log_model.proofs.Growth.{went-more}
-use Rattle.note_model.specs.Done.{CarriedOut, Done, carried_from, course_powered, done_by}
-use Rattle.note_model.specs.Noted.{Note, Accepts, Withdraws, Enters, accepted_at, accepted_card, noted_by, noted_in}
-use Rattle.safety_model.specs.Recording.{card_image}
-use Rattle.run_unit_course.specs.Lines.{cut_at, with_kept, found_from}
-use Rattle.run_course.specs.Moments.{and_break}
-use Rattle.run_course.specs.Followed.{Progress, BookFollowsRun}
-use Rattle.run_course.specs.Seconds.{GoesOnBy, next_told}
-use Rattle.run_course.proofs.Logs.{went-refused}
-use Rattle.run_course.proofs.Steps.{now-told}
-use Rattle.run_course.proofs.Told.{told-lit}
-use Rattle.run_course.specs.Reached.{IsTearAt}
+use Rattle.run_events.specs.activity_codec.declared.values.Slot.{Slot}
+use Rattle.run_devices.specs.trace_model.declared.Card.{Card}
+use Rattle.run_devices.specs.trace_model.declared.Action.{Action}
+use Rattle.run_devices.specs.trace_model.declared.Action.TheVariants.{Select, Insert, Withdraw, Tear as Pull, Place, Manual}
+use Rattle.run_devices.specs.trace_model.Trace.{TraceSecond}
+use Rattle.run_devices.specs.log_model.declared.lines.Break.{Break}
+use Rattle.run_devices.specs.log_model.declared.lines.Break.TheVariants.{Cut, Tear}
+use Rattle.run_devices.specs.log_model.declared.lines.Verdict.{Verdict}
+use Rattle.run_devices.specs.log_model.Log.{RunLog, Phase, In, same_phase, is_torn_in, is_accepting}
+use Rattle.run_devices.specs.log_model.Causes.{is_cut, has_failed}
+use Rattle.run_devices.specs.log_model.Same.{SameAt}
+use Rattle.run_devices.specs.log_model.Slots.{same_card, in_slot}
+use Rattle.run_devices.specs.log_model.Course.{ToldSecond, Visit, Before, Went, has_power, second_told, went}
+use Rattle.run_devices.proofs.log_model.Growth.{went-more}
+use Rattle.run_devices.specs.note_model.Done.{CarriedOut, Done, carried_from, course_powered, done_by}
+use Rattle.run_devices.specs.note_model.Noted.{Note, Accepts, Withdraws, Enters, accepted_at, accepted_card, noted_by, noted_in}
+use Rattle.run_devices.specs.safety_model.Recording.{card_image}
+use Rattle.run_devices.specs.run_unit_course.Lines.{cut_at, with_kept, found_from}
+use Rattle.run_devices.specs.run_course.Moments.{and_break}
+use Rattle.run_devices.specs.run_course.Followed.{Progress, BookFollowsRun}
+use Rattle.run_devices.specs.run_course.Seconds.{GoesOnBy, next_told}
+use Rattle.run_devices.proofs.run_course.Logs.{went-refused}
+use Rattle.run_devices.proofs.run_course.Steps.{now-told}
+use Rattle.run_devices.proofs.run_course.Told.{told-lit}
+use Rattle.run_devices.specs.run_course.Reached.{IsTearAt}
 use Rattle.run_events.specs.Seconds.{seen_next}
-use Rattle.run_promise.specs.Origin.{Origin, rule_of, start_at, first_of}
-use Rattle.run_promise.specs.Whole.{NothingFailed}
-use Rattle.run_promise.proofs.Beside.{second-tells}
+use Rattle.run_devices.specs.run_promise.Origin.{Origin, rule_of, start_at, first_of}
+use Rattle.run_devices.specs.run_promise.Whole.{NothingFailed}
+use Rattle.run_devices.proofs.run_promise.Beside.{second-tells}
 use Rattle.run_note_record.specs.Uses.{times_of, opened_in, opened_on, notes_in, noted_next, vehicle_in, use_in, uses_in, AreExact, AreExactIn}
 use Rattle.run_note_record.specs.Evented.{sessions_now}
 use Rattle.run_note_record.proofs.Noted.{notes-alike, second-notes}

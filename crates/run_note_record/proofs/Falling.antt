@@ -1,14 +1,14 @@
 -- A card is torn out in an action or in the keeping: what that adds.
 use Rattle.std.proofs.Common.{◌≡◌, true, List, [], ◌∷◌, ◌++◌, Contains, is_some, refl, ap, sym, subst, ◌∙◌, arith}
-use Rattle.log_model.specs.declared.lines.Verdict.{Verdict}
-use Rattle.log_model.specs.Log.{RunLog, is_torn_in}
-use Rattle.log_model.specs.Slots.{other_slot}
-use Rattle.log_model.specs.Course.{Visit, Before, has_power, went}
-use Rattle.event_model.specs.Events.{Event, Seen, Tearing, fault_of, seen_by}
-use Rattle.safety_model.specs.Safe.{Devices}
-use Rattle.run_course.specs.Moments.{and_break}
-use Rattle.run_course.specs.Reached.{Reaches}
-use Rattle.run_course.proofs.Reached.{lines-reached}
+use Rattle.run_devices.specs.log_model.declared.lines.Verdict.{Verdict}
+use Rattle.run_devices.specs.log_model.Log.{RunLog, is_torn_in}
+use Rattle.run_devices.specs.log_model.Slots.{other_slot}
+use Rattle.run_devices.specs.log_model.Course.{Visit, Before, has_power, went}
+use Rattle.run_devices.specs.event_model.Events.{Event, Seen, Tearing, fault_of, seen_by}
+use Rattle.run_devices.specs.safety_model.Safe.{Devices}
+use Rattle.run_devices.specs.run_course.Moments.{and_break}
+use Rattle.run_devices.specs.run_course.Reached.{Reaches}
+use Rattle.run_devices.proofs.run_course.Reached.{lines-reached}
 use Rattle.run_events.specs.Shown.{by_kind}
 use Rattle.run_events.specs.Seconds.{seen_next}
 use Rattle.run_note_record.specs.Evented.{brought_now}

@@ -6,31 +6,31 @@ use Rattle.std.proofs.lemmas.Bool.{eqb-true}
 use Rattle.std.proofs.lemmas.Bool.Decides.{nat_tests}
 use Rattle.std.proofs.lemmas.List.Elements.{filter-append, Contains-push_cases}
 use Rattle.std.proofs.lemmas.Grind.{flat_map-append}
-use Rattle.activity_codec.specs.declared.values.Slot.{Slot}
-use Rattle.activity_codec.specs.declared.values.Slot.TheVariants.{Driver, CoDriver}
-use Rattle.activity_codec.specs.Activity.{same_slot}
-use Rattle.trace_model.specs.declared.Card.{Card}
-use Rattle.trace_model.specs.declared.Action.{Action}
-use Rattle.trace_model.specs.declared.Action.TheVariants.{Select, Insert, Withdraw, Tear as Pull, Place, Manual}
-use Rattle.trace_model.specs.Trace.{TraceSecond}
-use Rattle.log_model.specs.declared.lines.SlotFault.{SlotFault}
-use Rattle.log_model.specs.declared.lines.Find.{Find}
-use Rattle.log_model.specs.declared.lines.Verdict.{Verdict}
-use Rattle.log_model.specs.declared.lines.Verdict.TheVariants.{Accepted, NotValid, TimeOverlap}
-use Rattle.log_model.specs.Log.{RunLog, Phase, In, same_phase, is_torn_in, found_in, is_accepting}
-use Rattle.log_model.specs.Slots.{Slots, Sitting, same_card, in_slot, other_slot, refusal}
-use Rattle.log_model.specs.Course.{Visit, Course, Before, Moved, card_in, visits, has_power, moved_by, both_told, went}
-use Rattle.event_model.specs.declared.kinds.TheConstants.{CARD_NOT_VALID, TIME_OVERLAP, DRIVING_WITHOUT_CARD, INSERTION_WHILE_DRIVING, SESSION_NOT_CLOSED, OVER_SPEEDING, POWER_INTERRUPTION, CARD_FAULT}
-use Rattle.event_model.specs.Events.{Event, Crew, Seen, Tearing, number_of, noted_with, crew_of, with_card, accepted_card, course_by, seen_by, seen_of, seen_spans, torn_at, accepted_at, first_card, standing, beside_judged, crew_judged, found_events, is_first, beside_torn, fault_of, torn_in_turn}
-use Rattle.safety_model.specs.Safe.{Devices}
-use Rattle.unit_events.specs.Shown.{all_kinds}
-use Rattle.run_course.specs.Moments.{and_find, finds_here}
-use Rattle.run_course.proofs.Lookups.{find-more}
-use Rattle.run_course.proofs.Told.{lit-told}
-use Rattle.run_course.specs.Reached.{IsBehind, IsMoment, IsUpTo, Reaches, moved_with, begun_at, moved_at, course_at, IsFindAt}
-use Rattle.run_course.proofs.Reached.{at-by, lines-reached}
-use Rattle.run_course.proofs.Lines.{who-sits}
-use Rattle.run_course.proofs.Telling.{each-of}
+use Rattle.run_events.specs.activity_codec.declared.values.Slot.{Slot}
+use Rattle.run_events.specs.activity_codec.declared.values.Slot.TheVariants.{Driver, CoDriver}
+use Rattle.run_events.specs.activity_codec.Activity.{same_slot}
+use Rattle.run_devices.specs.trace_model.declared.Card.{Card}
+use Rattle.run_devices.specs.trace_model.declared.Action.{Action}
+use Rattle.run_devices.specs.trace_model.declared.Action.TheVariants.{Select, Insert, Withdraw, Tear as Pull, Place, Manual}
+use Rattle.run_devices.specs.trace_model.Trace.{TraceSecond}
+use Rattle.run_devices.specs.log_model.declared.lines.SlotFault.{SlotFault}
+use Rattle.run_devices.specs.log_model.declared.lines.Find.{Find}
+use Rattle.run_devices.specs.log_model.declared.lines.Verdict.{Verdict}
+use Rattle.run_devices.specs.log_model.declared.lines.Verdict.TheVariants.{Accepted, NotValid, TimeOverlap}
+use Rattle.run_devices.specs.log_model.Log.{RunLog, Phase, In, same_phase, is_torn_in, found_in, is_accepting}
+use Rattle.run_devices.specs.log_model.Slots.{Slots, Sitting, same_card, in_slot, other_slot, refusal}
+use Rattle.run_devices.specs.log_model.Course.{Visit, Course, Before, Moved, card_in, visits, has_power, moved_by, both_told, went}
+use Rattle.run_devices.specs.event_model.declared.kinds.TheConstants.{CARD_NOT_VALID, TIME_OVERLAP, DRIVING_WITHOUT_CARD, INSERTION_WHILE_DRIVING, SESSION_NOT_CLOSED, OVER_SPEEDING, POWER_INTERRUPTION, CARD_FAULT}
+use Rattle.run_devices.specs.event_model.Events.{Event, Crew, Seen, Tearing, number_of, noted_with, crew_of, with_card, accepted_card, course_by, seen_by, seen_of, seen_spans, torn_at, accepted_at, first_card, standing, beside_judged, crew_judged, found_events, is_first, beside_torn, fault_of, torn_in_turn}
+use Rattle.run_devices.specs.safety_model.Safe.{Devices}
+use Rattle.run_events.specs.unit_events.Shown.{all_kinds}
+use Rattle.run_devices.specs.run_course.Moments.{and_find, finds_here}
+use Rattle.run_devices.proofs.run_course.Lookups.{find-more}
+use Rattle.run_devices.proofs.run_course.Told.{lit-told}
+use Rattle.run_devices.specs.run_course.Reached.{IsBehind, IsMoment, IsUpTo, Reaches, moved_with, begun_at, moved_at, course_at, IsFindAt}
+use Rattle.run_devices.proofs.run_course.Reached.{at-by, lines-reached}
+use Rattle.run_devices.proofs.run_course.Lines.{who-sits}
+use Rattle.run_devices.proofs.run_course.Telling.{each-of}
 use Rattle.run_events.specs.Shown.{by_kind}
 use Rattle.run_events.specs.Seconds.{span_before, bares_by, overs_by, gap_by, faults_by, found_by, second_events}
 use Rattle.run_events.specs.Running.{judged_notes}

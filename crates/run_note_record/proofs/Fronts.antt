@@ -5,18 +5,18 @@ use Rattle.std.specs.List.{AllByRecursion, list_any}
 use Rattle.std.proofs.lemmas.Bool.Decides.{nat_tests}
 use Rattle.std.proofs.lemmas.List.Folds.{list_any-append}
 use Rattle.std.proofs.lemmas.List.Elements.{filter-append}
-use Rattle.activity_codec.specs.declared.values.Slot.{Slot}
-use Rattle.activity_codec.specs.declared.values.Slot.TheVariants.{Driver, CoDriver}
-use Rattle.activity_codec.specs.Activity.{same_slot}
-use Rattle.trace_model.specs.declared.Card.{Card}
-use Rattle.log_model.specs.declared.lines.Verdict.{Verdict}
-use Rattle.log_model.specs.declared.lines.Verdict.TheVariants.{Accepted, NotValid, TimeOverlap}
-use Rattle.log_model.specs.Log.{RunLog, Phase, In, Keeping, same_phase, is_accepting}
-use Rattle.log_model.specs.Slots.{Slots, in_slot, other_slot}
-use Rattle.log_model.specs.Course.{Visit}
-use Rattle.event_model.specs.declared.kinds.TheConstants.{CARD_NOT_VALID, TIME_OVERLAP, INSERTION_WHILE_DRIVING, SESSION_NOT_CLOSED, CARD_FAULT}
-use Rattle.event_model.specs.Events.{Event, Seen, Tearing, number_of, noted_with, with_card, accepted_card, torn_at, first_card, accepted_at, standing, beside_judged, crew_judged, found_events, is_first, beside_torn, fault_of, is_codriver_first, torn_in_turn}
-use Rattle.run_course.specs.Reached.{IsBehind}
+use Rattle.run_events.specs.activity_codec.declared.values.Slot.{Slot}
+use Rattle.run_events.specs.activity_codec.declared.values.Slot.TheVariants.{Driver, CoDriver}
+use Rattle.run_events.specs.activity_codec.Activity.{same_slot}
+use Rattle.run_devices.specs.trace_model.declared.Card.{Card}
+use Rattle.run_devices.specs.log_model.declared.lines.Verdict.{Verdict}
+use Rattle.run_devices.specs.log_model.declared.lines.Verdict.TheVariants.{Accepted, NotValid, TimeOverlap}
+use Rattle.run_devices.specs.log_model.Log.{RunLog, Phase, In, Keeping, same_phase, is_accepting}
+use Rattle.run_devices.specs.log_model.Slots.{Slots, in_slot, other_slot}
+use Rattle.run_devices.specs.log_model.Course.{Visit}
+use Rattle.run_devices.specs.event_model.declared.kinds.TheConstants.{CARD_NOT_VALID, TIME_OVERLAP, INSERTION_WHILE_DRIVING, SESSION_NOT_CLOSED, CARD_FAULT}
+use Rattle.run_devices.specs.event_model.Events.{Event, Seen, Tearing, number_of, noted_with, with_card, accepted_card, torn_at, first_card, accepted_at, standing, beside_judged, crew_judged, found_events, is_first, beside_torn, fault_of, is_codriver_first, torn_in_turn}
+use Rattle.run_devices.specs.run_course.Reached.{IsBehind}
 
 -- a visit came at a moment before this one
 pub record IsFormer (at : Phase) (v : Visit) : Type 0 where

@@ -2,25 +2,25 @@
 use Rattle.std.proofs.Common.{◌≡◌, ℕ, zero, suc, ◌+◌, Bool, true, false, ◌||◌, List, [], ◌∷◌, ◌++◌, All, take, drop, is_some, refl, ap, sym, subst, ◌∙◌}
 use Rattle.std.specs.Prelude.{option_map, option_to_list}
 use Rattle.std.proofs.lemmas.List.Folds.{list_any-append}
-use Rattle.trace_model.specs.Trace.{TraceSecond}
-use Rattle.log_model.specs.declared.lines.Break.{Break}
-use Rattle.log_model.specs.Log.{RunLog, cut_of, kept_after}
-use Rattle.event_model.specs.declared.kinds.TheConstants.{POWER_INTERRUPTION}
-use Rattle.event_model.specs.declared.entries.Span.{Span}
-use Rattle.event_model.specs.Spans.{gap_of}
-use Rattle.event_model.specs.Events.{Event, Seen, noted_with, last_number, seen_of, seen_spans}
-use Rattle.run_unit_course.specs.Lines.{tells_cut}
-use Rattle.run_unit_course.specs.Followed.{UnitPower, Lit, Due, Lost, IsDark}
-use Rattle.run_unit_course.proofs.Lines.{kept-now}
-use Rattle.run_course.specs.Followed.{Progress}
-use Rattle.run_course.proofs.Logs.{all-before, same-found}
-use Rattle.run_course.proofs.Lookups.{kept-by}
+use Rattle.run_devices.specs.trace_model.Trace.{TraceSecond}
+use Rattle.run_devices.specs.log_model.declared.lines.Break.{Break}
+use Rattle.run_devices.specs.log_model.Log.{RunLog, cut_of, kept_after}
+use Rattle.run_devices.specs.event_model.declared.kinds.TheConstants.{POWER_INTERRUPTION}
+use Rattle.run_devices.specs.event_model.declared.entries.Span.{Span}
+use Rattle.run_devices.specs.event_model.Spans.{gap_of}
+use Rattle.run_devices.specs.event_model.Events.{Event, Seen, noted_with, last_number, seen_of, seen_spans}
+use Rattle.run_devices.specs.run_unit_course.Lines.{tells_cut}
+use Rattle.run_devices.specs.run_unit_course.Followed.{UnitPower, Lit, Due, Lost, IsDark}
+use Rattle.run_devices.proofs.run_unit_course.Lines.{kept-now}
+use Rattle.run_devices.specs.run_course.Followed.{Progress}
+use Rattle.run_devices.proofs.run_course.Logs.{all-before, same-found}
+use Rattle.run_devices.proofs.run_course.Lookups.{kept-by}
 use Rattle.run_events.specs.Seconds.{last_of}
 use Rattle.run_events.specs.Gaps.{CutIsTold, IsUntold, OfLast, IsKnownLast}
 use Rattle.run_events.proofs.Gaps.{is-found}
 use Rattle.run_events.proofs.Later.{seen-same}
-use Rattle.log_model.specs.Same.{SameAt}
-use Rattle.run_promise.specs.Seconds.{found_again}
+use Rattle.run_devices.specs.log_model.Same.{SameAt}
+use Rattle.run_devices.specs.run_promise.Seconds.{found_again}
 use Rattle.run_note_record.specs.EventsSoFar.{interruption}
 use Rattle.run_note_record.specs.Kept.{interruption_of, TheInterruptionIsFound, NoBreakNoSpan}
 use Rattle.run_note_record.proofs.Lines.{tells-so}

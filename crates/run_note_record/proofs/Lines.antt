@@ -5,36 +5,36 @@ use Rattle.std.specs.List.{AllByRecursion}
 use Rattle.std.proofs.lemmas.Bool.Decides.{nat_tests}
 use Rattle.std.proofs.lemmas.List.Folds.{list_any-append}
 use Rattle.std.proofs.lemmas.List.Elements.{Contains-push_cases}
-use Rattle.trace_model.specs.Trace.{TraceSecond}
-use Rattle.log_model.specs.declared.lines.Break.{Break}
-use Rattle.log_model.specs.declared.lines.Break.TheVariants.{Cut, Tear}
-use Rattle.log_model.specs.declared.lines.Verdict.{Verdict}
-use Rattle.log_model.specs.Log.{RunLog, cut_of, kept_by, kept_after, is_accepting}
-use Rattle.log_model.specs.Causes.{is_cut}
-use Rattle.log_model.specs.Same.{SameAt}
-use Rattle.log_model.specs.Spans.{AreInOrder}
-use Rattle.log_model.specs.Course.{ToldSecond, Visit, Went, not_begun, went}
-use Rattle.log_model.proofs.Growth.{went-more}
-use Rattle.event_model.specs.Events.{Seen, Watched, number_of, seen_by, watched_on, seen_of}
-use Rattle.run_unit_course.specs.Lines.{log_of, cut_at, tells_cut}
-use Rattle.run_unit_course.specs.Followed.{cuts_from}
-use Rattle.unit_events.specs.Noted.{StayFailed}
-use Rattle.unit_events.proofs.Failing.{kept-added}
-use Rattle.safety_model.specs.Recording.{card_image}
-use Rattle.safety_model.specs.Safe.{Devices}
-use Rattle.run_course.specs.Followed.{Progress, BookFollowsRun, IsBreakBefore, AreBefore}
-use Rattle.run_course.specs.Seconds.{GoesOnBy, next_told}
-use Rattle.run_course.proofs.Logs.{other-number, all-before, same-at, kept-later, front-later, tells-none, breaks-front}
-use Rattle.run_course.proofs.Steps.{cuts-bound, now-told}
-use Rattle.run_course.proofs.Reached.{push-each}
+use Rattle.run_devices.specs.trace_model.Trace.{TraceSecond}
+use Rattle.run_devices.specs.log_model.declared.lines.Break.{Break}
+use Rattle.run_devices.specs.log_model.declared.lines.Break.TheVariants.{Cut, Tear}
+use Rattle.run_devices.specs.log_model.declared.lines.Verdict.{Verdict}
+use Rattle.run_devices.specs.log_model.Log.{RunLog, cut_of, kept_by, kept_after, is_accepting}
+use Rattle.run_devices.specs.log_model.Causes.{is_cut}
+use Rattle.run_devices.specs.log_model.Same.{SameAt}
+use Rattle.run_devices.specs.log_model.Spans.{AreInOrder}
+use Rattle.run_devices.specs.log_model.Course.{ToldSecond, Visit, Went, not_begun, went}
+use Rattle.run_devices.proofs.log_model.Growth.{went-more}
+use Rattle.run_devices.specs.event_model.Events.{Seen, Watched, number_of, seen_by, watched_on, seen_of}
+use Rattle.run_devices.specs.run_unit_course.Lines.{log_of, cut_at, tells_cut}
+use Rattle.run_devices.specs.run_unit_course.Followed.{cuts_from}
+use Rattle.run_events.specs.unit_events.Noted.{StayFailed}
+use Rattle.run_events.proofs.unit_events.Failing.{kept-added}
+use Rattle.run_devices.specs.safety_model.Recording.{card_image}
+use Rattle.run_devices.specs.safety_model.Safe.{Devices}
+use Rattle.run_devices.specs.run_course.Followed.{Progress, BookFollowsRun, IsBreakBefore, AreBefore}
+use Rattle.run_devices.specs.run_course.Seconds.{GoesOnBy, next_told}
+use Rattle.run_devices.proofs.run_course.Logs.{other-number, all-before, same-at, kept-later, front-later, tells-none, breaks-front}
+use Rattle.run_devices.proofs.run_course.Steps.{cuts-bound, now-told}
+use Rattle.run_devices.proofs.run_course.Reached.{push-each}
 use Rattle.run_events.specs.Seconds.{seen_next}
 use Rattle.run_events.specs.Gaps.{IsUntold, TellsMore}
 use Rattle.run_events.specs.Choice.{AreEarlier}
 use Rattle.run_events.proofs.Gaps.{stay-later}
 use Rattle.run_events.proofs.Later.{told-number}
-use Rattle.run_promise.specs.Origin.{Origin, rule_of, start_at, first_of}
-use Rattle.run_promise.specs.Beside.{HaveLeftMore}
-use Rattle.run_promise.proofs.Beside.{second-tells}
+use Rattle.run_devices.specs.run_promise.Origin.{Origin, rule_of, start_at, first_of}
+use Rattle.run_devices.specs.run_promise.Beside.{HaveLeftMore}
+use Rattle.run_devices.proofs.run_promise.Beside.{second-tells}
 use Rattle.run_note_record.specs.Opened.{IsFirst, IsOpenSo, AreOpenSo}
 use Rattle.run_note_record.specs.Evented.{sessions_now}
 use Rattle.run_note_record.proofs.Opened.{first-more, first-told}

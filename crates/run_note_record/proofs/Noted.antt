@@ -3,18 +3,18 @@ use Rattle.std.proofs.Common.{◌≡◌, ℕ, ◌+◌, cond, not, ◌&&◌, is_s
 use Rattle.std.specs.Prelude.{flat_map}
 use Rattle.std.proofs.lemmas.Grind.{flat_map-append}
 use Rattle.std.proofs.lemmas.List.Elements.{All-head, All-tail}
-use Rattle.activity_codec.specs.declared.values.Slot.{Slot}
-use Rattle.activity_codec.specs.declared.values.Slot.TheVariants.{Driver, CoDriver}
-use Rattle.trace_model.specs.declared.Action.{Action}
-use Rattle.trace_model.specs.declared.Action.TheVariants.{Select, Insert, Withdraw, Tear, Place, Manual}
-use Rattle.trace_model.specs.Trace.{TraceSecond}
-use Rattle.log_model.specs.Log.{RunLog, Phase, In}
-use Rattle.log_model.specs.Slots.{refusal}
-use Rattle.log_model.specs.Same.{SameAt}
-use Rattle.log_model.specs.Course.{Course, ToldSecond, Before, Moved, Went, slot_told, both_told, acted, all_acted, moved_by, unmoved, answered, fresh, begins, has_power, second_told, before_next, not_begun, went, went_on}
-use Rattle.event_model.specs.Events.{Seen}
-use Rattle.note_model.specs.Done.{CarriedOut, Done, carried_from, course_powered, done_by, done_from, done_of}
-use Rattle.note_model.specs.Noted.{Note, accepted_at, noted_by, noted_in, notes_of}
+use Rattle.run_events.specs.activity_codec.declared.values.Slot.{Slot}
+use Rattle.run_events.specs.activity_codec.declared.values.Slot.TheVariants.{Driver, CoDriver}
+use Rattle.run_devices.specs.trace_model.declared.Action.{Action}
+use Rattle.run_devices.specs.trace_model.declared.Action.TheVariants.{Select, Insert, Withdraw, Tear, Place, Manual}
+use Rattle.run_devices.specs.trace_model.Trace.{TraceSecond}
+use Rattle.run_devices.specs.log_model.Log.{RunLog, Phase, In}
+use Rattle.run_devices.specs.log_model.Slots.{refusal}
+use Rattle.run_devices.specs.log_model.Same.{SameAt}
+use Rattle.run_devices.specs.log_model.Course.{Course, ToldSecond, Before, Moved, Went, slot_told, both_told, acted, all_acted, moved_by, unmoved, answered, fresh, begins, has_power, second_told, before_next, not_begun, went, went_on}
+use Rattle.run_devices.specs.event_model.Events.{Seen}
+use Rattle.run_devices.specs.note_model.Done.{CarriedOut, Done, carried_from, course_powered, done_by, done_from, done_of}
+use Rattle.run_devices.specs.note_model.Noted.{Note, accepted_at, noted_by, noted_in, notes_of}
 use Rattle.run_events.proofs.Later.{seen-by-same, told-number}
 use Rattle.run_note_record.specs.Uses.{notes_in, noted_next}
 

@@ -2,27 +2,27 @@
 use Rattle.std.proofs.Common.{◌≡◌, ◌⊎◌, inl, inr, ⊎_elim, ℕ, suc, Bool, true, false, cond, not, ◌&&◌, List, [], ◌∷◌, ◌++◌, Contains, nat_eq, refl, ap, sym, subst, ◌∙◌, arith}
 use Rattle.std.specs.Prelude.{◌==◌, map, flat_map}
 use Rattle.std.proofs.lemmas.List.Elements.{filter-append}
-use Rattle.trace_model.specs.Trace.{TraceSecond}
+use Rattle.run_devices.specs.trace_model.Trace.{TraceSecond}
 use Rattle.tach_media.specs.Medium.{State}
-use Rattle.log_model.specs.declared.lines.Verdict.{Verdict}
-use Rattle.log_model.specs.Log.{RunLog, In, Phase}
-use Rattle.log_model.specs.Course.{ToldSecond, Visit, Before, Course, lit_course, has_power, second_told, went}
-use Rattle.event_model.specs.declared.kinds.TheConstants.{DRIVING_WITHOUT_CARD, OVER_SPEEDING, POWER_INTERRUPTION, CARD_FAULT}
-use Rattle.event_model.specs.Events.{Event, Seen, Tearing, fault_of, torn_in_turn, found_events, number_of, seen_of, seen_spans, events_of}
-use Rattle.run_unit_course.specs.Lines.{cut_at}
-use Rattle.run_unit_course.specs.Followed.{Lit, Lost}
-use Rattle.run_unit_course.specs.Turn.{begins_with}
-use Rattle.safety_model.specs.Safe.{Devices}
-use Rattle.unit_events.specs.Shown.{all_kinds}
-use Rattle.run_course.specs.Moments.{and_break}
-use Rattle.run_course.specs.Followed.{Progress, BookFollowsRun}
-use Rattle.run_course.specs.Seconds.{GoesOnBy, next_told}
-use Rattle.run_course.proofs.Steps.{with-supply}
-use Rattle.run_course.proofs.Told.{lit-power, lit-starts, lit-told}
-use Rattle.run_course.specs.Moment.{goes_on, Moment}
-use Rattle.run_course.specs.Telling.{begun_by, IsMore, IsLeft}
-use Rattle.run_course.proofs.Reached.{second-reached}
-use Rattle.run_course.proofs.Telling.{second-ends_told, cut-ends_told}
+use Rattle.run_devices.specs.log_model.declared.lines.Verdict.{Verdict}
+use Rattle.run_devices.specs.log_model.Log.{RunLog, In, Phase}
+use Rattle.run_devices.specs.log_model.Course.{ToldSecond, Visit, Before, Course, lit_course, has_power, second_told, went}
+use Rattle.run_devices.specs.event_model.declared.kinds.TheConstants.{DRIVING_WITHOUT_CARD, OVER_SPEEDING, POWER_INTERRUPTION, CARD_FAULT}
+use Rattle.run_devices.specs.event_model.Events.{Event, Seen, Tearing, fault_of, torn_in_turn, found_events, number_of, seen_of, seen_spans, events_of}
+use Rattle.run_devices.specs.run_unit_course.Lines.{cut_at}
+use Rattle.run_devices.specs.run_unit_course.Followed.{Lit, Lost}
+use Rattle.run_devices.specs.run_unit_course.Turn.{begins_with}
+use Rattle.run_devices.specs.safety_model.Safe.{Devices}
+use Rattle.run_events.specs.unit_events.Shown.{all_kinds}
+use Rattle.run_devices.specs.run_course.Moments.{and_break}
+use Rattle.run_devices.specs.run_course.Followed.{Progress, BookFollowsRun}
+use Rattle.run_devices.specs.run_course.Seconds.{GoesOnBy, next_told}
+use Rattle.run_devices.proofs.run_course.Steps.{with-supply}
+use Rattle.run_devices.proofs.run_course.Told.{lit-power, lit-starts, lit-told}
+use Rattle.run_devices.specs.run_course.Moment.{goes_on, Moment}
+use Rattle.run_devices.specs.run_course.Telling.{begun_by, IsMore, IsLeft}
+use Rattle.run_devices.proofs.run_course.Reached.{second-reached}
+use Rattle.run_devices.proofs.run_course.Telling.{second-ends_told, cut-ends_told}
 use Rattle.run_events.specs.Shown.{by_kind, none_sure, all_sure, ShowsSince, AreTheFirst}
 use Rattle.run_events.specs.Seconds.{span_before, bares_by, overs_by, gap_before, gap_by, faults_by, found_by, second_events, seen_next}
 use Rattle.run_events.specs.Choice.{IsPlainFrom, plain, IsTornIn}
@@ -32,8 +32,8 @@ use Rattle.run_events.proofs.Shows.{more-then, nothing-more, moment-then}
 use Rattle.run_events.proofs.Running.{second-shown, failed-shown}
 use Rattle.run_events.proofs.Ordered.{behind}
 use Rattle.run_events.proofs.Quiet.{plain-behind}
-use Rattle.run_promise.specs.Origin.{Origin, rule_of, start_at, first_of}
-use Rattle.run_promise.specs.Beside.{HaveLeftMore}
+use Rattle.run_devices.specs.run_promise.Origin.{Origin, rule_of, start_at, first_of}
+use Rattle.run_devices.specs.run_promise.Beside.{HaveLeftMore}
 use Rattle.run_note_record.specs.Evented.{number_in, limit_in, brought_now, tearing_now, sessions_now, NotesMore, Evented}
 use Rattle.run_note_record.specs.Noting.{Stage, Ended, is_told, ShowsThese, EventedIn, NotesThese, AStepIsNoted, AStageIsDone, stage_of, TheSecondBegins, TheSecondIsNoted, TheSecondIsCut, AreOpen}
 use Rattle.run_note_record.proofs.Opened.{open-left, all-left}
@@ -41,10 +41,10 @@ use Rattle.run_note_record.proofs.Exact.{no-cut, exact-on, exact-begins}
 use Rattle.run_note_record.proofs.Lines.{same-before, tells-so, front-same, early-before, sessions-on}
 use Rattle.run_note_record.proofs.Seconds.{cut-goes, cut-failed, cut-untold}
 use Rattle.run_note_record.proofs.Whole.{whole-told}
-use Rattle.trace_model.specs.declared.Action.{Action}
-use Rattle.run_model.specs.declared.Device.{Device}
-use Rattle.run_model.specs.declared.Device.TheVariants.{Unit as Recorder}
-use Rattle.log_model.specs.Causes.{RoseBy}
+use Rattle.run_devices.specs.trace_model.declared.Action.{Action}
+use Rattle.run_devices.specs.run_model.declared.Device.{Device}
+use Rattle.run_devices.specs.run_model.declared.Device.TheVariants.{Unit as Recorder}
+use Rattle.run_devices.specs.log_model.Causes.{RoseBy}
 
 -- ONE NOTE AFTER ANOTHER
 pub by-more : (more es : List Event) (kind : ℕ) → by_kind (more ++ es) kind ≡ by_kind more kind ++ by_kind es kind

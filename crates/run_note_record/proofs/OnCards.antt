@@ -3,26 +3,26 @@ use Rattle.std.proofs.Common.{◌≡◌, ◌⊎◌, inl, inr, ⊎_elim, ℕ, ◌
 use Rattle.std.specs.List.{AllByRecursion, list_any}
 use Rattle.std.proofs.lemmas.List.{length-take}
 use Rattle.std.proofs.lemmas.List.Elements.{filter-append}
-use Rattle.trace_model.specs.declared.Card.{Card}
-use Rattle.gated_ring.specs.Ring.{Shape, PointsInside, place_of, entry_at, taken, with_head}
-use Rattle.gated_ring.specs.Change.{IsAdding}
-use Rattle.log_model.specs.declared.lines.Break.{Break}
-use Rattle.log_model.specs.Log.{RunLog}
-use Rattle.log_model.specs.Causes.{is_cut, has_failed, second_of}
-use Rattle.log_model.specs.Slots.{same_card}
-use Rattle.note_model.specs.Done.{has_failed_in}
-use Rattle.note_model.specs.Odometer.{SpanFrom, odometer_at}
-use Rattle.note_model.specs.Noted.{PlaceNote, Note, Enters, place_in, places_of}
-use Rattle.note_model.specs.Rings.{AreNoFewer}
-use Rattle.safety_model.specs.Recording.{card_image}
-use Rattle.safety_model.specs.Safe.{Devices, card_of}
-use Rattle.run_rings.specs.Carried.{RingKeeps}
-use Rattle.run_rings.proofs.Carried.{carries-none, carries-same, carries-more, carries-maybe}
-use Rattle.run_rings.proofs.Standing.{stand-one, stand-unsure}
-use Rattle.run_rings.proofs.Few.{ring-stays, ring-takes, ring-may, few-start, few-go, few-as, few-more, few-unsure}
+use Rattle.run_devices.specs.trace_model.declared.Card.{Card}
+use Rattle.run_events.specs.gated_ring.Ring.{Shape, PointsInside, place_of, entry_at, taken, with_head}
+use Rattle.run_events.specs.gated_ring.Change.{IsAdding}
+use Rattle.run_devices.specs.log_model.declared.lines.Break.{Break}
+use Rattle.run_devices.specs.log_model.Log.{RunLog}
+use Rattle.run_devices.specs.log_model.Causes.{is_cut, has_failed, second_of}
+use Rattle.run_devices.specs.log_model.Slots.{same_card}
+use Rattle.run_devices.specs.note_model.Done.{has_failed_in}
+use Rattle.run_devices.specs.note_model.Odometer.{SpanFrom, odometer_at}
+use Rattle.run_devices.specs.note_model.Noted.{PlaceNote, Note, Enters, place_in, places_of}
+use Rattle.run_devices.specs.note_model.Rings.{AreNoFewer}
+use Rattle.run_devices.specs.safety_model.Recording.{card_image}
+use Rattle.run_devices.specs.safety_model.Safe.{Devices, card_of}
+use Rattle.run_events.specs.run_rings.Carried.{RingKeeps}
+use Rattle.run_events.proofs.run_rings.Carried.{carries-none, carries-same, carries-more, carries-maybe}
+use Rattle.run_events.proofs.run_rings.Standing.{stand-one, stand-unsure}
+use Rattle.run_events.proofs.run_rings.Few.{ring-stays, ring-takes, ring-may, few-start, few-go, few-as, few-more, few-unsure}
 use Rattle.run_note_record.specs.Origin.{Origin}
-use Rattle.card_layout.specs.declared.files.Application.{Application}
-use Rattle.card_image.specs.Own.{own_sizes}
+use Rattle.tach_media.specs.card_layout.declared.files.Application.{Application}
+use Rattle.run_devices.specs.card_image.Own.{own_sizes}
 use Rattle.run_devices.proofs.Measured.{goes-itself, goes-then, goes-more}
 use Rattle.run_note_record.specs.OnCards.{ShowsNotes, has_call_failed_in, places_in, place_width, places_on, IsPlaceOn, is_sure_on, HasPlaces, PlacesOnCards, LeavesPlaces, PlacesStay, IsReading, GoesByReadings, VehiclesOnCards, VehiclesGo, NoOtherComes, CardsStay, TakesPlace, PlaceIsTaken}
 use Rattle.run_note_record.specs.RingsSoFar.{HasMoreBreaks}

@@ -1,23 +1,23 @@
 -- Worked rows of the sessions that are found open: a card is put in, driven, and put in again; and of the uses that its insertions find.
 use Rattle.std.proofs.Common.{◌≡◌, inl, ⊎_elim, ℕ, ◌≤◌, true, false, List, [], ◌∷◌, refl, sym, ◌∙◌, arith}
-use Rattle.activity_codec.specs.declared.values.Slot.TheVariants.{Driver}
-use Rattle.trace_model.specs.declared.Card.{Card}
-use Rattle.trace_model.specs.declared.Card.TheVariants.{A}
-use Rattle.trace_model.specs.declared.Action.{Action}
-use Rattle.trace_model.specs.declared.Action.TheVariants.{Insert, Withdraw, Tear}
-use Rattle.trace_model.specs.Trace.{TraceSecond}
-use Rattle.tacho_types.specs.declared.texts.Registration.{Registration}
-use Rattle.card_files.specs.declared.current_use.CurrentUse.{CurrentUse}
-use Rattle.log_model.specs.declared.lines.Break.TheVariants.{Tear as Torn}
-use Rattle.log_model.specs.declared.lines.Find.{Find}
-use Rattle.log_model.specs.declared.lines.Verdict.TheVariants.{Accepted}
-use Rattle.log_model.specs.Log.{RunLog, In, cut_in, is_torn_in, found_in}
-use Rattle.log_model.specs.Course.{ToldSecond, Visit, second_told, not_begun, went}
-use Rattle.note_model.specs.Done.{done_of}
-use Rattle.note_model.specs.Noted.{notes_of}
+use Rattle.run_events.specs.activity_codec.declared.values.Slot.TheVariants.{Driver}
+use Rattle.run_devices.specs.trace_model.declared.Card.{Card}
+use Rattle.run_devices.specs.trace_model.declared.Card.TheVariants.{A}
+use Rattle.run_devices.specs.trace_model.declared.Action.{Action}
+use Rattle.run_devices.specs.trace_model.declared.Action.TheVariants.{Insert, Withdraw, Tear}
+use Rattle.run_devices.specs.trace_model.Trace.{TraceSecond}
+use Rattle.run_devices.specs.tacho_types.declared.texts.Registration.{Registration}
+use Rattle.run_events.specs.card_files.declared.current_use.CurrentUse.{CurrentUse}
+use Rattle.run_devices.specs.log_model.declared.lines.Break.TheVariants.{Tear as Torn}
+use Rattle.run_devices.specs.log_model.declared.lines.Find.{Find}
+use Rattle.run_devices.specs.log_model.declared.lines.Verdict.TheVariants.{Accepted}
+use Rattle.run_devices.specs.log_model.Log.{RunLog, In, cut_in, is_torn_in, found_in}
+use Rattle.run_devices.specs.log_model.Course.{ToldSecond, Visit, second_told, not_begun, went}
+use Rattle.run_devices.specs.note_model.Done.{done_of}
+use Rattle.run_devices.specs.note_model.Noted.{notes_of}
 use Rattle.run_note_record.specs.Opened.{session_in, times_put, HasComeBefore, AreFirst}
 use Rattle.run_note_record.specs.Uses.{uses_from, use_behind, insertions_on, times_of}
-use Rattle.run_course.proofs.Telling.{each-of}
+use Rattle.run_devices.proofs.run_course.Telling.{each-of}
 
 -- a second with power
 abbrev second : (number speed : ℕ) → List Action → TraceSecond

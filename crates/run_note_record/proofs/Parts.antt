@@ -2,20 +2,20 @@
 use Rattle.std.proofs.Common.{◌≡◌, ℕ, zero, suc, ◌+◌, ◌≤◌, Bool, true, false, cond, not, ◌||◌, Option, Some, None, List, [], ◌∷◌, ◌++◌, map, length, take, refl, ap, sym, subst, ◌∙◌, arith, append-nil, append_assoc}
 use Rattle.std.specs.Prelude.{flat_map, option_map, slice_get}
 use Rattle.std.specs.List.{AllByRecursion, list_any}
-use Rattle.activity_codec.specs.declared.values.Slot.{Slot}
-use Rattle.activity_codec.specs.declared.values.Slot.TheVariants.{Driver, CoDriver}
-use Rattle.activity_codec.specs.Activity.{same_slot}
-use Rattle.trace_model.specs.declared.Card.{Card}
-use Rattle.trace_model.specs.declared.Action.{Action}
-use Rattle.trace_model.specs.declared.Action.TheVariants.{Select, Insert, Withdraw, Tear as Pull, Place, Manual}
-use Rattle.trace_model.specs.Trace.{TraceSecond}
-use Rattle.log_model.specs.declared.lines.SlotFault.{SlotFault}
-use Rattle.log_model.specs.declared.lines.Verdict.{Verdict}
-use Rattle.log_model.specs.Log.{RunLog, Phase, In, Keeping, cut_in, is_torn_in, found_in, is_accepting}
-use Rattle.log_model.specs.Slots.{Slots, Sitting, in_slot, refusal}
-use Rattle.log_model.specs.Course.{Visit, Course, Before, Moved, card_in, visits, with_slot, leaves, answered, unmoved, moved_by, slot_told, both_told, begins, is_settling, acted, all_acted, fresh}
-use Rattle.event_model.specs.Events.{course_by}
-use Rattle.run_course.specs.Reached.{IsBehind, course_with, moved_with, begun_at, moved_at}
+use Rattle.run_events.specs.activity_codec.declared.values.Slot.{Slot}
+use Rattle.run_events.specs.activity_codec.declared.values.Slot.TheVariants.{Driver, CoDriver}
+use Rattle.run_events.specs.activity_codec.Activity.{same_slot}
+use Rattle.run_devices.specs.trace_model.declared.Card.{Card}
+use Rattle.run_devices.specs.trace_model.declared.Action.{Action}
+use Rattle.run_devices.specs.trace_model.declared.Action.TheVariants.{Select, Insert, Withdraw, Tear as Pull, Place, Manual}
+use Rattle.run_devices.specs.trace_model.Trace.{TraceSecond}
+use Rattle.run_devices.specs.log_model.declared.lines.SlotFault.{SlotFault}
+use Rattle.run_devices.specs.log_model.declared.lines.Verdict.{Verdict}
+use Rattle.run_devices.specs.log_model.Log.{RunLog, Phase, In, Keeping, cut_in, is_torn_in, found_in, is_accepting}
+use Rattle.run_devices.specs.log_model.Slots.{Slots, Sitting, in_slot, refusal}
+use Rattle.run_devices.specs.log_model.Course.{Visit, Course, Before, Moved, card_in, visits, with_slot, leaves, answered, unmoved, moved_by, slot_told, both_told, begins, is_settling, acted, all_acted, fresh}
+use Rattle.run_devices.specs.event_model.Events.{course_by}
+use Rattle.run_devices.specs.run_course.Reached.{IsBehind, course_with, moved_with, begun_at, moved_at}
 use Rattle.run_note_record.proofs.Whole.{IsTold, answered-told}
 use Rattle.run_note_record.proofs.Fronts.{IsFormer}
 

@@ -3,26 +3,26 @@ use Rattle.std.proofs.Common.{◌≡◌, ◌⊎◌, ℕ, suc, Bool, true, false,
 use Rattle.std.specs.Prelude.{◌==◌, flat_map}
 use Rattle.std.specs.List.{list_any}
 use Rattle.std.proofs.lemmas.Bool.Decides.{nat_tests}
-use Rattle.activity_codec.specs.declared.values.Slot.{Slot}
-use Rattle.activity_codec.specs.declared.values.Slot.TheVariants.{Driver, CoDriver}
-use Rattle.activity_codec.specs.Activity.{same_slot}
-use Rattle.trace_model.specs.declared.Card.{Card}
-use Rattle.trace_model.specs.declared.Card.TheVariants.{A}
-use Rattle.trace_model.specs.Trace.{TraceSecond}
-use Rattle.log_model.specs.declared.lines.Break.{Break}
-use Rattle.log_model.specs.declared.lines.Verdict.{Verdict}
-use Rattle.log_model.specs.Log.{RunLog, Phase, In, Keeping, same_phase, kept_by, is_torn_in}
-use Rattle.log_model.specs.Slots.{in_slot, other_slot}
-use Rattle.log_model.specs.Course.{Visit, Course, Before, Moved, card_in, visits, has_power, went}
-use Rattle.event_model.specs.declared.kinds.TheConstants.{DRIVING_WITHOUT_CARD, OVER_SPEEDING, POWER_INTERRUPTION, CARD_FAULT}
-use Rattle.event_model.specs.Events.{Seen, Tearing, number_of, noted_with, with_card, accepted_card, seen_by, seen_of, seen_spans, torn_at, standing, found_events, is_first, beside_torn, fault_of, torn_in_turn}
-use Rattle.note_model.specs.Noted.{Note}
-use Rattle.safety_model.specs.Safe.{Devices}
-use Rattle.run_course.specs.Moments.{and_break, and_refused}
-use Rattle.run_course.proofs.Lookups.{break-more}
-use Rattle.run_course.proofs.Told.{lit-told}
-use Rattle.run_course.specs.Reached.{IsMoment, IsUpTo, Reaches, begun_at, moved_at, course_at, IsTearAt}
-use Rattle.run_course.proofs.Reached.{lines-reached}
+use Rattle.run_events.specs.activity_codec.declared.values.Slot.{Slot}
+use Rattle.run_events.specs.activity_codec.declared.values.Slot.TheVariants.{Driver, CoDriver}
+use Rattle.run_events.specs.activity_codec.Activity.{same_slot}
+use Rattle.run_devices.specs.trace_model.declared.Card.{Card}
+use Rattle.run_devices.specs.trace_model.declared.Card.TheVariants.{A}
+use Rattle.run_devices.specs.trace_model.Trace.{TraceSecond}
+use Rattle.run_devices.specs.log_model.declared.lines.Break.{Break}
+use Rattle.run_devices.specs.log_model.declared.lines.Verdict.{Verdict}
+use Rattle.run_devices.specs.log_model.Log.{RunLog, Phase, In, Keeping, same_phase, kept_by, is_torn_in}
+use Rattle.run_devices.specs.log_model.Slots.{in_slot, other_slot}
+use Rattle.run_devices.specs.log_model.Course.{Visit, Course, Before, Moved, card_in, visits, has_power, went}
+use Rattle.run_devices.specs.event_model.declared.kinds.TheConstants.{DRIVING_WITHOUT_CARD, OVER_SPEEDING, POWER_INTERRUPTION, CARD_FAULT}
+use Rattle.run_devices.specs.event_model.Events.{Seen, Tearing, number_of, noted_with, with_card, accepted_card, seen_by, seen_of, seen_spans, torn_at, standing, found_events, is_first, beside_torn, fault_of, torn_in_turn}
+use Rattle.run_devices.specs.note_model.Noted.{Note}
+use Rattle.run_devices.specs.safety_model.Safe.{Devices}
+use Rattle.run_devices.specs.run_course.Moments.{and_break, and_refused}
+use Rattle.run_devices.proofs.run_course.Lookups.{break-more}
+use Rattle.run_devices.proofs.run_course.Told.{lit-told}
+use Rattle.run_devices.specs.run_course.Reached.{IsMoment, IsUpTo, Reaches, begun_at, moved_at, course_at, IsTearAt}
+use Rattle.run_devices.proofs.run_course.Reached.{lines-reached}
 use Rattle.run_events.specs.Seconds.{span_before, bares_by, overs_by, gap_by, faults_by, found_by, second_events}
 use Rattle.run_events.proofs.Later.{seen-by-same}
 use Rattle.run_note_record.specs.Evented.{limit_in}

@@ -4,30 +4,30 @@ use Rattle.std.specs.List.{AllByRecursion, cons_option, filter_map}
 use Rattle.std.proofs.lemmas.List.{same_from_push, append_cancel_left}
 use Rattle.std.proofs.lemmas.List.Sums.{fold-append}
 use Rattle.std.proofs.lemmas.List.Elements.{All-nil, All-cons, Contains-push_cases, Contains-append_cases}
-use Rattle.trace_model.specs.Trace.{TraceSecond, driven}
-use Rattle.log_model.specs.declared.lines.Verdict.{Verdict}
-use Rattle.log_model.specs.Log.{RunLog}
-use Rattle.log_model.specs.Same.{SameAt}
-use Rattle.log_model.specs.Slots.{Slots}
-use Rattle.log_model.specs.Course.{ToldSecond, Visit, Went, second_told, went}
-use Rattle.log_model.proofs.Growth.{went-more}
-use Rattle.event_model.specs.Runs.{run_with, last_run, runs_behind}
-use Rattle.event_model.specs.Events.{Event, Seen, number_of, seen_of, seen_spans, is_bare, bare_event, over_event}
-use Rattle.note_model.specs.Noted.{Note}
-use Rattle.run_unit_course.specs.Followed.{UnitPower, Lit}
-use Rattle.safety_model.specs.Safe.{Devices}
-use Rattle.run_course.specs.Followed.{Progress, BookFollowsRun}
-use Rattle.run_course.specs.Quiet.{quiet_second, quiet_seconds}
-use Rattle.run_course.proofs.Quiet.{quiet-are-told}
-use Rattle.run_course.proofs.Reached.{push-each}
+use Rattle.run_devices.specs.trace_model.Trace.{TraceSecond, driven}
+use Rattle.run_devices.specs.log_model.declared.lines.Verdict.{Verdict}
+use Rattle.run_devices.specs.log_model.Log.{RunLog}
+use Rattle.run_devices.specs.log_model.Same.{SameAt}
+use Rattle.run_devices.specs.log_model.Slots.{Slots}
+use Rattle.run_devices.specs.log_model.Course.{ToldSecond, Visit, Went, second_told, went}
+use Rattle.run_devices.proofs.log_model.Growth.{went-more}
+use Rattle.run_devices.specs.event_model.Runs.{run_with, last_run, runs_behind}
+use Rattle.run_devices.specs.event_model.Events.{Event, Seen, number_of, seen_of, seen_spans, is_bare, bare_event, over_event}
+use Rattle.run_devices.specs.note_model.Noted.{Note}
+use Rattle.run_devices.specs.run_unit_course.Followed.{UnitPower, Lit}
+use Rattle.run_devices.specs.safety_model.Safe.{Devices}
+use Rattle.run_devices.specs.run_course.Followed.{Progress, BookFollowsRun}
+use Rattle.run_devices.specs.run_course.Quiet.{quiet_second, quiet_seconds}
+use Rattle.run_devices.proofs.run_course.Quiet.{quiet-are-told}
+use Rattle.run_devices.proofs.run_course.Reached.{push-each}
 use Rattle.run_events.specs.Seconds.{last_of, bares_by, overs_by, is_fast, IsQuiet, seen_next}
 use Rattle.run_events.specs.Gaps.{HasGaps}
 use Rattle.run_events.proofs.Gaps.{goes-on}
 use Rattle.run_events.proofs.Growing.{seen-more}
 use Rattle.run_events.proofs.Later.{told-number}
 use Rattle.run_events.proofs.Quiet.{quiet-shown}
-use Rattle.run_promise.specs.Origin.{Origin, rule_of, start_at, first_of}
-use Rattle.safety_model.specs.Recording.{card_image}
+use Rattle.run_devices.specs.run_promise.Origin.{Origin, rule_of, start_at, first_of}
+use Rattle.run_devices.specs.safety_model.Recording.{card_image}
 use Rattle.run_note_record.proofs.Opened.{first-more}
 use Rattle.run_note_record.specs.Opened.{IsFirst}
 use Rattle.run_note_record.specs.Evented.{number_in, limit_in}

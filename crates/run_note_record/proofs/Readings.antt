@@ -3,12 +3,12 @@ use Rattle.std.proofs.Common.{◌≡◌, ◌∙◌, ℕ, ◌+◌, Bool, true, fa
 use Rattle.std.specs.Prelude.{sum_by}
 use Rattle.std.proofs.lemmas.List.{same_from_push}
 use Rattle.std.proofs.lemmas.List.Sums.{sum_by-cons}
-use Rattle.minute_model.specs.Second.{Second}
-use Rattle.log_model.specs.Course.{ToldSecond}
-use Rattle.log_model.specs.Spans.{seconds_in}
-use Rattle.note_model.specs.Odometer.{SpanFrom}
-use Rattle.unit_rule.specs.Odometer.{odometer_by}
-use Rattle.run_rings.specs.Spans.{go_on_from, with_second, AreAlike}
+use Rattle.run_devices.specs.minute_model.Second.{Second}
+use Rattle.run_devices.specs.log_model.Course.{ToldSecond}
+use Rattle.run_devices.specs.log_model.Spans.{seconds_in}
+use Rattle.run_devices.specs.note_model.Odometer.{SpanFrom}
+use Rattle.run_devices.specs.unit_rule.Odometer.{odometer_by}
+use Rattle.run_events.specs.run_rings.Spans.{go_on_from, with_second, AreAlike}
 use Rattle.run_note_record.specs.OnCards.{IsReading}
 use Rattle.run_note_record.proofs.Stored.{AtEnd, nothing, push, at-end}
 

@@ -1,19 +1,19 @@
 -- A refusal brings nothing.
 use Rattle.std.proofs.Common.{◌≡◌, ℕ, cond, List, [], ◌∷◌, ◌++◌, refl, ap, sym, ◌∙◌}
 use Rattle.std.specs.Prelude.{◌==◌}
-use Rattle.activity_codec.specs.declared.values.Slot.TheVariants.{Driver}
-use Rattle.trace_model.specs.Trace.{TraceSecond}
-use Rattle.log_model.specs.declared.lines.Refused.{Refused}
-use Rattle.log_model.specs.Log.{RunLog, Keeping, kept_after}
-use Rattle.log_model.specs.Same.{SameAt}
-use Rattle.log_model.specs.Course.{Visit, Before, went}
-use Rattle.event_model.specs.declared.kinds.TheConstants.{DRIVING_WITHOUT_CARD, OVER_SPEEDING, POWER_INTERRUPTION, CARD_FAULT}
-use Rattle.event_model.specs.Events.{Event, Seen, Tearing, number_of, seen_by, seen_of, seen_spans}
-use Rattle.run_course.specs.Moments.{and_refused}
-use Rattle.run_course.proofs.Lookups.{refusal-more}
-use Rattle.run_course.specs.Reached.{Reaches}
-use Rattle.run_course.specs.Moment.{goes_on}
-use Rattle.run_course.proofs.Reached.{lines-reached}
+use Rattle.run_events.specs.activity_codec.declared.values.Slot.TheVariants.{Driver}
+use Rattle.run_devices.specs.trace_model.Trace.{TraceSecond}
+use Rattle.run_devices.specs.log_model.declared.lines.Refused.{Refused}
+use Rattle.run_devices.specs.log_model.Log.{RunLog, Keeping, kept_after}
+use Rattle.run_devices.specs.log_model.Same.{SameAt}
+use Rattle.run_devices.specs.log_model.Course.{Visit, Before, went}
+use Rattle.run_devices.specs.event_model.declared.kinds.TheConstants.{DRIVING_WITHOUT_CARD, OVER_SPEEDING, POWER_INTERRUPTION, CARD_FAULT}
+use Rattle.run_devices.specs.event_model.Events.{Event, Seen, Tearing, number_of, seen_by, seen_of, seen_spans}
+use Rattle.run_devices.specs.run_course.Moments.{and_refused}
+use Rattle.run_devices.proofs.run_course.Lookups.{refusal-more}
+use Rattle.run_devices.specs.run_course.Reached.{Reaches}
+use Rattle.run_devices.specs.run_course.Moment.{goes_on}
+use Rattle.run_devices.proofs.run_course.Reached.{lines-reached}
 use Rattle.run_events.specs.Seconds.{span_before, bares_by, overs_by, gap_by, found_by, second_events}
 use Rattle.run_events.proofs.Later.{seen-by-same, second-faults}
 use Rattle.run_note_record.specs.Evented.{limit_in}

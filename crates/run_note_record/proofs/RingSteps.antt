@@ -1,20 +1,20 @@
 -- The rings over each action of a second.
 use Rattle.std.proofs.Common.{◌≡◌, inl, inr, ℕ, suc, ◌+◌, Bool, true, cond, Option, Some, List, [], ◌∷◌, ◌++◌, map, length, refl, ap, sym, subst, ◌∙◌, arith, append_assoc, length-append}
-use Rattle.activity_codec.specs.declared.values.Slot.{Slot}
-use Rattle.trace_model.specs.declared.Action.{Action}
-use Rattle.trace_model.specs.declared.Action.TheVariants.{Insert, Withdraw, Place}
-use Rattle.trace_model.specs.declared.Card.{Card}
-use Rattle.trace_model.specs.Trace.{TraceSecond}
-use Rattle.log_model.specs.declared.lines.Verdict.{Verdict}
-use Rattle.log_model.specs.Log.{RunLog, In, cut_in, found_in, is_accepting}
-use Rattle.log_model.specs.Course.{ToldSecond, went}
-use Rattle.note_model.specs.Odometer.{SpanFrom}
-use Rattle.note_model.specs.Noted.{Acceptance, Withdrawal, PlaceNote, Note, Accepts, Withdraws, Enters}
-use Rattle.safety_model.specs.Safe.{Devices}
-use Rattle.run_rings.specs.Notes.{NotesMore, accepts_by}
-use Rattle.run_rings.specs.Spans.{with_second}
-use Rattle.run_rings.proofs.Same.{rings-left}
-use Rattle.run_rings.proofs.Actions.{places, withdrawals, insertions}
+use Rattle.run_events.specs.activity_codec.declared.values.Slot.{Slot}
+use Rattle.run_devices.specs.trace_model.declared.Action.{Action}
+use Rattle.run_devices.specs.trace_model.declared.Action.TheVariants.{Insert, Withdraw, Place}
+use Rattle.run_devices.specs.trace_model.declared.Card.{Card}
+use Rattle.run_devices.specs.trace_model.Trace.{TraceSecond}
+use Rattle.run_devices.specs.log_model.declared.lines.Verdict.{Verdict}
+use Rattle.run_devices.specs.log_model.Log.{RunLog, In, cut_in, found_in, is_accepting}
+use Rattle.run_devices.specs.log_model.Course.{ToldSecond, went}
+use Rattle.run_devices.specs.note_model.Odometer.{SpanFrom}
+use Rattle.run_devices.specs.note_model.Noted.{Acceptance, Withdrawal, PlaceNote, Note, Accepts, Withdraws, Enters}
+use Rattle.run_devices.specs.safety_model.Safe.{Devices}
+use Rattle.run_events.specs.run_rings.Notes.{NotesMore, accepts_by}
+use Rattle.run_events.specs.run_rings.Spans.{with_second}
+use Rattle.run_events.proofs.run_rings.Same.{rings-left}
+use Rattle.run_events.proofs.run_rings.Actions.{places, withdrawals, insertions}
 use Rattle.run_note_record.specs.Origin.{Origin}
 use Rattle.run_note_record.specs.Ringed.{Seating, Ringed, since_in}
 use Rattle.run_note_record.specs.RingsSoFar.{notes_so_far, RingedBehind, RingedIn}

@@ -3,28 +3,28 @@ use Rattle.std.proofs.Common.{◌≡◌, ◌⊎◌, inl, inr, ⊎_elim, ℕ, suc
 use Rattle.std.specs.List.{AllByRecursion, list_any}
 use Rattle.std.proofs.lemmas.Bool.{ltb-true, ltb-false}
 use Rattle.std.proofs.lemmas.List.{length-append}
-use Rattle.card_layout.specs.Images.{bytes_at}
-use Rattle.trace_model.specs.declared.Card.{Card}
-use Rattle.gated_ring.specs.Ring.{Shape, IsShape, PointsInside, size_of, next, indices, taken, staying}
-use Rattle.gated_ring.specs.Change.{IsAdded, IsAdding}
-use Rattle.gated_ring.proofs.Elsewhere.{ring_outside, ring_elsewhere, taken_elsewhere}
-use Rattle.gated_ring.proofs.Listing.{taken_below}
-use Rattle.message_model.specs.Records.{insertion_ring, unit_place_ring}
-use Rattle.log_model.specs.Log.{RunLog}
-use Rattle.log_model.specs.Slots.{same_card}
-use Rattle.note_model.specs.Done.{has_failed_in}
-use Rattle.note_model.specs.Odometer.{SpanFrom, odometer_at}
-use Rattle.note_model.specs.Noted.{Acceptance, InsertionNote, PlaceNote, Note, Accepts, Enters, insertions_of, places_of}
-use Rattle.note_model.specs.Rings.{Stand, AreNoFewer}
-use Rattle.safety_model.specs.Safe.{Devices}
+use Rattle.tach_media.specs.card_layout.Images.{bytes_at}
+use Rattle.run_devices.specs.trace_model.declared.Card.{Card}
+use Rattle.run_events.specs.gated_ring.Ring.{Shape, IsShape, PointsInside, size_of, next, indices, taken, staying}
+use Rattle.run_events.specs.gated_ring.Change.{IsAdded, IsAdding}
+use Rattle.run_events.proofs.gated_ring.Elsewhere.{ring_outside, ring_elsewhere, taken_elsewhere}
+use Rattle.run_events.proofs.gated_ring.Listing.{taken_below}
+use Rattle.run_events.specs.message_model.Records.{insertion_ring, unit_place_ring}
+use Rattle.run_devices.specs.log_model.Log.{RunLog}
+use Rattle.run_devices.specs.log_model.Slots.{same_card}
+use Rattle.run_devices.specs.note_model.Done.{has_failed_in}
+use Rattle.run_devices.specs.note_model.Odometer.{SpanFrom, odometer_at}
+use Rattle.run_devices.specs.note_model.Noted.{Acceptance, InsertionNote, PlaceNote, Note, Accepts, Enters, insertions_of, places_of}
+use Rattle.run_devices.specs.note_model.Rings.{Stand, AreNoFewer}
+use Rattle.run_devices.specs.safety_model.Safe.{Devices}
 use Rattle.run_note_record.specs.Opened.{HasComeBefore}
-use Rattle.trace_model.specs.Trace.{TraceSecond}
-use Rattle.log_model.specs.Course.{ToldSecond}
-use Rattle.run_rings.specs.Carried.{RingKeeps}
-use Rattle.run_rings.proofs.Carried.{carries-none, carries-same, carries-more}
-use Rattle.run_rings.proofs.Indices.{index-stays, lies-next, lies-first}
-use Rattle.run_rings.proofs.Standing.{stand-one}
-use Rattle.run_rings.proofs.Few.{ring-stays, ring-takes, few-start, few-go, few-as, few-more}
+use Rattle.run_devices.specs.trace_model.Trace.{TraceSecond}
+use Rattle.run_devices.specs.log_model.Course.{ToldSecond}
+use Rattle.run_events.specs.run_rings.Carried.{RingKeeps}
+use Rattle.run_events.proofs.run_rings.Carried.{carries-none, carries-same, carries-more}
+use Rattle.run_events.proofs.run_rings.Indices.{index-stays, lies-next, lies-first}
+use Rattle.run_events.proofs.run_rings.Standing.{stand-one}
+use Rattle.run_events.proofs.run_rings.Few.{ring-stays, ring-takes, few-start, few-go, few-as, few-more}
 use Rattle.run_note_record.specs.Origin.{Origin}
 use Rattle.run_note_record.specs.Beside.{HaveLeftMore}
 use Rattle.run_note_record.specs.Ringed.{holder_in, TellsIn, IsInsertionIn, IsPlaceIn, sure_insertion, sure_place, ShowsNotes, Seating, one_behind, LiesBehind, StandsAt, IsSeated, ShowsInsertions, Ringed, GoOn, NoRingIsWritten, RingsStay, FewerSit, IsAddedAt, MayBeAdded, Since}

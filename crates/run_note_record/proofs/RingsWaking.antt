@@ -2,28 +2,28 @@
 use Rattle.std.proofs.Common.{◌≡◌, ◌⊎◌, inl, inr, ℕ, zero, suc, ◌&&◌, ◌||◌, Bool, true, false, cond, Option, Some, None, List, [], ◌∷◌, ◌++◌, map, refl, ap, sym, subst, ◌∙◌, arith, append-nil, append_assoc}
 use Rattle.std.specs.Prelude.{filter, nat_eq}
 use Rattle.std.specs.List.{list_any}
-use Rattle.activity_codec.specs.declared.values.Slot.{Slot}
-use Rattle.activity_codec.specs.declared.values.Slot.TheVariants.{Driver, CoDriver}
-use Rattle.trace_model.specs.declared.Card.{Card}
-use Rattle.trace_model.specs.Trace.{TraceSecond}
-use Rattle.log_model.specs.declared.lines.Break.{Break}
-use Rattle.log_model.specs.declared.lines.Break.TheVariants.{Cut, Tear}
-use Rattle.log_model.specs.declared.lines.Verdict.{Verdict}
-use Rattle.log_model.specs.Causes.{is_cut, has_failed, second_of}
-use Rattle.log_model.specs.Log.{RunLog, In, found_in, is_accepting}
-use Rattle.log_model.specs.Slots.{Sitting, in_slot}
-use Rattle.log_model.specs.Course.{ToldSecond, Before, Went, went}
-use Rattle.log_model.specs.Spans.{spans_of}
-use Rattle.run_unit_course.specs.Lines.{found_from}
-use Rattle.note_model.specs.Done.{has_failed_in}
-use Rattle.note_model.specs.Odometer.{SpanFrom}
-use Rattle.note_model.specs.Noted.{Acceptance, Note, Accepts}
-use Rattle.safety_model.specs.Safe.{Devices}
-use Rattle.run_rings.specs.Notes.{notes_to, sits_accepted}
-use Rattle.run_rings.specs.Spans.{with_second}
-use Rattle.run_rings.proofs.Same.{rings-left}
-use Rattle.run_rings.proofs.Actions.{power-notes}
-use Rattle.run_rings.proofs.Spans.{earlier-stay}
+use Rattle.run_events.specs.activity_codec.declared.values.Slot.{Slot}
+use Rattle.run_events.specs.activity_codec.declared.values.Slot.TheVariants.{Driver, CoDriver}
+use Rattle.run_devices.specs.trace_model.declared.Card.{Card}
+use Rattle.run_devices.specs.trace_model.Trace.{TraceSecond}
+use Rattle.run_devices.specs.log_model.declared.lines.Break.{Break}
+use Rattle.run_devices.specs.log_model.declared.lines.Break.TheVariants.{Cut, Tear}
+use Rattle.run_devices.specs.log_model.declared.lines.Verdict.{Verdict}
+use Rattle.run_devices.specs.log_model.Causes.{is_cut, has_failed, second_of}
+use Rattle.run_devices.specs.log_model.Log.{RunLog, In, found_in, is_accepting}
+use Rattle.run_devices.specs.log_model.Slots.{Sitting, in_slot}
+use Rattle.run_devices.specs.log_model.Course.{ToldSecond, Before, Went, went}
+use Rattle.run_devices.specs.log_model.Spans.{spans_of}
+use Rattle.run_devices.specs.run_unit_course.Lines.{found_from}
+use Rattle.run_devices.specs.note_model.Done.{has_failed_in}
+use Rattle.run_devices.specs.note_model.Odometer.{SpanFrom}
+use Rattle.run_devices.specs.note_model.Noted.{Acceptance, Note, Accepts}
+use Rattle.run_devices.specs.safety_model.Safe.{Devices}
+use Rattle.run_events.specs.run_rings.Notes.{notes_to, sits_accepted}
+use Rattle.run_events.specs.run_rings.Spans.{with_second}
+use Rattle.run_events.proofs.run_rings.Same.{rings-left}
+use Rattle.run_events.proofs.run_rings.Actions.{power-notes}
+use Rattle.run_events.proofs.run_rings.Spans.{earlier-stay}
 use Rattle.run_note_record.specs.Origin.{Origin}
 use Rattle.run_note_record.specs.Beside.{HaveLeftMore}
 use Rattle.run_note_record.specs.Ringed.{Seating, Ringed, StaysInRings, notes_in, since_behind, since_in}

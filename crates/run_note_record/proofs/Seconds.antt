@@ -1,29 +1,29 @@
 -- The events that are carried between two seconds, over each kind of second.
 use Rattle.std.proofs.Common.{◌≡◌, ℕ, suc, true, List, [], ◌∷◌, ◌++◌, All, Contains, take, refl, ap, sym, subst, ◌∙◌, append_assoc}
 use Rattle.std.proofs.lemmas.List.Elements.{All-nil, All-cons}
-use Rattle.trace_model.specs.Trace.{TraceSecond}
-use Rattle.run_model.specs.declared.Device.{Device}
-use Rattle.log_model.specs.declared.lines.Break.{Break}
-use Rattle.log_model.specs.Log.{RunLog, Phase}
-use Rattle.log_model.specs.Causes.{second_of}
-use Rattle.log_model.specs.Same.{SameAt}
-use Rattle.log_model.specs.Course.{ToldSecond, Visit, Went, went}
-use Rattle.event_model.specs.Events.{Event, Seen, Tearing, seen_of, seen_spans}
-use Rattle.note_model.specs.Done.{has_failed_in}
-use Rattle.note_model.specs.Noted.{Note}
-use Rattle.run_unit_course.specs.Lines.{cut_at}
-use Rattle.run_unit_course.specs.Followed.{UnitPower, Lit, Due, Lost, MayPower, IsDark, cuts_from}
-use Rattle.unit_events.specs.Shown.{all_kinds}
-use Rattle.unit_events.proofs.Failing.{failed-found, failed-here}
-use Rattle.safety_model.specs.Safe.{Devices}
-use Rattle.run_course.specs.Moments.{and_break}
-use Rattle.run_course.specs.Followed.{Progress, BookFollowsRun}
-use Rattle.run_course.specs.Seconds.{GoesOnBy, next_told}
-use Rattle.run_course.proofs.Logs.{all-before, same-found, went-found, kept-found}
-use Rattle.run_course.specs.Moment.{Moment, goes_on}
-use Rattle.run_course.specs.Telling.{begun_by}
-use Rattle.run_course.proofs.Reached.{push-each}
-use Rattle.run_course.proofs.Telling.{second-ends_told, cut-ends_told}
+use Rattle.run_devices.specs.trace_model.Trace.{TraceSecond}
+use Rattle.run_devices.specs.run_model.declared.Device.{Device}
+use Rattle.run_devices.specs.log_model.declared.lines.Break.{Break}
+use Rattle.run_devices.specs.log_model.Log.{RunLog, Phase}
+use Rattle.run_devices.specs.log_model.Causes.{second_of}
+use Rattle.run_devices.specs.log_model.Same.{SameAt}
+use Rattle.run_devices.specs.log_model.Course.{ToldSecond, Visit, Went, went}
+use Rattle.run_devices.specs.event_model.Events.{Event, Seen, Tearing, seen_of, seen_spans}
+use Rattle.run_devices.specs.note_model.Done.{has_failed_in}
+use Rattle.run_devices.specs.note_model.Noted.{Note}
+use Rattle.run_devices.specs.run_unit_course.Lines.{cut_at}
+use Rattle.run_devices.specs.run_unit_course.Followed.{UnitPower, Lit, Due, Lost, MayPower, IsDark, cuts_from}
+use Rattle.run_events.specs.unit_events.Shown.{all_kinds}
+use Rattle.run_events.proofs.unit_events.Failing.{failed-found, failed-here}
+use Rattle.run_devices.specs.safety_model.Safe.{Devices}
+use Rattle.run_devices.specs.run_course.Moments.{and_break}
+use Rattle.run_devices.specs.run_course.Followed.{Progress, BookFollowsRun}
+use Rattle.run_devices.specs.run_course.Seconds.{GoesOnBy, next_told}
+use Rattle.run_devices.proofs.run_course.Logs.{all-before, same-found, went-found, kept-found}
+use Rattle.run_devices.specs.run_course.Moment.{Moment, goes_on}
+use Rattle.run_devices.specs.run_course.Telling.{begun_by}
+use Rattle.run_devices.proofs.run_course.Reached.{push-each}
+use Rattle.run_devices.proofs.run_course.Telling.{second-ends_told, cut-ends_told}
 use Rattle.run_events.specs.Shown.{by_kind, none_sure, all_sure, AreTheFirst}
 use Rattle.run_events.specs.Seconds.{IsBehind, seen_next}
 use Rattle.run_events.specs.Gaps.{IsUntold, HasGaps, TellsMore}
@@ -32,9 +32,9 @@ use Rattle.run_events.proofs.Gaps.{is-found, goes-on, breaks-off}
 use Rattle.run_events.proofs.Ordered.{behind}
 use Rattle.run_events.proofs.Quiet.{plain-behind}
 use Rattle.run_events.proofs.Running.{lines-shown, second-shown, failed-shown}
-use Rattle.run_promise.specs.Origin.{Origin, rule_of, start_at, first_of}
-use Rattle.run_promise.specs.Beside.{HaveLeftMore}
-use Rattle.run_promise.specs.Seconds.{found_again}
+use Rattle.run_devices.specs.run_promise.Origin.{Origin, rule_of, start_at, first_of}
+use Rattle.run_devices.specs.run_promise.Beside.{HaveLeftMore}
+use Rattle.run_devices.specs.run_promise.Seconds.{found_again}
 use Rattle.run_note_record.specs.Opened.{AreOpenSo}
 use Rattle.run_note_record.specs.Uses.{times_of, opened_on, uses_in}
 use Rattle.run_note_record.specs.Evented.{number_in, limit_in, Evented, EventedBy, NotesMore, EventsStay, EventsAreFound, tearing_now, sessions_now, brought_now, IsChosen, ASecondIsNoted, ASecondIsBroken}

@@ -3,17 +3,17 @@ use Rattle.std.proofs.Common.{◌≡◌, ◌∙◌, ◌⊎◌, inl, inr, ⊎_eli
 use Rattle.std.specs.List.{AllByRecursion}
 use Rattle.std.proofs.lemmas.List.Sums.{fold-append}
 use Rattle.std.proofs.lemmas.List.Elements.{Contains-append_left, Contains-push, Contains-push_cases}
-use Rattle.trace_model.specs.declared.Card.{Card}
-use Rattle.card_layout.specs.declared.files.Application.{Application}
-use Rattle.card_image.specs.Fields.{session_time}
-use Rattle.card_image.specs.Own.{own_sizes}
-use Rattle.log_model.specs.Log.{RunLog}
-use Rattle.log_model.specs.Slots.{same_card}
-use Rattle.note_model.specs.Odometer.{SpanFrom}
-use Rattle.note_model.specs.Done.{has_failed_in}
-use Rattle.note_model.specs.Noted.{Acceptance, Withdrawal, PlaceNote, Note, Accepts, Withdraws, Enters}
-use Rattle.safety_model.specs.Recording.{card_image}
-use Rattle.safety_model.specs.Safe.{Devices, card_of}
+use Rattle.run_devices.specs.trace_model.declared.Card.{Card}
+use Rattle.tach_media.specs.card_layout.declared.files.Application.{Application}
+use Rattle.run_devices.specs.card_image.Fields.{session_time}
+use Rattle.run_devices.specs.card_image.Own.{own_sizes}
+use Rattle.run_devices.specs.log_model.Log.{RunLog}
+use Rattle.run_devices.specs.log_model.Slots.{same_card}
+use Rattle.run_devices.specs.note_model.Odometer.{SpanFrom}
+use Rattle.run_devices.specs.note_model.Done.{has_failed_in}
+use Rattle.run_devices.specs.note_model.Noted.{Acceptance, Withdrawal, PlaceNote, Note, Accepts, Withdraws, Enters}
+use Rattle.run_devices.specs.safety_model.Recording.{card_image}
+use Rattle.run_devices.specs.safety_model.Safe.{Devices, card_of}
 use Rattle.run_devices.specs.Sessions.{SessionGoes}
 use Rattle.run_devices.proofs.Sessions.{session-more}
 use Rattle.run_note_record.specs.Origin.{Origin}

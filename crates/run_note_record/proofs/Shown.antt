@@ -1,22 +1,22 @@
 -- At the end of a run its rings are shown.
 use Rattle.std.proofs.Common.{◌≡◌, ℕ, List, sym, subst, ◌⊎◌}
-use Rattle.card_layout.specs.Fields.{field_at}
-use Rattle.trace_model.specs.declared.Card.{Card}
-use Rattle.card_image.specs.Fields.{file_bytes, newest_vehicle}
-use Rattle.card_image.specs.Own.{own_sizes, own_number}
-use Rattle.message_model.specs.Records.{insertion_ring, unit_place_ring}
-use Rattle.log_model.specs.Log.{RunLog}
-use Rattle.note_model.specs.Noted.{Note, insertions_of, places_of, InsertionNote}
-use Rattle.note_model.specs.Rings.{Holder, RingShows, IsInsertion, IsPlace, is_sure_insertion, is_sure_place}
-use Rattle.safety_model.specs.Safe.{Devices, card_of}
-use Rattle.safety_model.specs.Side.{identification_widths, holder_of, IsPrevious, TellsVehicle}
-use Rattle.trace_model.specs.Trace.{TraceSecond}
-use Rattle.log_model.specs.Course.{ToldSecond}
-use Rattle.note_model.specs.Odometer.{SpanFrom}
+use Rattle.tach_media.specs.card_layout.Fields.{field_at}
+use Rattle.run_devices.specs.trace_model.declared.Card.{Card}
+use Rattle.run_devices.specs.card_image.Fields.{file_bytes, newest_vehicle}
+use Rattle.run_devices.specs.card_image.Own.{own_sizes, own_number}
+use Rattle.run_events.specs.message_model.Records.{insertion_ring, unit_place_ring}
+use Rattle.run_devices.specs.log_model.Log.{RunLog}
+use Rattle.run_devices.specs.note_model.Noted.{Note, insertions_of, places_of, InsertionNote}
+use Rattle.run_devices.specs.note_model.Rings.{Holder, RingShows, IsInsertion, IsPlace, is_sure_insertion, is_sure_place}
+use Rattle.run_devices.specs.safety_model.Safe.{Devices, card_of}
+use Rattle.run_devices.specs.safety_model.Side.{identification_widths, holder_of, IsPrevious, TellsVehicle}
+use Rattle.run_devices.specs.trace_model.Trace.{TraceSecond}
+use Rattle.run_devices.specs.log_model.Course.{ToldSecond}
+use Rattle.run_devices.specs.note_model.Odometer.{SpanFrom}
 use Rattle.run_note_record.specs.Opened.{HasComeBefore}
-use Rattle.run_rings.proofs.Standing.{ring-shows}
-use Rattle.safety_model.specs.Recording.{card_image, Recording, told_of}
-use Rattle.run_promise.specs.Found.{found_of}
+use Rattle.run_events.proofs.run_rings.Standing.{ring-shows}
+use Rattle.run_devices.specs.safety_model.Recording.{card_image, Recording, told_of}
+use Rattle.run_devices.specs.run_promise.Found.{found_of}
 use Rattle.run_note_record.specs.OnCards.{places_in, places_on, IsPlaceOn, is_sure_on, HasPlaces}
 use Rattle.run_note_record.specs.Ringed.{holder_in, IsInsertionIn, IsPlaceIn, sure_insertion, sure_place, HasRing, notes_in, RingsAreShown, PlacesAreShown}
 

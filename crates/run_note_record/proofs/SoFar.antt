@@ -2,30 +2,30 @@
 use Rattle.std.proofs.Common.{◌≡◌, inl, ℕ, suc, ◌+◌, ◌<◌, ◌≤◌, Bool, true, false, cond, not, ◌&&◌, Option, Some, None, IfSome, List, [], ◌∷◌, ◌++◌, map, filter, fold, nat_eq, refl, ap, sym, subst, ◌∙◌, arith, append-nil, append_assoc}
 use Rattle.std.specs.List.{AllByRecursion, list_any}
 use Rattle.std.proofs.lemmas.List.Elements.{filter-append}
-use Rattle.trace_model.specs.declared.Action.{Action}
-use Rattle.trace_model.specs.declared.Action.TheVariants.{Select, Insert, Withdraw, Tear, Place, Manual}
-use Rattle.trace_model.specs.declared.Card.{Card}
-use Rattle.trace_model.specs.Trace.{TraceSecond}
-use Rattle.minute_model.specs.Second.{Second}
-use Rattle.log_model.specs.declared.lines.Break.{Break}
-use Rattle.log_model.specs.declared.lines.SlotFault.{SlotFault}
-use Rattle.log_model.specs.Log.{RunLog, Phase, In, cut_in, is_torn_in}
-use Rattle.log_model.specs.Causes.{is_cut, has_failed, second_of}
-use Rattle.log_model.specs.Slots.{same_card, in_slot, refusal}
-use Rattle.log_model.specs.Spans.{go_on, spans_with, spans_of, seconds_in}
-use Rattle.log_model.specs.Course.{Course, ToldSecond, Before, Went, begins, acted, has_power, went, went_on, not_begun, second_told}
-use Rattle.note_model.specs.Done.{CarriedOut, course_powered, done_by, has_failed_in}
-use Rattle.note_model.specs.Odometer.{SpanFrom, odometer_at}
-use Rattle.note_model.specs.Noted.{Withdrawal, InsertionNote, PlaceNote, Note, Accepts, Withdraws, Enters, accepted_card, noted_by, noted_in, with_withdrawal, with_note, insertions_of, places_of}
-use Rattle.safety_model.specs.Safe.{Devices}
+use Rattle.run_devices.specs.trace_model.declared.Action.{Action}
+use Rattle.run_devices.specs.trace_model.declared.Action.TheVariants.{Select, Insert, Withdraw, Tear, Place, Manual}
+use Rattle.run_devices.specs.trace_model.declared.Card.{Card}
+use Rattle.run_devices.specs.trace_model.Trace.{TraceSecond}
+use Rattle.run_devices.specs.minute_model.Second.{Second}
+use Rattle.run_devices.specs.log_model.declared.lines.Break.{Break}
+use Rattle.run_devices.specs.log_model.declared.lines.SlotFault.{SlotFault}
+use Rattle.run_devices.specs.log_model.Log.{RunLog, Phase, In, cut_in, is_torn_in}
+use Rattle.run_devices.specs.log_model.Causes.{is_cut, has_failed, second_of}
+use Rattle.run_devices.specs.log_model.Slots.{same_card, in_slot, refusal}
+use Rattle.run_devices.specs.log_model.Spans.{go_on, spans_with, spans_of, seconds_in}
+use Rattle.run_devices.specs.log_model.Course.{Course, ToldSecond, Before, Went, begins, acted, has_power, went, went_on, not_begun, second_told}
+use Rattle.run_devices.specs.note_model.Done.{CarriedOut, course_powered, done_by, has_failed_in}
+use Rattle.run_devices.specs.note_model.Odometer.{SpanFrom, odometer_at}
+use Rattle.run_devices.specs.note_model.Noted.{Withdrawal, InsertionNote, PlaceNote, Note, Accepts, Withdraws, Enters, accepted_card, noted_by, noted_in, with_withdrawal, with_note, insertions_of, places_of}
+use Rattle.run_devices.specs.safety_model.Safe.{Devices}
 use Rattle.run_note_record.specs.Opened.{HasComeBefore}
 use Rattle.run_note_record.proofs.Opened.{come-told, come-trace}
-use Rattle.run_rings.specs.Notes.{accepted_in, noted_if, action_notes, notes_from, notes_to, NotesMore}
-use Rattle.run_rings.specs.Spans.{go_on_from, with_second, AreBefore, AreAllBefore, AreAlike}
-use Rattle.run_rings.proofs.Same.{rings-left}
-use Rattle.run_rings.proofs.Notes.{Finding, is_at, later-lines, second-noted, cut-notes}
-use Rattle.run_rings.proofs.Actions.{power-notes}
-use Rattle.run_rings.proofs.Spans.{are-spans, earlier-stay, alike}
+use Rattle.run_events.specs.run_rings.Notes.{accepted_in, noted_if, action_notes, notes_from, notes_to, NotesMore}
+use Rattle.run_events.specs.run_rings.Spans.{go_on_from, with_second, AreBefore, AreAllBefore, AreAlike}
+use Rattle.run_events.proofs.run_rings.Same.{rings-left}
+use Rattle.run_events.proofs.run_rings.Notes.{Finding, is_at, later-lines, second-noted, cut-notes}
+use Rattle.run_events.proofs.run_rings.Actions.{power-notes}
+use Rattle.run_events.proofs.run_rings.Spans.{are-spans, earlier-stay, alike}
 use Rattle.run_events.proofs.Later.{told-number}
 use Rattle.run_note_record.specs.Origin.{Origin}
 use Rattle.run_note_record.specs.Beside.{HaveLeftMore}

@@ -3,15 +3,15 @@ use Rattle.std.proofs.Common.{◌≡◌, inl, inr, ⊎_elim, ℕ, suc, ◌≤◌
 use Rattle.std.specs.List.{AllByRecursion}
 use Rattle.std.proofs.lemmas.Grind.{flat_map-append}
 use Rattle.std.proofs.lemmas.List.Sums.{fold-append}
-use Rattle.trace_model.specs.declared.Card.{Card}
-use Rattle.gated_ring.specs.Ring.{Shape, entry_at, with_head}
-use Rattle.gated_ring.proofs.Dense.{drop_all}
-use Rattle.log_model.specs.Log.{RunLog}
-use Rattle.note_model.specs.Done.{has_failed_in}
-use Rattle.note_model.specs.Odometer.{SpanFrom, odometer_at}
-use Rattle.note_model.specs.Noted.{InsertionNote, PlaceNote, Note, with_note, place_in, insertions_of, places_of}
+use Rattle.run_devices.specs.trace_model.declared.Card.{Card}
+use Rattle.run_events.specs.gated_ring.Ring.{Shape, entry_at, with_head}
+use Rattle.run_events.proofs.gated_ring.Dense.{drop_all}
+use Rattle.run_devices.specs.log_model.Log.{RunLog}
+use Rattle.run_devices.specs.note_model.Done.{has_failed_in}
+use Rattle.run_devices.specs.note_model.Odometer.{SpanFrom, odometer_at}
+use Rattle.run_devices.specs.note_model.Noted.{InsertionNote, PlaceNote, Note, with_note, place_in, insertions_of, places_of}
 use Rattle.run_note_record.specs.Ringed.{Each}
-use Rattle.note_model.specs.Rings.{Holder, Stand, unsure_count, TellsWithdrawal, IsInsertion, IsPlace, is_sure_insertion, is_sure_place}
+use Rattle.run_devices.specs.note_model.Rings.{Holder, Stand, unsure_count, TellsWithdrawal, IsInsertion, IsPlace, is_sure_insertion, is_sure_place}
 
 -- less is sure, and what stood for a note does
 module _ {N : Type 0} (sure still : N → Bool) (Is Now : N → List ℕ → Type 0) where

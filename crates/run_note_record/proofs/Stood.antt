@@ -3,17 +3,17 @@ use Rattle.std.proofs.Common.{◌≡◌, ◌⊎◌, inl, inr, ⊎_elim, ℕ, ◌
 use Rattle.std.specs.Prelude.{option_map, flat_map}
 use Rattle.std.specs.List.{list_any}
 use Rattle.std.proofs.lemmas.List.Elements.{filter-append}
-use Rattle.activity_codec.specs.declared.values.Slot.{Slot}
-use Rattle.activity_codec.specs.declared.values.Slot.TheVariants.{Driver, CoDriver}
-use Rattle.activity_codec.specs.Activity.{same_slot}
-use Rattle.trace_model.specs.declared.Card.{Card}
-use Rattle.trace_model.specs.Trace.{TraceSecond}
-use Rattle.log_model.specs.declared.lines.Verdict.{Verdict}
-use Rattle.log_model.specs.Log.{RunLog, Phase, In, same_phase, is_torn_in, found_in, is_accepting}
-use Rattle.log_model.specs.Slots.{Slots, Sitting, in_slot, other_slot, is_accepted}
-use Rattle.log_model.specs.Course.{Visit, Course, Before, Moved, card_in, visits, has_power}
-use Rattle.event_model.specs.Events.{Seen, Tearing, accepted_card, seen_by, torn_at, first_card, accepted_at, standing}
-use Rattle.run_course.specs.Reached.{IsUpTo, begun_at, moved_at, course_at}
+use Rattle.run_events.specs.activity_codec.declared.values.Slot.{Slot}
+use Rattle.run_events.specs.activity_codec.declared.values.Slot.TheVariants.{Driver, CoDriver}
+use Rattle.run_events.specs.activity_codec.Activity.{same_slot}
+use Rattle.run_devices.specs.trace_model.declared.Card.{Card}
+use Rattle.run_devices.specs.trace_model.Trace.{TraceSecond}
+use Rattle.run_devices.specs.log_model.declared.lines.Verdict.{Verdict}
+use Rattle.run_devices.specs.log_model.Log.{RunLog, Phase, In, same_phase, is_torn_in, found_in, is_accepting}
+use Rattle.run_devices.specs.log_model.Slots.{Slots, Sitting, in_slot, other_slot, is_accepted}
+use Rattle.run_devices.specs.log_model.Course.{Visit, Course, Before, Moved, card_in, visits, has_power}
+use Rattle.run_devices.specs.event_model.Events.{Seen, Tearing, accepted_card, seen_by, torn_at, first_card, accepted_at, standing}
+use Rattle.run_devices.specs.run_course.Reached.{IsUpTo, begun_at, moved_at, course_at}
 use Rattle.run_events.proofs.Later.{told-number}
 use Rattle.run_note_record.specs.EventsSoFar.{AreBare}
 use Rattle.run_note_record.proofs.Parts.{outs, found_now, finds}

@@ -6,24 +6,24 @@ use Rattle.std.proofs.lemmas.Bool.Decides.{nat_tests}
 use Rattle.std.proofs.lemmas.List.{map-append}
 use Rattle.std.proofs.lemmas.List.Elements.{All-nil, All-cons, All-contains, All-map, Contains-push, Contains-push_cases, Contains-append_left, Contains-append_right, Contains-append_cases}
 use Rattle.std.proofs.lemmas.List.Sums.{sum_by-cons}
-use Rattle.activity_codec.proofs.ByTest.{by_test}
-use Rattle.minute_model.specs.declared.Minute.{Minute}
-use Rattle.minute_model.specs.declared.Rule.{Rule}
-use Rattle.minute_model.specs.Second.{Second, minute_of}
-use Rattle.minute_model.specs.Minute.{horizon_of, known_at, class_of, travelled_to, minutes_in, is_decided, decided}
-use Rattle.minute_model.proofs.Counted.{next_settling, horizon-open, horizon-settled}
-use Rattle.unit_model.specs.declared.layout.TheConstants.{HIGHEST_ODOMETER}
-use Rattle.log_model.specs.Course.{ToldSecond}
-use Rattle.log_model.specs.Spans.{seconds_in}
-use Rattle.history_model.specs.Minutes.{HistoryMinute}
-use Rattle.history_model.specs.History.{settlings_of, decided_of}
-use Rattle.history_model.specs.Book.{Book, all, Rising, IsMark}
-use Rattle.history_model.proofs.Filters.{filter-and}
-use Rattle.run_unit_course.specs.Legs.{Travel, travelled_by}
-use Rattle.run_unit_course.specs.Travelled.{MayShow}
-use Rattle.run_unit_course.proofs.Legs.{travelled_by-push}
-use Rattle.unit_rule.specs.Odometer.{odometer_by}
-use Rattle.note_model.specs.Odometer.{SpanFrom, odometer_at_end, IsBeingKept, MayStore, OfStart, OfKept, OfCut}
+use Rattle.run_events.proofs.activity_codec.ByTest.{by_test}
+use Rattle.run_devices.specs.minute_model.declared.Minute.{Minute}
+use Rattle.run_devices.specs.minute_model.declared.Rule.{Rule}
+use Rattle.run_devices.specs.minute_model.Second.{Second, minute_of}
+use Rattle.run_devices.specs.minute_model.Minute.{horizon_of, known_at, class_of, travelled_to, minutes_in, is_decided, decided}
+use Rattle.run_devices.proofs.minute_model.Counted.{next_settling, horizon-open, horizon-settled}
+use Rattle.run_devices.specs.unit_model.declared.layout.TheConstants.{HIGHEST_ODOMETER}
+use Rattle.run_devices.specs.log_model.Course.{ToldSecond}
+use Rattle.run_devices.specs.log_model.Spans.{seconds_in}
+use Rattle.run_devices.specs.history_model.Minutes.{HistoryMinute}
+use Rattle.run_devices.specs.history_model.History.{settlings_of, decided_of}
+use Rattle.run_devices.specs.history_model.Book.{Book, all, Rising, IsMark}
+use Rattle.run_devices.proofs.history_model.Filters.{filter-and}
+use Rattle.run_devices.specs.run_unit_course.Legs.{Travel, travelled_by}
+use Rattle.run_devices.specs.run_unit_course.Travelled.{MayShow}
+use Rattle.run_devices.proofs.run_unit_course.Legs.{travelled_by-push}
+use Rattle.run_devices.specs.unit_rule.Odometer.{odometer_by}
+use Rattle.run_devices.specs.note_model.Odometer.{SpanFrom, odometer_at_end, IsBeingKept, MayStore, OfStart, OfKept, OfCut}
 use Rattle.run_note_record.specs.Stored.{IsNewest}
 
 -- ---- elements

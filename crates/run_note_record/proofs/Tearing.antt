@@ -4,16 +4,16 @@ use Rattle.std.specs.Prelude.{option_map}
 use Rattle.std.specs.List.{AllByRecursion, list_any}
 use Rattle.std.proofs.lemmas.Bool.Decides.{nat_tests}
 use Rattle.std.proofs.lemmas.List.Folds.{list_any-append}
-use Rattle.activity_codec.specs.declared.values.Slot.{Slot}
-use Rattle.activity_codec.specs.declared.values.Slot.TheVariants.{Driver, CoDriver}
-use Rattle.activity_codec.specs.Activity.{same_slot}
-use Rattle.trace_model.specs.declared.Card.{Card}
-use Rattle.log_model.specs.declared.lines.Break.TheVariants.{Tear}
-use Rattle.log_model.specs.declared.lines.Verdict.{Verdict}
-use Rattle.log_model.specs.Log.{RunLog, Phase, In, Keeping, same_phase, phase_of, tears_here, is_torn_in, is_accepting}
-use Rattle.log_model.specs.Slots.{Sitting, in_slot, other_slot}
-use Rattle.log_model.specs.Course.{Visit, Course, Moved, card_in, visits, slot_told, both_told}
-use Rattle.event_model.specs.Events.{Event, Seen, Tearing, torn_at, torn_in_turn, is_codriver_first}
+use Rattle.run_events.specs.activity_codec.declared.values.Slot.{Slot}
+use Rattle.run_events.specs.activity_codec.declared.values.Slot.TheVariants.{Driver, CoDriver}
+use Rattle.run_events.specs.activity_codec.Activity.{same_slot}
+use Rattle.run_devices.specs.trace_model.declared.Card.{Card}
+use Rattle.run_devices.specs.log_model.declared.lines.Break.TheVariants.{Tear}
+use Rattle.run_devices.specs.log_model.declared.lines.Verdict.{Verdict}
+use Rattle.run_devices.specs.log_model.Log.{RunLog, Phase, In, Keeping, same_phase, phase_of, tears_here, is_torn_in, is_accepting}
+use Rattle.run_devices.specs.log_model.Slots.{Sitting, in_slot, other_slot}
+use Rattle.run_devices.specs.log_model.Course.{Visit, Course, Moved, card_in, visits, slot_told, both_told}
+use Rattle.run_devices.specs.event_model.Events.{Event, Seen, Tearing, torn_at, torn_in_turn, is_codriver_first}
 use Rattle.run_note_record.proofs.Fronts.{IsFormer, former-other}
 use Rattle.run_note_record.proofs.Parts.{outs, found_now, judged, torn_so, accepted_so, slot-other}
 

@@ -1,22 +1,22 @@
 -- The events of a run over seconds that are taken at once, without power.
 use Rattle.std.proofs.Common.{◌≡◌, ℕ, zero, suc, ◌+◌, ◌-◌, ◌%◌, ◌<◌, ◌≤◌, true, false, List, [], ◌∷◌, ◌++◌, length, refl, ap, sym, subst, ◌∙◌, arith, append_assoc, append-nil, length-append}
-use Rattle.trace_model.specs.declared.Action.{Action}
-use Rattle.trace_model.specs.Trace.{TraceSecond, driven, dark}
-use Rattle.log_model.specs.declared.lines.Refused.{Refused}
-use Rattle.log_model.specs.Log.{RunLog}
-use Rattle.log_model.specs.Spans.{AreInOrder}
-use Rattle.log_model.specs.Course.{Went, Before, second_told, went}
-use Rattle.run_unit_course.specs.Lines.{cut_at}
-use Rattle.run_unit_course.specs.Followed.{UnitPower, Due, Lost, IsDark}
-use Rattle.run_unit_course.proofs.Parts.{order-behind, driven-order, driven-length, dark-order, dark-length}
-use Rattle.safety_model.specs.Safe.{Devices}
-use Rattle.run_course.specs.Moments.{and_break}
-use Rattle.run_course.specs.Followed.{Progress, BookFollowsRun, IsLost}
-use Rattle.run_course.proofs.Dark.{lost-are-told}
-use Rattle.run_course.proofs.Logs.{went-refused}
-use Rattle.run_course.proofs.Steps.{with-supply}
-use Rattle.run_course.proofs.Told.{lost-dark, told-lit}
-use Rattle.run_promise.specs.Origin.{Origin, rule_of, start_at, first_of}
+use Rattle.run_devices.specs.trace_model.declared.Action.{Action}
+use Rattle.run_devices.specs.trace_model.Trace.{TraceSecond, driven, dark}
+use Rattle.run_devices.specs.log_model.declared.lines.Refused.{Refused}
+use Rattle.run_devices.specs.log_model.Log.{RunLog}
+use Rattle.run_devices.specs.log_model.Spans.{AreInOrder}
+use Rattle.run_devices.specs.log_model.Course.{Went, Before, second_told, went}
+use Rattle.run_devices.specs.run_unit_course.Lines.{cut_at}
+use Rattle.run_devices.specs.run_unit_course.Followed.{UnitPower, Due, Lost, IsDark}
+use Rattle.run_devices.proofs.run_unit_course.Parts.{order-behind, driven-order, driven-length, dark-order, dark-length}
+use Rattle.run_devices.specs.safety_model.Safe.{Devices}
+use Rattle.run_devices.specs.run_course.Moments.{and_break}
+use Rattle.run_devices.specs.run_course.Followed.{Progress, BookFollowsRun, IsLost}
+use Rattle.run_devices.proofs.run_course.Dark.{lost-are-told}
+use Rattle.run_devices.proofs.run_course.Logs.{went-refused}
+use Rattle.run_devices.proofs.run_course.Steps.{with-supply}
+use Rattle.run_devices.proofs.run_course.Told.{lost-dark, told-lit}
+use Rattle.run_devices.specs.run_promise.Origin.{Origin, rule_of, start_at, first_of}
 use Rattle.run_note_record.specs.Evented.{Evented, EventedBy}
 use Rattle.run_note_record.specs.Going.{DarkSecondsBringNothing, AnOffLineBringsNothing, AnOffLineCutsAndBringsNothing}
 use Rattle.run_note_record.proofs.Dark.{dark-brings}

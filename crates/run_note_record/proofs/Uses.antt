@@ -5,16 +5,16 @@ use Rattle.std.specs.List.{AllByRecursion, list_any}
 use Rattle.std.proofs.lemmas.List.{map-append}
 use Rattle.std.proofs.lemmas.List.Elements.{filter-append}
 use Rattle.std.proofs.lemmas.List.Sums.{fold-append}
-use Rattle.activity_codec.specs.declared.values.Slot.{Slot}
-use Rattle.trace_model.specs.declared.Card.{Card}
-use Rattle.trace_model.specs.declared.Card.TheVariants.{A, B}
-use Rattle.tacho_types.specs.declared.texts.Registration.{Registration}
-use Rattle.card_files.specs.declared.current_use.CurrentUse.{CurrentUse}
-use Rattle.log_model.specs.declared.lines.Verdict.{Verdict}
-use Rattle.log_model.specs.Log.{is_accepting}
-use Rattle.log_model.specs.Slots.{same_card}
-use Rattle.note_model.specs.Noted.{Withdrawal, InsertionNote, Note, Accepts, Withdraws, Enters, with_withdrawal, with_note, insertions_of}
-use Rattle.run_rings.specs.Notes.{accepts_by}
+use Rattle.run_events.specs.activity_codec.declared.values.Slot.{Slot}
+use Rattle.run_devices.specs.trace_model.declared.Card.{Card}
+use Rattle.run_devices.specs.trace_model.declared.Card.TheVariants.{A, B}
+use Rattle.run_devices.specs.tacho_types.declared.texts.Registration.{Registration}
+use Rattle.run_events.specs.card_files.declared.current_use.CurrentUse.{CurrentUse}
+use Rattle.run_devices.specs.log_model.declared.lines.Verdict.{Verdict}
+use Rattle.run_devices.specs.log_model.Log.{is_accepting}
+use Rattle.run_devices.specs.log_model.Slots.{same_card}
+use Rattle.run_devices.specs.note_model.Noted.{Withdrawal, InsertionNote, Note, Accepts, Withdraws, Enters, with_withdrawal, with_note, insertions_of}
+use Rattle.run_events.specs.run_rings.Notes.{accepts_by}
 use Rattle.run_note_record.specs.Uses.{left_by, use_behind, uses_from, insertions_on, inserted, insertions_at, times_of}
 
 -- ---- one after another

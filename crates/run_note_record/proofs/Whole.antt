@@ -1,17 +1,17 @@
 -- The course of a whole second by a log that tells of it up to a moment.
 use Rattle.std.proofs.Common.{◌≡◌, ℕ, zero, suc, ◌+◌, ◌<◌, false, cond, not, ◌||◌, Option, Some, None, List, [], ◌∷◌, length, take, is_some, refl, ap, sym, ◌∙◌, arith}
-use Rattle.activity_codec.specs.declared.values.Slot.{Slot}
-use Rattle.trace_model.specs.declared.Action.{Action}
-use Rattle.trace_model.specs.declared.Action.TheVariants.{Select, Insert, Withdraw, Tear as Pull, Place, Manual}
-use Rattle.trace_model.specs.Trace.{TraceSecond}
-use Rattle.log_model.specs.declared.lines.SlotFault.{SlotFault}
-use Rattle.log_model.specs.Log.{RunLog, Phase, In, Keeping, cut_in, is_torn_in, found_in}
-use Rattle.log_model.specs.Slots.{refusal}
-use Rattle.log_model.specs.Course.{Course, Before, begins, is_settling, both_told, unmoved, moved_by, fresh, acted, all_acted, answered, cut_told, lit_course}
-use Rattle.event_model.specs.Events.{course_by}
-use Rattle.run_course.proofs.Moments.{both-still}
-use Rattle.run_course.specs.Reached.{IsMoment, IsUpTo, course_at}
-use Rattle.run_course.proofs.Reached.{at-by}
+use Rattle.run_events.specs.activity_codec.declared.values.Slot.{Slot}
+use Rattle.run_devices.specs.trace_model.declared.Action.{Action}
+use Rattle.run_devices.specs.trace_model.declared.Action.TheVariants.{Select, Insert, Withdraw, Tear as Pull, Place, Manual}
+use Rattle.run_devices.specs.trace_model.Trace.{TraceSecond}
+use Rattle.run_devices.specs.log_model.declared.lines.SlotFault.{SlotFault}
+use Rattle.run_devices.specs.log_model.Log.{RunLog, Phase, In, Keeping, cut_in, is_torn_in, found_in}
+use Rattle.run_devices.specs.log_model.Slots.{refusal}
+use Rattle.run_devices.specs.log_model.Course.{Course, Before, begins, is_settling, both_told, unmoved, moved_by, fresh, acted, all_acted, answered, cut_told, lit_course}
+use Rattle.run_devices.specs.event_model.Events.{course_by}
+use Rattle.run_devices.proofs.run_course.Moments.{both-still}
+use Rattle.run_devices.specs.run_course.Reached.{IsMoment, IsUpTo, course_at}
+use Rattle.run_devices.proofs.run_course.Reached.{at-by}
 
 -- two courses have the same tears and finds
 pub record IsTold (c d : Course) : Type 0 where

@@ -3,34 +3,34 @@ use Rattle.std.proofs.Common.{◌≡◌, ◌≢◌, ◌⊎◌, inl, inr, ⊎_eli
 use Rattle.std.specs.List.{list_any}
 use Rattle.std.proofs.lemmas.Bool.{eqb-true, eqb-false}
 use Rattle.std.proofs.lemmas.List.{length-map, length-append}
-use Rattle.card_layout.specs.Images.{bytes_at, put, big_number}
-use Rattle.card_layout.specs.Fields.{field_at, number_in}
-use Rattle.card_layout.proofs.Images.{put_outside}
-use Rattle.card_layout.proofs.Fields.{field_put, field_stays}
-use Rattle.card_layout.proofs.Numbers.{big_number-big_bytes}
-use Rattle.tacho_types.specs.declared.numbers.TimeReal.{TimeReal}
-use Rattle.tacho_types.specs.declared.numbers.Odometer.{Odometer}
-use Rattle.tacho_types.specs.Numbers.{time_bytes, odometer_bytes}
-use Rattle.trace_model.specs.declared.Card.{Card}
-use Rattle.trace_model.specs.declared.Card.TheVariants.{A, B}
-use Rattle.gated_ring.specs.Ring.{PointsInside, size_of, place_of, pointer, next, is_there, indices, ring_list, entry_at, taken}
-use Rattle.gated_ring.specs.Change.{SameOthers, IsSet}
-use Rattle.gated_ring.proofs.Elsewhere.{ring_outside, ring_elsewhere, taken_elsewhere}
-use Rattle.gated_ring.proofs.Listing.{few_indices}
-use Rattle.message_model.specs.Records.{insertion_widths, insertion_ring, unit_place_ring}
-use Rattle.unit_notes.specs.Noting.{out_place, out_odometer_place, with_withdrawal, IsWithdrawn}
-use Rattle.log_model.specs.Log.{RunLog}
-use Rattle.log_model.specs.Slots.{same_card}
-use Rattle.note_model.specs.Done.{has_failed_in}
-use Rattle.note_model.specs.Odometer.{SpanFrom, odometer_at}
-use Rattle.note_model.specs.Noted.{Withdrawal, InsertionNote, PlaceNote, Note, Withdraws, with_withdrawal as note_withdrawal, insertions_of, places_of}
-use Rattle.note_model.specs.Rings.{Holder, Stand, AreNoFewer, TellsWithdrawal, IsInsertion}
-use Rattle.safety_model.specs.Safe.{Devices}
-use Rattle.run_rings.specs.Carried.{RingKeeps}
-use Rattle.run_rings.proofs.Carried.{same-parts, carries-same, carries-changed, carries-gone, entry-was}
-use Rattle.run_rings.proofs.Indices.{index-alone, index-itself}
-use Rattle.run_rings.proofs.Standing.{stand-append, withdrawal-of-last}
-use Rattle.run_rings.proofs.Few.{RingStays, ring-same, ring-stays, few-as, few-changed}
+use Rattle.tach_media.specs.card_layout.Images.{bytes_at, put, big_number}
+use Rattle.tach_media.specs.card_layout.Fields.{field_at, number_in}
+use Rattle.tach_media.proofs.card_layout.Images.{put_outside}
+use Rattle.tach_media.proofs.card_layout.Fields.{field_put, field_stays}
+use Rattle.tach_media.proofs.card_layout.Numbers.{big_number-big_bytes}
+use Rattle.run_devices.specs.tacho_types.declared.numbers.TimeReal.{TimeReal}
+use Rattle.run_devices.specs.tacho_types.declared.numbers.Odometer.{Odometer}
+use Rattle.run_devices.specs.tacho_types.Numbers.{time_bytes, odometer_bytes}
+use Rattle.run_devices.specs.trace_model.declared.Card.{Card}
+use Rattle.run_devices.specs.trace_model.declared.Card.TheVariants.{A, B}
+use Rattle.run_events.specs.gated_ring.Ring.{PointsInside, size_of, place_of, pointer, next, is_there, indices, ring_list, entry_at, taken}
+use Rattle.run_events.specs.gated_ring.Change.{SameOthers, IsSet}
+use Rattle.run_events.proofs.gated_ring.Elsewhere.{ring_outside, ring_elsewhere, taken_elsewhere}
+use Rattle.run_events.proofs.gated_ring.Listing.{few_indices}
+use Rattle.run_events.specs.message_model.Records.{insertion_widths, insertion_ring, unit_place_ring}
+use Rattle.run_events.specs.unit_notes.Noting.{out_place, out_odometer_place, with_withdrawal, IsWithdrawn}
+use Rattle.run_devices.specs.log_model.Log.{RunLog}
+use Rattle.run_devices.specs.log_model.Slots.{same_card}
+use Rattle.run_devices.specs.note_model.Done.{has_failed_in}
+use Rattle.run_devices.specs.note_model.Odometer.{SpanFrom, odometer_at}
+use Rattle.run_devices.specs.note_model.Noted.{Withdrawal, InsertionNote, PlaceNote, Note, Withdraws, with_withdrawal as note_withdrawal, insertions_of, places_of}
+use Rattle.run_devices.specs.note_model.Rings.{Holder, Stand, AreNoFewer, TellsWithdrawal, IsInsertion}
+use Rattle.run_devices.specs.safety_model.Safe.{Devices}
+use Rattle.run_events.specs.run_rings.Carried.{RingKeeps}
+use Rattle.run_events.proofs.run_rings.Carried.{same-parts, carries-same, carries-changed, carries-gone, entry-was}
+use Rattle.run_events.proofs.run_rings.Indices.{index-alone, index-itself}
+use Rattle.run_events.proofs.run_rings.Standing.{stand-append, withdrawal-of-last}
+use Rattle.run_events.proofs.run_rings.Few.{RingStays, ring-same, ring-stays, few-as, few-changed}
 use Rattle.run_note_record.specs.Beside.{HaveLeftMore}
 use Rattle.run_note_record.specs.Ringed.{holder_in, TellsIn, Each, HasSameRings, IsInsertionIn, IsPlaceIn, sure_insertion, sure_place, ShowsNotes, Seating, LiesBehind, StandsAt, IsSeated, Ringed, IsWithdrawnAt, MayBeWithdrawn, Since}
 use Rattle.run_note_record.specs.OnCards.{CardsStay}

@@ -1,27 +1,27 @@
 -- WHAT EACH LINE of a second brings of events, of the types that are noted as they come (Annex IB, section III.12; the
 -- moments: profile).
 use Rattle.std.specs.Prelude.{◌≡◌, ℕ, zero, suc, true, false, List, [], ◌∷◌, ◌++◌, Contains}
-use Rattle.activity_codec.specs.declared.values.Slot.{Slot}
-use Rattle.activity_codec.specs.declared.values.Slot.TheVariants.{Driver, CoDriver}
-use Rattle.trace_model.specs.declared.Card.{Card}
-use Rattle.trace_model.specs.Trace.{TraceSecond}
-use Rattle.run_model.specs.declared.Device.{Device}
-use Rattle.log_model.specs.declared.lines.Break.{Break}
-use Rattle.log_model.specs.declared.lines.Refused.{Refused}
-use Rattle.log_model.specs.Log.{RunLog, Phase, In, Keeping, same_phase, is_torn_in, found_in}
-use Rattle.log_model.specs.Slots.{other_slot}
-use Rattle.log_model.specs.Course.{ToldSecond, Visit, visits, went}
-use Rattle.event_model.specs.Events.{Event, Tearing, is_first, fault_of}
-use Rattle.run_unit_course.specs.Followed.{Lit}
-use Rattle.unit_events.specs.Shown.{all_kinds}
-use Rattle.run_course.specs.Moments.{and_break, and_refused}
-use Rattle.run_course.specs.Followed.{Progress, BookFollowsRun}
-use Rattle.run_course.specs.Reached.{course_at, moved_at, IsTearAt}
-use Rattle.run_course.specs.Moment.{Moment}
-use Rattle.run_course.specs.Telling.{IsOneOut}
+use Rattle.run_events.specs.activity_codec.declared.values.Slot.{Slot}
+use Rattle.run_events.specs.activity_codec.declared.values.Slot.TheVariants.{Driver, CoDriver}
+use Rattle.run_devices.specs.trace_model.declared.Card.{Card}
+use Rattle.run_devices.specs.trace_model.Trace.{TraceSecond}
+use Rattle.run_devices.specs.run_model.declared.Device.{Device}
+use Rattle.run_devices.specs.log_model.declared.lines.Break.{Break}
+use Rattle.run_devices.specs.log_model.declared.lines.Refused.{Refused}
+use Rattle.run_devices.specs.log_model.Log.{RunLog, Phase, In, Keeping, same_phase, is_torn_in, found_in}
+use Rattle.run_devices.specs.log_model.Slots.{other_slot}
+use Rattle.run_devices.specs.log_model.Course.{ToldSecond, Visit, visits, went}
+use Rattle.run_devices.specs.event_model.Events.{Event, Tearing, is_first, fault_of}
+use Rattle.run_devices.specs.run_unit_course.Followed.{Lit}
+use Rattle.run_events.specs.unit_events.Shown.{all_kinds}
+use Rattle.run_devices.specs.run_course.Moments.{and_break, and_refused}
+use Rattle.run_devices.specs.run_course.Followed.{Progress, BookFollowsRun}
+use Rattle.run_devices.specs.run_course.Reached.{course_at, moved_at, IsTearAt}
+use Rattle.run_devices.specs.run_course.Moment.{Moment}
+use Rattle.run_devices.specs.run_course.Telling.{IsOneOut}
 use Rattle.run_events.specs.Shown.{by_kind}
 use Rattle.run_events.specs.Seconds.{seen_next}
-use Rattle.run_promise.specs.Origin.{Origin, rule_of, start_at, first_of}
+use Rattle.run_devices.specs.run_promise.Origin.{Origin, rule_of, start_at, first_of}
 use Rattle.run_note_record.specs.Evented.{brought_now}
 use Rattle.run_note_record.specs.Noting.{Stage, Acting, is_told}
 

@@ -1,41 +1,41 @@
 -- The events and faults that a run with cards has noted on its unit by now (Annex IB, section III.12; the moments:
 -- profile): what is carried of them BETWEEN TWO SECONDS, and over each kind of second.
 use Rattle.std.specs.Prelude.{◌≡◌, ℕ, suc, ◌+◌, ◌-◌, ◌≤◌, Bool, true, false, List, [], ◌∷◌, ◌++◌, length, Contains}
-use Rattle.trace_model.specs.declared.Card.{Card}
-use Rattle.trace_model.specs.declared.Action.{Action}
-use Rattle.trace_model.specs.Trace.{TraceSecond}
-use Rattle.run_model.specs.declared.Device.{Device}
-use Rattle.run_model.specs.declared.Device.TheVariants.{Unit as Recorder}
-use Rattle.card_image.specs.Own.{own_number}
-use Rattle.log_model.specs.declared.lines.Verdict.{Verdict}
-use Rattle.log_model.specs.Log.{RunLog, Phase, Keeping, is_accepting}
-use Rattle.log_model.specs.Causes.{RoseBy}
-use Rattle.log_model.specs.Course.{ToldSecond, Visit, went}
-use Rattle.log_model.specs.Spans.{AreInOrder}
-use Rattle.event_model.specs.Events.{Event, Tearing, AreTorn, seen_of, seen_spans, events_of}
-use Rattle.note_model.specs.Events.{AreSessions}
-use Rattle.unit_model.specs.declared.layout.TheConstants.{SPEED_LIMIT, OVER_COUNT}
-use Rattle.unit_model.specs.Image.{number_of}
-use Rattle.run_unit_course.specs.Lines.{cut_at}
-use Rattle.run_unit_course.specs.Followed.{UnitPower, Lit, Lost, MayPower, IsDark}
-use Rattle.safety_model.specs.Recording.{Recording, card_image, told_of}
-use Rattle.safety_model.specs.Safe.{Devices, card_of}
-use Rattle.safety_model.specs.Side.{events_in}
-use Rattle.unit_events.specs.Shown.{all_kinds}
-use Rattle.run_promise.specs.Found.{found_of}
-use Rattle.run_course.specs.Moments.{and_break}
-use Rattle.run_course.specs.Followed.{Progress, BookFollowsRun}
-use Rattle.run_course.specs.Seconds.{next_told}
-use Rattle.run_course.specs.Moment.{Moment}
-use Rattle.run_course.specs.Telling.{IsMore, begun_by, IsLeft}
+use Rattle.run_devices.specs.trace_model.declared.Card.{Card}
+use Rattle.run_devices.specs.trace_model.declared.Action.{Action}
+use Rattle.run_devices.specs.trace_model.Trace.{TraceSecond}
+use Rattle.run_devices.specs.run_model.declared.Device.{Device}
+use Rattle.run_devices.specs.run_model.declared.Device.TheVariants.{Unit as Recorder}
+use Rattle.run_devices.specs.card_image.Own.{own_number}
+use Rattle.run_devices.specs.log_model.declared.lines.Verdict.{Verdict}
+use Rattle.run_devices.specs.log_model.Log.{RunLog, Phase, Keeping, is_accepting}
+use Rattle.run_devices.specs.log_model.Causes.{RoseBy}
+use Rattle.run_devices.specs.log_model.Course.{ToldSecond, Visit, went}
+use Rattle.run_devices.specs.log_model.Spans.{AreInOrder}
+use Rattle.run_devices.specs.event_model.Events.{Event, Tearing, AreTorn, seen_of, seen_spans, events_of}
+use Rattle.run_devices.specs.note_model.Events.{AreSessions}
+use Rattle.run_devices.specs.unit_model.declared.layout.TheConstants.{SPEED_LIMIT, OVER_COUNT}
+use Rattle.run_devices.specs.unit_model.Image.{number_of}
+use Rattle.run_devices.specs.run_unit_course.Lines.{cut_at}
+use Rattle.run_devices.specs.run_unit_course.Followed.{UnitPower, Lit, Lost, MayPower, IsDark}
+use Rattle.run_devices.specs.safety_model.Recording.{Recording, card_image, told_of}
+use Rattle.run_devices.specs.safety_model.Safe.{Devices, card_of}
+use Rattle.run_devices.specs.safety_model.Side.{events_in}
+use Rattle.run_events.specs.unit_events.Shown.{all_kinds}
+use Rattle.run_devices.specs.run_promise.Found.{found_of}
+use Rattle.run_devices.specs.run_course.Moments.{and_break}
+use Rattle.run_devices.specs.run_course.Followed.{Progress, BookFollowsRun}
+use Rattle.run_devices.specs.run_course.Seconds.{next_told}
+use Rattle.run_devices.specs.run_course.Moment.{Moment}
+use Rattle.run_devices.specs.run_course.Telling.{IsMore, begun_by, IsLeft}
 use Rattle.run_events.specs.Shown.{by_kind, none_sure, all_sure, ShowsEvents, ShowsSince, AreTheFirst, SaysNothing}
 use Rattle.run_events.specs.Seconds.{second_events, seen_next}
 use Rattle.run_events.specs.Gaps.{HasGaps}
 use Rattle.run_events.specs.Choice.{chosen, told_at, IsTornIn, IsPlainFrom}
 use Rattle.run_events.specs.Running.{HasEvents}
-use Rattle.run_promise.specs.Origin.{Origin, rule_of, start_at, first_of}
-use Rattle.run_promise.specs.Beside.{HaveLeftMore}
-use Rattle.run_promise.specs.Seconds.{at_start, found_again}
+use Rattle.run_devices.specs.run_promise.Origin.{Origin, rule_of, start_at, first_of}
+use Rattle.run_devices.specs.run_promise.Beside.{HaveLeftMore}
+use Rattle.run_devices.specs.run_promise.Seconds.{at_start, found_again}
 pub use Rattle.run_note_record.specs.Opened.{session_in, images_in}
 use Rattle.run_note_record.specs.Opened.{AreFirst, IsOpenSo, AreOpenSo}
 use Rattle.run_note_record.specs.Uses.{TellExactly, AreExact, AreExactIn}

@@ -3,47 +3,51 @@
 use Rattle.std.specs.Prelude.{◌≡◌, ℕ, zero, suc, Bool, true, false, not, Option, Some, None, List, [], ◌∷◌, ◌++◌}
 use Rattle.std.specs.Prelude.{Contains, is_some, nat_lt, slice_get, option_map, option_to_list, if◌then◌else◌}
 use Rattle.std.specs.List.{AllByRecursion}
-use Rattle.activity_codec.specs.declared.values.Slot.{Slot}
-use Rattle.activity_codec.specs.declared.values.Slot.TheVariants.{Driver, CoDriver}
-use Rattle.activity_codec.specs.Activity.{same_slot}
-use Rattle.trace_model.specs.declared.Card.{Card}
-use Rattle.trace_model.specs.declared.Action.{Action}
-use Rattle.trace_model.specs.declared.Action.TheVariants.{Insert}
-use Rattle.trace_model.specs.Trace.{TraceSecond}
-use Rattle.run_model.specs.declared.Device.{Device}
-use Rattle.run_model.specs.declared.Device.TheVariants.{Unit as Recorder}
-use Rattle.log_model.specs.declared.lines.Break.{Break}
-use Rattle.log_model.specs.declared.lines.Find.{Find}
-use Rattle.log_model.specs.declared.lines.Refused.{Refused}
-use Rattle.log_model.specs.declared.lines.Verdict.{Verdict}
-use Rattle.log_model.specs.declared.lines.Verdict.TheVariants.{Accepted, NotValid, TimeOverlap}
-use Rattle.log_model.specs.Log.{RunLog, Phase, In, Keeping, is_accepting, is_torn_in, found_in, kept_after}
-use Rattle.log_model.specs.Slots.{Slots, Sitting, in_slot, other_slot, is_accepted}
-use Rattle.log_model.specs.Causes.{RoseBy}
-use Rattle.log_model.specs.Course.{ToldSecond, Visit, visits, went}
-use Rattle.event_model.specs.declared.kinds.TheConstants.{CARD_NOT_VALID, TIME_OVERLAP, INSERTION_WHILE_DRIVING}
-use Rattle.event_model.specs.declared.kinds.TheConstants.{SESSION_NOT_CLOSED, POWER_INTERRUPTION, CARD_FAULT}
-use Rattle.event_model.specs.declared.entries.Span.{Span}
-use Rattle.event_model.specs.Spans.{gap_of}
-use Rattle.event_model.specs.Events.{Event, Crew, Seen, Tearing, AreTorn, crew_of, with_card, accepted_card, noted_with}
-use Rattle.event_model.specs.Events.{last_number, torn_at, accepted_at, is_first, seen_of, seen_spans, events_of}
-use Rattle.run_unit_course.specs.Lines.{cut_at}
-use Rattle.run_unit_course.specs.Followed.{Lit, Lost}
-use Rattle.run_unit_course.specs.Turn.{begins_with}
-use Rattle.safety_model.specs.Safe.{Devices}
-use Rattle.unit_events.specs.Shown.{all_kinds}
-use Rattle.run_course.specs.Moments.{and_break, and_find, and_refused}
-use Rattle.run_course.specs.Followed.{Progress, BookFollowsRun}
-use Rattle.run_course.specs.Seconds.{next_told}
-use Rattle.run_course.specs.Reached.{course_at, moved_at, Reaches, IsTearAt, IsFindAt}
-use Rattle.run_course.specs.Moment.{Moment}
-use Rattle.run_course.specs.Telling.{IsMore, IsOneOut, begun_by, IsLeft}
+use Rattle.run_events.specs.activity_codec.declared.values.Slot.{Slot}
+use Rattle.run_events.specs.activity_codec.declared.values.Slot.TheVariants.{Driver, CoDriver}
+use Rattle.run_events.specs.activity_codec.Activity.{same_slot}
+use Rattle.run_devices.specs.trace_model.declared.Card.{Card}
+use Rattle.run_devices.specs.trace_model.declared.Action.{Action}
+use Rattle.run_devices.specs.trace_model.declared.Action.TheVariants.{Insert}
+use Rattle.run_devices.specs.trace_model.Trace.{TraceSecond}
+use Rattle.run_devices.specs.run_model.declared.Device.{Device}
+use Rattle.run_devices.specs.run_model.declared.Device.TheVariants.{Unit as Recorder}
+use Rattle.run_devices.specs.log_model.declared.lines.Break.{Break}
+use Rattle.run_devices.specs.log_model.declared.lines.Find.{Find}
+use Rattle.run_devices.specs.log_model.declared.lines.Refused.{Refused}
+use Rattle.run_devices.specs.log_model.declared.lines.Verdict.{Verdict}
+use Rattle.run_devices.specs.log_model.declared.lines.Verdict.TheVariants.{Accepted, NotValid, TimeOverlap}
+use Rattle.run_devices.specs.log_model.Log.{RunLog, Phase, In, Keeping, is_accepting, is_torn_in, found_in, kept_after}
+use Rattle.run_devices.specs.log_model.Slots.{Slots, Sitting, in_slot, other_slot, is_accepted}
+use Rattle.run_devices.specs.log_model.Causes.{RoseBy}
+use Rattle.run_devices.specs.log_model.Course.{ToldSecond, Visit, visits, went}
+use Rattle.run_devices.specs.event_model.declared.kinds.TheConstants.{CARD_NOT_VALID, TIME_OVERLAP}
+use Rattle.run_devices.specs.event_model.declared.kinds.TheConstants.{INSERTION_WHILE_DRIVING}
+use Rattle.run_devices.specs.event_model.declared.kinds.TheConstants.{SESSION_NOT_CLOSED, POWER_INTERRUPTION}
+use Rattle.run_devices.specs.event_model.declared.kinds.TheConstants.{CARD_FAULT}
+use Rattle.run_devices.specs.event_model.declared.entries.Span.{Span}
+use Rattle.run_devices.specs.event_model.Spans.{gap_of}
+use Rattle.run_devices.specs.event_model.Events.{Event, Crew, Seen, Tearing, AreTorn, crew_of, with_card, accepted_card}
+use Rattle.run_devices.specs.event_model.Events.{noted_with}
+use Rattle.run_devices.specs.event_model.Events.{last_number, torn_at, accepted_at, is_first, seen_of, seen_spans}
+use Rattle.run_devices.specs.event_model.Events.{events_of}
+use Rattle.run_devices.specs.run_unit_course.Lines.{cut_at}
+use Rattle.run_devices.specs.run_unit_course.Followed.{Lit, Lost}
+use Rattle.run_devices.specs.run_unit_course.Turn.{begins_with}
+use Rattle.run_devices.specs.safety_model.Safe.{Devices}
+use Rattle.run_events.specs.unit_events.Shown.{all_kinds}
+use Rattle.run_devices.specs.run_course.Moments.{and_break, and_find, and_refused}
+use Rattle.run_devices.specs.run_course.Followed.{Progress, BookFollowsRun}
+use Rattle.run_devices.specs.run_course.Seconds.{next_told}
+use Rattle.run_devices.specs.run_course.Reached.{course_at, moved_at, Reaches, IsTearAt, IsFindAt}
+use Rattle.run_devices.specs.run_course.Moment.{Moment}
+use Rattle.run_devices.specs.run_course.Telling.{IsMore, IsOneOut, begun_by, IsLeft}
 use Rattle.run_events.specs.Shown.{by_kind, none_sure, ShowsSince}
 use Rattle.run_events.specs.Seconds.{last_of, span_before, bares_by, overs_by, seen_next}
 use Rattle.run_events.specs.Gaps.{HasGaps}
 use Rattle.run_events.specs.Choice.{IsPlainFrom}
-use Rattle.run_promise.specs.Origin.{Origin, rule_of, start_at, first_of}
-use Rattle.run_promise.specs.Beside.{HaveLeftMore}
+use Rattle.run_devices.specs.run_promise.Origin.{Origin, rule_of, start_at, first_of}
+use Rattle.run_devices.specs.run_promise.Beside.{HaveLeftMore}
 use Rattle.run_note_record.specs.Opened.{IsOpenSo, AreOpenSo}
 use Rattle.run_note_record.specs.Uses.{AreExact, AreExactIn, FindsMore, FindsNone}
 use Rattle.run_note_record.specs.Evented.{number_in, limit_in, brought_now, NotesMore, Evented, EventedBy}

@@ -2,20 +2,20 @@
 -- where nothing happens.
 use Rattle.std.specs.Prelude.{◌≡◌, ℕ, suc, ◌+◌, ◌-◌, ◌%◌, ◌<◌, ◌≤◌, Bool, true, false, List, [], ◌∷◌, ◌++◌}
 use Rattle.std.specs.List.{AllByRecursion}
-use Rattle.trace_model.specs.declared.Action.{Action}
-use Rattle.trace_model.specs.Trace.{TraceSecond, driven, dark}
-use Rattle.log_model.specs.declared.lines.Refused.{Refused}
-use Rattle.log_model.specs.Log.{RunLog}
-use Rattle.log_model.specs.Course.{ToldSecond, went}
-use Rattle.event_model.specs.Events.{Seen, seen_of, seen_spans, is_bare}
-use Rattle.run_unit_course.specs.Lines.{cut_at}
-use Rattle.run_unit_course.specs.Followed.{Lit, Due, Lost, IsDark}
-use Rattle.safety_model.specs.Safe.{Devices}
-use Rattle.run_course.specs.Moments.{and_break}
-use Rattle.run_course.specs.Followed.{Progress, BookFollowsRun}
-use Rattle.run_course.specs.Quiet.{quiet_seconds}
+use Rattle.run_devices.specs.trace_model.declared.Action.{Action}
+use Rattle.run_devices.specs.trace_model.Trace.{TraceSecond, driven, dark}
+use Rattle.run_devices.specs.log_model.declared.lines.Refused.{Refused}
+use Rattle.run_devices.specs.log_model.Log.{RunLog}
+use Rattle.run_devices.specs.log_model.Course.{ToldSecond, went}
+use Rattle.run_devices.specs.event_model.Events.{Seen, seen_of, seen_spans, is_bare}
+use Rattle.run_devices.specs.run_unit_course.Lines.{cut_at}
+use Rattle.run_devices.specs.run_unit_course.Followed.{Lit, Due, Lost, IsDark}
+use Rattle.run_devices.specs.safety_model.Safe.{Devices}
+use Rattle.run_devices.specs.run_course.Moments.{and_break}
+use Rattle.run_devices.specs.run_course.Followed.{Progress, BookFollowsRun}
+use Rattle.run_devices.specs.run_course.Quiet.{quiet_seconds}
 use Rattle.run_events.specs.Seconds.{last_of, bares_by, overs_by, is_fast}
-use Rattle.run_promise.specs.Origin.{Origin, rule_of, start_at, first_of}
+use Rattle.run_devices.specs.run_promise.Origin.{Origin, rule_of, start_at, first_of}
 use Rattle.run_note_record.specs.Evented.{limit_in, Evented, EventedBy}
 
 -- ---- without power

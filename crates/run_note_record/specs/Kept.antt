@@ -1,18 +1,18 @@
 -- What was kept before a power-on, as its interruption tells it, and the sizes of events (Annex IB, section III.12;
 -- profile).
 use Rattle.std.specs.Prelude.{◌≡◌, ℕ, List, [], ◌∷◌, option_map, option_to_list}
-use Rattle.trace_model.specs.Trace.{TraceSecond}
-use Rattle.log_model.specs.Log.{RunLog}
-use Rattle.event_model.specs.declared.kinds.TheConstants.{POWER_INTERRUPTION}
-use Rattle.event_model.specs.declared.entries.Span.{Span}
-use Rattle.event_model.specs.Spans.{gap_of}
-use Rattle.event_model.specs.Events.{Event, Crew, Seen, noted_with, seen_of, seen_spans}
-use Rattle.run_unit_course.specs.Followed.{IsDark}
-use Rattle.run_course.specs.Followed.{Progress, BookFollowsRun}
-use Rattle.run_course.specs.Seconds.{GoesOnBy}
+use Rattle.run_devices.specs.trace_model.Trace.{TraceSecond}
+use Rattle.run_devices.specs.log_model.Log.{RunLog}
+use Rattle.run_devices.specs.event_model.declared.kinds.TheConstants.{POWER_INTERRUPTION}
+use Rattle.run_devices.specs.event_model.declared.entries.Span.{Span}
+use Rattle.run_devices.specs.event_model.Spans.{gap_of}
+use Rattle.run_devices.specs.event_model.Events.{Event, Crew, Seen, noted_with, seen_of, seen_spans}
+use Rattle.run_devices.specs.run_unit_course.Followed.{IsDark}
+use Rattle.run_devices.specs.run_course.Followed.{Progress, BookFollowsRun}
+use Rattle.run_devices.specs.run_course.Seconds.{GoesOnBy}
 use Rattle.run_events.specs.Gaps.{HasGaps}
-use Rattle.run_promise.specs.Origin.{Origin, rule_of, start_at, first_of}
-use Rattle.run_promise.specs.Seconds.{found_again}
+use Rattle.run_devices.specs.run_promise.Origin.{Origin, rule_of, start_at, first_of}
+use Rattle.run_devices.specs.run_promise.Seconds.{found_again}
 use Rattle.run_note_record.specs.EventsSoFar.{interruption}
 
 -- the interruption behind these power spans, where this minute was kept last

@@ -13,5 +13,5 @@ pub mod RingsSoFar
 pub mod Steps
 pub mod Stored
 pub mod Waking
-pub use Rattle.run_promise.specs.Beside
-pub use Rattle.run_promise.specs.Origin
+pub use Rattle.run_devices.specs.run_promise.Beside
+pub use Rattle.run_devices.specs.run_promise.Origin

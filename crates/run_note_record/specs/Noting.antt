@@ -1,32 +1,33 @@
 -- The events that a second has noted SO FAR, and how it goes on with each note (Annex IB, section III.12; the moments:
 -- profile).
 use Rattle.std.specs.Prelude.{◌≡◌, ℕ, suc, ◌==◌, not, ◌&&◌, Bool, true, false, List, [], ◌∷◌, ◌++◌, Contains}
-use Rattle.trace_model.specs.declared.Action.{Action}
-use Rattle.trace_model.specs.Trace.{TraceSecond}
-use Rattle.run_model.specs.declared.Device.{Device}
-use Rattle.run_model.specs.declared.Device.TheVariants.{Unit as Recorder}
-use Rattle.log_model.specs.declared.lines.Verdict.{Verdict}
-use Rattle.log_model.specs.Log.{RunLog, Phase, Keeping, is_accepting}
-use Rattle.log_model.specs.Causes.{RoseBy}
-use Rattle.log_model.specs.Course.{ToldSecond, Visit, went}
-use Rattle.event_model.specs.declared.kinds.TheConstants.{DRIVING_WITHOUT_CARD, OVER_SPEEDING, POWER_INTERRUPTION}
-use Rattle.event_model.specs.Events.{Event, Tearing, AreTorn, seen_of, events_of}
-use Rattle.run_unit_course.specs.Lines.{cut_at}
-use Rattle.run_unit_course.specs.Followed.{Lit, Lost}
-use Rattle.run_unit_course.specs.Turn.{begins_with}
-use Rattle.safety_model.specs.Safe.{Devices}
-use Rattle.unit_events.specs.Shown.{all_kinds}
-use Rattle.run_course.specs.Moments.{and_break}
-use Rattle.run_course.specs.Followed.{Progress, BookFollowsRun}
-use Rattle.run_course.specs.Seconds.{next_told}
-use Rattle.run_course.specs.Moment.{Moment}
-use Rattle.run_course.specs.Telling.{IsMore, begun_by, IsLeft}
+use Rattle.run_devices.specs.trace_model.declared.Action.{Action}
+use Rattle.run_devices.specs.trace_model.Trace.{TraceSecond}
+use Rattle.run_devices.specs.run_model.declared.Device.{Device}
+use Rattle.run_devices.specs.run_model.declared.Device.TheVariants.{Unit as Recorder}
+use Rattle.run_devices.specs.log_model.declared.lines.Verdict.{Verdict}
+use Rattle.run_devices.specs.log_model.Log.{RunLog, Phase, Keeping, is_accepting}
+use Rattle.run_devices.specs.log_model.Causes.{RoseBy}
+use Rattle.run_devices.specs.log_model.Course.{ToldSecond, Visit, went}
+use Rattle.run_devices.specs.event_model.declared.kinds.TheConstants.{DRIVING_WITHOUT_CARD, OVER_SPEEDING}
+use Rattle.run_devices.specs.event_model.declared.kinds.TheConstants.{POWER_INTERRUPTION}
+use Rattle.run_devices.specs.event_model.Events.{Event, Tearing, AreTorn, seen_of, events_of}
+use Rattle.run_devices.specs.run_unit_course.Lines.{cut_at}
+use Rattle.run_devices.specs.run_unit_course.Followed.{Lit, Lost}
+use Rattle.run_devices.specs.run_unit_course.Turn.{begins_with}
+use Rattle.run_devices.specs.safety_model.Safe.{Devices}
+use Rattle.run_events.specs.unit_events.Shown.{all_kinds}
+use Rattle.run_devices.specs.run_course.Moments.{and_break}
+use Rattle.run_devices.specs.run_course.Followed.{Progress, BookFollowsRun}
+use Rattle.run_devices.specs.run_course.Seconds.{next_told}
+use Rattle.run_devices.specs.run_course.Moment.{Moment}
+use Rattle.run_devices.specs.run_course.Telling.{IsMore, begun_by, IsLeft}
 use Rattle.run_events.specs.Shown.{by_kind, none_sure, all_sure, ShowsEvents, ShowsSince, AreTheFirst}
 use Rattle.run_events.specs.Seconds.{seen_next}
 use Rattle.run_events.specs.Gaps.{HasGaps}
 use Rattle.run_events.specs.Choice.{IsTornIn, IsPlainFrom}
-use Rattle.run_promise.specs.Origin.{Origin, rule_of, start_at, first_of}
-use Rattle.run_promise.specs.Beside.{HaveLeftMore}
+use Rattle.run_devices.specs.run_promise.Origin.{Origin, rule_of, start_at, first_of}
+use Rattle.run_devices.specs.run_promise.Beside.{HaveLeftMore}
 use Rattle.run_note_record.specs.Opened.{IsOpenSo, AreOpenSo}
 use Rattle.run_note_record.specs.Uses.{AreExact, AreExactIn}
 use Rattle.run_note_record.specs.Evented.{number_in, limit_in, brought_now, NotesMore}

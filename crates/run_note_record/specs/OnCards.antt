@@ -2,28 +2,28 @@
 -- Of which odometer values its vehicle entries tell, and calls that measure them. And calls that let its session go on.
 use Rattle.std.specs.Prelude.{◌≡◌, ◌⊎◌, ℕ, Bool, true, false, not, List, ◌∷◌, ◌++◌, filter, nat_eq, sum_by}
 use Rattle.std.specs.List.{list_any}
-use Rattle.trace_model.specs.declared.Card.{Card}
-use Rattle.tacho_types.specs.declared.places.PlaceEntry.{PlaceEntry}
-use Rattle.card_layout.specs.Fields.{total_width}
-use Rattle.tacho_types.specs.Places.{place_widths, place_bytes}
+use Rattle.run_devices.specs.trace_model.declared.Card.{Card}
+use Rattle.run_devices.specs.tacho_types.declared.places.PlaceEntry.{PlaceEntry}
+use Rattle.tach_media.specs.card_layout.Fields.{total_width}
+use Rattle.run_devices.specs.tacho_types.Places.{place_widths, place_bytes}
 use Rattle.tach_media.specs.Medium.{State, bytes_at}
-use Rattle.gated_ring.specs.Ring.{Shape, IsShape, PointsInside, size_of}
-use Rattle.gated_ring.specs.Change.{IsAdded, IsAdding}
-use Rattle.card_files.specs.Rings.{place_ring}
-use Rattle.card_image.specs.Own.{own_sizes, IsOwnValid}
-use Rattle.minute_model.specs.Second.{Second}
-use Rattle.log_model.specs.Log.{RunLog}
-use Rattle.log_model.specs.Causes.{has_failed, second_of}
-use Rattle.log_model.specs.Slots.{same_card}
-use Rattle.log_model.specs.Course.{ToldSecond}
-use Rattle.log_model.specs.Spans.{seconds_in}
-use Rattle.unit_rule.specs.Odometer.{odometer_by}
-use Rattle.note_model.specs.Odometer.{SpanFrom, odometer_at}
-use Rattle.note_model.specs.Noted.{PlaceNote, Note, places_of}
-use Rattle.note_model.specs.Rings.{Stand, AreNoFewer, kind_of}
-use Rattle.safety_model.specs.Recording.{card_image}
-use Rattle.safety_model.specs.Safe.{Devices, card_of}
-use Rattle.run_rings.specs.Carried.{RingKeeps}
+use Rattle.run_events.specs.gated_ring.Ring.{Shape, IsShape, PointsInside, size_of}
+use Rattle.run_events.specs.gated_ring.Change.{IsAdded, IsAdding}
+use Rattle.run_events.specs.card_files.Rings.{place_ring}
+use Rattle.run_devices.specs.card_image.Own.{own_sizes, IsOwnValid}
+use Rattle.run_devices.specs.minute_model.Second.{Second}
+use Rattle.run_devices.specs.log_model.Log.{RunLog}
+use Rattle.run_devices.specs.log_model.Causes.{has_failed, second_of}
+use Rattle.run_devices.specs.log_model.Slots.{same_card}
+use Rattle.run_devices.specs.log_model.Course.{ToldSecond}
+use Rattle.run_devices.specs.log_model.Spans.{seconds_in}
+use Rattle.run_devices.specs.unit_rule.Odometer.{odometer_by}
+use Rattle.run_devices.specs.note_model.Odometer.{SpanFrom, odometer_at}
+use Rattle.run_devices.specs.note_model.Noted.{PlaceNote, Note, places_of}
+use Rattle.run_devices.specs.note_model.Rings.{Stand, AreNoFewer, kind_of}
+use Rattle.run_devices.specs.safety_model.Recording.{card_image}
+use Rattle.run_devices.specs.safety_model.Safe.{Devices, card_of}
+use Rattle.run_events.specs.run_rings.Carried.{RingKeeps}
 use Rattle.run_devices.specs.Measured.{GoesMeasured}
 use Rattle.run_devices.specs.Sessions.{SessionGoes}
 use Rattle.run_note_record.specs.Origin.{Origin}

@@ -2,33 +2,35 @@
 use Rattle.std.specs.Prelude.{◌≡◌, ◌⊎◌, ℕ, suc, ◌+◌, ◌<◌, ◌≤◌, ◌^◌, Bool, true, false, Option, Some, None, IfSome}
 use Rattle.std.specs.Prelude.{option_map, List, [], ◌∷◌, ◌++◌, length}
 use Rattle.std.specs.List.{AllByRecursion, list_any}
-use Rattle.trace_model.specs.declared.Card.{Card}
-use Rattle.trace_model.specs.Trace.{TraceSecond}
-use Rattle.tacho_types.specs.declared.numbers.TimeReal.{TimeReal}
-use Rattle.tacho_types.specs.declared.numbers.Odometer.{Odometer}
+use Rattle.run_devices.specs.trace_model.declared.Card.{Card}
+use Rattle.run_devices.specs.trace_model.Trace.{TraceSecond}
+use Rattle.run_devices.specs.tacho_types.declared.numbers.TimeReal.{TimeReal}
+use Rattle.run_devices.specs.tacho_types.declared.numbers.Odometer.{Odometer}
 use Rattle.tach_media.specs.Medium.{State}
-use Rattle.gated_ring.specs.Ring.{Shape, PointsInside, indices, taken}
-use Rattle.gated_ring.specs.Change.{IsAdded, IsAdding}
-use Rattle.message_model.specs.Records.{insertion_ring, unit_place_ring}
-use Rattle.unit_notes.specs.Noting.{IsWithdrawn, IsWithdrawing}
-use Rattle.log_model.specs.Log.{RunLog}
-use Rattle.log_model.specs.Slots.{same_card}
-use Rattle.log_model.specs.Course.{went, ToldSecond}
-use Rattle.note_model.specs.Done.{has_failed_in}
-use Rattle.note_model.specs.Odometer.{SpanFrom, odometer_at}
-use Rattle.note_model.specs.Noted.{Acceptance, Withdrawal, InsertionNote, PlaceNote, Note, Accepts, Withdraws, Enters}
-use Rattle.note_model.specs.Noted.{insertions_of, places_of}
-use Rattle.note_model.specs.Rings.{Holder, Stand, RingShows, LiesAhead, IsInsertion, IsPlace, is_sure_insertion}
-use Rattle.note_model.specs.Rings.{is_sure_place}
-use Rattle.safety_model.specs.Recording.{Recording, card_image, told_of}
-use Rattle.safety_model.specs.Safe.{Devices, card_of}
-use Rattle.safety_model.specs.Side.{holder_of, IsPrevious, TellsVehicle}
-use Rattle.card_image.specs.Fields.{newest_vehicle}
-use Rattle.card_image.specs.Own.{own_sizes}
+use Rattle.run_events.specs.gated_ring.Ring.{Shape, PointsInside, indices, taken}
+use Rattle.run_events.specs.gated_ring.Change.{IsAdded, IsAdding}
+use Rattle.run_events.specs.message_model.Records.{insertion_ring, unit_place_ring}
+use Rattle.run_events.specs.unit_notes.Noting.{IsWithdrawn, IsWithdrawing}
+use Rattle.run_devices.specs.log_model.Log.{RunLog}
+use Rattle.run_devices.specs.log_model.Slots.{same_card}
+use Rattle.run_devices.specs.log_model.Course.{went, ToldSecond}
+use Rattle.run_devices.specs.note_model.Done.{has_failed_in}
+use Rattle.run_devices.specs.note_model.Odometer.{SpanFrom, odometer_at}
+use Rattle.run_devices.specs.note_model.Noted.{Acceptance, Withdrawal, InsertionNote, PlaceNote, Note, Accepts}
+use Rattle.run_devices.specs.note_model.Noted.{Withdraws, Enters}
+use Rattle.run_devices.specs.note_model.Noted.{insertions_of, places_of}
+use Rattle.run_devices.specs.note_model.Rings.{Holder, Stand, RingShows, LiesAhead, IsInsertion, IsPlace}
+use Rattle.run_devices.specs.note_model.Rings.{is_sure_insertion}
+use Rattle.run_devices.specs.note_model.Rings.{is_sure_place}
+use Rattle.run_devices.specs.safety_model.Recording.{Recording, card_image, told_of}
+use Rattle.run_devices.specs.safety_model.Safe.{Devices, card_of}
+use Rattle.run_devices.specs.safety_model.Side.{holder_of, IsPrevious, TellsVehicle}
+use Rattle.run_devices.specs.card_image.Fields.{newest_vehicle}
+use Rattle.run_devices.specs.card_image.Own.{own_sizes}
 use Rattle.run_note_record.specs.Opened.{HasComeBefore}
 pub use Rattle.run_note_record.specs.Uses.{notes_in, noted_next}
-use Rattle.run_promise.specs.Found.{found_of}
-pub use Rattle.run_rings.specs.Same.{HasSameRings, LeavesRings}
+use Rattle.run_devices.specs.run_promise.Found.{found_of}
+pub use Rattle.run_events.specs.run_rings.Same.{HasSameRings, LeavesRings}
 pub use Rattle.run_note_record.specs.OnCards.{HasRing, ShowsNotes}
 use Rattle.run_note_record.specs.OnCards.{has_call_failed_in, place_width, IsPlaceOn, PlacesOnCards, IsReading}
 use Rattle.run_note_record.specs.OnCards.{VehiclesOnCards, VehiclesGo, SessionsGo, NoOtherComes, CardsGo, CardsStay}

@@ -3,19 +3,19 @@
 use Rattle.std.specs.Prelude.{◌≡◌, ◌⊎◌, ℕ, suc, ◌+◌, ◌<◌, true, false, not, Option, Some, None, List, [], ◌∷◌, ◌++◌}
 use Rattle.std.specs.Prelude.{All, map, length}
 use Rattle.std.specs.List.{AllByRecursion}
-use Rattle.trace_model.specs.declared.Action.{Action}
-use Rattle.trace_model.specs.declared.Card.{Card}
-use Rattle.trace_model.specs.Trace.{TraceSecond}
-use Rattle.log_model.specs.declared.lines.Break.{Break}
-use Rattle.log_model.specs.Log.{RunLog, cut_in}
-use Rattle.log_model.specs.Course.{ToldSecond, Before, has_power, went, second_told}
-use Rattle.log_model.specs.Same.{SameAt}
-use Rattle.log_model.specs.Spans.{spans_of}
-use Rattle.note_model.specs.Odometer.{SpanFrom}
-use Rattle.note_model.specs.Noted.{Note, Accepts, Withdraws, Enters}
-use Rattle.safety_model.specs.Safe.{Devices}
-use Rattle.run_rings.specs.Notes.{notes_to, TellSameTo, NotesMore}
-use Rattle.run_rings.specs.Spans.{with_second, AreAllBefore}
+use Rattle.run_devices.specs.trace_model.declared.Action.{Action}
+use Rattle.run_devices.specs.trace_model.declared.Card.{Card}
+use Rattle.run_devices.specs.trace_model.Trace.{TraceSecond}
+use Rattle.run_devices.specs.log_model.declared.lines.Break.{Break}
+use Rattle.run_devices.specs.log_model.Log.{RunLog, cut_in}
+use Rattle.run_devices.specs.log_model.Course.{ToldSecond, Before, has_power, went, second_told}
+use Rattle.run_devices.specs.log_model.Same.{SameAt}
+use Rattle.run_devices.specs.log_model.Spans.{spans_of}
+use Rattle.run_devices.specs.note_model.Odometer.{SpanFrom}
+use Rattle.run_devices.specs.note_model.Noted.{Note, Accepts, Withdraws, Enters}
+use Rattle.run_devices.specs.safety_model.Safe.{Devices}
+use Rattle.run_events.specs.run_rings.Notes.{notes_to, TellSameTo, NotesMore}
+use Rattle.run_events.specs.run_rings.Spans.{with_second, AreAllBefore}
 use Rattle.run_note_record.specs.Origin.{Origin}
 use Rattle.run_note_record.specs.Beside.{HaveLeftMore}
 use Rattle.run_note_record.specs.OnCards.{CardsGo}

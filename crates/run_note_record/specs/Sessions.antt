@@ -2,15 +2,15 @@
 use Rattle.std.specs.Prelude.{◌≡◌, ◌⊎◌, ◌≤◌, ℕ, ◌&&◌, Bool, true, not, List, [], ◌∷◌, ◌++◌, Contains, fold}
 use Rattle.std.specs.Prelude.{if◌then◌else◌}
 use Rattle.std.specs.List.{AllByRecursion}
-use Rattle.trace_model.specs.declared.Card.{Card}
-use Rattle.card_image.specs.Fields.{session_time}
-use Rattle.card_image.specs.Own.{own_sizes, IsOwnValid}
-use Rattle.log_model.specs.Log.{RunLog}
-use Rattle.log_model.specs.Slots.{same_card}
-use Rattle.note_model.specs.Done.{has_failed_in}
-use Rattle.note_model.specs.Noted.{Acceptance, Withdrawal, Note, Accepts, Withdraws, Enters}
-use Rattle.safety_model.specs.Recording.{card_image}
-use Rattle.safety_model.specs.Safe.{Devices, card_of}
+use Rattle.run_devices.specs.trace_model.declared.Card.{Card}
+use Rattle.run_devices.specs.card_image.Fields.{session_time}
+use Rattle.run_devices.specs.card_image.Own.{own_sizes, IsOwnValid}
+use Rattle.run_devices.specs.log_model.Log.{RunLog}
+use Rattle.run_devices.specs.log_model.Slots.{same_card}
+use Rattle.run_devices.specs.note_model.Done.{has_failed_in}
+use Rattle.run_devices.specs.note_model.Noted.{Acceptance, Withdrawal, Note, Accepts, Withdraws, Enters}
+use Rattle.run_devices.specs.safety_model.Recording.{card_image}
+use Rattle.run_devices.specs.safety_model.Safe.{Devices, card_of}
 use Rattle.run_note_record.specs.Origin.{Origin}
 use Rattle.run_note_record.specs.OnCards.{has_call_failed_in}
 

@@ -2,24 +2,24 @@
 -- unit failed in it and power is cut.
 use Rattle.std.specs.Prelude.{◌≡◌, ◌⊎◌, ℕ, suc, ◌+◌, ◌<◌, ◌^◌, Bool, true, false, Option, Some, None, is_some, nat_lt}
 use Rattle.std.specs.Prelude.{option_map, List, [], ◌∷◌, ◌++◌, length}
-use Rattle.activity_codec.specs.declared.values.Slot.{Slot}
-use Rattle.trace_model.specs.declared.Action.{Action}
-use Rattle.trace_model.specs.declared.Action.TheVariants.{Insert, Withdraw, Place}
-use Rattle.trace_model.specs.declared.Card.{Card}
-use Rattle.trace_model.specs.Trace.{TraceSecond}
-use Rattle.tacho_types.specs.declared.numbers.Odometer.{Odometer}
-use Rattle.tacho_types.specs.declared.numbers.TimeReal.{TimeReal}
-use Rattle.gated_ring.specs.Change.{IsAdded}
-use Rattle.message_model.specs.Records.{insertion_ring, unit_place_ring}
-use Rattle.log_model.specs.declared.lines.Verdict.{Verdict}
-use Rattle.log_model.specs.Log.{RunLog, In, cut_in, is_torn_in, found_in, is_accepting}
-use Rattle.log_model.specs.Slots.{Sitting, same_card, in_slot, refusal}
-use Rattle.log_model.specs.Course.{ToldSecond, begins, has_power, went, second_told}
-use Rattle.note_model.specs.Done.{has_failed_in}
-use Rattle.note_model.specs.Odometer.{SpanFrom, odometer_at}
-use Rattle.safety_model.specs.Safe.{Devices}
-use Rattle.run_rings.specs.Notes.{TellSameTo, NotesMore, course_behind}
-use Rattle.run_rings.specs.Spans.{with_second}
+use Rattle.run_events.specs.activity_codec.declared.values.Slot.{Slot}
+use Rattle.run_devices.specs.trace_model.declared.Action.{Action}
+use Rattle.run_devices.specs.trace_model.declared.Action.TheVariants.{Insert, Withdraw, Place}
+use Rattle.run_devices.specs.trace_model.declared.Card.{Card}
+use Rattle.run_devices.specs.trace_model.Trace.{TraceSecond}
+use Rattle.run_devices.specs.tacho_types.declared.numbers.Odometer.{Odometer}
+use Rattle.run_devices.specs.tacho_types.declared.numbers.TimeReal.{TimeReal}
+use Rattle.run_events.specs.gated_ring.Change.{IsAdded}
+use Rattle.run_events.specs.message_model.Records.{insertion_ring, unit_place_ring}
+use Rattle.run_devices.specs.log_model.declared.lines.Verdict.{Verdict}
+use Rattle.run_devices.specs.log_model.Log.{RunLog, In, cut_in, is_torn_in, found_in, is_accepting}
+use Rattle.run_devices.specs.log_model.Slots.{Sitting, same_card, in_slot, refusal}
+use Rattle.run_devices.specs.log_model.Course.{ToldSecond, begins, has_power, went, second_told}
+use Rattle.run_devices.specs.note_model.Done.{has_failed_in}
+use Rattle.run_devices.specs.note_model.Odometer.{SpanFrom, odometer_at}
+use Rattle.run_devices.specs.safety_model.Safe.{Devices}
+use Rattle.run_events.specs.run_rings.Notes.{TellSameTo, NotesMore, course_behind}
+use Rattle.run_events.specs.run_rings.Spans.{with_second}
 use Rattle.run_note_record.specs.Origin.{Origin}
 use Rattle.run_note_record.specs.Beside.{HaveLeftMore}
 use Rattle.run_note_record.specs.OnCards.{place_width, IsPlaceOn, CardsGo, CardsStay, VehiclesGo, SessionsGo}

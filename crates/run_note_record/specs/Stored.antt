@@ -2,17 +2,17 @@
 -- stored.
 use Rattle.std.specs.Prelude.{◌≡◌, ◌⊎◌, ℕ, Bool, true, false, Some, List, [], ◌∷◌, ◌++◌, take}
 use Rattle.std.specs.List.{AllByRecursion}
-use Rattle.minute_model.specs.Activity.{last}
-use Rattle.unit_model.specs.Image.{last_kept, odometer_at}
-use Rattle.log_model.specs.Course.{ToldSecond}
-use Rattle.log_model.specs.Log.{RunLog}
-use Rattle.log_model.specs.Spans.{first_in}
-use Rattle.history_model.specs.History.{cut_second}
-use Rattle.run_unit_course.specs.Lines.{tells_cut}
-use Rattle.note_model.specs.Done.{has_failed_in}
-use Rattle.note_model.specs.Odometer.{SpanFrom, MayStore, found_kept, last_second, HaveBases}
-pub use Rattle.note_model.specs.Odometer.{limited, minutes_kept, IsNewest}
-use Rattle.safety_model.specs.Safe.{Devices}
+use Rattle.run_devices.specs.minute_model.Activity.{last}
+use Rattle.run_devices.specs.unit_model.Image.{last_kept, odometer_at}
+use Rattle.run_devices.specs.log_model.Course.{ToldSecond}
+use Rattle.run_devices.specs.log_model.Log.{RunLog}
+use Rattle.run_devices.specs.log_model.Spans.{first_in}
+use Rattle.run_devices.specs.history_model.History.{cut_second}
+use Rattle.run_devices.specs.run_unit_course.Lines.{tells_cut}
+use Rattle.run_devices.specs.note_model.Done.{has_failed_in}
+use Rattle.run_devices.specs.note_model.Odometer.{SpanFrom, MayStore, found_kept, last_second, HaveBases}
+pub use Rattle.run_devices.specs.note_model.Odometer.{limited, minutes_kept, IsNewest}
+use Rattle.run_devices.specs.safety_model.Safe.{Devices}
 use Rattle.run_note_record.specs.Origin.{Origin, rule_of, first_of}
 
 -- ---- the ends of spans

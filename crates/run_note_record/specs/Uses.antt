@@ -2,25 +2,25 @@
 -- the insertion before has left. The unit tells by it the session that was left open, and the card's own events do.
 use Rattle.std.specs.Prelude.{◌≡◌, ℕ, ◌&&◌, Option, Some, None, List, [], ◌∷◌, ◌++◌, map, filter, flat_map}
 use Rattle.std.specs.Prelude.{if◌then◌else◌}
-use Rattle.activity_codec.specs.declared.values.Slot.{Slot}
-use Rattle.trace_model.specs.declared.Card.{Card}
-use Rattle.trace_model.specs.Trace.{TraceSecond}
-use Rattle.tacho_types.specs.declared.texts.Registration.{Registration}
+use Rattle.run_events.specs.activity_codec.declared.values.Slot.{Slot}
+use Rattle.run_devices.specs.trace_model.declared.Card.{Card}
+use Rattle.run_devices.specs.trace_model.Trace.{TraceSecond}
+use Rattle.run_devices.specs.tacho_types.declared.texts.Registration.{Registration}
 use Rattle.tach_media.specs.Medium.{bytes_at}
-use Rattle.card_files.specs.declared.current_use.CurrentUse.{CurrentUse}
-use Rattle.card_image.specs.Fields.{current_use}
-use Rattle.card_image.specs.Own.{own_sizes, IsOwnValid}
-use Rattle.log_model.specs.declared.lines.Verdict.{Verdict}
-use Rattle.log_model.specs.Log.{RunLog, is_accepting}
-use Rattle.log_model.specs.Slots.{same_card}
-use Rattle.log_model.specs.Course.{ToldSecond, Visit, went}
-use Rattle.note_model.specs.Done.{done_by, done_of}
-use Rattle.note_model.specs.Noted.{InsertionNote, Note, noted_in, notes_of, insertions_of}
-use Rattle.unit_model.specs.declared.layout.TheConstants.{REGISTRATION}
-use Rattle.safety_model.specs.Recording.{Recording, card_image, told_of}
+use Rattle.run_events.specs.card_files.declared.current_use.CurrentUse.{CurrentUse}
+use Rattle.run_devices.specs.card_image.Fields.{current_use}
+use Rattle.run_devices.specs.card_image.Own.{own_sizes, IsOwnValid}
+use Rattle.run_devices.specs.log_model.declared.lines.Verdict.{Verdict}
+use Rattle.run_devices.specs.log_model.Log.{RunLog, is_accepting}
+use Rattle.run_devices.specs.log_model.Slots.{same_card}
+use Rattle.run_devices.specs.log_model.Course.{ToldSecond, Visit, went}
+use Rattle.run_devices.specs.note_model.Done.{done_by, done_of}
+use Rattle.run_devices.specs.note_model.Noted.{InsertionNote, Note, noted_in, notes_of, insertions_of}
+use Rattle.run_devices.specs.unit_model.declared.layout.TheConstants.{REGISTRATION}
+use Rattle.run_devices.specs.safety_model.Recording.{Recording, card_image, told_of}
 use Rattle.run_events.specs.Seconds.{seen_next}
-use Rattle.run_promise.specs.Origin.{Origin}
-use Rattle.run_promise.specs.Whole.{NothingFailed}
+use Rattle.run_devices.specs.run_promise.Origin.{Origin}
+use Rattle.run_devices.specs.run_promise.Whole.{NothingFailed}
 
 -- ---- the uses that insertions leave
 

@@ -1,4 +1,4 @@
-ghost use Rattle.run_promise.specs.Between.{devices};
+ghost use Rattle.run_devices.specs.run_promise.Between.{devices};
 ghost use Rattle.run_note_record.specs.Evented.{EventsStay, EventsAreFound, ASecondIsNoted, ASecondIsBroken};
 ghost use Rattle.run_note_record.specs.Evented.{APowerOnIsBroken, ADarkSecondBringsNothing, AnOffCutBringsNothing};
 ghost use Rattle.run_note_record.specs.Evented.{NothingIsNoted, EventsAreShown};

@@ -1,4 +1,4 @@
-ghost use Rattle.run_promise.specs.Between.{devices};
+ghost use Rattle.run_devices.specs.run_promise.Between.{devices};
 ghost use Rattle.run_note_record.specs.Going.{DarkSecondsBringNothing, AnOffLineBringsNothing};
 ghost use Rattle.run_note_record.specs.Going.{AnOffLineCutsAndBringsNothing, QuietSecondsBringNothing};
 ghost use Rattle.run_note_record.specs.Going.{SecondsAlikeEndNothing};

@@ -1,8 +1,8 @@
 ghost use Rattle.std.specs.Prelude.{◌≡◌, All, List, [], ◌∷◌, ◌++◌};
-ghost use Rattle.trace_model.specs.Trace.{TraceSecond};
-ghost use Rattle.log_model.specs.Log.{RunLog};
-ghost use Rattle.log_model.specs.Same.{SameAt};
-ghost use Rattle.run_promise.specs.Between.{devices};
+ghost use Rattle.run_devices.specs.trace_model.Trace.{TraceSecond};
+ghost use Rattle.run_devices.specs.log_model.Log.{RunLog};
+ghost use Rattle.run_devices.specs.log_model.Same.{SameAt};
+ghost use Rattle.run_devices.specs.run_promise.Between.{devices};
 ghost use Rattle.run_note_record.specs.Waking.{PowerBeginsInRings, ASlotIsPassedAnew, ACardIsAcceptedAnew};
 ghost use Rattle.run_note_record.specs.Waking.{AnAcceptanceIsCutAnew};
 ghost use Rattle.run_note_record.specs.Steps.{AnActionPasses, AnActionIsCut, APlaceIsEntered, APlaceIsCut};

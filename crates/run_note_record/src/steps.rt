@@ -1,4 +1,4 @@
-ghost use Rattle.run_promise.specs.Between.{devices};
+ghost use Rattle.run_devices.specs.run_promise.Between.{devices};
 ghost use Rattle.run_note_record.specs.EventsSoFar.{StepsFollow, ASecondBegins, ASecondEnds, ATearAdds, AFindAdds};
 ghost use Rattle.run_note_record.specs.EventsSoFar.{AWakingTearAdds, AnInterruptionAdds, ARefusalAddsNothing};
 ghost use Rattle.run_note_record.specs.EventsSoFar.{APullAddsNothing, WhatEndsIsAdded, ACallNotes, AFailureCuts};

@@ -5,23 +5,23 @@ use Rattle.std.specs.List.{AllByRecursion, list_any}
 use Rattle.std.proofs.lemmas.Bool.Decides.{nat_tests}
 use Rattle.std.proofs.lemmas.List.Folds.{list_any-append, list_any_none}
 use Rattle.std.proofs.lemmas.List.Elements.{All-from_recursion, All-weaker, All-append, All-contains, Contains-append_left, Contains-append_right}
-use Rattle.activity_codec.specs.declared.entries.Entry.{Entry}
-use Rattle.trace_model.specs.declared.Card.{Card}
-use Rattle.log_model.specs.declared.lines.Break.{Break}
-use Rattle.log_model.specs.declared.lines.Break.TheVariants.{Cut, Tear}
-use Rattle.log_model.specs.Spans.{AreInOrder}
-use Rattle.log_model.specs.Causes.{second_of}
-use Rattle.unit_model.specs.Image.{last_kept}
-use Rattle.history_model.specs.Minutes.{HistoryMinute, card_history}
-use Rattle.history_model.specs.Growth.{Rises}
-use Rattle.history_model.specs.Book.{Book, all, Follows, IsMark}
-use Rattle.history_model.proofs.Filters.{take-drop}
-use Rattle.history_model.proofs.Told.{rises}
-use Rattle.card_image.specs.Own.{own_view, own_number}
-use Rattle.run_unit_course.specs.Lines.{with_kept, found_from}
-use Rattle.device_rule.specs.Views.{unit_view}
-use Rattle.safety_model.specs.Recording.{Recording, card_image, brought, start_of, history_of, lost_of, unit_seen}
-use Rattle.safety_model.specs.Cards.{shows_lost, was_kept}
+use Rattle.run_course.specs.activity_codec.declared.entries.Entry.{Entry}
+use Rattle.run_course.specs.trace_model.declared.Card.{Card}
+use Rattle.run_course.specs.log_model.declared.lines.Break.{Break}
+use Rattle.run_course.specs.log_model.declared.lines.Break.TheVariants.{Cut, Tear}
+use Rattle.run_course.specs.log_model.Spans.{AreInOrder}
+use Rattle.run_course.specs.log_model.Causes.{second_of}
+use Rattle.unit_rule.specs.unit_model.Image.{last_kept}
+use Rattle.run_course.specs.history_model.Minutes.{HistoryMinute, card_history}
+use Rattle.run_course.specs.history_model.Growth.{Rises}
+use Rattle.run_course.specs.history_model.Book.{Book, all, Follows, IsMark}
+use Rattle.run_course.proofs.history_model.Filters.{take-drop}
+use Rattle.run_course.proofs.history_model.Told.{rises}
+use Rattle.unit_rule.specs.card_image.Own.{own_view, own_number}
+use Rattle.unit_rule.specs.run_unit_course.Lines.{with_kept, found_from}
+use Rattle.unit_rule.specs.device_rule.Views.{unit_view}
+use Rattle.unit_rule.specs.safety_model.Recording.{Recording, card_image, brought, start_of, history_of, lost_of, unit_seen}
+use Rattle.unit_rule.specs.safety_model.Cards.{shows_lost, was_kept}
 use Rattle.run_promise.specs.Between.{AreBrought}
 use Rattle.run_promise.proofs.Entries.{all-by}
 use Rattle.run_promise.proofs.Behind.{said-by, owed-until}

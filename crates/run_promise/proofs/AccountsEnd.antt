@@ -1,13 +1,13 @@
 -- What is followed, carried and accounted for at the end of a run gives what the crash-safety theorem asks.
 use Rattle.std.proofs.Common.{◌≡◌, ℕ, List, subst, sym}
-use Rattle.trace_model.specs.declared.Card.{Card}
-use Rattle.unit_model.specs.Image.{last_kept}
-use Rattle.log_model.specs.Log.{RunLog}
-use Rattle.log_model.specs.Course.{went}
-use Rattle.history_model.specs.History.{unit_history, with_lost}
-use Rattle.history_model.specs.Book.{Book, Follows}
+use Rattle.run_course.specs.trace_model.declared.Card.{Card}
+use Rattle.unit_rule.specs.unit_model.Image.{last_kept}
+use Rattle.run_course.specs.log_model.Log.{RunLog}
+use Rattle.run_course.specs.log_model.Course.{went}
+use Rattle.run_course.specs.history_model.History.{unit_history, with_lost}
+use Rattle.run_course.specs.history_model.Book.{Book, Follows}
 use Rattle.run_course.specs.Followed.{Progress, BookFollowsRun}
-use Rattle.safety_model.specs.Recording.{Recording, start_of, history_of, lost_of}
+use Rattle.unit_rule.specs.safety_model.Recording.{Recording, start_of, history_of, lost_of}
 use Rattle.run_promise.specs.Between.{AreBrought}
 use Rattle.run_promise.specs.Accounts.{HasAccounts}
 use Rattle.run_promise.specs.Going.{AreAccounted}

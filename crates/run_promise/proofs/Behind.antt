@@ -3,24 +3,24 @@ use Rattle.std.proofs.Common.{◌≡◌, inl, inr, ⊎_elim, ℕ, ◌/◌, ◌<�
 use Rattle.std.specs.Prelude.{option_to_list, is_some}
 use Rattle.std.proofs.lemmas.Bool.Decides.{nat_tests}
 use Rattle.std.proofs.lemmas.List.Elements.{All-nil, All-cons, All-head, All-tail, All-append, All-weaker, All-map, All-filter, All-contains, All-contains_itself, filter_passes, Contains-append_left, Contains-append_right, Contains-append_cases}
-use Rattle.activity_codec.specs.declared.entries.Entry.{Entry}
-use Rattle.activity_codec.specs.declared.entries.Manual.{Manual}
-use Rattle.activity_codec.specs.declared.values.Slot.{Slot}
-use Rattle.activity_codec.specs.declared.values.Slot.TheVariants.{Driver, CoDriver}
-use Rattle.trace_model.specs.declared.Card.{Card}
-use Rattle.unit_model.specs.Days.{UnitMinute, minutes_of}
-use Rattle.unit_model.specs.Image.{recorded, unit_minutes, last_kept}
-use Rattle.unit_model.specs.Decoding.{Decodes}
-use Rattle.log_model.specs.Slots.{same_card}
-use Rattle.history_model.specs.Minutes.{HistoryMinute, Seat, card_history, on_card, entry_in, is_crew, up_to}
-use Rattle.history_model.specs.Book.{Rising, IsMark}
-use Rattle.history_model.proofs.Books.{history-append, history-one, history-none, contains-up_to}
-use Rattle.card_retention.specs.Retains.{entries_from}
-use Rattle.device_rule.specs.View.{CardView, card_view}
-use Rattle.device_rule.specs.Own.{own_view, own_sizes, KeepsOf}
-use Rattle.device_rule.specs.Views.{UnitView, row, owed, counts, is_session}
-use Rattle.device_rule.specs.Filling.{seen_by_unit, seat_state, FillsDays}
-use Rattle.device_rule.proofs.Brought.{brought-marked}
+use Rattle.run_course.specs.activity_codec.declared.entries.Entry.{Entry}
+use Rattle.run_course.specs.activity_codec.declared.entries.Manual.{Manual}
+use Rattle.run_course.specs.activity_codec.declared.values.Slot.{Slot}
+use Rattle.run_course.specs.activity_codec.declared.values.Slot.TheVariants.{Driver, CoDriver}
+use Rattle.run_course.specs.trace_model.declared.Card.{Card}
+use Rattle.unit_rule.specs.unit_model.Days.{UnitMinute, minutes_of}
+use Rattle.unit_rule.specs.unit_model.Image.{recorded, unit_minutes, last_kept}
+use Rattle.unit_rule.specs.unit_model.Decoding.{Decodes}
+use Rattle.run_course.specs.log_model.Slots.{same_card}
+use Rattle.run_course.specs.history_model.Minutes.{HistoryMinute, Seat, card_history, on_card, entry_in, is_crew, up_to}
+use Rattle.run_course.specs.history_model.Book.{Rising, IsMark}
+use Rattle.run_course.proofs.history_model.Books.{history-append, history-one, history-none, contains-up_to}
+use Rattle.unit_rule.specs.card_retention.Retains.{entries_from}
+use Rattle.unit_rule.specs.device_rule.View.{CardView, card_view}
+use Rattle.unit_rule.specs.device_rule.Own.{own_view, own_sizes, KeepsOf}
+use Rattle.unit_rule.specs.device_rule.Views.{UnitView, row, owed, counts, is_session}
+use Rattle.unit_rule.specs.device_rule.Filling.{seen_by_unit, seat_state, FillsDays}
+use Rattle.unit_rule.proofs.device_rule.Brought.{brought-marked}
 use Rattle.unit_rule.specs.Recording.{Recording}
 use Rattle.unit_rule.specs.Cards.{slot_state, StandsInUnit, HasDay}
 use Rattle.run_promise.specs.Cards.{counted_to}

@@ -6,29 +6,29 @@ use Rattle.std.proofs.lemmas.Bool.Decides.{nat_tests}
 use Rattle.std.proofs.lemmas.Grind.{flat_map-append}
 use Rattle.std.proofs.lemmas.List.{map-append}
 use Rattle.std.proofs.lemmas.List.Elements.{All-weaker, Contains-append_left, Contains-append_right, Contains-append_cases, Contains-push, Contains-push_cases}
-use Rattle.activity_codec.specs.declared.entries.Entry.{Entry}
-use Rattle.trace_model.specs.declared.Card.{Card}
-use Rattle.trace_model.specs.declared.Action.{Action}
-use Rattle.trace_model.specs.Trace.{TraceSecond, driven, dark}
-use Rattle.minute_model.specs.Span.{AreNumbered}
-use Rattle.log_model.specs.declared.lines.Break.{Break}
-use Rattle.log_model.specs.declared.lines.Break.TheVariants.{Cut, Tear}
-use Rattle.log_model.specs.declared.lines.Mark.{Mark}
-use Rattle.log_model.specs.declared.lines.Verdict.{Verdict}
-use Rattle.log_model.specs.declared.lines.Verdict.TheVariants.{Accepted, NotValid, TimeOverlap}
-use Rattle.log_model.specs.Log.{RunLog}
-use Rattle.log_model.specs.Slots.{Slots, same_card}
-use Rattle.log_model.specs.Course.{ToldSecond, Went, Visit, went}
-use Rattle.log_model.specs.Causes.{device_of, is_cut}
-use Rattle.log_model.specs.Spans.{seconds_in}
-use Rattle.log_model.proofs.Spanning.{spanned}
-use Rattle.history_model.specs.Completeness.{IsMarked}
-use Rattle.unit_model.specs.Image.{last_kept}
-use Rattle.run_unit_course.specs.Lines.{cut_at, with_kept, found_from}
-use Rattle.run_unit_course.specs.Turn.{cut_at_end}
-use Rattle.safety_model.specs.Recording.{Recording, brought}
-use Rattle.safety_model.specs.Cards.{is_overlap, entered, overlaps}
-use Rattle.safety_model.specs.Safe.{Devices, card_of, WasFound, IsUnfound, entered_by, IsVerdict}
+use Rattle.run_course.specs.activity_codec.declared.entries.Entry.{Entry}
+use Rattle.run_course.specs.trace_model.declared.Card.{Card}
+use Rattle.run_course.specs.trace_model.declared.Action.{Action}
+use Rattle.run_course.specs.trace_model.Trace.{TraceSecond, driven, dark}
+use Rattle.run_course.specs.minute_model.Span.{AreNumbered}
+use Rattle.run_course.specs.log_model.declared.lines.Break.{Break}
+use Rattle.run_course.specs.log_model.declared.lines.Break.TheVariants.{Cut, Tear}
+use Rattle.run_course.specs.log_model.declared.lines.Mark.{Mark}
+use Rattle.run_course.specs.log_model.declared.lines.Verdict.{Verdict}
+use Rattle.run_course.specs.log_model.declared.lines.Verdict.TheVariants.{Accepted, NotValid, TimeOverlap}
+use Rattle.run_course.specs.log_model.Log.{RunLog}
+use Rattle.run_course.specs.log_model.Slots.{Slots, same_card}
+use Rattle.run_course.specs.log_model.Course.{ToldSecond, Went, Visit, went}
+use Rattle.run_course.specs.log_model.Causes.{device_of, is_cut}
+use Rattle.run_course.specs.log_model.Spans.{seconds_in}
+use Rattle.run_course.proofs.log_model.Spanning.{spanned}
+use Rattle.run_course.specs.history_model.Completeness.{IsMarked}
+use Rattle.unit_rule.specs.unit_model.Image.{last_kept}
+use Rattle.unit_rule.specs.run_unit_course.Lines.{cut_at, with_kept, found_from}
+use Rattle.unit_rule.specs.run_unit_course.Turn.{cut_at_end}
+use Rattle.unit_rule.specs.safety_model.Recording.{Recording, brought}
+use Rattle.unit_rule.specs.safety_model.Cards.{is_overlap, entered, overlaps}
+use Rattle.unit_rule.specs.safety_model.Safe.{Devices, card_of, WasFound, IsUnfound, entered_by, IsVerdict}
 use Rattle.run_promise.specs.Found.{found_of}
 use Rattle.run_promise.specs.Cards.{IsUntouched}
 use Rattle.run_course.specs.Moments.{and_break}

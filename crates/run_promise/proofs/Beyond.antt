@@ -2,12 +2,12 @@
 use Rattle.std.proofs.Common.{inl, inr, ℕ, ◌+◌, ◌/◌, ◌<◌, ◌≤◌, List, [], ◌∷◌, ◌++◌, All, subst, arith, length}
 use Rattle.std.proofs.lemmas.List.Elements.{All-nil, All-cons, All-weaker, All-contains}
 use Rattle.tach_media.specs.Medium.{State}
-use Rattle.log_model.specs.Spans.{AreInOrder}
-use Rattle.unit_model.specs.Image.{last_kept}
-use Rattle.history_model.specs.Minutes.{HistoryMinute}
-use Rattle.history_model.specs.Growth.{Rises}
-use Rattle.history_model.specs.Book.{Book, all, Follows, IsMark}
-use Rattle.history_model.proofs.Told.{rises}
+use Rattle.run_course.specs.log_model.Spans.{AreInOrder}
+use Rattle.unit_rule.specs.unit_model.Image.{last_kept}
+use Rattle.run_course.specs.history_model.Minutes.{HistoryMinute}
+use Rattle.run_course.specs.history_model.Growth.{Rises}
+use Rattle.run_course.specs.history_model.Book.{Book, all, Follows, IsMark}
+use Rattle.run_course.proofs.history_model.Told.{rises}
 use Rattle.unit_rule.specs.Recording.{Recording, start_of, history_of, lost_of}
 use Rattle.run_promise.specs.Between.{IsFollowed}
 

@@ -4,33 +4,33 @@ use Rattle.std.specs.Prelude.{option_to_list}
 use Rattle.std.proofs.lemmas.Bool.Decides.{nat_tests}
 use Rattle.std.proofs.lemmas.List.{append-nil}
 use Rattle.std.proofs.lemmas.List.Elements.{All-nil, All-weaker, All-append, All-contains, filter-append, Contains-append_left, Contains-append_right, Contains-append_cases}
-use Rattle.activity_codec.specs.declared.entries.Entry.{Entry}
-use Rattle.trace_model.specs.declared.Card.{Card}
-use Rattle.trace_model.specs.declared.Card.TheVariants.{A, B}
+use Rattle.run_course.specs.activity_codec.declared.entries.Entry.{Entry}
+use Rattle.run_course.specs.trace_model.declared.Card.{Card}
+use Rattle.run_course.specs.trace_model.declared.Card.TheVariants.{A, B}
 use Rattle.tach_media.specs.Medium.{State, IsCoherent}
-use Rattle.log_model.specs.declared.lines.Mark.{Mark}
-use Rattle.log_model.specs.Causes.{device_of}
-use Rattle.unit_model.specs.Image.{last_kept}
-use Rattle.card_model.specs.Days.{AreDays}
-use Rattle.card_retention.specs.Retains.{Rise}
-use Rattle.device_rule.specs.Fields.{card_days}
-use Rattle.device_rule.specs.Own.{own_view, own_sizes, own_number, KeepsFrom, KeepsOf}
-use Rattle.history_model.specs.Minutes.{HistoryMinute, card_history, up_to}
-use Rattle.history_model.specs.Presence.{CardStart, card_start}
-use Rattle.history_model.specs.Book.{Book, all}
-use Rattle.history_model.proofs.Books.{history-append, up_to-all, up_to-one}
-use Rattle.history_model.proofs.Filters.{filter-none, all-front, all-back}
-use Rattle.device_rule.specs.Views.{UnitView, owed, newest_with}
-use Rattle.device_rule.specs.Device.{Seen}
-use Rattle.device_rule.specs.Rules.{Standing, since, comes_from, Meets, Had, CardDark, IsRepaired as OwesLater}
-use Rattle.device_rule.specs.Marked.{of_card}
-use Rattle.device_rule.proofs.Pairs.{owed-above}
-use Rattle.device_rule.proofs.Holding.{rise-back}
-use Rattle.device_rule.proofs.Repairing.{repaired-holds}
-use Rattle.device_rule.proofs.Overwriting.{owed-entries_count}
-use Rattle.hand_model.specs.Written.{Hands, IsPartOf}
-use Rattle.card_string.proofs.Kept.{keeps_more}
-use Rattle.safety_model.specs.Hands.{hands_done}
+use Rattle.run_course.specs.log_model.declared.lines.Mark.{Mark}
+use Rattle.run_course.specs.log_model.Causes.{device_of}
+use Rattle.unit_rule.specs.unit_model.Image.{last_kept}
+use Rattle.unit_rule.specs.card_model.Days.{AreDays}
+use Rattle.unit_rule.specs.card_retention.Retains.{Rise}
+use Rattle.unit_rule.specs.device_rule.Fields.{card_days}
+use Rattle.unit_rule.specs.device_rule.Own.{own_view, own_sizes, own_number, KeepsFrom, KeepsOf}
+use Rattle.run_course.specs.history_model.Minutes.{HistoryMinute, card_history, up_to}
+use Rattle.run_course.specs.history_model.Presence.{CardStart, card_start}
+use Rattle.run_course.specs.history_model.Book.{Book, all}
+use Rattle.run_course.proofs.history_model.Books.{history-append, up_to-all, up_to-one}
+use Rattle.run_course.proofs.history_model.Filters.{filter-none, all-front, all-back}
+use Rattle.unit_rule.specs.device_rule.Views.{UnitView, owed, newest_with}
+use Rattle.unit_rule.specs.device_rule.Device.{Seen}
+use Rattle.unit_rule.specs.device_rule.Rules.{Standing, since, comes_from, Meets, Had, CardDark, IsRepaired as OwesLater}
+use Rattle.unit_rule.specs.device_rule.Marked.{of_card}
+use Rattle.unit_rule.proofs.device_rule.Pairs.{owed-above}
+use Rattle.unit_rule.proofs.device_rule.Holding.{rise-back}
+use Rattle.unit_rule.proofs.device_rule.Repairing.{repaired-holds}
+use Rattle.unit_rule.proofs.device_rule.Overwriting.{owed-entries_count}
+use Rattle.unit_rule.specs.hand_model.Written.{Hands, IsPartOf}
+use Rattle.unit_rule.proofs.card_string.Kept.{keeps_more}
+use Rattle.unit_rule.specs.safety_model.Hands.{hands_done}
 use Rattle.unit_rule.specs.Recording.{Recording, card_image, brought, start_of, history_of, expected_of, told_of, unit_seen}
 use Rattle.unit_rule.specs.Unit.{marks_of}
 use Rattle.unit_rule.specs.Cards.{CardShows, CardMarkHolds, acceptances, was_kept, IsRepaired, expected_to}

@@ -4,19 +4,19 @@ use Rattle.std.specs.Prelude.{◌==◌, Option}
 use Rattle.std.specs.List.{range_with_len}
 use Rattle.std.proofs.lemmas.Bool.Decides.{nat_tests}
 use Rattle.std.proofs.lemmas.List.Elements.{All-nil, All-cons, All-head, All-tail, All-append, All-weaker, All-map, All-drop, All-contains, Contains-append_left, Contains-append_right, Contains-append_cases, Contains-push_cases}
-use Rattle.gated_ring.proofs.Orders.{range_each, Each as EachNumber}
-use Rattle.unit_model.specs.Days.{UnitMinute, ShownDay, StoredDay, day_of, minute_at, minutes_shown, day_shown, shown, padded, unknown_minute, with_minute, day_from, filled, newest_days, minutes_of, Each}
-use Rattle.unit_model.specs.Image.{last_kept, recorded, recorded_indices}
-use Rattle.unit_model.specs.Decoding.{Decodes}
-use Rattle.unit_model.proofs.Slots.{day_at}
-use Rattle.unit_model.proofs.Rising.{AreInOrder}
-use Rattle.unit_model.proofs.Recorded.{recorded_are, map_of}
-use Rattle.unit_model.proofs.WholeDays.{decoded_of}
-use Rattle.unit_model.proofs.LastDay.{in_order, none_shown}
-use Rattle.unit_model.proofs.Retention.{filled_holds}
-use Rattle.history_model.specs.Minutes.{HistoryMinute}
-use Rattle.history_model.specs.Book.{Rising}
-use Rattle.device_rule.specs.Filling.{seen_by_unit, filled_with, FillsDays}
+use Rattle.unit_rule.proofs.gated_ring.Orders.{range_each, Each as EachNumber}
+use Rattle.unit_rule.specs.unit_model.Days.{UnitMinute, ShownDay, StoredDay, day_of, minute_at, minutes_shown, day_shown, shown, padded, unknown_minute, with_minute, day_from, filled, newest_days, minutes_of, Each}
+use Rattle.unit_rule.specs.unit_model.Image.{last_kept, recorded, recorded_indices}
+use Rattle.unit_rule.specs.unit_model.Decoding.{Decodes}
+use Rattle.unit_rule.proofs.unit_model.Slots.{day_at}
+use Rattle.unit_rule.proofs.unit_model.Rising.{AreInOrder}
+use Rattle.unit_rule.proofs.unit_model.Recorded.{recorded_are, map_of}
+use Rattle.unit_rule.proofs.unit_model.WholeDays.{decoded_of}
+use Rattle.unit_rule.proofs.unit_model.LastDay.{in_order, none_shown}
+use Rattle.unit_rule.proofs.unit_model.Retention.{filled_holds}
+use Rattle.run_course.specs.history_model.Minutes.{HistoryMinute}
+use Rattle.run_course.specs.history_model.Book.{Rising}
+use Rattle.unit_rule.specs.device_rule.Filling.{seen_by_unit, filled_with, FillsDays}
 
 -- a day's minutes are its own
 abbrev Own : ShownDay → Type 0

@@ -2,31 +2,31 @@
 use Rattle.std.proofs.Common.{◌≡◌, ◌⊎◌, inl, inr, ⊎_elim, ℕ, ◌/◌, ◌<◌, ◌≤◌, true, Option, Some, None, List, [], ◌++◌, All, Contains, refl, ap, subst, ◌∙◌, sym, arith}
 use Rattle.std.specs.Prelude.{option_to_list, is_some}
 use Rattle.std.proofs.lemmas.List.Elements.{All-contains, Contains-append_left, Contains-append_right, Contains-append_cases}
-use Rattle.activity_codec.specs.declared.entries.Entry.{Entry}
-use Rattle.trace_model.specs.declared.Card.{Card}
-use Rattle.trace_model.specs.declared.Card.TheVariants.{A, B}
+use Rattle.run_course.specs.activity_codec.declared.entries.Entry.{Entry}
+use Rattle.run_course.specs.trace_model.declared.Card.{Card}
+use Rattle.run_course.specs.trace_model.declared.Card.TheVariants.{A, B}
 use Rattle.tach_media.specs.Medium.{State, IsCoherent}
-use Rattle.log_model.specs.declared.lines.Mark.{Mark}
-use Rattle.log_model.specs.Spans.{AreInOrder}
-use Rattle.log_model.specs.Causes.{device_of}
-use Rattle.unit_model.specs.Image.{recorded, unit_minutes, last_kept}
-use Rattle.unit_model.specs.Decoding.{Decodes}
-use Rattle.card_layout.specs.declared.files.Fid.{Fid}
-use Rattle.device_rule.specs.View.{CardView}
-use Rattle.device_rule.specs.Own.{own_view, own_sizes, own_number, own_bad_file, IsOwnValid, KeepsOf}
-use Rattle.history_model.specs.Minutes.{HistoryMinute, card_history, up_to}
-use Rattle.history_model.specs.Presence.{CardStart}
-use Rattle.history_model.specs.Book.{all, Follows, Rising, IsMark}
-use Rattle.history_model.proofs.Books.{history-append}
-use Rattle.device_rule.specs.Views.{UnitView, unit_view, owed}
-use Rattle.device_rule.specs.Filling.{FillsDays}
-use Rattle.device_rule.specs.Rules.{CardDark, Meets, Had, Shows}
-use Rattle.device_rule.specs.Marked.{of_card}
-use Rattle.hand_model.specs.ByHand.{by_hand_in}
-use Rattle.hand_model.specs.AtStart.{all_at, hands_at, HasDayOf}
-use Rattle.hand_model.proofs.Written.{part_self, part_both, part_then}
-use Rattle.safety_model.specs.ByHand.{HandsSafe}
-use Rattle.safety_model.specs.Hands.{hands_done}
+use Rattle.run_course.specs.log_model.declared.lines.Mark.{Mark}
+use Rattle.run_course.specs.log_model.Spans.{AreInOrder}
+use Rattle.run_course.specs.log_model.Causes.{device_of}
+use Rattle.unit_rule.specs.unit_model.Image.{recorded, unit_minutes, last_kept}
+use Rattle.unit_rule.specs.unit_model.Decoding.{Decodes}
+use Rattle.tach_media.specs.card_layout.declared.files.Fid.{Fid}
+use Rattle.unit_rule.specs.device_rule.View.{CardView}
+use Rattle.unit_rule.specs.device_rule.Own.{own_view, own_sizes, own_number, own_bad_file, IsOwnValid, KeepsOf}
+use Rattle.run_course.specs.history_model.Minutes.{HistoryMinute, card_history, up_to}
+use Rattle.run_course.specs.history_model.Presence.{CardStart}
+use Rattle.run_course.specs.history_model.Book.{all, Follows, Rising, IsMark}
+use Rattle.run_course.proofs.history_model.Books.{history-append}
+use Rattle.unit_rule.specs.device_rule.Views.{UnitView, unit_view, owed}
+use Rattle.unit_rule.specs.device_rule.Filling.{FillsDays}
+use Rattle.unit_rule.specs.device_rule.Rules.{CardDark, Meets, Had, Shows}
+use Rattle.unit_rule.specs.device_rule.Marked.{of_card}
+use Rattle.unit_rule.specs.hand_model.ByHand.{by_hand_in}
+use Rattle.unit_rule.specs.hand_model.AtStart.{all_at, hands_at, HasDayOf}
+use Rattle.unit_rule.proofs.hand_model.Written.{part_self, part_both, part_then}
+use Rattle.unit_rule.specs.safety_model.ByHand.{HandsSafe}
+use Rattle.unit_rule.specs.safety_model.Hands.{hands_done}
 use Rattle.unit_rule.specs.Recording.{Recording, card_image, brought, start_of, history_of, lost_of, told_of, unit_seen as seen_in}
 use Rattle.unit_rule.specs.Unit.{UnitSafe, marks_of, issued_bytes}
 use Rattle.unit_rule.specs.Cards.{CardSafe, IsRepaired, Agree, StandsInUnit, HasDay, expected_to}
@@ -34,7 +34,7 @@ use Rattle.unit_rule.specs.Safe.{Devices, card_of, IsSafe}
 use Rattle.unit_rule.specs.Rule.{Started}
 use Rattle.unit_rule.proofs.Marking.{holds-dark}
 use Rattle.unit_rule.proofs.Safety.{unit-safe}
-use Rattle.tacho_types.specs.declared.texts.Registration.{Registration}
+use Rattle.unit_rule.specs.tacho_types.declared.texts.Registration.{Registration}
 use Rattle.run_promise.specs.Found.{CardFound, Found, found_of, unit_seen, AnyKept, registration_of}
 use Rattle.run_promise.specs.Cards.{StringHolds, StringGoesOn, CardWaits, IsCardHeld, IsFirstHeld, HandMarksHold, counted_to, brought_by}
 use Rattle.run_promise.specs.Between.{RunLedger, LedgerStandsPowered, LedgerStands, IsFound, IsFollowed, HandsFollowed, AreBrought, AreUntouched}

@@ -3,12 +3,12 @@ use Rattle.std.proofs.Common.{◌≡◌, ◌⊎◌, inl, inr, ⊎_elim, ℕ, ◌
 use Rattle.std.proofs.lemmas.Bool.Decides.{nat_tests}
 use Rattle.std.proofs.lemmas.List.{append-nil}
 use Rattle.std.proofs.lemmas.List.Elements.{All-cons, All-nil, All-weaker, All-contains_itself, filter-append, Contains-append_left, Contains-append_right, Contains-append_cases, Contains-push_cases}
-use Rattle.activity_codec.specs.declared.entries.Entry.{Entry}
-use Rattle.activity_codec.specs.declared.entries.Manual.{Manual}
-use Rattle.history_model.proofs.Filters.{filter-none, filter-whole}
-use Rattle.card_retention.specs.Retains.{Rise}
-use Rattle.device_rule.specs.View.{Held}
-use Rattle.device_rule.specs.Own.{KeepsFrom}
+use Rattle.run_course.specs.activity_codec.declared.entries.Entry.{Entry}
+use Rattle.run_course.specs.activity_codec.declared.entries.Manual.{Manual}
+use Rattle.run_course.proofs.history_model.Filters.{filter-none, filter-whole}
+use Rattle.unit_rule.specs.card_retention.Retains.{Rise}
+use Rattle.unit_rule.specs.device_rule.View.{Held}
+use Rattle.unit_rule.specs.device_rule.Own.{KeepsFrom}
 use Rattle.run_promise.specs.Cards.{counted_to}
 
 within : (k m : ℕ) → m ≤ k → nat_le m k ≡ true

@@ -5,27 +5,27 @@ use Rattle.std.specs.List.{AllByRecursion, list_any}
 use Rattle.std.proofs.lemmas.Bool.Decides.{nat_tests}
 use Rattle.std.proofs.lemmas.List.{drop-append-le}
 use Rattle.std.proofs.lemmas.List.Elements.{All-weaker, All-contains, All-contains_itself, Contains-append_left, Contains-append_right, Contains-append_cases}
-use Rattle.trace_model.specs.declared.Card.{Card}
-use Rattle.trace_model.specs.Trace.{TraceSecond}
-use Rattle.minute_model.specs.Span.{ungiven_of}
-use Rattle.log_model.specs.declared.lines.Break.{Break}
-use Rattle.log_model.specs.Log.{RunLog}
-use Rattle.log_model.specs.Causes.{is_cut}
-use Rattle.log_model.specs.Course.{ToldSecond, Went, has_power, went}
-use Rattle.history_model.specs.Minutes.{HistoryMinute}
-use Rattle.history_model.specs.History.{unit_history}
-use Rattle.history_model.specs.Book.{Book, all, kept, IsMark}
-use Rattle.history_model.proofs.Books.{all-none, all-kept, mark-more}
-use Rattle.run_unit_course.specs.Followed.{UnitPower, Lit, Due, Lost, going_on, cuts_from}
-use Rattle.run_unit_course.specs.Turn.{span_at}
+use Rattle.run_course.specs.trace_model.declared.Card.{Card}
+use Rattle.run_course.specs.trace_model.Trace.{TraceSecond}
+use Rattle.run_course.specs.minute_model.Span.{ungiven_of}
+use Rattle.run_course.specs.log_model.declared.lines.Break.{Break}
+use Rattle.run_course.specs.log_model.Log.{RunLog}
+use Rattle.run_course.specs.log_model.Causes.{is_cut}
+use Rattle.run_course.specs.log_model.Course.{ToldSecond, Went, has_power, went}
+use Rattle.run_course.specs.history_model.Minutes.{HistoryMinute}
+use Rattle.run_course.specs.history_model.History.{unit_history}
+use Rattle.run_course.specs.history_model.Book.{Book, all, kept, IsMark}
+use Rattle.run_course.proofs.history_model.Books.{all-none, all-kept, mark-more}
+use Rattle.unit_rule.specs.run_unit_course.Followed.{UnitPower, Lit, Due, Lost, going_on, cuts_from}
+use Rattle.unit_rule.specs.run_unit_course.Turn.{span_at}
 use Rattle.run_course.specs.Followed.{Progress, BookFollowsRun, PowerGoesOn, IsSupplied, IsBreakBefore}
 use Rattle.run_course.specs.Seconds.{GoesOnBy, next_told, DecidedBy, kept_all, broken_at}
 use Rattle.run_course.proofs.Core.{Core, IsShort, waits}
 use Rattle.run_course.proofs.New.{are-new}
 use Rattle.run_course.proofs.Steps.{core-of, lit, lit-parts, now-told, on-lines, went-same_, feeds, fed-short, which}
 use Rattle.run_course.proofs.Told.{lit-power, solid-push}
-use Rattle.safety_model.specs.Recording.{Recording, start_of}
-use Rattle.safety_model.specs.Cards.{shows_lost, acceptances}
+use Rattle.unit_rule.specs.safety_model.Recording.{Recording, start_of}
+use Rattle.unit_rule.specs.safety_model.Cards.{shows_lost, acceptances}
 use Rattle.run_promise.specs.Accounts.{so_far, IsAccount, IsShownLost}
 use Rattle.run_promise.specs.Going.{acceptances_in, IsCutFrom, AccountGoesOn, AreAccounted, IsTakenAt, IsBehind, ASecondIsAccounted, KeptMinutesAreSure, NothingIsAccountedYet, TheEndIsAccounted}
 use Rattle.run_promise.proofs.Accounts.{account-on, account-new}

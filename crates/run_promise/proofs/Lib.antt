@@ -22,3 +22,4 @@ pub mod RecordEnds
 pub mod Beside
 pub mod Unentered
 pub mod Whole
+pub use Rattle.run_course.proofs as run_course

@@ -6,26 +6,26 @@ use Rattle.std.proofs.lemmas.List.{map-append}
 use Rattle.std.proofs.lemmas.List.Folds.{list_any-append, list_any_none}
 use Rattle.std.proofs.lemmas.List.Concat.{flat_map-append}
 use Rattle.std.proofs.lemmas.List.Elements.{All-nil, All-cons, All-from_recursion, All-weaker, All-map, All-contains, filter-append, Contains-append_cases}
-use Rattle.trace_model.specs.declared.Card.{Card}
-use Rattle.minute_model.specs.declared.Rule.{Rule}
-use Rattle.minute_model.specs.declared.Minute.{Minute}
-use Rattle.minute_model.specs.Span.{latest, count_from, ungiven_of}
-use Rattle.log_model.specs.declared.lines.Break.{Break}
-use Rattle.log_model.specs.declared.lines.Break.TheVariants.{Cut, Tear}
-use Rattle.log_model.specs.declared.lines.Verdict.{Verdict}
-use Rattle.log_model.specs.Log.{is_accepting}
-use Rattle.log_model.specs.Slots.{same_card}
-use Rattle.log_model.specs.Causes.{is_cut, second_of}
-use Rattle.log_model.specs.Course.{ToldSecond, Visit}
-use Rattle.log_model.specs.Spans.{seconds_in}
-use Rattle.history_model.specs.Minutes.{HistoryMinute}
-use Rattle.history_model.specs.Presence.{Start}
-use Rattle.history_model.specs.History.{seated, minutes_after, settlings_of}
-use Rattle.history_model.proofs.Filters.{take-drop}
-use Rattle.run_unit_course.specs.Lines.{with_kept, found_from}
-use Rattle.run_unit_course.specs.Turn.{span_at}
+use Rattle.run_course.specs.trace_model.declared.Card.{Card}
+use Rattle.run_course.specs.minute_model.declared.Rule.{Rule}
+use Rattle.run_course.specs.minute_model.declared.Minute.{Minute}
+use Rattle.run_course.specs.minute_model.Span.{latest, count_from, ungiven_of}
+use Rattle.run_course.specs.log_model.declared.lines.Break.{Break}
+use Rattle.run_course.specs.log_model.declared.lines.Break.TheVariants.{Cut, Tear}
+use Rattle.run_course.specs.log_model.declared.lines.Verdict.{Verdict}
+use Rattle.run_course.specs.log_model.Log.{is_accepting}
+use Rattle.run_course.specs.log_model.Slots.{same_card}
+use Rattle.run_course.specs.log_model.Causes.{is_cut, second_of}
+use Rattle.run_course.specs.log_model.Course.{ToldSecond, Visit}
+use Rattle.run_course.specs.log_model.Spans.{seconds_in}
+use Rattle.run_course.specs.history_model.Minutes.{HistoryMinute}
+use Rattle.run_course.specs.history_model.Presence.{Start}
+use Rattle.run_course.specs.history_model.History.{seated, minutes_after, settlings_of}
+use Rattle.run_course.proofs.history_model.Filters.{take-drop}
+use Rattle.unit_rule.specs.run_unit_course.Lines.{with_kept, found_from}
+use Rattle.unit_rule.specs.run_unit_course.Turn.{span_at}
 use Rattle.run_course.specs.Followed.{IsBreakBefore}
-use Rattle.safety_model.specs.Cards.{shows_lost}
+use Rattle.unit_rule.specs.safety_model.Cards.{shows_lost}
 use Rattle.run_promise.specs.Going.{acceptances_in, IsCutFrom}
 use Rattle.run_promise.proofs.Accounts.{none-lost, or-false}
 

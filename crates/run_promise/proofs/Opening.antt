@@ -4,35 +4,35 @@ use Rattle.std.specs.Prelude.{is_some}
 use Rattle.std.proofs.lemmas.Bool.Decides.{nat_tests}
 use Rattle.std.proofs.lemmas.List.{append-nil}
 use Rattle.std.proofs.lemmas.List.Elements.{All-nil, All-weaker, Contains-append_cases, Contains-push_cases}
-use Rattle.activity_codec.specs.declared.entries.Entry.{Entry}
-use Rattle.activity_codec.specs.declared.entries.Manual.{Manual}
-use Rattle.trace_model.specs.declared.Card.{Card}
+use Rattle.run_course.specs.activity_codec.declared.entries.Entry.{Entry}
+use Rattle.run_course.specs.activity_codec.declared.entries.Manual.{Manual}
+use Rattle.run_course.specs.trace_model.declared.Card.{Card}
 use Rattle.tach_media.specs.Medium.{State, IsCoherent}
-use Rattle.card_model.specs.Days.{AreDays}
-use Rattle.card_retention.specs.Expected.{WordDay, is_closed, closes, counted, more}
-use Rattle.card_retention.specs.ByHand.{and_by_hand}
-use Rattle.card_retention.specs.Shown.{Covers, InDays, AllFrom}
-use Rattle.card_retention.specs.Retains.{Rise, entries_from}
-use Rattle.device_rule.specs.Fields.{card_days}
-use Rattle.device_rule.specs.View.{card_view}
-use Rattle.device_rule.specs.Own.{own_view, own_sizes, own_number, own_covered, counted_view, expected_with, KeepsFrom, KeepsOf, IsOwnValid}
-use Rattle.hand_model.specs.AtStart.{marked_at, all_at, hands_at, StaysTold}
-use Rattle.hand_model.specs.ByHand.{by_hand_in}
-use Rattle.hand_model.specs.Written.{IsPartOf, no_hands}
-use Rattle.hand_model.proofs.Cuts.{part_first}
-use Rattle.hand_model.proofs.Written.{part_wider}
-use Rattle.history_model.specs.Presence.{CardStart, trimmed_by}
-use Rattle.history_model.specs.Book.{not_begun}
-use Rattle.history_model.proofs.Books.{history-none}
-use Rattle.history_model.proofs.Filters.{filter-none}
-use Rattle.device_rule.specs.Views.{UnitView, unit_view, owed}
-use Rattle.device_rule.specs.Rules.{Brings, CardDark, Out, comes_from}
-use Rattle.device_rule.specs.Marked.{of_card}
-use Rattle.device_rule.proofs.Brought.{brought-newest, brought-bound}
-use Rattle.device_rule.proofs.Pairs.{owed-above}
-use Rattle.device_rule.proofs.Opening.{opened-card}
-use Rattle.unit_model.specs.Image.{last_kept}
-use Rattle.unit_model.specs.Decoding.{Decodes}
+use Rattle.unit_rule.specs.card_model.Days.{AreDays}
+use Rattle.unit_rule.specs.card_retention.Expected.{WordDay, is_closed, closes, counted, more}
+use Rattle.unit_rule.specs.card_retention.ByHand.{and_by_hand}
+use Rattle.unit_rule.specs.card_retention.Shown.{Covers, InDays, AllFrom}
+use Rattle.unit_rule.specs.card_retention.Retains.{Rise, entries_from}
+use Rattle.unit_rule.specs.device_rule.Fields.{card_days}
+use Rattle.unit_rule.specs.device_rule.View.{card_view}
+use Rattle.unit_rule.specs.device_rule.Own.{own_view, own_sizes, own_number, own_covered, counted_view, expected_with, KeepsFrom, KeepsOf, IsOwnValid}
+use Rattle.unit_rule.specs.hand_model.AtStart.{marked_at, all_at, hands_at, StaysTold}
+use Rattle.unit_rule.specs.hand_model.ByHand.{by_hand_in}
+use Rattle.unit_rule.specs.hand_model.Written.{IsPartOf, no_hands}
+use Rattle.unit_rule.proofs.hand_model.Cuts.{part_first}
+use Rattle.unit_rule.proofs.hand_model.Written.{part_wider}
+use Rattle.run_course.specs.history_model.Presence.{CardStart, trimmed_by}
+use Rattle.run_course.specs.history_model.Book.{not_begun}
+use Rattle.run_course.proofs.history_model.Books.{history-none}
+use Rattle.run_course.proofs.history_model.Filters.{filter-none}
+use Rattle.unit_rule.specs.device_rule.Views.{UnitView, unit_view, owed}
+use Rattle.unit_rule.specs.device_rule.Rules.{Brings, CardDark, Out, comes_from}
+use Rattle.unit_rule.specs.device_rule.Marked.{of_card}
+use Rattle.unit_rule.proofs.device_rule.Brought.{brought-newest, brought-bound}
+use Rattle.unit_rule.proofs.device_rule.Pairs.{owed-above}
+use Rattle.unit_rule.proofs.device_rule.Opening.{opened-card}
+use Rattle.unit_rule.specs.unit_model.Image.{last_kept}
+use Rattle.unit_rule.specs.unit_model.Decoding.{Decodes}
 use Rattle.unit_rule.specs.Safe.{Devices, card_of}
 use Rattle.unit_rule.specs.Rule.{Started, started}
 use Rattle.unit_rule.specs.Marks.{UnitFollowsBook}

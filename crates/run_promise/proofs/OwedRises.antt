@@ -4,14 +4,14 @@ use Rattle.std.specs.Prelude.{◌==◌, ◌&&◌, fold}
 use Rattle.std.proofs.lemmas.Bool.{cases_lt}
 use Rattle.std.proofs.lemmas.Bool.Decides.{nat_tests}
 use Rattle.std.proofs.lemmas.List.Elements.{All-nil, All-cons, All-head, All-tail, All-weaker, All-filter}
-use Rattle.activity_codec.specs.declared.entries.Entry.{Entry}
-use Rattle.trace_model.specs.declared.Card.{Card}
-use Rattle.trace_model.specs.declared.Card.TheVariants.{A, B}
-use Rattle.card_retention.specs.Retains.{Rise}
-use Rattle.unit_owed.specs.Owed.{Cell, OwedRow, row_of, entry_of, holds, cell_entries, placed, seen_row, row_view}
-use Rattle.device_rule.specs.View.{CardView}
-use Rattle.device_rule.specs.Views.{unit_view, row, owed, counts, is_session}
-use Rattle.device_rule.proofs.OwedView.{placed-more, placed-here}
+use Rattle.run_course.specs.activity_codec.declared.entries.Entry.{Entry}
+use Rattle.run_course.specs.trace_model.declared.Card.{Card}
+use Rattle.run_course.specs.trace_model.declared.Card.TheVariants.{A, B}
+use Rattle.unit_rule.specs.card_retention.Retains.{Rise}
+use Rattle.unit_rule.specs.unit_owed.Owed.{Cell, OwedRow, row_of, entry_of, holds, cell_entries, placed, seen_row, row_view}
+use Rattle.unit_rule.specs.device_rule.View.{CardView}
+use Rattle.unit_rule.specs.device_rule.Views.{unit_view, row, owed, counts, is_session}
+use Rattle.unit_rule.proofs.device_rule.OwedView.{placed-more, placed-here}
 use Rattle.run_promise.proofs.Entries.{rise-tail, rise-above}
 
 cons-rise : (e : Entry) (es : List Entry) → All (λ f. e.minute < f.minute) es → Rise es → Rise (e ∷ es)

@@ -4,26 +4,26 @@ use Rattle.std.specs.Prelude.{◌&&◌, option_to_list, option_map, unwrap_or}
 use Rattle.std.specs.List.{list_any}
 use Rattle.std.proofs.lemmas.Bool.Decides.{nat_tests}
 use Rattle.std.proofs.lemmas.List.Elements.{All-nil, All-cons, All-head, All-tail, All-append, All-weaker, All-map, All-filter, filter_passes}
-use Rattle.activity_codec.specs.declared.entries.Entry.{Entry}
-use Rattle.activity_codec.specs.declared.values.Slot.{Slot}
-use Rattle.activity_codec.specs.declared.values.Slot.TheVariants.{Driver, CoDriver}
-use Rattle.trace_model.specs.declared.Card.{Card}
-use Rattle.trace_model.specs.declared.Card.TheVariants.{A, B}
-use Rattle.minute_model.specs.declared.Rule.{Rule}
-use Rattle.minute_model.specs.declared.Minute.{Minute}
-use Rattle.minute_model.specs.Activity.{last}
-use Rattle.log_model.specs.Log.{RunLog}
-use Rattle.log_model.specs.Slots.{Sitting, same_card, in_slot}
-use Rattle.log_model.specs.Course.{ToldSecond}
-use Rattle.log_model.specs.Spans.{spans_of}
-use Rattle.history_model.specs.Minutes.{HistoryMinute, Seat, card_history, on_card, entry_in, is_crew}
-use Rattle.history_model.specs.Presence.{Start, CardStart, card_start, newest_minute, is_present, present_sitting, in_minute, present_in}
-use Rattle.history_model.specs.History.{seated, minutes_after, span_minutes, decided_of, limited_to, history_by, limit_of, unit_history}
-use Rattle.history_model.proofs.Books.{history-append, history-one, history-none}
-use Rattle.history_model.proofs.Filters.{all-one}
-use Rattle.device_rule.specs.View.{CardView}
-use Rattle.device_rule.specs.Views.{UnitView, row, owed, owed_in, counts, is_session, beyond}
-use Rattle.device_rule.proofs.Owing.{owed-closed}
+use Rattle.run_course.specs.activity_codec.declared.entries.Entry.{Entry}
+use Rattle.run_course.specs.activity_codec.declared.values.Slot.{Slot}
+use Rattle.run_course.specs.activity_codec.declared.values.Slot.TheVariants.{Driver, CoDriver}
+use Rattle.run_course.specs.trace_model.declared.Card.{Card}
+use Rattle.run_course.specs.trace_model.declared.Card.TheVariants.{A, B}
+use Rattle.run_course.specs.minute_model.declared.Rule.{Rule}
+use Rattle.run_course.specs.minute_model.declared.Minute.{Minute}
+use Rattle.run_course.specs.minute_model.Activity.{last}
+use Rattle.run_course.specs.log_model.Log.{RunLog}
+use Rattle.run_course.specs.log_model.Slots.{Sitting, same_card, in_slot}
+use Rattle.run_course.specs.log_model.Course.{ToldSecond}
+use Rattle.run_course.specs.log_model.Spans.{spans_of}
+use Rattle.run_course.specs.history_model.Minutes.{HistoryMinute, Seat, card_history, on_card, entry_in, is_crew}
+use Rattle.run_course.specs.history_model.Presence.{Start, CardStart, card_start, newest_minute, is_present, present_sitting, in_minute, present_in}
+use Rattle.run_course.specs.history_model.History.{seated, minutes_after, span_minutes, decided_of, limited_to, history_by, limit_of, unit_history}
+use Rattle.run_course.proofs.history_model.Books.{history-append, history-one, history-none}
+use Rattle.run_course.proofs.history_model.Filters.{all-one}
+use Rattle.unit_rule.specs.device_rule.View.{CardView}
+use Rattle.unit_rule.specs.device_rule.Views.{UnitView, row, owed, owed_in, counts, is_session, beyond}
+use Rattle.unit_rule.proofs.device_rule.Owing.{owed-closed}
 
 -- later than both
 abbrev pub bound : CardStart → ℕ

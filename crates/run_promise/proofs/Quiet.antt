@@ -4,30 +4,30 @@ use Rattle.std.specs.Prelude.{flat_map, option_to_list, nat_le}
 use Rattle.std.specs.List.{AllByRecursion, list_any}
 use Rattle.std.proofs.lemmas.List.{drop-append-le}
 use Rattle.std.proofs.lemmas.List.Elements.{All-weaker, All-filter, All-contains, All-contains_itself, Contains-append_left}
-use Rattle.trace_model.specs.declared.Card.{Card}
-use Rattle.trace_model.specs.declared.Action.{Action}
-use Rattle.trace_model.specs.Trace.{TraceSecond, driven, dark}
-use Rattle.minute_model.specs.declared.Rule.{Rule}
-use Rattle.minute_model.specs.Activity.{last}
-use Rattle.minute_model.specs.Span.{ungiven_of}
-use Rattle.log_model.specs.declared.lines.Break.{Break}
-use Rattle.log_model.specs.Log.{RunLog, kept_after}
-use Rattle.log_model.specs.Causes.{is_cut}
-use Rattle.log_model.specs.Course.{ToldSecond, Went, Before, has_power, second_told, went}
-use Rattle.log_model.specs.Spans.{spans_of, AreInOrder}
-use Rattle.log_model.proofs.Growth.{went-more}
-use Rattle.history_model.specs.Minutes.{HistoryMinute, up_to}
-use Rattle.history_model.specs.History.{limit_by, cut_second, unit_history}
-use Rattle.history_model.specs.Growth.{SameLimits}
-use Rattle.history_model.specs.Book.{Book, all, found, IsMark}
-use Rattle.history_model.proofs.Books.{contains-up_to, all-found}
-use Rattle.history_model.proofs.BySeconds.{same-history}
-use Rattle.history_model.proofs.Growing.{dark-history}
-use Rattle.history_model.proofs.Told.{more-told, spanned-so_far, told-next}
-use Rattle.run_unit_course.specs.Lines.{log_of, cut_at, found_from}
-use Rattle.run_unit_course.specs.Followed.{UnitPower, Lit, Due, Lost, MayPower, MayFail}
-use Rattle.run_unit_course.specs.Turn.{cut_at_end, span_at}
-use Rattle.run_unit_course.proofs.Parts.{order-behind}
+use Rattle.run_course.specs.trace_model.declared.Card.{Card}
+use Rattle.run_course.specs.trace_model.declared.Action.{Action}
+use Rattle.run_course.specs.trace_model.Trace.{TraceSecond, driven, dark}
+use Rattle.run_course.specs.minute_model.declared.Rule.{Rule}
+use Rattle.run_course.specs.minute_model.Activity.{last}
+use Rattle.run_course.specs.minute_model.Span.{ungiven_of}
+use Rattle.run_course.specs.log_model.declared.lines.Break.{Break}
+use Rattle.run_course.specs.log_model.Log.{RunLog, kept_after}
+use Rattle.run_course.specs.log_model.Causes.{is_cut}
+use Rattle.run_course.specs.log_model.Course.{ToldSecond, Went, Before, has_power, second_told, went}
+use Rattle.run_course.specs.log_model.Spans.{spans_of, AreInOrder}
+use Rattle.run_course.proofs.log_model.Growth.{went-more}
+use Rattle.run_course.specs.history_model.Minutes.{HistoryMinute, up_to}
+use Rattle.run_course.specs.history_model.History.{limit_by, cut_second, unit_history}
+use Rattle.run_course.specs.history_model.Growth.{SameLimits}
+use Rattle.run_course.specs.history_model.Book.{Book, all, found, IsMark}
+use Rattle.run_course.proofs.history_model.Books.{contains-up_to, all-found}
+use Rattle.run_course.proofs.history_model.BySeconds.{same-history}
+use Rattle.run_course.proofs.history_model.Growing.{dark-history}
+use Rattle.run_course.proofs.history_model.Told.{more-told, spanned-so_far, told-next}
+use Rattle.unit_rule.specs.run_unit_course.Lines.{log_of, cut_at, found_from}
+use Rattle.unit_rule.specs.run_unit_course.Followed.{UnitPower, Lit, Due, Lost, MayPower, MayFail}
+use Rattle.unit_rule.specs.run_unit_course.Turn.{cut_at_end, span_at}
+use Rattle.unit_rule.proofs.run_unit_course.Parts.{order-behind}
 use Rattle.run_course.specs.Moments.{and_break}
 use Rattle.run_course.specs.Followed.{Progress, BookFollowsRun, Comes, IsLost}
 use Rattle.run_course.specs.Seconds.{next_told}
@@ -36,8 +36,8 @@ use Rattle.run_course.proofs.Logs.{went-refused, found_log}
 use Rattle.run_course.proofs.Core.{Core, lit-due, found-told, found-minutes}
 use Rattle.run_course.proofs.Steps.{core-of, with-waiting, due-core, lost-core, lit-parts, now-told, comes-adds, cut-history, cut-parts}
 use Rattle.run_course.proofs.Told.{dark-told, lost-comes, lost-dark, next-dark}
-use Rattle.safety_model.specs.Recording.{Recording, start_of, history_of}
-use Rattle.safety_model.specs.Cards.{shows_lost}
+use Rattle.unit_rule.specs.safety_model.Recording.{Recording, start_of, history_of}
+use Rattle.unit_rule.specs.safety_model.Cards.{shows_lost}
 use Rattle.run_promise.specs.Accounts.{so_far}
 use Rattle.run_promise.specs.Going.{acceptances_in, IsCutFrom, AreAccounted, FoundStaysAccounted, AFailureStaysAccounted, ADarkMinuteStaysAccounted, AnOffLineStaysAccounted, AnOffCutStaysAccounted}
 use Rattle.run_promise.proofs.Accounts.{account-on}

@@ -2,42 +2,42 @@
 use Rattle.std.proofs.Common.{◌≡◌, ◌⊎◌, inl, inr, ⊎_elim, ℕ, ◌+◌, ◌/◌, ◌<◌, ◌≤◌, min, List, [], ◌∷◌, ◌++◌, All, Contains, filter, length, take, drop, refl, ap, sym, subst, ◌∙◌, arith}
 use Rattle.std.proofs.lemmas.List.Sums.{sum_by-append}
 use Rattle.std.proofs.lemmas.List.Elements.{All-weaker, All-append, Contains-append_left}
-use Rattle.trace_model.specs.declared.Card.{Card}
-use Rattle.trace_model.specs.declared.Card.TheVariants.{A, B}
-use Rattle.card_model.specs.Days.{AreDays}
-use Rattle.card_image.specs.Fields.{card_days}
-use Rattle.trace_model.specs.Trace.{TraceSecond}
-use Rattle.run_model.specs.declared.Device.{Device}
+use Rattle.run_course.specs.trace_model.declared.Card.{Card}
+use Rattle.run_course.specs.trace_model.declared.Card.TheVariants.{A, B}
+use Rattle.unit_rule.specs.card_model.Days.{AreDays}
+use Rattle.unit_rule.specs.card_image.Fields.{card_days}
+use Rattle.run_course.specs.trace_model.Trace.{TraceSecond}
+use Rattle.run_course.specs.run_model.declared.Device.{Device}
 use Rattle.tach_media.specs.Medium.{IsCoherent}
-use Rattle.log_model.specs.declared.lines.Break.{Break}
-use Rattle.log_model.specs.declared.lines.Break.TheVariants.{Cut, Tear}
-use Rattle.log_model.specs.declared.lines.Mark.{Mark}
-use Rattle.log_model.specs.Slots.{same_card}
-use Rattle.log_model.specs.Course.{went}
-use Rattle.log_model.specs.Causes.{device_of, second_of, cards_torn, HasCauses, IsBegun, HasMoment}
-use Rattle.unit_model.specs.declared.layout.TheConstants.{HIGHEST_ODOMETER}
-use Rattle.unit_model.specs.Image.{last_kept, odometer_at}
-use Rattle.unit_minutes.specs.DayOdometers.{RecordsDay}
-use Rattle.unit_model.specs.Decoding.{Decodes}
-use Rattle.history_model.specs.Minutes.{HistoryMinute, up_to}
-use Rattle.history_model.specs.Book.{Book, all, IsMark}
-use Rattle.history_model.specs.Growth.{Rises}
-use Rattle.history_model.proofs.Told.{rises}
-use Rattle.history_model.proofs.Books.{reached-shown}
-use Rattle.run_unit_course.specs.Legs.{Travel, kilometres_of}
-use Rattle.run_unit_course.specs.Travelled.{MayShow}
+use Rattle.run_course.specs.log_model.declared.lines.Break.{Break}
+use Rattle.run_course.specs.log_model.declared.lines.Break.TheVariants.{Cut, Tear}
+use Rattle.run_course.specs.log_model.declared.lines.Mark.{Mark}
+use Rattle.run_course.specs.log_model.Slots.{same_card}
+use Rattle.run_course.specs.log_model.Course.{went}
+use Rattle.run_course.specs.log_model.Causes.{device_of, second_of, cards_torn, HasCauses, IsBegun, HasMoment}
+use Rattle.unit_rule.specs.unit_model.declared.layout.TheConstants.{HIGHEST_ODOMETER}
+use Rattle.unit_rule.specs.unit_model.Image.{last_kept, odometer_at}
+use Rattle.unit_rule.specs.unit_minutes.DayOdometers.{RecordsDay}
+use Rattle.unit_rule.specs.unit_model.Decoding.{Decodes}
+use Rattle.run_course.specs.history_model.Minutes.{HistoryMinute, up_to}
+use Rattle.run_course.specs.history_model.Book.{Book, all, IsMark}
+use Rattle.run_course.specs.history_model.Growth.{Rises}
+use Rattle.run_course.proofs.history_model.Told.{rises}
+use Rattle.run_course.proofs.history_model.Books.{reached-shown}
+use Rattle.unit_rule.specs.run_unit_course.Legs.{Travel, kilometres_of}
+use Rattle.unit_rule.specs.run_unit_course.Travelled.{MayShow}
 use Rattle.unit_rule.specs.Rule.{Started}
-use Rattle.run_unit_course.proofs.Lines.{tells-front}
-use Rattle.run_unit_course.proofs.Parts.{beyond-mark, known-more}
+use Rattle.unit_rule.proofs.run_unit_course.Lines.{tells-front}
+use Rattle.unit_rule.proofs.run_unit_course.Parts.{beyond-mark, known-more}
 use Rattle.unit_rule.specs.Written.{ShowsWritten}
 use Rattle.unit_rule.specs.Odometer.{ShowsOdometer, IsBegunBy, OdometerSafe}
 use Rattle.unit_rule.proofs.Travelling.{odometer-sum, odometer-safe}
-use Rattle.device_rule.specs.Views.{UnitView, unit_view}
-use Rattle.card_image.specs.Own.{own_sizes, own_number, IsOwnValid}
-use Rattle.safety_model.specs.Recording.{Recording, card_image, told_of, brought, history_of, lost_of}
-use Rattle.safety_model.proofs.Giving.{passed-reached}
-use Rattle.safety_model.specs.Cards.{acceptances}
-use Rattle.safety_model.specs.Safe.{Devices, card_of, breakdowns_of, WasFound, IsUnfound, IsVerdict, IsSafe, IsCaused}
+use Rattle.unit_rule.specs.device_rule.Views.{UnitView, unit_view}
+use Rattle.unit_rule.specs.card_image.Own.{own_sizes, own_number, IsOwnValid}
+use Rattle.unit_rule.specs.safety_model.Recording.{Recording, card_image, told_of, brought, history_of, lost_of}
+use Rattle.unit_rule.proofs.safety_model.Giving.{passed-reached}
+use Rattle.unit_rule.specs.safety_model.Cards.{acceptances}
+use Rattle.unit_rule.specs.safety_model.Safe.{Devices, card_of, breakdowns_of, WasFound, IsUnfound, IsVerdict, IsSafe, IsCaused}
 use Rattle.run_promise.specs.Found.{Found, found_of}
 use Rattle.run_promise.specs.Between.{RunLedger, LedgerStands, IsFound, AreUntouched}
 use Rattle.run_promise.proofs.End.{safe-followed}
@@ -53,7 +53,7 @@ use Rattle.run_promise.specs.Origin.{Origin, rule_of, start_at, first_of, Histor
 use Rattle.run_promise.specs.Days.{HasWords, IsBegunIn}
 use Rattle.run_promise.proofs.Whole.{is-whole}
 use Rattle.run_promise.proofs.Beside.{found-or}
-use Rattle.log_model.specs.declared.lines.Refused.{Refused}
+use Rattle.run_course.specs.log_model.declared.lines.Refused.{Refused}
 use Rattle.run_promise.specs.Ends.{recording_by, recording_with, HandsBeside, IsBeside, EndsRun}
 
 -- accounts are of the recording so far

@@ -2,28 +2,28 @@
 use Rattle.std.proofs.Common.{◌≡◌, inl, inr, ⊎_elim, ℕ, zero, suc, ◌+◌, ◌-◌, ◌%◌, ◌^◌, ◌<◌, ◌≤◌, true, false, Option, Some, None, List, [], ◌∷◌, ◌++◌, Contains, length, filter, refl, ap, sym, subst, ◌∙◌, arith, append-nil, append_assoc}
 use Rattle.std.specs.Prelude.{option_map, option_to_list}
 use Rattle.std.proofs.lemmas.List.Elements.{Contains-push, Contains-append_left}
-use Rattle.trace_model.specs.declared.Card.{Card}
-use Rattle.trace_model.specs.Trace.{TraceSecond, driven, dark}
-use Rattle.run_model.specs.declared.Device.{Device}
-use Rattle.run_model.specs.declared.Device.TheVariants.{Unit as Recorder}
-use Rattle.minute_model.specs.declared.Minute.{Minute}
-use Rattle.log_model.specs.declared.lines.Break.{Break}
-use Rattle.log_model.specs.declared.lines.Mark.{Mark}
-use Rattle.log_model.specs.declared.lines.Refused.{Refused}
-use Rattle.log_model.specs.Log.{RunLog, Keeping, cut_in}
-use Rattle.log_model.specs.Slots.{Slots, same_card}
-use Rattle.log_model.specs.Causes.{device_of, second_of, cuts, cards_torn, RoseBy}
-use Rattle.log_model.specs.Course.{ToldSecond, Went, went}
-use Rattle.history_model.specs.Minutes.{HistoryMinute}
-use Rattle.history_model.specs.History.{seated, minutes_after, decided_of}
-use Rattle.history_model.specs.Completeness.{FailedCutIn}
-use Rattle.history_model.specs.Book.{found}
-use Rattle.history_model.proofs.Closing.{minutes-parts}
-use Rattle.run_unit_course.specs.Caused.{cuts_by}
-use Rattle.run_unit_course.specs.Lines.{cut_at}
-use Rattle.run_unit_course.specs.Followed.{UnitPower, Lit, IsDark}
-use Rattle.run_unit_course.specs.Legs.{Travel, stranded_at, all_travelled}
-use Rattle.run_unit_course.proofs.Offs.{by-same}
+use Rattle.run_course.specs.trace_model.declared.Card.{Card}
+use Rattle.run_course.specs.trace_model.Trace.{TraceSecond, driven, dark}
+use Rattle.run_course.specs.run_model.declared.Device.{Device}
+use Rattle.run_course.specs.run_model.declared.Device.TheVariants.{Unit as Recorder}
+use Rattle.run_course.specs.minute_model.declared.Minute.{Minute}
+use Rattle.run_course.specs.log_model.declared.lines.Break.{Break}
+use Rattle.run_course.specs.log_model.declared.lines.Mark.{Mark}
+use Rattle.run_course.specs.log_model.declared.lines.Refused.{Refused}
+use Rattle.run_course.specs.log_model.Log.{RunLog, Keeping, cut_in}
+use Rattle.run_course.specs.log_model.Slots.{Slots, same_card}
+use Rattle.run_course.specs.log_model.Causes.{device_of, second_of, cuts, cards_torn, RoseBy}
+use Rattle.run_course.specs.log_model.Course.{ToldSecond, Went, went}
+use Rattle.run_course.specs.history_model.Minutes.{HistoryMinute}
+use Rattle.run_course.specs.history_model.History.{seated, minutes_after, decided_of}
+use Rattle.run_course.specs.history_model.Completeness.{FailedCutIn}
+use Rattle.run_course.specs.history_model.Book.{found}
+use Rattle.run_course.proofs.history_model.Closing.{minutes-parts}
+use Rattle.unit_rule.specs.run_unit_course.Caused.{cuts_by}
+use Rattle.unit_rule.specs.run_unit_course.Lines.{cut_at}
+use Rattle.unit_rule.specs.run_unit_course.Followed.{UnitPower, Lit, IsDark}
+use Rattle.unit_rule.specs.run_unit_course.Legs.{Travel, stranded_at, all_travelled}
+use Rattle.unit_rule.proofs.run_unit_course.Offs.{by-same}
 use Rattle.run_course.specs.Moments.{and_break}
 use Rattle.run_course.specs.Followed.{Progress, BookFollowsRun}
 use Rattle.run_course.specs.Seconds.{GoesOnBy, next_told, DecidedBy, kept_all, broken_at}
@@ -37,7 +37,7 @@ use Rattle.run_course.proofs.Dark.{dark-caused, dark-complete, off-complete}
 use Rattle.run_course.proofs.Quiet.{quiet-are-told, quiet-go-on, quiet-travelled, quiet-caused, quiet-complete}
 use Rattle.run_course.proofs.Staying.{failure-stays, found-stays, cut-stays_}
 use Rattle.run_course.proofs.Steps.{went-same_, now-told, goes_on, breaks_off, power_finds, power_fails, stays_dark, off_dark, off_cuts, begins_run}
-use Rattle.run_unit_course.proofs.Legs.{travelled-image, stranded-image}
+use Rattle.unit_rule.proofs.run_unit_course.Legs.{travelled-image, stranded-image}
 use Rattle.run_course.proofs.Travelled as legs
 use Rattle.run_promise.specs.Going.{AreAccounted}
 use Rattle.run_promise.proofs.Going.{second-accounted, sure-kept, books-kept, books-broken, nothing-accounted}

@@ -2,16 +2,16 @@
 use Rattle.std.proofs.Common.{◌≡◌, ◌⊎◌, inl, inr, ⊎_elim, ℕ, ◌+◌, Bool, true, false, not, cond, ◌||◌, Option, Some, None, List, [], ◌∷◌, ◌++◌, map, refl, ap, sym, subst, ◌∙◌}
 use Rattle.std.specs.Prelude.{flat_map, option_map, is_some}
 use Rattle.std.specs.List.{list_any}
-use Rattle.activity_codec.specs.declared.values.Slot.{Slot}
-use Rattle.activity_codec.specs.declared.values.Slot.TheVariants.{Driver, CoDriver}
-use Rattle.trace_model.specs.declared.Action.{Action}
-use Rattle.trace_model.specs.declared.Action.TheVariants.{Select, Insert, Withdraw, Tear, Place, Manual}
-use Rattle.trace_model.specs.Trace.{TraceSecond}
-use Rattle.log_model.specs.declared.lines.SlotFault.{SlotFault}
-use Rattle.log_model.specs.declared.lines.Verdict.{Verdict}
-use Rattle.log_model.specs.Log.{RunLog, Phase, In, Keeping, cut_in, is_torn_in, found_in, is_accepting}
-use Rattle.log_model.specs.Slots.{Slots, Sitting, in_slot, refusal}
-use Rattle.log_model.specs.Course.{Visit, Course, Before, Moved, visits, with_slot, leaves, answered, unmoved, moved_by, slot_told, both_told, begins, is_settling, acted, all_acted, cut_told, fresh, lit_course, has_power, second_told}
+use Rattle.run_course.specs.activity_codec.declared.values.Slot.{Slot}
+use Rattle.run_course.specs.activity_codec.declared.values.Slot.TheVariants.{Driver, CoDriver}
+use Rattle.run_course.specs.trace_model.declared.Action.{Action}
+use Rattle.run_course.specs.trace_model.declared.Action.TheVariants.{Select, Insert, Withdraw, Tear, Place, Manual}
+use Rattle.run_course.specs.trace_model.Trace.{TraceSecond}
+use Rattle.run_course.specs.log_model.declared.lines.SlotFault.{SlotFault}
+use Rattle.run_course.specs.log_model.declared.lines.Verdict.{Verdict}
+use Rattle.run_course.specs.log_model.Log.{RunLog, Phase, In, Keeping, cut_in, is_torn_in, found_in, is_accepting}
+use Rattle.run_course.specs.log_model.Slots.{Slots, Sitting, in_slot, refusal}
+use Rattle.run_course.specs.log_model.Course.{Visit, Course, Before, Moved, visits, with_slot, leaves, answered, unmoved, moved_by, slot_told, both_told, begins, is_settling, acted, all_acted, cut_told, fresh, lit_course, has_power, second_told}
 
 -- nothing was found yet, or there was a settling
 abbrev IsFine : Course → Type 0

@@ -5,34 +5,34 @@ use Rattle.std.specs.List.{AllByRecursion, list_any}
 use Rattle.std.proofs.lemmas.Bool.Decides.{nat_tests}
 use Rattle.std.proofs.lemmas.List.{append-nil, map-append}
 use Rattle.std.proofs.lemmas.List.Elements.{All-nil, All-cons, All-append, All-weaker, All-contains, All-contains_itself, Contains-append_left, Contains-append_right}
-use Rattle.minute_model.specs.declared.Rule.{Rule}
-use Rattle.minute_model.specs.declared.Minute.{Minute}
-use Rattle.minute_model.specs.Activity.{last}
-use Rattle.minute_model.specs.Span.{AreNumbered}
-use Rattle.minute_model.proofs.Numbered.{numbered-parts}
-use Rattle.minute_model.proofs.Ranges.{last-push}
-use Rattle.log_model.specs.declared.lines.Break.{Break}
-use Rattle.log_model.specs.declared.lines.Break.TheVariants.{Cut, Tear}
-use Rattle.log_model.specs.Log.{RunLog, kept_after, kept_by}
-use Rattle.log_model.specs.Course.{ToldSecond, went}
-use Rattle.log_model.specs.Spans.{spans_of, seconds_in, first_in, end_in, AreApart}
-use Rattle.log_model.proofs.Spanning.{spanned}
-use Rattle.trace_model.specs.Trace.{TraceSecond}
-use Rattle.history_model.specs.Minutes.{HistoryMinute, up_to}
-use Rattle.history_model.specs.Presence.{Start}
-use Rattle.history_model.specs.History.{seated, minutes_after, decided_of, span_minutes, limited_to, limit_by, cut_second, limit_of, any_long, history_by, unit_history}
-use Rattle.history_model.specs.Growth.{closed_limit, closed_history}
-use Rattle.history_model.proofs.Books.{contains-up_to}
-use Rattle.history_model.proofs.Closing.{shorts-none, history-none}
-use Rattle.history_model.proofs.Deciding.{counted, span-ended, apart-until}
-use Rattle.run_unit_course.specs.Lines.{log_of, tells_cut}
-use Rattle.run_unit_course.specs.Followed.{Lit, IsKnown}
-use Rattle.run_unit_course.proofs.Lines.{tells-front}
-use Rattle.run_unit_course.proofs.Alike.{decided-empty}
-use Rattle.run_unit_course.proofs.Spans.{snoc}
+use Rattle.run_course.specs.minute_model.declared.Rule.{Rule}
+use Rattle.run_course.specs.minute_model.declared.Minute.{Minute}
+use Rattle.run_course.specs.minute_model.Activity.{last}
+use Rattle.run_course.specs.minute_model.Span.{AreNumbered}
+use Rattle.run_course.proofs.minute_model.Numbered.{numbered-parts}
+use Rattle.run_course.proofs.minute_model.Ranges.{last-push}
+use Rattle.run_course.specs.log_model.declared.lines.Break.{Break}
+use Rattle.run_course.specs.log_model.declared.lines.Break.TheVariants.{Cut, Tear}
+use Rattle.run_course.specs.log_model.Log.{RunLog, kept_after, kept_by}
+use Rattle.run_course.specs.log_model.Course.{ToldSecond, went}
+use Rattle.run_course.specs.log_model.Spans.{spans_of, seconds_in, first_in, end_in, AreApart}
+use Rattle.run_course.proofs.log_model.Spanning.{spanned}
+use Rattle.run_course.specs.trace_model.Trace.{TraceSecond}
+use Rattle.run_course.specs.history_model.Minutes.{HistoryMinute, up_to}
+use Rattle.run_course.specs.history_model.Presence.{Start}
+use Rattle.run_course.specs.history_model.History.{seated, minutes_after, decided_of, span_minutes, limited_to, limit_by, cut_second, limit_of, any_long, history_by, unit_history}
+use Rattle.run_course.specs.history_model.Growth.{closed_limit, closed_history}
+use Rattle.run_course.proofs.history_model.Books.{contains-up_to}
+use Rattle.run_course.proofs.history_model.Closing.{shorts-none, history-none}
+use Rattle.run_course.proofs.history_model.Deciding.{counted, span-ended, apart-until}
+use Rattle.unit_rule.specs.run_unit_course.Lines.{log_of, tells_cut}
+use Rattle.unit_rule.specs.run_unit_course.Followed.{Lit, IsKnown}
+use Rattle.unit_rule.proofs.run_unit_course.Lines.{tells-front}
+use Rattle.unit_rule.proofs.run_unit_course.Alike.{decided-empty}
+use Rattle.unit_rule.proofs.run_unit_course.Spans.{snoc}
 use Rattle.run_course.specs.Followed.{Progress, BookFollowsRun, IsShut}
 use Rattle.run_course.proofs.Lookups.{kept-by}
-use Rattle.safety_model.specs.Cards.{shows_lost}
+use Rattle.unit_rule.specs.safety_model.Cards.{shows_lost}
 use Rattle.run_promise.specs.Accounts.{IsShownLost}
 
 -- A CUT shows what it lost

@@ -3,20 +3,20 @@ use Rattle.std.proofs.Common.{◌≡◌, ◌⊎◌, inl, inr, ⊎_elim, ℕ, ◌
 use Rattle.std.specs.Prelude.{option_to_list}
 use Rattle.std.proofs.lemmas.Bool.{cases_lt}
 use Rattle.std.proofs.lemmas.List.Elements.{All-append, All-contains, All-contains_itself, All-weaker, Contains-append_left, Contains-append_right}
-use Rattle.activity_codec.specs.declared.entries.Entry.{Entry}
-use Rattle.trace_model.specs.declared.Card.{Card}
+use Rattle.run_course.specs.activity_codec.declared.entries.Entry.{Entry}
+use Rattle.run_course.specs.trace_model.declared.Card.{Card}
 use Rattle.tach_media.specs.Medium.{State}
-use Rattle.card_image.specs.View.{CardView}
-use Rattle.history_model.specs.Minutes.{HistoryMinute, card_history, on_card, up_to}
-use Rattle.history_model.specs.Presence.{CardStart}
-use Rattle.history_model.specs.Book.{Book, all, kept, broken}
-use Rattle.history_model.proofs.Books.{history-append, history-one, on_card-minute, up_to-all, all-none, all-kept}
-use Rattle.history_model.proofs.Filters.{all-front, all-back}
-use Rattle.device_rule.specs.Views.{UnitView, unit_view, owed}
-use Rattle.device_rule.specs.Rules.{Standing, Meets}
-use Rattle.device_rule.specs.Marked.{of_card, HasBrought}
-use Rattle.device_rule.proofs.Pairs.{owed-above}
-use Rattle.device_rule.proofs.Repairing.{repaired-holds}
+use Rattle.unit_rule.specs.card_image.View.{CardView}
+use Rattle.run_course.specs.history_model.Minutes.{HistoryMinute, card_history, on_card, up_to}
+use Rattle.run_course.specs.history_model.Presence.{CardStart}
+use Rattle.run_course.specs.history_model.Book.{Book, all, kept, broken}
+use Rattle.run_course.proofs.history_model.Books.{history-append, history-one, on_card-minute, up_to-all, all-none, all-kept}
+use Rattle.run_course.proofs.history_model.Filters.{all-front, all-back}
+use Rattle.unit_rule.specs.device_rule.Views.{UnitView, unit_view, owed}
+use Rattle.unit_rule.specs.device_rule.Rules.{Standing, Meets}
+use Rattle.unit_rule.specs.device_rule.Marked.{of_card, HasBrought}
+use Rattle.unit_rule.proofs.device_rule.Pairs.{owed-above}
+use Rattle.unit_rule.proofs.device_rule.Repairing.{repaired-holds}
 use Rattle.run_promise.specs.Found.{Found, found_of, unit_seen, AnyKept}
 use Rattle.run_promise.specs.Stays.{AddsLater, IsStep}
 

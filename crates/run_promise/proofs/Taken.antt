@@ -1,12 +1,12 @@
 -- The last-kept minute of a unit is the newest of its book.
 use Rattle.std.proofs.Common.{◌≡◌, ℕ, ◌≤◌, None, List, [], ◌++◌, All, refl, subst, sym}
 use Rattle.tach_media.specs.Medium.{State}
-use Rattle.log_model.specs.declared.lines.Mark.{Mark}
-use Rattle.unit_model.specs.Image.{last_kept}
-use Rattle.history_model.specs.Minutes.{HistoryMinute}
-use Rattle.history_model.specs.Book.{Book, IsMark}
-use Rattle.history_model.proofs.Books.{all-none, mark-more}
-use Rattle.device_rule.specs.Views.{UnitView, unit_view}
+use Rattle.run_course.specs.log_model.declared.lines.Mark.{Mark}
+use Rattle.unit_rule.specs.unit_model.Image.{last_kept}
+use Rattle.run_course.specs.history_model.Minutes.{HistoryMinute}
+use Rattle.run_course.specs.history_model.Book.{Book, IsMark}
+use Rattle.run_course.proofs.history_model.Books.{all-none, mark-more}
+use Rattle.unit_rule.specs.device_rule.Views.{UnitView, unit_view}
 use Rattle.run_promise.specs.Rule.{Started}
 use Rattle.run_promise.specs.Marks.{UnitFollowsBook}
 use Rattle.run_promise.specs.Going.{IsTakenAt}

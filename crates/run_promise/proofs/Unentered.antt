@@ -5,29 +5,29 @@ use Rattle.std.specs.List.{list_any}
 use Rattle.std.proofs.lemmas.Bool.{cases_lt}
 use Rattle.std.proofs.lemmas.Bool.Decides.{nat_tests}
 use Rattle.std.proofs.lemmas.List.Elements.{All-nil, All-cons, All-head, All-tail, All-append, All-filter, Contains-append_left, Contains-append_right, Contains-append_cases, Contains-push, Contains-push_cases}
-use Rattle.activity_codec.specs.declared.entries.Entry.{Entry}
-use Rattle.activity_codec.specs.declared.values.Slot.{Slot}
-use Rattle.activity_codec.specs.declared.values.Slot.TheVariants.{Driver, CoDriver}
-use Rattle.trace_model.specs.declared.Card.{Card}
-use Rattle.trace_model.specs.declared.Card.TheVariants.{A, B}
-use Rattle.trace_model.specs.declared.Action.{Action}
-use Rattle.trace_model.specs.declared.Action.TheVariants.{Select, Insert, Withdraw, Tear, Place, Manual}
-use Rattle.trace_model.specs.Trace.{TraceSecond}
-use Rattle.minute_model.specs.declared.Rule.{Rule}
-use Rattle.minute_model.specs.declared.Minute.{Minute}
-use Rattle.minute_model.specs.Second.{minute_of}
-use Rattle.minute_model.specs.Activity.{last}
-use Rattle.log_model.specs.declared.lines.SlotFault.{SlotFault}
-use Rattle.log_model.specs.declared.lines.Verdict.{Verdict}
-use Rattle.log_model.specs.Log.{RunLog, Phase, In, Keeping, cut_in, is_torn_in, found_in, is_accepting}
-use Rattle.log_model.specs.Slots.{Slots, Sitting, in_slot, same_card, holds, refusal}
-use Rattle.log_model.specs.Course.{ToldSecond, Before, Course, Moved, Visit, Went, visits, leaves, begins, is_settling, with_slot, slot_told, both_told, carried_out, answered, moved_by, acted, all_acted, cut_told, fresh, lit_course, dark_course, unmoved, has_power, second_told, went_on, not_begun, went}
-use Rattle.log_model.specs.Spans.{spans_of}
-use Rattle.history_model.specs.Minutes.{HistoryMinute, is_crew, entry_in, on_card, card_history, up_to}
-use Rattle.history_model.specs.Presence.{Start, present_sitting, present_in, is_present, in_minute}
-use Rattle.history_model.specs.History.{seated, minutes_after, decided_of, limit_of, limited_to, span_minutes, history_by, unit_history}
-use Rattle.history_model.proofs.Books.{history-append, history-one, history-none}
-use Rattle.history_model.proofs.Filters.{all-front, all-back, all-one}
+use Rattle.run_course.specs.activity_codec.declared.entries.Entry.{Entry}
+use Rattle.run_course.specs.activity_codec.declared.values.Slot.{Slot}
+use Rattle.run_course.specs.activity_codec.declared.values.Slot.TheVariants.{Driver, CoDriver}
+use Rattle.run_course.specs.trace_model.declared.Card.{Card}
+use Rattle.run_course.specs.trace_model.declared.Card.TheVariants.{A, B}
+use Rattle.run_course.specs.trace_model.declared.Action.{Action}
+use Rattle.run_course.specs.trace_model.declared.Action.TheVariants.{Select, Insert, Withdraw, Tear, Place, Manual}
+use Rattle.run_course.specs.trace_model.Trace.{TraceSecond}
+use Rattle.run_course.specs.minute_model.declared.Rule.{Rule}
+use Rattle.run_course.specs.minute_model.declared.Minute.{Minute}
+use Rattle.run_course.specs.minute_model.Second.{minute_of}
+use Rattle.run_course.specs.minute_model.Activity.{last}
+use Rattle.run_course.specs.log_model.declared.lines.SlotFault.{SlotFault}
+use Rattle.run_course.specs.log_model.declared.lines.Verdict.{Verdict}
+use Rattle.run_course.specs.log_model.Log.{RunLog, Phase, In, Keeping, cut_in, is_torn_in, found_in, is_accepting}
+use Rattle.run_course.specs.log_model.Slots.{Slots, Sitting, in_slot, same_card, holds, refusal}
+use Rattle.run_course.specs.log_model.Course.{ToldSecond, Before, Course, Moved, Visit, Went, visits, leaves, begins, is_settling, with_slot, slot_told, both_told, carried_out, answered, moved_by, acted, all_acted, cut_told, fresh, lit_course, dark_course, unmoved, has_power, second_told, went_on, not_begun, went}
+use Rattle.run_course.specs.log_model.Spans.{spans_of}
+use Rattle.run_course.specs.history_model.Minutes.{HistoryMinute, is_crew, entry_in, on_card, card_history, up_to}
+use Rattle.run_course.specs.history_model.Presence.{Start, present_sitting, present_in, is_present, in_minute}
+use Rattle.run_course.specs.history_model.History.{seated, minutes_after, decided_of, limit_of, limited_to, span_minutes, history_by, unit_history}
+use Rattle.run_course.proofs.history_model.Books.{history-append, history-one, history-none}
+use Rattle.run_course.proofs.history_model.Filters.{all-front, all-back, all-one}
 
 -- the two cards are one, either way round
 swapped : (c d : Card) → same_card c d ≡ same_card d c

@@ -5,27 +5,27 @@ use Rattle.std.specs.Prelude.{option_to_list}
 use Rattle.std.proofs.lemmas.Bool.Decides.{nat_tests}
 use Rattle.std.proofs.lemmas.List.{append-nil}
 use Rattle.std.proofs.lemmas.List.Elements.{All-nil, All-head, All-tail, All-weaker, filter-append}
-use Rattle.activity_codec.specs.declared.entries.Entry.{Entry}
-use Rattle.activity_codec.specs.declared.entries.Manual.{Manual}
-use Rattle.trace_model.specs.declared.Card.{Card}
+use Rattle.run_course.specs.activity_codec.declared.entries.Entry.{Entry}
+use Rattle.run_course.specs.activity_codec.declared.entries.Manual.{Manual}
+use Rattle.run_course.specs.trace_model.declared.Card.{Card}
 use Rattle.tach_media.specs.Medium.{State, IsCoherent}
-use Rattle.card_retention.specs.Retains.{Rise}
-use Rattle.device_rule.specs.View.{CardView}
-use Rattle.device_rule.specs.Own.{own_view, KeepsFrom, KeepsOf}
-use Rattle.hand_model.specs.Written.{Hands}
-use Rattle.history_model.specs.Minutes.{HistoryMinute, card_history, on_card}
-use Rattle.history_model.specs.Presence.{CardStart}
-use Rattle.history_model.specs.Book.{Book, all, kept, broken, found}
-use Rattle.history_model.proofs.Books.{history-append, history-one, all-none, all-kept, all-found, up_to-all, up_to-one, on_card-minute}
-use Rattle.history_model.proofs.Filters.{filter-none, all-back}
-use Rattle.device_rule.specs.Views.{UnitView, unit_view, row, owed, owed_in, newest_with}
-use Rattle.device_rule.specs.Device.{Seen, LeavesViews, Nothing}
-use Rattle.device_rule.specs.Filling.{KeepsMinute, GivesUpDay}
-use Rattle.device_rule.specs.Steps.{IsKeeping, IsKept, IsUnkept, IsPutting, IsMending, IsBeginning}
-use Rattle.device_rule.specs.Rules.{Standing, Out, In, Torn, since, comes_from, MeetsStanding, Fits, IsPresent, CardDark, CardRule, IsEntered, Had}
-use Rattle.device_rule.specs.Marked.{of_card}
-use Rattle.device_rule.proofs.Owing.{owed-put, owed-beside, owed-mend, owed-new, row-same}
-use Rattle.device_rule.proofs.KeepLaws.{near, owed-grown}
+use Rattle.unit_rule.specs.card_retention.Retains.{Rise}
+use Rattle.unit_rule.specs.device_rule.View.{CardView}
+use Rattle.unit_rule.specs.device_rule.Own.{own_view, KeepsFrom, KeepsOf}
+use Rattle.unit_rule.specs.hand_model.Written.{Hands}
+use Rattle.run_course.specs.history_model.Minutes.{HistoryMinute, card_history, on_card}
+use Rattle.run_course.specs.history_model.Presence.{CardStart}
+use Rattle.run_course.specs.history_model.Book.{Book, all, kept, broken, found}
+use Rattle.run_course.proofs.history_model.Books.{history-append, history-one, all-none, all-kept, all-found, up_to-all, up_to-one, on_card-minute}
+use Rattle.run_course.proofs.history_model.Filters.{filter-none, all-back}
+use Rattle.unit_rule.specs.device_rule.Views.{UnitView, unit_view, row, owed, owed_in, newest_with}
+use Rattle.unit_rule.specs.device_rule.Device.{Seen, LeavesViews, Nothing}
+use Rattle.unit_rule.specs.device_rule.Filling.{KeepsMinute, GivesUpDay}
+use Rattle.unit_rule.specs.device_rule.Steps.{IsKeeping, IsKept, IsUnkept, IsPutting, IsMending, IsBeginning}
+use Rattle.unit_rule.specs.device_rule.Rules.{Standing, Out, In, Torn, since, comes_from, MeetsStanding, Fits, IsPresent, CardDark, CardRule, IsEntered, Had}
+use Rattle.unit_rule.specs.device_rule.Marked.{of_card}
+use Rattle.unit_rule.proofs.device_rule.Owing.{owed-put, owed-beside, owed-mend, owed-new, row-same}
+use Rattle.unit_rule.proofs.device_rule.KeepLaws.{near, owed-grown}
 use Rattle.run_promise.specs.Found.{CardFound, Found, found_of, unit_seen, AnyKept}
 use Rattle.run_promise.specs.Cards.{brought_by, counted_to, StringHolds, StringGoesOn, MayBeBrought, MayKeep, IsStrung}
 use Rattle.run_promise.proofs.Entries.{rise-front, keeps-later}

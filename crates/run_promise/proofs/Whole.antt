@@ -4,36 +4,36 @@ use Rattle.std.proofs.Common.{◌≡◌, ◌⊎◌, ⊎_elim, ℕ, ◌+◌, ◌<
 use Rattle.std.specs.Prelude.{flat_map, map, filter}
 use Rattle.std.proofs.lemmas.List.{append_cancel_left}
 use Rattle.std.proofs.lemmas.List.Elements.{All-contains, filter-append, Contains-append_left, Contains-append_right, Contains-push_cases, Contains-append_cases}
-use Rattle.activity_codec.specs.declared.entries.Entry.{Entry}
-use Rattle.activity_codec.specs.declared.values.Slot.{Slot}
-use Rattle.activity_codec.specs.declared.values.Slot.TheVariants.{Driver, CoDriver}
-use Rattle.activity_codec.specs.Activity.{same_slot}
-use Rattle.trace_model.specs.declared.Card.{Card}
-use Rattle.trace_model.specs.declared.Card.TheVariants.{A, B}
-use Rattle.run_model.specs.declared.Device.TheVariants.{Unit as Recorder}
+use Rattle.run_course.specs.activity_codec.declared.entries.Entry.{Entry}
+use Rattle.run_course.specs.activity_codec.declared.values.Slot.{Slot}
+use Rattle.run_course.specs.activity_codec.declared.values.Slot.TheVariants.{Driver, CoDriver}
+use Rattle.run_course.specs.activity_codec.Activity.{same_slot}
+use Rattle.run_course.specs.trace_model.declared.Card.{Card}
+use Rattle.run_course.specs.trace_model.declared.Card.TheVariants.{A, B}
+use Rattle.run_course.specs.run_model.declared.Device.TheVariants.{Unit as Recorder}
 use Rattle.tach_media.specs.Medium.{IsCoherent}
-use Rattle.unit_model.specs.Image.{recorded, last_kept}
-use Rattle.minute_model.specs.declared.Minute.{Minute}
-use Rattle.log_model.specs.declared.lines.Break.{Break}
-use Rattle.log_model.specs.declared.lines.Mark.{Mark}
-use Rattle.log_model.specs.Log.{Phase}
-use Rattle.log_model.specs.Course.{ToldSecond, Visit}
-use Rattle.log_model.specs.Spans.{spans_of, AreInOrder}
-use Rattle.log_model.specs.Slots.{same_card}
-use Rattle.log_model.specs.Causes.{device_of, cuts, tears, places, visit_places, in_the_slot, torn_of, cards_torn}
-use Rattle.history_model.specs.Minutes.{HistoryMinute, card_history, on_card}
-use Rattle.history_model.specs.Presence.{CardStart}
-use Rattle.history_model.specs.History.{settlings_of, decided_of}
-use Rattle.history_model.specs.Completeness.{deciding_of, IsMarked}
-use Rattle.history_model.proofs.Books.{history-append, history-one, history-none, on_card-minute}
-use Rattle.card_image.specs.Own.{own_view, own_number, IsOwnValid}
-use Rattle.device_rule.specs.Views.{owed}
-use Rattle.history_model.proofs.Decided.{unit-decided}
-use Rattle.safety_model.specs.Recording.{Recording, card_image, told_of, brought, start_of, history_of, unit_seen}
-use Rattle.safety_model.specs.Unit.{marks_of}
-use Rattle.safety_model.specs.Cards.{CardShows, IsRepaired, acceptances}
-use Rattle.safety_model.specs.Safe.{Devices, card_of, IsSafe, IsCaused}
-use Rattle.safety_model.proofs.Whole.{mark-of, no-failure, in-history, unit-whole}
+use Rattle.unit_rule.specs.unit_model.Image.{recorded, last_kept}
+use Rattle.run_course.specs.minute_model.declared.Minute.{Minute}
+use Rattle.run_course.specs.log_model.declared.lines.Break.{Break}
+use Rattle.run_course.specs.log_model.declared.lines.Mark.{Mark}
+use Rattle.run_course.specs.log_model.Log.{Phase}
+use Rattle.run_course.specs.log_model.Course.{ToldSecond, Visit}
+use Rattle.run_course.specs.log_model.Spans.{spans_of, AreInOrder}
+use Rattle.run_course.specs.log_model.Slots.{same_card}
+use Rattle.run_course.specs.log_model.Causes.{device_of, cuts, tears, places, visit_places, in_the_slot, torn_of, cards_torn}
+use Rattle.run_course.specs.history_model.Minutes.{HistoryMinute, card_history, on_card}
+use Rattle.run_course.specs.history_model.Presence.{CardStart}
+use Rattle.run_course.specs.history_model.History.{settlings_of, decided_of}
+use Rattle.run_course.specs.history_model.Completeness.{deciding_of, IsMarked}
+use Rattle.run_course.proofs.history_model.Books.{history-append, history-one, history-none, on_card-minute}
+use Rattle.unit_rule.specs.card_image.Own.{own_view, own_number, IsOwnValid}
+use Rattle.unit_rule.specs.device_rule.Views.{owed}
+use Rattle.run_course.proofs.history_model.Decided.{unit-decided}
+use Rattle.unit_rule.specs.safety_model.Recording.{Recording, card_image, told_of, brought, start_of, history_of, unit_seen}
+use Rattle.unit_rule.specs.safety_model.Unit.{marks_of}
+use Rattle.unit_rule.specs.safety_model.Cards.{CardShows, IsRepaired, acceptances}
+use Rattle.unit_rule.specs.safety_model.Safe.{Devices, card_of, IsSafe, IsCaused}
+use Rattle.unit_rule.proofs.safety_model.Whole.{mark-of, no-failure, in-history, unit-whole}
 use Rattle.run_promise.proofs.CardEnd.{started}
 use Rattle.run_promise.proofs.Entries.{all-by}
 use Rattle.run_promise.proofs.Behind.{owed-until}

@@ -2,13 +2,13 @@
 -- at that time.
 use Rattle.std.specs.Prelude.{◌≡◌, ℕ, ◌≤◌, true, List, All, Contains}
 use Rattle.std.specs.List.{list_any}
-use Rattle.trace_model.specs.declared.Card.{Card}
-use Rattle.trace_model.specs.Trace.{TraceSecond}
-use Rattle.log_model.specs.Log.{RunLog}
-use Rattle.history_model.specs.Minutes.{HistoryMinute}
-use Rattle.history_model.specs.Book.{Book, IsMark}
-use Rattle.safety_model.specs.Recording.{Recording, history_of}
-use Rattle.safety_model.specs.Cards.{shows_lost, acceptances, was_kept}
+use Rattle.run_course.specs.trace_model.declared.Card.{Card}
+use Rattle.run_course.specs.trace_model.Trace.{TraceSecond}
+use Rattle.run_course.specs.log_model.Log.{RunLog}
+use Rattle.run_course.specs.history_model.Minutes.{HistoryMinute}
+use Rattle.run_course.specs.history_model.Book.{Book, IsMark}
+use Rattle.unit_rule.specs.safety_model.Recording.{Recording, history_of}
+use Rattle.unit_rule.specs.safety_model.Cards.{shows_lost, acceptances, was_kept}
 
 -- the run so far: these seconds of it, and what its log tells so far
 abbrev pub so_far : Recording → List TraceSecond → RunLog → Recording

@@ -2,20 +2,20 @@
 use Rattle.std.specs.Prelude.{◌≡◌, ◌⊎◌, false, ℕ, ◌+◌, ◌-◌, ◌%◌, ◌<◌, ◌≤◌, ◌&&◌, List, [], ◌∷◌, ◌++◌, Contains, length}
 use Rattle.std.specs.Prelude.{map, filter}
 use Rattle.std.specs.List.{AllByRecursion}
-use Rattle.trace_model.specs.declared.Card.{Card}
-use Rattle.trace_model.specs.declared.Action.{Action}
-use Rattle.trace_model.specs.Trace.{TraceSecond, driven, dark}
-use Rattle.log_model.specs.declared.lines.Mark.{Mark}
-use Rattle.log_model.specs.declared.lines.Refused.{Refused}
-use Rattle.log_model.specs.declared.lines.Verdict.{Verdict}
-use Rattle.log_model.specs.Log.{RunLog}
-use Rattle.log_model.specs.Slots.{same_card}
-use Rattle.log_model.specs.Course.{ToldSecond, Visit, went}
-use Rattle.run_unit_course.specs.Lines.{cut_at, found_from}
-use Rattle.run_unit_course.specs.Followed.{Lit, Lost}
-use Rattle.safety_model.specs.Recording.{Recording}
-use Rattle.safety_model.specs.Cards.{is_overlap, entered, overlaps}
-use Rattle.safety_model.specs.Safe.{Devices, card_of, IsVerdict}
+use Rattle.run_course.specs.trace_model.declared.Card.{Card}
+use Rattle.run_course.specs.trace_model.declared.Action.{Action}
+use Rattle.run_course.specs.trace_model.Trace.{TraceSecond, driven, dark}
+use Rattle.run_course.specs.log_model.declared.lines.Mark.{Mark}
+use Rattle.run_course.specs.log_model.declared.lines.Refused.{Refused}
+use Rattle.run_course.specs.log_model.declared.lines.Verdict.{Verdict}
+use Rattle.run_course.specs.log_model.Log.{RunLog}
+use Rattle.run_course.specs.log_model.Slots.{same_card}
+use Rattle.run_course.specs.log_model.Course.{ToldSecond, Visit, went}
+use Rattle.unit_rule.specs.run_unit_course.Lines.{cut_at, found_from}
+use Rattle.unit_rule.specs.run_unit_course.Followed.{Lit, Lost}
+use Rattle.unit_rule.specs.safety_model.Recording.{Recording}
+use Rattle.unit_rule.specs.safety_model.Cards.{is_overlap, entered, overlaps}
+use Rattle.unit_rule.specs.safety_model.Safe.{Devices, card_of, IsVerdict}
 use Rattle.run_promise.specs.Found.{found_of}
 use Rattle.run_promise.specs.Cards.{IsUntouched}
 use Rattle.run_course.specs.Moments.{and_break}

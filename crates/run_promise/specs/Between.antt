@@ -1,16 +1,16 @@
 -- Between two steps of a run, over devices that tell their images: the unit, the cards and what they have acknowledged,
 -- as the book says (profile).
 use Rattle.std.specs.Prelude.{◌≡◌, ℕ, ◌/◌, ◌<◌, ◌≤◌, true, false, Option, None, List, ◌++◌, All, Contains, is_some}
-use Rattle.trace_model.specs.declared.Card.{Card}
+use Rattle.run_course.specs.trace_model.declared.Card.{Card}
 use Rattle.tach_media.specs.Medium.{State}
-use Rattle.log_model.specs.declared.lines.Mark.{Mark}
-use Rattle.unit_model.specs.Image.{last_kept}
-use Rattle.card_model.specs.Days.{AreDays}
-use Rattle.device_rule.specs.Fields.{card_days}
-use Rattle.device_rule.specs.Own.{own_number, own_sizes, IsOwnValid}
-use Rattle.history_model.specs.Minutes.{HistoryMinute, card_history}
-use Rattle.history_model.specs.Book.{Book, Follows}
-use Rattle.device_rule.specs.Rules.{Standing}
+use Rattle.run_course.specs.log_model.declared.lines.Mark.{Mark}
+use Rattle.unit_rule.specs.unit_model.Image.{last_kept}
+use Rattle.unit_rule.specs.card_model.Days.{AreDays}
+use Rattle.unit_rule.specs.device_rule.Fields.{card_days}
+use Rattle.unit_rule.specs.device_rule.Own.{own_number, own_sizes, IsOwnValid}
+use Rattle.run_course.specs.history_model.Minutes.{HistoryMinute, card_history}
+use Rattle.run_course.specs.history_model.Book.{Book, Follows}
+use Rattle.unit_rule.specs.device_rule.Rules.{Standing}
 use Rattle.unit_rule.specs.Recording.{Recording, card_image, brought, history_of, lost_of}
 use Rattle.unit_rule.specs.Cards.{acceptances, was_kept, MayNotWrite}
 use Rattle.unit_rule.specs.Safe.{Devices, card_of}
@@ -18,10 +18,10 @@ use Rattle.unit_rule.specs.Rule.{started, once_mended}
 use Rattle.unit_rule.specs.Marks.{UnitFollowsBook}
 use Rattle.unit_rule.specs.OtherRows.{valid_number}
 use Rattle.run_promise.specs.Found.{Found, found_of, registration_of}
-use Rattle.activity_codec.specs.declared.entries.Manual.{Manual}
-use Rattle.hand_model.specs.Written.{Hands, IsPartOf}
-use Rattle.safety_model.specs.Hands.{Session, of_session, done, hands_done}
-use Rattle.safety_model.specs.ByHand.{IsFirstMark}
+use Rattle.run_course.specs.activity_codec.declared.entries.Manual.{Manual}
+use Rattle.unit_rule.specs.hand_model.Written.{Hands, IsPartOf}
+use Rattle.unit_rule.specs.safety_model.Hands.{Session, of_session, done, hands_done}
+use Rattle.unit_rule.specs.safety_model.ByHand.{IsFirstMark}
 use Rattle.run_promise.specs.Cards.{FirstKeep, HandMarksHold, CardStands, CardWaits, CardMarksHold, IsUntouched}
 
 -- what is carried from step to step: from where on a minute may come, the book, the marks, how each card stands, and

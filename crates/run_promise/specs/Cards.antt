@@ -1,24 +1,24 @@
 -- How a card of a run stands between two steps (profile).
 use Rattle.std.specs.Prelude.{◌≡◌, ℕ, ◌/◌, ◌<◌, ◌≤◌, Option, Some, None, List, [], ◌∷◌, ◌++◌, All, Contains, filter}
 use Rattle.std.specs.Prelude.{nat_le, option_to_list}
-use Rattle.activity_codec.specs.declared.entries.Entry.{Entry}
-use Rattle.activity_codec.specs.declared.entries.Manual.{Manual}
-use Rattle.trace_model.specs.declared.Card.{Card}
+use Rattle.run_course.specs.activity_codec.declared.entries.Entry.{Entry}
+use Rattle.run_course.specs.activity_codec.declared.entries.Manual.{Manual}
+use Rattle.run_course.specs.trace_model.declared.Card.{Card}
 use Rattle.tach_media.specs.Medium.{State}
-use Rattle.log_model.specs.declared.lines.Mark.{Mark}
-use Rattle.log_model.specs.Causes.{device_of}
-use Rattle.card_retention.specs.Retains.{Rise}
-use Rattle.device_rule.specs.Own.{own_view, own_sizes, own_number, IsOwnValid, KeepsFrom, KeepsOf}
-use Rattle.hand_model.specs.AtStart.{all_at, hands_at, HasDayOf, StaysTold}
-use Rattle.hand_model.specs.ByHand.{by_hand_in}
-use Rattle.hand_model.specs.Holding.{AreOfDay}
-use Rattle.hand_model.specs.Written.{Hands, IsPartOf}
-use Rattle.history_model.specs.Minutes.{HistoryMinute, card_history, on_card}
-use Rattle.history_model.specs.Presence.{CardStart}
-use Rattle.history_model.specs.Book.{Book, all}
-use Rattle.device_rule.specs.Views.{unit_view, owed}
-use Rattle.device_rule.specs.Rules.{Standing, comes_from, Fits, CardDark, CardRule}
-use Rattle.device_rule.specs.Marked.{of_card, HasMarked, HasBrought, IsBefore}
+use Rattle.run_course.specs.log_model.declared.lines.Mark.{Mark}
+use Rattle.run_course.specs.log_model.Causes.{device_of}
+use Rattle.unit_rule.specs.card_retention.Retains.{Rise}
+use Rattle.unit_rule.specs.device_rule.Own.{own_view, own_sizes, own_number, IsOwnValid, KeepsFrom, KeepsOf}
+use Rattle.unit_rule.specs.hand_model.AtStart.{all_at, hands_at, HasDayOf, StaysTold}
+use Rattle.unit_rule.specs.hand_model.ByHand.{by_hand_in}
+use Rattle.unit_rule.specs.hand_model.Holding.{AreOfDay}
+use Rattle.unit_rule.specs.hand_model.Written.{Hands, IsPartOf}
+use Rattle.run_course.specs.history_model.Minutes.{HistoryMinute, card_history, on_card}
+use Rattle.run_course.specs.history_model.Presence.{CardStart}
+use Rattle.run_course.specs.history_model.Book.{Book, all}
+use Rattle.unit_rule.specs.device_rule.Views.{unit_view, owed}
+use Rattle.unit_rule.specs.device_rule.Rules.{Standing, comes_from, Fits, CardDark, CardRule}
+use Rattle.unit_rule.specs.device_rule.Marked.{of_card, HasMarked, HasBrought, IsBefore}
 use Rattle.unit_rule.specs.Cards.{IsPromptOn, HasStood}
 use Rattle.unit_rule.specs.Unit.{marks_of, Increase}
 use Rattle.run_promise.specs.Found.{CardFound, Found, found_of, unit_seen, AnyKept}

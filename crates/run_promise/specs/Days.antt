@@ -1,19 +1,19 @@
 -- The words and the odometers of a unit's days, at the end of a run (profile).
 use Rattle.std.specs.Prelude.{◌≡◌, ℕ, ◌+◌, ◌/◌, ◌≤◌, min, List, [], ◌∷◌, ◌++◌, All, Contains}
 use Rattle.std.specs.List.{AllByRecursion}
-use Rattle.minute_model.specs.declared.Minute.{Minute}
-use Rattle.log_model.specs.Course.{ToldSecond}
-use Rattle.log_model.specs.Spans.{spans_of}
-use Rattle.history_model.specs.Minutes.{HistoryMinute}
-use Rattle.history_model.specs.History.{decided_of}
-use Rattle.history_model.specs.Growth.{closed_limit}
-use Rattle.unit_model.specs.declared.layout.TheConstants.{HIGHEST_ODOMETER}
-use Rattle.unit_model.specs.Image.{last_kept, odometer_at}
-use Rattle.unit_minutes.specs.DayOdometers.{RecordsDay}
+use Rattle.run_course.specs.minute_model.declared.Minute.{Minute}
+use Rattle.run_course.specs.log_model.Course.{ToldSecond}
+use Rattle.run_course.specs.log_model.Spans.{spans_of}
+use Rattle.run_course.specs.history_model.Minutes.{HistoryMinute}
+use Rattle.run_course.specs.history_model.History.{decided_of}
+use Rattle.run_course.specs.history_model.Growth.{closed_limit}
+use Rattle.unit_rule.specs.unit_model.declared.layout.TheConstants.{HIGHEST_ODOMETER}
+use Rattle.unit_rule.specs.unit_model.Image.{last_kept, odometer_at}
+use Rattle.unit_rule.specs.unit_minutes.DayOdometers.{RecordsDay}
 use Rattle.unit_rule.specs.Written.{ShowsWritten}
-use Rattle.run_unit_course.specs.Followed.{IsKnown}
-use Rattle.run_unit_course.specs.Legs.{kilometres_of, AreLegs}
-use Rattle.safety_model.specs.Recording.{Recording, told_of, history_of, lost_of, IsPassed}
+use Rattle.unit_rule.specs.run_unit_course.Followed.{IsKnown}
+use Rattle.unit_rule.specs.run_unit_course.Legs.{kilometres_of, AreLegs}
+use Rattle.unit_rule.specs.safety_model.Recording.{Recording, told_of, history_of, lost_of, IsPassed}
 
 -- THE DAYS OF AN IMAGE HAVE THE WORDS OF THE START AND THOSE OF THESE MINUTES, each of its new words and no other: some
 -- of the history from its front, or those of a history with a lost minute.

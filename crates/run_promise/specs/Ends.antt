@@ -1,30 +1,31 @@
 -- What is carried beside the rules of unit and cards from second to second, and what a run promises at its end
 -- (profile).
 use Rattle.std.specs.Prelude.{◌≡◌, ◌⊎◌, ℕ, zero, suc, ◌<◌, true, List, [], ◌∷◌, All, Contains, filter, length}
-use Rattle.activity_codec.specs.declared.entries.Entry.{Entry}
-use Rattle.trace_model.specs.declared.Card.{Card}
-use Rattle.trace_model.specs.Trace.{TraceSecond}
-use Rattle.log_model.specs.declared.lines.Break.{Break}
-use Rattle.log_model.specs.declared.lines.Mark.{Mark}
-use Rattle.log_model.specs.declared.lines.Verdict.{Verdict}
-use Rattle.log_model.specs.declared.lines.Verdict.TheVariants.{Accepted, NotValid, TimeOverlap}
-use Rattle.log_model.specs.Causes.{device_of, cuts, cards_torn}
-use Rattle.log_model.specs.Log.{RunLog}
-use Rattle.log_model.specs.Slots.{same_card}
-use Rattle.log_model.specs.Course.{ToldSecond, Visit}
-use Rattle.history_model.specs.Completeness.{IsMarked}
-use Rattle.unit_model.specs.Image.{odometer_at}
-use Rattle.unit_minutes.specs.DayOdometers.{RecordsDay}
-use Rattle.run_unit_course.specs.Legs.{Travel}
+use Rattle.run_course.specs.activity_codec.declared.entries.Entry.{Entry}
+use Rattle.run_course.specs.trace_model.declared.Card.{Card}
+use Rattle.run_course.specs.trace_model.Trace.{TraceSecond}
+use Rattle.run_course.specs.log_model.declared.lines.Break.{Break}
+use Rattle.run_course.specs.log_model.declared.lines.Mark.{Mark}
+use Rattle.run_course.specs.log_model.declared.lines.Verdict.{Verdict}
+use Rattle.run_course.specs.log_model.declared.lines.Verdict.TheVariants.{Accepted, NotValid, TimeOverlap}
+use Rattle.run_course.specs.log_model.Causes.{device_of, cuts, cards_torn}
+use Rattle.run_course.specs.log_model.Log.{RunLog}
+use Rattle.run_course.specs.log_model.Slots.{same_card}
+use Rattle.run_course.specs.log_model.Course.{ToldSecond, Visit}
+use Rattle.run_course.specs.history_model.Completeness.{IsMarked}
+use Rattle.unit_rule.specs.unit_model.Image.{odometer_at}
+use Rattle.unit_rule.specs.unit_minutes.DayOdometers.{RecordsDay}
+use Rattle.unit_rule.specs.run_unit_course.Legs.{Travel}
 use Rattle.unit_rule.specs.Odometer.{OdometerSafe, HasTravelled}
-use Rattle.card_image.specs.Own.{IsOwnValid}
-use Rattle.safety_model.specs.Recording.{Recording, card_image, told_of, brought}
-use Rattle.safety_model.specs.Cards.{entered, overlaps}
-use Rattle.safety_model.specs.Safe.{Devices, card_of, breakdowns_of, entered_by, WasFound, IsUnfound, IsVerdict, IsSafe}
-use Rattle.safety_model.specs.Safe.{IsCaused}
-use Rattle.safety_model.specs.ByHand.{StopsHands}
-use Rattle.safety_model.specs.Stops.{TellsEachStop}
-use Rattle.log_model.specs.declared.lines.Refused.{Refused}
+use Rattle.unit_rule.specs.card_image.Own.{IsOwnValid}
+use Rattle.unit_rule.specs.safety_model.Recording.{Recording, card_image, told_of, brought}
+use Rattle.unit_rule.specs.safety_model.Cards.{entered, overlaps}
+use Rattle.unit_rule.specs.safety_model.Safe.{Devices, card_of, breakdowns_of, entered_by, WasFound, IsUnfound}
+use Rattle.unit_rule.specs.safety_model.Safe.{IsVerdict, IsSafe}
+use Rattle.unit_rule.specs.safety_model.Safe.{IsCaused}
+use Rattle.unit_rule.specs.safety_model.ByHand.{StopsHands}
+use Rattle.unit_rule.specs.safety_model.Stops.{TellsEachStop}
+use Rattle.run_course.specs.log_model.declared.lines.Refused.{Refused}
 use Rattle.run_promise.specs.Found.{found_of}
 use Rattle.run_promise.specs.Cards.{IsUntouched}
 use Rattle.run_promise.specs.Between.{RunLedger, HandsFollowed}

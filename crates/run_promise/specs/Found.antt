@@ -1,16 +1,16 @@
 -- What the opening of a run found of its devices (profile).
 use Rattle.std.specs.Prelude.{ℕ, List}
-use Rattle.activity_codec.specs.declared.entries.Entry.{Entry}
-use Rattle.trace_model.specs.declared.Card.{Card}
-use Rattle.trace_model.specs.declared.Card.TheVariants.{A, B}
+use Rattle.run_course.specs.activity_codec.declared.entries.Entry.{Entry}
+use Rattle.run_course.specs.trace_model.declared.Card.{Card}
+use Rattle.run_course.specs.trace_model.declared.Card.TheVariants.{A, B}
 use Rattle.tach_media.specs.Medium.{State, bytes_at}
-use Rattle.tacho_types.specs.declared.texts.Registration.{Registration}
-use Rattle.unit_model.specs.declared.layout.TheConstants.{REGISTRATION}
-use Rattle.history_model.specs.Presence.{CardStart}
-use Rattle.device_rule.specs.View.{Held}
-use Rattle.device_rule.specs.Views.{UnitView}
-use Rattle.device_rule.specs.Device.{Seen}
-use Rattle.device_rule.specs.Marked.{of_unit}
+use Rattle.unit_rule.specs.tacho_types.declared.texts.Registration.{Registration}
+use Rattle.unit_rule.specs.unit_model.declared.layout.TheConstants.{REGISTRATION}
+use Rattle.run_course.specs.history_model.Presence.{CardStart}
+use Rattle.unit_rule.specs.device_rule.View.{Held}
+use Rattle.unit_rule.specs.device_rule.Views.{UnitView}
+use Rattle.unit_rule.specs.device_rule.Device.{Seen}
+use Rattle.unit_rule.specs.device_rule.Marked.{of_unit}
 use Rattle.unit_rule.specs.Rule.{Started}
 
 -- the registration of the unit's vehicle, by the unit's image

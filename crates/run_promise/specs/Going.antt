@@ -2,26 +2,26 @@
 use Rattle.std.specs.Prelude.{◌≡◌, ◌⊎◌, ℕ, suc, ◌+◌, ◌-◌, ◌%◌, ◌/◌, ◌<◌, ◌≤◌, true, false, ◌&&◌, Option, None, List, []}
 use Rattle.std.specs.Prelude.{◌∷◌, ◌++◌, All, Contains, length, drop, map, filter}
 use Rattle.std.specs.List.{AllByRecursion}
-use Rattle.trace_model.specs.declared.Card.{Card}
-use Rattle.trace_model.specs.declared.Action.{Action}
-use Rattle.trace_model.specs.Trace.{TraceSecond, driven, dark}
-use Rattle.minute_model.specs.Span.{ungiven_of}
-use Rattle.log_model.specs.declared.lines.Break.{Break}
-use Rattle.log_model.specs.declared.lines.Refused.{Refused}
-use Rattle.log_model.specs.Log.{RunLog, cut_in, is_accepting}
-use Rattle.log_model.specs.Slots.{same_card}
-use Rattle.log_model.specs.Causes.{is_cut, second_of}
-use Rattle.log_model.specs.Course.{ToldSecond}
-use Rattle.history_model.specs.Minutes.{HistoryMinute}
-use Rattle.history_model.specs.Book.{Book, all, found, IsMark}
-use Rattle.run_unit_course.specs.Lines.{cut_at, found_from}
-use Rattle.run_unit_course.specs.Followed.{Lit, Due, Lost, MayPower, MayFail, IsDark}
-use Rattle.run_unit_course.specs.Turn.{span_at}
+use Rattle.run_course.specs.trace_model.declared.Card.{Card}
+use Rattle.run_course.specs.trace_model.declared.Action.{Action}
+use Rattle.run_course.specs.trace_model.Trace.{TraceSecond, driven, dark}
+use Rattle.run_course.specs.minute_model.Span.{ungiven_of}
+use Rattle.run_course.specs.log_model.declared.lines.Break.{Break}
+use Rattle.run_course.specs.log_model.declared.lines.Refused.{Refused}
+use Rattle.run_course.specs.log_model.Log.{RunLog, cut_in, is_accepting}
+use Rattle.run_course.specs.log_model.Slots.{same_card}
+use Rattle.run_course.specs.log_model.Causes.{is_cut, second_of}
+use Rattle.run_course.specs.log_model.Course.{ToldSecond}
+use Rattle.run_course.specs.history_model.Minutes.{HistoryMinute}
+use Rattle.run_course.specs.history_model.Book.{Book, all, found, IsMark}
+use Rattle.unit_rule.specs.run_unit_course.Lines.{cut_at, found_from}
+use Rattle.unit_rule.specs.run_unit_course.Followed.{Lit, Due, Lost, MayPower, MayFail, IsDark}
+use Rattle.unit_rule.specs.run_unit_course.Turn.{span_at}
 use Rattle.run_course.specs.Moments.{and_break}
 use Rattle.run_course.specs.Followed.{Progress, BookFollowsRun}
 use Rattle.run_course.specs.Seconds.{GoesOnBy, next_told, DecidedBy, kept_all, broken_at}
-use Rattle.safety_model.specs.Recording.{Recording, start_of}
-use Rattle.safety_model.specs.Cards.{acceptances}
+use Rattle.unit_rule.specs.safety_model.Recording.{Recording, start_of}
+use Rattle.unit_rule.specs.safety_model.Cards.{acceptances}
 use Rattle.run_promise.specs.Accounts.{so_far, IsAccount, HasAccounts}
 
 -- the acceptances of a card in a second

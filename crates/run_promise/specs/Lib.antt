@@ -13,3 +13,4 @@ pub mod Beside
 pub mod Whole
 pub use Rattle.unit_rule.specs.Marks
 pub use Rattle.unit_rule.specs.Rule
+pub use Rattle.run_course.specs as run_course

@@ -1,17 +1,17 @@
 -- How a run begins (profile): devices that have one image each, and what the opening finds of it.
 use Rattle.std.specs.Prelude.{◌≡◌, ℕ, Some, [], List}
-use Rattle.trace_model.specs.declared.Card.{Card}
+use Rattle.run_course.specs.trace_model.declared.Card.{Card}
 use Rattle.tach_media.specs.Medium.{State}
-use Rattle.card_model.specs.Days.{AreDays}
-use Rattle.device_rule.specs.Fields.{card_days}
-use Rattle.device_rule.specs.Own.{own_view, own_sizes}
-use Rattle.history_model.specs.Presence.{CardStart}
-use Rattle.history_model.specs.Book.{not_begun}
-use Rattle.device_rule.specs.Views.{UnitView, unit_view, owed, beyond}
-use Rattle.device_rule.specs.Rules.{Out}
+use Rattle.unit_rule.specs.card_model.Days.{AreDays}
+use Rattle.unit_rule.specs.device_rule.Fields.{card_days}
+use Rattle.unit_rule.specs.device_rule.Own.{own_view, own_sizes}
+use Rattle.run_course.specs.history_model.Presence.{CardStart}
+use Rattle.run_course.specs.history_model.Book.{not_begun}
+use Rattle.unit_rule.specs.device_rule.Views.{UnitView, unit_view, owed, beyond}
+use Rattle.unit_rule.specs.device_rule.Rules.{Out}
 use Rattle.run_promise.specs.Found.{Found, found_of}
 use Rattle.run_promise.specs.Between.{RunLedger}
-use Rattle.hand_model.specs.Written.{no_hands}
+use Rattle.unit_rule.specs.hand_model.Written.{no_hands}
 
 -- a device begins with this image alone: a read gives it, and since then a stop leaves no other
 pub record BeginsAs (x : List ℕ) (device : State) : Type 0 where

@@ -1,20 +1,20 @@
 -- What a run began with, and what its seconds so far have recorded, devices apart (profile).
 use Rattle.std.specs.Prelude.{◌≡◌, ℕ, [], List}
-use Rattle.trace_model.specs.declared.Card.{Card}
-use Rattle.trace_model.specs.Trace.{TraceSecond}
-use Rattle.run_model.specs.declared.Device.{Device}
-use Rattle.minute_model.specs.declared.Rule.{Rule}
-use Rattle.log_model.specs.declared.lines.Mark.{Mark}
-use Rattle.log_model.specs.Course.{went}
-use Rattle.history_model.specs.Presence.{Start}
-use Rattle.history_model.specs.Completeness.{IsComplete}
-use Rattle.unit_model.specs.Image.{last_kept}
-use Rattle.run_unit_course.specs.Legs.{Travel}
+use Rattle.run_course.specs.trace_model.declared.Card.{Card}
+use Rattle.run_course.specs.trace_model.Trace.{TraceSecond}
+use Rattle.run_course.specs.run_model.declared.Device.{Device}
+use Rattle.run_course.specs.minute_model.declared.Rule.{Rule}
+use Rattle.run_course.specs.log_model.declared.lines.Mark.{Mark}
+use Rattle.run_course.specs.log_model.Course.{went}
+use Rattle.run_course.specs.history_model.Presence.{Start}
+use Rattle.run_course.specs.history_model.Completeness.{IsComplete}
+use Rattle.unit_rule.specs.unit_model.Image.{last_kept}
+use Rattle.unit_rule.specs.run_unit_course.Legs.{Travel}
 use Rattle.run_course.specs.Followed.{Progress, BookFollowsRun}
 use Rattle.run_course.specs.Caused.{WellCaused}
 use Rattle.run_course.specs.Travelled.{HasLegs}
-use Rattle.card_image.specs.Own.{IsOwnValid}
-use Rattle.safety_model.specs.Recording.{Recording, card_image, start_of}
+use Rattle.unit_rule.specs.card_image.Own.{IsOwnValid}
+use Rattle.unit_rule.specs.safety_model.Recording.{Recording, card_image, start_of}
 use Rattle.run_promise.specs.Found.{Found}
 use Rattle.run_promise.specs.Going.{AreAccounted}
 

@@ -1,26 +1,26 @@
 -- What is recorded, over each kind of second of a run (profile).
 use Rattle.std.specs.Prelude.{◌≡◌, ◌⊎◌, ℕ, suc, ◌+◌, ◌-◌, ◌%◌, ◌/◌, ◌<◌, ◌≤◌, true, false, Option, List, [], ◌∷◌, ◌++◌}
 use Rattle.std.specs.Prelude.{Contains, length, map, option_map, option_to_list}
-use Rattle.trace_model.specs.declared.Card.{Card}
-use Rattle.trace_model.specs.declared.Action.{Action}
-use Rattle.trace_model.specs.Trace.{TraceSecond, driven, dark}
-use Rattle.run_model.specs.declared.Device.{Device}
-use Rattle.run_model.specs.declared.Device.TheVariants.{Unit as Recorder}
-use Rattle.minute_model.specs.declared.Minute.{Minute}
-use Rattle.log_model.specs.declared.lines.Mark.{Mark}
-use Rattle.log_model.specs.declared.lines.Refused.{Refused}
-use Rattle.log_model.specs.Log.{RunLog, Phase, Keeping}
-use Rattle.log_model.specs.Causes.{refusals_at, refusal_told, RoseBy}
-use Rattle.log_model.specs.Course.{ToldSecond, Visit, went, without_power}
-use Rattle.history_model.specs.Minutes.{HistoryMinute}
-use Rattle.history_model.specs.History.{seated, minutes_after, decided_of}
-use Rattle.history_model.specs.Book.{Book, found, not_begun}
-use Rattle.run_unit_course.specs.Lines.{cut_at, found_from}
-use Rattle.run_unit_course.specs.Followed.{Lit, Due, Lost, MayPower, MayFail, IsDark}
-use Rattle.run_unit_course.specs.Legs.{Travel, not_travelled, stranded_at, resumed, all_travelled}
-use Rattle.run_unit_course.specs.Travelled.{MayShow}
-use Rattle.card_image.specs.Own.{IsOwnValid}
-use Rattle.safety_model.specs.Recording.{card_image}
+use Rattle.run_course.specs.trace_model.declared.Card.{Card}
+use Rattle.run_course.specs.trace_model.declared.Action.{Action}
+use Rattle.run_course.specs.trace_model.Trace.{TraceSecond, driven, dark}
+use Rattle.run_course.specs.run_model.declared.Device.{Device}
+use Rattle.run_course.specs.run_model.declared.Device.TheVariants.{Unit as Recorder}
+use Rattle.run_course.specs.minute_model.declared.Minute.{Minute}
+use Rattle.run_course.specs.log_model.declared.lines.Mark.{Mark}
+use Rattle.run_course.specs.log_model.declared.lines.Refused.{Refused}
+use Rattle.run_course.specs.log_model.Log.{RunLog, Phase, Keeping}
+use Rattle.run_course.specs.log_model.Causes.{refusals_at, refusal_told, RoseBy}
+use Rattle.run_course.specs.log_model.Course.{ToldSecond, Visit, went, without_power}
+use Rattle.run_course.specs.history_model.Minutes.{HistoryMinute}
+use Rattle.run_course.specs.history_model.History.{seated, minutes_after, decided_of}
+use Rattle.run_course.specs.history_model.Book.{Book, found, not_begun}
+use Rattle.unit_rule.specs.run_unit_course.Lines.{cut_at, found_from}
+use Rattle.unit_rule.specs.run_unit_course.Followed.{Lit, Due, Lost, MayPower, MayFail, IsDark}
+use Rattle.unit_rule.specs.run_unit_course.Legs.{Travel, not_travelled, stranded_at, resumed, all_travelled}
+use Rattle.unit_rule.specs.run_unit_course.Travelled.{MayShow}
+use Rattle.unit_rule.specs.card_image.Own.{IsOwnValid}
+use Rattle.unit_rule.specs.safety_model.Recording.{card_image}
 use Rattle.run_course.specs.Moments.{and_break}
 use Rattle.run_course.specs.Followed.{Progress}
 use Rattle.run_course.specs.Seconds.{next_told, kept_all, broken_at}

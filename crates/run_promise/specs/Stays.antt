@@ -1,15 +1,15 @@
 -- What is known of unit and card before a step and behind it, where of the step itself the rules alone are known
 -- (profile).
 use Rattle.std.specs.Prelude.{◌⊎◌, ℕ, ◌<◌, ◌≤◌, List, ◌++◌, All, Contains}
-use Rattle.trace_model.specs.declared.Card.{Card}
+use Rattle.run_course.specs.trace_model.declared.Card.{Card}
 use Rattle.tach_media.specs.Medium.{State}
-use Rattle.card_image.specs.View.{CardView}
-use Rattle.history_model.specs.Minutes.{card_history}
-use Rattle.history_model.specs.Presence.{CardStart}
-use Rattle.history_model.specs.Book.{Book}
-use Rattle.device_rule.specs.Views.{UnitView}
-use Rattle.device_rule.specs.Rules.{Standing, CardDark}
-use Rattle.device_rule.specs.Marked.{of_card}
+use Rattle.unit_rule.specs.card_image.View.{CardView}
+use Rattle.run_course.specs.history_model.Minutes.{card_history}
+use Rattle.run_course.specs.history_model.Presence.{CardStart}
+use Rattle.run_course.specs.history_model.Book.{Book}
+use Rattle.unit_rule.specs.device_rule.Views.{UnitView}
+use Rattle.unit_rule.specs.device_rule.Rules.{Standing, CardDark}
+use Rattle.unit_rule.specs.device_rule.Marked.{of_card}
 use Rattle.run_promise.specs.Found.{Found, found_of, unit_seen, AnyKept}
 use Rattle.run_promise.specs.Cards.{brought_by}
 

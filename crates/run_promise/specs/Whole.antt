@@ -1,19 +1,19 @@
 -- What is there after a run in which no failed call cut the power: every minute (profile).
 use Rattle.std.specs.Prelude.{◌≡◌, ◌⊎◌, ℕ, ◌+◌, ◌*◌, ◌≤◌, true, false, List, [], All, Contains, filter}
-use Rattle.trace_model.specs.declared.Card.{Card}
-use Rattle.log_model.specs.Log.{RunLog}
-use Rattle.log_model.specs.Course.{ToldSecond, Visit}
-use Rattle.log_model.specs.Spans.{spans_of}
-use Rattle.log_model.specs.Slots.{same_card}
-use Rattle.log_model.specs.Causes.{cuts, tears, cards_torn}
-use Rattle.history_model.specs.History.{settlings_of}
-use Rattle.history_model.specs.Completeness.{deciding_of}
-use Rattle.unit_model.specs.Image.{recorded}
-use Rattle.card_image.specs.Own.{IsOwnValid}
-use Rattle.safety_model.specs.Recording.{Recording, card_image, told_of, history_of}
-use Rattle.safety_model.specs.Unit.{HasEachDecided, IsFilled}
-use Rattle.safety_model.specs.Cards.{CardShows, acceptances, was_kept}
-use Rattle.safety_model.specs.Safe.{Devices, card_of}
+use Rattle.run_course.specs.trace_model.declared.Card.{Card}
+use Rattle.run_course.specs.log_model.Log.{RunLog}
+use Rattle.run_course.specs.log_model.Course.{ToldSecond, Visit}
+use Rattle.run_course.specs.log_model.Spans.{spans_of}
+use Rattle.run_course.specs.log_model.Slots.{same_card}
+use Rattle.run_course.specs.log_model.Causes.{cuts, tears, cards_torn}
+use Rattle.run_course.specs.history_model.History.{settlings_of}
+use Rattle.run_course.specs.history_model.Completeness.{deciding_of}
+use Rattle.unit_rule.specs.unit_model.Image.{recorded}
+use Rattle.unit_rule.specs.card_image.Own.{IsOwnValid}
+use Rattle.unit_rule.specs.safety_model.Recording.{Recording, card_image, told_of, history_of}
+use Rattle.unit_rule.specs.safety_model.Unit.{HasEachDecided, IsFilled}
+use Rattle.unit_rule.specs.safety_model.Cards.{CardShows, acceptances, was_kept}
+use Rattle.unit_rule.specs.safety_model.Safe.{Devices, card_of}
 
 -- no call failed, by the log: each cut is that of an `off` line, each tear that of a `tear` line
 abbrev pub NothingFailed : RunLog → Type 0

@@ -1,10 +1,10 @@
 ghost use Rattle.std.specs.Prelude.{◌≡◌, List};
-ghost use Rattle.trace_model.specs.Trace.{TraceSecond};
-ghost use Rattle.log_model.specs.declared.lines.Mark.{Mark};
-ghost use Rattle.log_model.specs.declared.lines.Refused.{Refused};
-ghost use Rattle.unit_model.specs.Decoding.{Decodes};
-ghost use Rattle.run_unit_course.specs.Legs.{Travel};
-ghost use Rattle.safety_model.specs.Safe.{breakdowns_of};
+ghost use Rattle.run_course.specs.trace_model.Trace.{TraceSecond};
+ghost use Rattle.run_course.specs.log_model.declared.lines.Mark.{Mark};
+ghost use Rattle.run_course.specs.log_model.declared.lines.Refused.{Refused};
+ghost use Rattle.unit_rule.specs.unit_model.Decoding.{Decodes};
+ghost use Rattle.unit_rule.specs.run_unit_course.Legs.{Travel};
+ghost use Rattle.unit_rule.specs.safety_model.Safe.{breakdowns_of};
 ghost use Rattle.run_promise.specs.Between.{RunLedger, LedgerStands, IsFound, devices};
 ghost use Rattle.run_course.specs.Followed.{Progress};
 ghost use Rattle.run_promise.specs.Origin.{Origin, HistoryIsRecorded};

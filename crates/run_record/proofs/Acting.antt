@@ -1,32 +1,32 @@
 -- An action that changes no slot: it is refused, or selects an activity.
 use Rattle.std.proofs.Common.{◌≡◌, ℕ, inl, suc, ◌+◌, ◌-◌, None, List, [], ◌∷◌, ◌++◌, length, refl, sym, ◌∙◌, subst, arith, Option, ap}
-use Rattle.activity_codec.specs.declared.values.Slot.{Slot}
-use Rattle.activity_codec.specs.declared.values.Pick.{Pick}
-use Rattle.trace_model.specs.declared.Action.TheVariants.{Select, Place}
-use Rattle.trace_model.specs.Trace.{TraceSecond}
-use Rattle.minute_model.specs.Span.{Span, picked, ungiven_of}
+use Rattle.minute_rules.specs.activity_codec.declared.values.Slot.{Slot}
+use Rattle.minute_rules.specs.activity_codec.declared.values.Pick.{Pick}
+use Rattle.run_devices.specs.trace_model.declared.Action.TheVariants.{Select, Place}
+use Rattle.run_devices.specs.trace_model.Trace.{TraceSecond}
+use Rattle.minute_rules.specs.minute_model.Span.{Span, picked, ungiven_of}
 use Rattle.minute_rules.specs.Kept.{Kept, CountsSpan}
-use Rattle.log_model.specs.declared.lines.SlotFault.{SlotFault}
-use Rattle.log_model.specs.Log.{RunLog, Phase, In}
-use Rattle.log_model.specs.Course.{ToldSecond, Course, went}
-use Rattle.safety_model.specs.Safe.{Devices, breakdowns_of}
-use Rattle.run_course.specs.Followed.{Progress}
-use Rattle.run_course.specs.Moments.{and_refused}
-use Rattle.run_course.specs.Presence.{SlotsTell}
-use Rattle.run_course.specs.Moment.{Moment}
-use Rattle.run_course.specs.Kept.{HasDecided, AreMarkedSoFar}
-use Rattle.run_course.proofs.Moment.{action-refused, action-done}
-use Rattle.run_course.proofs.Kept.{selection-heard, nothing-else}
-use Rattle.run_promise.specs.Origin.{Origin, rule_of, start_at}
+use Rattle.run_devices.specs.log_model.declared.lines.SlotFault.{SlotFault}
+use Rattle.run_devices.specs.log_model.Log.{RunLog, Phase, In}
+use Rattle.run_devices.specs.log_model.Course.{ToldSecond, Course, went}
+use Rattle.run_devices.specs.safety_model.Safe.{Devices, breakdowns_of}
+use Rattle.run_devices.specs.run_course.Followed.{Progress}
+use Rattle.run_devices.specs.run_course.Moments.{and_refused}
+use Rattle.run_devices.specs.run_course.Presence.{SlotsTell}
+use Rattle.run_devices.specs.run_course.Moment.{Moment}
+use Rattle.run_devices.specs.run_course.Kept.{HasDecided, AreMarkedSoFar}
+use Rattle.run_devices.proofs.run_course.Moment.{action-refused, action-done}
+use Rattle.run_devices.proofs.run_course.Kept.{selection-heard, nothing-else}
+use Rattle.run_devices.specs.run_promise.Origin.{Origin, rule_of, start_at}
 use Rattle.run_devices.specs.Presence.{PresentStand}
 use Rattle.run_record.specs.Recorded.{Values}
 use Rattle.run_record.specs.Within.{told_before, course_in, IsFoundSo, MayBeWrittenSo, IsSparedSo, RecordInSecond, SecondGoesOn, ARefusalIsRecorded, ASelectionIsRecorded, APlaceIsRecorded}
 use Rattle.run_record.proofs.Back.{back-plain}
 use Rattle.run_record.proofs.Stays.{goes-still}
 use Rattle.run_record.proofs.Written.{written-on, spared-on}
-use Rattle.log_model.specs.ByHand.{asks}
-use Rattle.run_crew.specs.Cards.{session_of}
-use Rattle.run_course.specs.Seconds.{kept_all}
+use Rattle.run_devices.specs.log_model.ByHand.{asks}
+use Rattle.run_devices.specs.run_crew.Cards.{session_of}
+use Rattle.run_devices.specs.run_course.Seconds.{kept_all}
 use Rattle.run_record.specs.Handed.{actions_to, asked_so_far, AreHandedIn}
 use Rattle.run_record.proofs.Asked.{asked-refusal, asked-quiet}
 use Rattle.run_record.proofs.HandedSteps.{handed-on}

@@ -1,27 +1,27 @@
 -- The record goes on with sessions that hold other entries by hand.
 use Rattle.std.proofs.Common.{◌≡◌, inl, inr, ⊎_elim, ℕ, ◌+◌, true, Option, Some, None, IfSome, List, length, is_some, refl, sym, ◌∙◌, ap, subst}
-use Rattle.activity_codec.specs.declared.entries.Entry.{Entry}
-use Rattle.trace_model.specs.declared.Card.{Card}
-use Rattle.trace_model.specs.Trace.{TraceSecond}
+use Rattle.minute_rules.specs.activity_codec.declared.entries.Entry.{Entry}
+use Rattle.run_devices.specs.trace_model.declared.Card.{Card}
+use Rattle.run_devices.specs.trace_model.Trace.{TraceSecond}
 use Rattle.tach_media.specs.Medium.{State}
-use Rattle.minute_model.specs.declared.Minute.{Minute}
-use Rattle.tacho_types.specs.declared.card_number.FullCardNumber.{FullCardNumber}
-use Rattle.tacho_types.specs.CardNumber.{card_number_bytes}
-use Rattle.log_model.specs.Log.{Phase}
-use Rattle.log_model.specs.Course.{Visit, went}
-use Rattle.log_model.specs.declared.lines.Refused.{Refused}
-use Rattle.card_session.specs.Sessions.{Session}
-use Rattle.hand_model.specs.Written.{Hands}
-use Rattle.card_by_hand.specs.First.{IsShutAt}
-use Rattle.device_rule.specs.Rules.{Standing}
-use Rattle.safety_model.specs.Safe.{Devices, card_of}
-use Rattle.run_promise.specs.Found.{CardFound, found_of}
-use Rattle.run_promise.specs.Origin.{Origin}
-use Rattle.run_course.specs.Seconds.{kept_all}
-use Rattle.run_crew.specs.declared.cards.Accepted.{Accepted}
-use Rattle.run_crew.specs.declared.cards.Cards.{Cards}
-use Rattle.run_crew.specs.declared.cabin.Cabin.{Cabin}
-use Rattle.run_crew.specs.Cards.{session_of}
+use Rattle.minute_rules.specs.minute_model.declared.Minute.{Minute}
+use Rattle.run_devices.specs.tacho_types.declared.card_number.FullCardNumber.{FullCardNumber}
+use Rattle.run_devices.specs.tacho_types.CardNumber.{card_number_bytes}
+use Rattle.run_devices.specs.log_model.Log.{Phase}
+use Rattle.run_devices.specs.log_model.Course.{Visit, went}
+use Rattle.run_devices.specs.log_model.declared.lines.Refused.{Refused}
+use Rattle.run_devices.specs.card_session.Sessions.{Session}
+use Rattle.run_devices.specs.hand_model.Written.{Hands}
+use Rattle.run_devices.specs.card_by_hand.First.{IsShutAt}
+use Rattle.run_devices.specs.device_rule.Rules.{Standing}
+use Rattle.run_devices.specs.safety_model.Safe.{Devices, card_of}
+use Rattle.run_devices.specs.run_promise.Found.{CardFound, found_of}
+use Rattle.run_devices.specs.run_promise.Origin.{Origin}
+use Rattle.run_devices.specs.run_course.Seconds.{kept_all}
+use Rattle.run_devices.specs.run_crew.declared.cards.Accepted.{Accepted}
+use Rattle.run_devices.specs.run_crew.declared.cards.Cards.{Cards}
+use Rattle.run_devices.specs.run_crew.declared.cabin.Cabin.{Cabin}
+use Rattle.run_devices.specs.run_crew.Cards.{session_of}
 use Rattle.run_devices.specs.Told.{SessionIsOnCard, GoesWith, AreFoundCards, DevicesPowered}
 use Rattle.run_devices.specs.Presence.{PresentStand}
 use Rattle.run_record.specs.Recorded.{Values, carried}

@@ -4,38 +4,38 @@ use Rattle.std.specs.Prelude.{◌&&◌, nat_eq, nat_lt, take}
 use Rattle.std.proofs.lemmas.Bool.Decides.{nat_tests}
 use Rattle.std.proofs.lemmas.List.{take_at, length-take}
 use Rattle.std.proofs.lemmas.List.Elements.{All-nil, All-cons, All-head, All-tail, All-append, All-weaker, All-filter}
-use Rattle.activity_codec.specs.declared.values.Slot.{Slot}
-use Rattle.activity_codec.specs.Activity.{same_slot}
-use Rattle.trace_model.specs.declared.Action.{Action}
-use Rattle.trace_model.specs.declared.Action.TheVariants.{Select, Insert, Withdraw, Tear as Pull, Place, Manual}
-use Rattle.trace_model.specs.declared.Card.{Card}
-use Rattle.trace_model.specs.Trace.{TraceSecond, driven, dark}
-use Rattle.log_model.specs.declared.lines.Break.{Break}
-use Rattle.log_model.specs.declared.lines.Find.{Find}
-use Rattle.log_model.specs.declared.lines.Refused.{Refused}
-use Rattle.log_model.specs.declared.lines.SlotFault.{SlotFault}
-use Rattle.log_model.specs.Log.{RunLog, Phase, In, Keeping, same_phase, phase_of, cut_in, cut_of, tears_here, is_torn_in, found_in}
-use Rattle.log_model.specs.Slots.{Slots, Sitting, in_slot, same_card, refusal}
-use Rattle.log_model.specs.Same.{SameAt}
-use Rattle.log_model.specs.Course.{Course, Before, Moved, Went, both_told, begins, is_settling, moved_by, unmoved, answered, fresh, acted, all_acted, has_power, second_told, before_next, not_begun, went, went_on}
-use Rattle.log_model.specs.ByHand.{Asked, asks, sitting_in, minute_on, is_stopped, stops as stops_of, asked_by, asked_in, asked_from, asked_of}
-use Rattle.log_model.proofs.Growth.{went-same}
-use Rattle.history_model.proofs.Filters.{all-one}
-use Rattle.note_model.specs.Done.{course_powered}
-use Rattle.run_unit_course.specs.Lines.{cut_at, tells_cut}
-use Rattle.run_course.specs.Moments.{and_break, and_find, and_refused, BreakSeen, FindSeen}
-use Rattle.run_course.specs.Reached.{course_at, IsTearAt, IsFindAt}
-use Rattle.run_course.specs.Telling.{begun_by, IsLeft}
-use Rattle.run_course.proofs.Lookups.{break-more, find-more, refusal-more, cut-by}
-use Rattle.run_course.proofs.Reached.{at-by}
-use Rattle.run_course.proofs.Telling.{cut-now}
+use Rattle.minute_rules.specs.activity_codec.declared.values.Slot.{Slot}
+use Rattle.minute_rules.specs.activity_codec.Activity.{same_slot}
+use Rattle.run_devices.specs.trace_model.declared.Action.{Action}
+use Rattle.run_devices.specs.trace_model.declared.Action.TheVariants.{Select, Insert, Withdraw, Tear as Pull, Place, Manual}
+use Rattle.run_devices.specs.trace_model.declared.Card.{Card}
+use Rattle.run_devices.specs.trace_model.Trace.{TraceSecond, driven, dark}
+use Rattle.run_devices.specs.log_model.declared.lines.Break.{Break}
+use Rattle.run_devices.specs.log_model.declared.lines.Find.{Find}
+use Rattle.run_devices.specs.log_model.declared.lines.Refused.{Refused}
+use Rattle.run_devices.specs.log_model.declared.lines.SlotFault.{SlotFault}
+use Rattle.run_devices.specs.log_model.Log.{RunLog, Phase, In, Keeping, same_phase, phase_of, cut_in, cut_of, tears_here, is_torn_in, found_in}
+use Rattle.run_devices.specs.log_model.Slots.{Slots, Sitting, in_slot, same_card, refusal}
+use Rattle.run_devices.specs.log_model.Same.{SameAt}
+use Rattle.run_devices.specs.log_model.Course.{Course, Before, Moved, Went, both_told, begins, is_settling, moved_by, unmoved, answered, fresh, acted, all_acted, has_power, second_told, before_next, not_begun, went, went_on}
+use Rattle.run_devices.specs.log_model.ByHand.{Asked, asks, sitting_in, minute_on, is_stopped, stops as stops_of, asked_by, asked_in, asked_from, asked_of}
+use Rattle.run_devices.proofs.log_model.Growth.{went-same}
+use Rattle.run_devices.proofs.history_model.Filters.{all-one}
+use Rattle.run_devices.specs.note_model.Done.{course_powered}
+use Rattle.run_devices.specs.run_unit_course.Lines.{cut_at, tells_cut}
+use Rattle.run_devices.specs.run_course.Moments.{and_break, and_find, and_refused, BreakSeen, FindSeen}
+use Rattle.run_devices.specs.run_course.Reached.{course_at, IsTearAt, IsFindAt}
+use Rattle.run_devices.specs.run_course.Telling.{begun_by, IsLeft}
+use Rattle.run_devices.proofs.run_course.Lookups.{break-more, find-more, refusal-more, cut-by}
+use Rattle.run_devices.proofs.run_course.Reached.{at-by}
+use Rattle.run_devices.proofs.run_course.Telling.{cut-now}
 use Rattle.run_record.specs.Handed.{actions_to, asked_to, asked_so_far, done_for}
 use Rattle.run_record.proofs.Asking.{both-same, asked-one, asked-cut, asked-alike, asked-over, second-asks_none}
-use Rattle.log_model.specs.Spans.{AreInOrder}
-use Rattle.run_course.specs.Followed.{Progress, HadActions}
-use Rattle.run_course.specs.Seconds.{GoesOnBy, next_told}
-use Rattle.run_course.proofs.Logs.{other-number, all-before, same-at, refused-at, found_log, same-found, BreaksBefore, tells-none, tells-cut}
-use Rattle.log_model.proofs.Spanning.{order-parts}
+use Rattle.run_devices.specs.log_model.Spans.{AreInOrder}
+use Rattle.run_devices.specs.run_course.Followed.{Progress, HadActions}
+use Rattle.run_devices.specs.run_course.Seconds.{GoesOnBy, next_told}
+use Rattle.run_devices.proofs.run_course.Logs.{other-number, all-before, same-at, refused-at, found_log, same-found, BreaksBefore, tells-none, tells-cut}
+use Rattle.run_devices.proofs.log_model.Spanning.{order-parts}
 
 -- ---- lines of a moment
 

@@ -3,17 +3,17 @@ use Rattle.std.proofs.Common.{◌≡◌, ℕ, suc, ◌+◌, ◌≤◌, Bool, tru
 use Rattle.std.specs.Prelude.{nat_lt}
 use Rattle.std.proofs.lemmas.Bool.Decides.{nat_tests}
 use Rattle.std.proofs.lemmas.List.Elements.{All-head, All-tail}
-use Rattle.activity_codec.specs.declared.values.Slot.{Slot}
-use Rattle.activity_codec.specs.declared.values.Slot.TheVariants.{Driver, CoDriver}
-use Rattle.trace_model.specs.declared.Action.{Action}
-use Rattle.trace_model.specs.Trace.{TraceSecond}
-use Rattle.log_model.specs.Log.{RunLog, Phase, In, Keeping, cut_in, is_torn_in, found_in}
-use Rattle.log_model.specs.Slots.{Slots, refusal}
-use Rattle.log_model.specs.Same.{SameAt}
-use Rattle.log_model.specs.Course.{Course, Before, Moved, Went, slot_told, both_told, begins, moved_by, unmoved, answered, fresh, acted, all_acted, cut_told, lit_course, has_power, second_told, before_next, not_begun, went, went_on}
-use Rattle.log_model.specs.ByHand.{Asked, asks, asked_by, asked_in, asked_from, asked_of}
-use Rattle.log_model.proofs.Growth.{went-same}
-use Rattle.note_model.specs.Done.{course_powered}
+use Rattle.minute_rules.specs.activity_codec.declared.values.Slot.{Slot}
+use Rattle.minute_rules.specs.activity_codec.declared.values.Slot.TheVariants.{Driver, CoDriver}
+use Rattle.run_devices.specs.trace_model.declared.Action.{Action}
+use Rattle.run_devices.specs.trace_model.Trace.{TraceSecond}
+use Rattle.run_devices.specs.log_model.Log.{RunLog, Phase, In, Keeping, cut_in, is_torn_in, found_in}
+use Rattle.run_devices.specs.log_model.Slots.{Slots, refusal}
+use Rattle.run_devices.specs.log_model.Same.{SameAt}
+use Rattle.run_devices.specs.log_model.Course.{Course, Before, Moved, Went, slot_told, both_told, begins, moved_by, unmoved, answered, fresh, acted, all_acted, cut_told, lit_course, has_power, second_told, before_next, not_begun, went, went_on}
+use Rattle.run_devices.specs.log_model.ByHand.{Asked, asks, asked_by, asked_in, asked_from, asked_of}
+use Rattle.run_devices.proofs.log_model.Growth.{went-same}
+use Rattle.run_devices.specs.note_model.Done.{course_powered}
 use Rattle.run_record.specs.Handed.{asked_to, asked_so_far}
 
 -- ---- one after another

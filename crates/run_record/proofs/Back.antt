@@ -1,20 +1,20 @@
 -- The cards with sessions left a slot last no later than in the first minute that is still to be kept.
 use Rattle.std.proofs.Common.{◌≡◌, ◌⊎◌, inl, ⊎_elim, ℕ, ◌+◌, ◌/◌, ◌≤◌, true, Option, Some, None, IfSome, nat_eq, List, [], ◌++◌, refl, ap, subst, ◌∙◌, arith}
 use Rattle.std.proofs.lemmas.Bool.Decides.{nat_tests}
-use Rattle.trace_model.specs.declared.Card.{Card}
-use Rattle.trace_model.specs.declared.Card.TheVariants.{A, B}
-use Rattle.trace_model.specs.Trace.{TraceSecond}
-use Rattle.log_model.specs.Log.{RunLog, Phase}
-use Rattle.log_model.specs.Slots.{Slots}
-use Rattle.log_model.specs.Course.{ToldSecond, Before, Visit}
-use Rattle.history_model.specs.Minutes.{HistoryMinute}
-use Rattle.history_model.specs.Presence.{Start}
-use Rattle.safety_model.specs.Safe.{Devices}
-use Rattle.card_slots.specs.declared.seats.Lefts.{Lefts}
-use Rattle.card_slots.specs.Kept.{Kept, is_minute, left_in, left_of}
-use Rattle.run_crew.specs.declared.cabin.Cabin.{Cabin}
-use Rattle.run_course.specs.Presence.{SlotsTell}
-use Rattle.run_promise.specs.Origin.{Origin, start_at}
+use Rattle.run_devices.specs.trace_model.declared.Card.{Card}
+use Rattle.run_devices.specs.trace_model.declared.Card.TheVariants.{A, B}
+use Rattle.run_devices.specs.trace_model.Trace.{TraceSecond}
+use Rattle.run_devices.specs.log_model.Log.{RunLog, Phase}
+use Rattle.run_devices.specs.log_model.Slots.{Slots}
+use Rattle.run_devices.specs.log_model.Course.{ToldSecond, Before, Visit}
+use Rattle.run_devices.specs.history_model.Minutes.{HistoryMinute}
+use Rattle.run_devices.specs.history_model.Presence.{Start}
+use Rattle.run_devices.specs.safety_model.Safe.{Devices}
+use Rattle.run_devices.specs.card_slots.declared.seats.Lefts.{Lefts}
+use Rattle.run_devices.specs.card_slots.Kept.{Kept, is_minute, left_in, left_of}
+use Rattle.run_devices.specs.run_crew.declared.cabin.Cabin.{Cabin}
+use Rattle.run_devices.specs.run_course.Presence.{SlotsTell}
+use Rattle.run_devices.specs.run_promise.Origin.{Origin, start_at}
 use Rattle.run_record.specs.Recorded.{Values, AreBack}
 use Rattle.run_record.specs.Within.{told_before, course_in, AreBackAt, RecordInSecond}
 

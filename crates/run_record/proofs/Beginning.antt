@@ -1,43 +1,43 @@
 -- A second begins behind one with power: nothing of it is told, decided or kept yet.
 use Rattle.std.proofs.Common.{◌≡◌, ◌⊎◌, inl, inr, ⊎_elim, ℕ, ◌+◌, ◌-◌, ◌*◌, ◌/◌, ◌≤◌, true, false, Option, None, List, [], ◌∷◌, ◌++◌, Contains, length, refl, ap, sym, subst, ◌∙◌, arith, append-nil, length-append}
-use Rattle.trace_model.specs.declared.Card.{Card}
-use Rattle.trace_model.specs.Trace.{TraceSecond}
-use Rattle.log_model.specs.declared.lines.Verdict.{Verdict}
-use Rattle.log_model.specs.Log.{RunLog, In}
-use Rattle.log_model.specs.Slots.{Slots}
-use Rattle.log_model.specs.Spans.{AreInOrder}
-use Rattle.log_model.specs.Course.{ToldSecond, Went, Course, Visit, second_told, before_next, fresh, went}
-use Rattle.log_model.proofs.Growth.{went-more}
-use Rattle.log_model.proofs.Spanning.{IsNext, next-told, order-parts}
-use Rattle.history_model.specs.Minutes.{HistoryMinute}
-use Rattle.history_model.specs.Book.{Book}
-use Rattle.device_rule.specs.Rules.{Standing, In as IsInAt}
-use Rattle.card_slots.specs.Kept.{Kept as SlotsKept, minute_ended}
-use Rattle.run_unit_course.specs.Followed.{Lit}
-use Rattle.run_unit_course.specs.Turn.{span_at}
-use Rattle.safety_model.specs.Cards.{entered}
-use Rattle.safety_model.specs.Safe.{Devices, card_of, breakdowns_of}
-use Rattle.run_crew.specs.declared.cards.Accepted.{Accepted}
-use Rattle.run_crew.specs.declared.cabin.Cabin.{Cabin}
-use Rattle.run_crew.specs.Cards.{session_of}
-use Rattle.run_promise.specs.Found.{Found, found_of}
-use Rattle.run_course.specs.Followed.{BookFollowsRun, HadActions}
-use Rattle.run_course.specs.Presence.{SlotsTell, EndsWith}
-use Rattle.run_course.proofs.Presence.{goes-on, minute-ends as told-ends}
-use Rattle.run_course.specs.Moment.{Moment}
-use Rattle.run_course.specs.Kept.{BrokenSince}
-use Rattle.run_course.proofs.Moment.{moment-begins}
-use Rattle.run_course.proofs.Kept.{nothing-decided, nothing-marked}
+use Rattle.run_devices.specs.trace_model.declared.Card.{Card}
+use Rattle.run_devices.specs.trace_model.Trace.{TraceSecond}
+use Rattle.run_devices.specs.log_model.declared.lines.Verdict.{Verdict}
+use Rattle.run_devices.specs.log_model.Log.{RunLog, In}
+use Rattle.run_devices.specs.log_model.Slots.{Slots}
+use Rattle.run_devices.specs.log_model.Spans.{AreInOrder}
+use Rattle.run_devices.specs.log_model.Course.{ToldSecond, Went, Course, Visit, second_told, before_next, fresh, went}
+use Rattle.run_devices.proofs.log_model.Growth.{went-more}
+use Rattle.run_devices.proofs.log_model.Spanning.{IsNext, next-told, order-parts}
+use Rattle.run_devices.specs.history_model.Minutes.{HistoryMinute}
+use Rattle.run_devices.specs.history_model.Book.{Book}
+use Rattle.run_devices.specs.device_rule.Rules.{Standing, In as IsInAt}
+use Rattle.run_devices.specs.card_slots.Kept.{Kept as SlotsKept, minute_ended}
+use Rattle.run_devices.specs.run_unit_course.Followed.{Lit}
+use Rattle.run_devices.specs.run_unit_course.Turn.{span_at}
+use Rattle.run_devices.specs.safety_model.Cards.{entered}
+use Rattle.run_devices.specs.safety_model.Safe.{Devices, card_of, breakdowns_of}
+use Rattle.run_devices.specs.run_crew.declared.cards.Accepted.{Accepted}
+use Rattle.run_devices.specs.run_crew.declared.cabin.Cabin.{Cabin}
+use Rattle.run_devices.specs.run_crew.Cards.{session_of}
+use Rattle.run_devices.specs.run_promise.Found.{Found, found_of}
+use Rattle.run_devices.specs.run_course.Followed.{BookFollowsRun, HadActions}
+use Rattle.run_devices.specs.run_course.Presence.{SlotsTell, EndsWith}
+use Rattle.run_devices.proofs.run_course.Presence.{goes-on, minute-ends as told-ends}
+use Rattle.run_devices.specs.run_course.Moment.{Moment}
+use Rattle.run_devices.specs.run_course.Kept.{BrokenSince}
+use Rattle.run_devices.proofs.run_course.Moment.{moment-begins}
+use Rattle.run_devices.proofs.run_course.Kept.{nothing-decided, nothing-marked}
 use Rattle.run_devices.specs.Told.{GoesWith, GoesOwing, DevicesPowered}
-use Rattle.run_promise.specs.Origin.{Origin, rule_of, start_at, first_of}
+use Rattle.run_devices.specs.run_promise.Origin.{Origin, rule_of, start_at, first_of}
 use Rattle.run_devices.specs.Presence.{PresentStand, SessionsStand}
 use Rattle.run_devices.proofs.Presence.{minute-ends}
 use Rattle.run_record.specs.Recorded.{Values, progress, carried, slots_of, AreBack, IsWrittenSince, IsWritten, RecordPowered, RecordBetweenSeconds}
 use Rattle.run_record.specs.Within.{Beginning, course_in, MayBeWrittenSo, SecondGoesOn, undecided_from, ASecondBegins, AMinuteIsOver}
 use Rattle.run_record.proofs.Written.{written-begins}
 use Rattle.run_record.proofs.HandedSteps.{handed-begins}
-use Rattle.hand_model.specs.Written.{Hands}
-use Rattle.run_promise.specs.Cards.{FirstKeep}
+use Rattle.run_devices.specs.hand_model.Written.{Hands}
+use Rattle.run_devices.specs.run_promise.Cards.{FirstKeep}
 
 -- who was present stands so later in the second
 broken-later : (told : List ToldSecond) (c : Course) (card : Card) (from number later : ℕ) → number ≤ later → BrokenSince told c card from number → BrokenSince told c card from later

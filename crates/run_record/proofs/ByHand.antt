@@ -6,60 +6,60 @@ use Rattle.std.proofs.lemmas.Bool.Decides.{nat_tests}
 use Rattle.std.proofs.lemmas.List.{length-take, map-append}
 use Rattle.std.proofs.lemmas.List.Elements.{All-nil, All-cons, All-append, All-filter, All-head, All-map, All-tail, All-weaker, All-contains, All-contains_itself, All-push, filter-append, Contains-append_cases, Contains-push}
 use Rattle.std.proofs.lemmas.List.Folds.{list_any-append, list_any_none}
-use Rattle.activity_codec.specs.declared.entries.Manual.{Manual as Entry}
-use Rattle.activity_codec.specs.declared.values.Pick.{Pick}
-use Rattle.activity_codec.specs.declared.values.Slot.{Slot}
-use Rattle.activity_codec.specs.Activity.{activity_of}
-use Rattle.trace_model.specs.declared.Action.{Action}
-use Rattle.trace_model.specs.declared.Action.TheVariants.{Manual}
-use Rattle.trace_model.specs.declared.Card.{Card}
-use Rattle.trace_model.specs.Trace.{TraceSecond}
-use Rattle.log_model.specs.declared.lines.Mark.{Mark}
-use Rattle.log_model.specs.declared.lines.Refused.{Refused}
-use Rattle.log_model.specs.declared.lines.SlotFault.{SlotFault}
-use Rattle.log_model.specs.declared.lines.SlotFault.TheVariants.{Moving, NoCard, Begun, NotFree, Full}
-use Rattle.log_model.specs.declared.lines.Verdict.{Verdict}
-use Rattle.log_model.specs.Log.{Phase, In, Keeping, is_accepting}
-use Rattle.log_model.specs.Slots.{Slots, Sitting, in_slot, same_card, is_accepted, refusal}
-use Rattle.log_model.specs.Causes.{device_of}
-use Rattle.log_model.specs.Course.{ToldSecond, Visit, Before, Course, went}
-use Rattle.log_model.specs.ByHand.{Asked, asks, sitting_in, minute_on, is_stop, is_stopped, stops as stops_of}
-use Rattle.history_model.proofs.Filters.{filter-alike}
-use Rattle.run_unit_course.specs.Legs.{Travel}
-use Rattle.run_course.specs.Followed.{Progress}
-use Rattle.run_course.specs.Kept.{HasDecided, AreMarkedSoFar}
-use Rattle.run_course.specs.Moment.{Moment}
-use Rattle.run_course.specs.Presence.{SlotsTell}
-use Rattle.run_course.specs.Reached.{IsBehind}
-use Rattle.run_course.proofs.Logs.{all-before}
-use Rattle.run_course.proofs.Moment.{action-done}
-use Rattle.card_image.specs.Own.{IsOwnValid}
-use Rattle.card_slots.specs.Calls.{seat_in, card_in}
-use Rattle.card_slots.specs.Kept.{Kept as SlotsKept}
-use Rattle.safety_model.specs.Safe.{Devices, breakdowns_of, card_of}
-use Rattle.safety_model.specs.Unit.{marks_of}
-use Rattle.safety_model.specs.Stops.{CoursePlace, told_at, asked_at}
-use Rattle.safety_model.specs.Hands.{Session, begun_at, brought_by, sessions_found, sessions_in, is_behind, hand_of, is_asked_before}
-use Rattle.device_rule.specs.Rules.{Standing, In as IsIn}
-use Rattle.device_calls.specs.Minute.{IsNotIn}
-use Rattle.run_promise.specs.Found.{found_of}
-use Rattle.run_promise.specs.Origin.{Origin, rule_of, start_at}
-use Rattle.run_promise.proofs.Beside.{found-tells}
-use Rattle.run_crew.specs.declared.cabin.Cabin.{Cabin}
-use Rattle.run_crew.specs.declared.cards.Accepted.{Accepted}
-use Rattle.run_crew.specs.declared.cards.Cards.{Cards}
-use Rattle.run_crew.specs.Cards.{session_of}
-use Rattle.run_crew.proofs.Sessions.{same_is}
+use Rattle.minute_rules.specs.activity_codec.declared.entries.Manual.{Manual as Entry}
+use Rattle.minute_rules.specs.activity_codec.declared.values.Pick.{Pick}
+use Rattle.minute_rules.specs.activity_codec.declared.values.Slot.{Slot}
+use Rattle.minute_rules.specs.activity_codec.Activity.{activity_of}
+use Rattle.run_devices.specs.trace_model.declared.Action.{Action}
+use Rattle.run_devices.specs.trace_model.declared.Action.TheVariants.{Manual}
+use Rattle.run_devices.specs.trace_model.declared.Card.{Card}
+use Rattle.run_devices.specs.trace_model.Trace.{TraceSecond}
+use Rattle.run_devices.specs.log_model.declared.lines.Mark.{Mark}
+use Rattle.run_devices.specs.log_model.declared.lines.Refused.{Refused}
+use Rattle.run_devices.specs.log_model.declared.lines.SlotFault.{SlotFault}
+use Rattle.run_devices.specs.log_model.declared.lines.SlotFault.TheVariants.{Moving, NoCard, Begun, NotFree, Full}
+use Rattle.run_devices.specs.log_model.declared.lines.Verdict.{Verdict}
+use Rattle.run_devices.specs.log_model.Log.{Phase, In, Keeping, is_accepting}
+use Rattle.run_devices.specs.log_model.Slots.{Slots, Sitting, in_slot, same_card, is_accepted, refusal}
+use Rattle.run_devices.specs.log_model.Causes.{device_of}
+use Rattle.run_devices.specs.log_model.Course.{ToldSecond, Visit, Before, Course, went}
+use Rattle.run_devices.specs.log_model.ByHand.{Asked, asks, sitting_in, minute_on, is_stop, is_stopped, stops as stops_of}
+use Rattle.run_devices.proofs.history_model.Filters.{filter-alike}
+use Rattle.run_devices.specs.run_unit_course.Legs.{Travel}
+use Rattle.run_devices.specs.run_course.Followed.{Progress}
+use Rattle.run_devices.specs.run_course.Kept.{HasDecided, AreMarkedSoFar}
+use Rattle.run_devices.specs.run_course.Moment.{Moment}
+use Rattle.run_devices.specs.run_course.Presence.{SlotsTell}
+use Rattle.run_devices.specs.run_course.Reached.{IsBehind}
+use Rattle.run_devices.proofs.run_course.Logs.{all-before}
+use Rattle.run_devices.proofs.run_course.Moment.{action-done}
+use Rattle.run_devices.specs.card_image.Own.{IsOwnValid}
+use Rattle.run_devices.specs.card_slots.Calls.{seat_in, card_in}
+use Rattle.run_devices.specs.card_slots.Kept.{Kept as SlotsKept}
+use Rattle.run_devices.specs.safety_model.Safe.{Devices, breakdowns_of, card_of}
+use Rattle.run_devices.specs.safety_model.Unit.{marks_of}
+use Rattle.run_devices.specs.safety_model.Stops.{CoursePlace, told_at, asked_at}
+use Rattle.run_devices.specs.safety_model.Hands.{Session, begun_at, brought_by, sessions_found, sessions_in, is_behind, hand_of, is_asked_before}
+use Rattle.run_devices.specs.device_rule.Rules.{Standing, In as IsIn}
+use Rattle.run_devices.specs.device_calls.Minute.{IsNotIn}
+use Rattle.run_devices.specs.run_promise.Found.{found_of}
+use Rattle.run_devices.specs.run_promise.Origin.{Origin, rule_of, start_at}
+use Rattle.run_devices.proofs.run_promise.Beside.{found-tells}
+use Rattle.run_devices.specs.run_crew.declared.cabin.Cabin.{Cabin}
+use Rattle.run_devices.specs.run_crew.declared.cards.Accepted.{Accepted}
+use Rattle.run_devices.specs.run_crew.declared.cards.Cards.{Cards}
+use Rattle.run_devices.specs.run_crew.Cards.{session_of}
+use Rattle.run_devices.proofs.run_crew.Sessions.{same_is}
 use Rattle.run_devices.specs.Told.{GoesWith}
 use Rattle.run_devices.specs.Presence.{PresentStand, IsSeated, sits}
 use Rattle.run_record.specs.Recorded.{Values}
 use Rattle.run_record.specs.Within.{AreAlike, AnswersSo, IsAnswered, stop_of, with_entry, told_before, course_in, IsFoundSo, MayBeWrittenSo, IsSparedSo, RecordInSecond, SecondGoesOn, AnEntryByHandIsRecorded, stop_told}
 use Rattle.run_record.specs.HeldHands.{HandsGo, IsKnown, WasKnown, WasKnownLast}
 use Rattle.run_record.specs.Handed.{actions_to, asked_so_far, done_for, sessions_so_far, AreToldOf, AreHandedIn, asked_for}
-use Rattle.history_model.specs.Minutes.{HistoryMinute}
-use Rattle.minute_model.specs.Activity.{last}
-use Rattle.minute_model.proofs.Ranges.{last-push}
-use Rattle.run_course.specs.Seconds.{kept_all}
+use Rattle.run_devices.specs.history_model.Minutes.{HistoryMinute}
+use Rattle.minute_rules.specs.minute_model.Activity.{last}
+use Rattle.minute_rules.proofs.minute_model.Ranges.{last-push}
+use Rattle.run_devices.specs.run_course.Seconds.{kept_all}
 use Rattle.run_record.proofs.Alike.{had, powered, found, present}
 use Rattle.run_record.proofs.Asked.{IsAskedBy, asked-next, asked-by_now, done-by_now}
 use Rattle.run_record.proofs.Back.{back-plain}
@@ -68,13 +68,13 @@ use Rattle.run_record.proofs.HandedSteps.{go-as, known-as}
 use Rattle.run_record.proofs.HandsFold.{hands-entered, last-in}
 use Rattle.run_record.proofs.Opened.{told-early, found-here}
 use Rattle.run_record.proofs.Sitting.{seat-there}
-use Rattle.trace_model.specs.declared.Card.TheVariants.{A, B}
+use Rattle.run_devices.specs.trace_model.declared.Card.TheVariants.{A, B}
 use Rattle.std.proofs.lemmas.Bool.{leb-true, leb-false}
-use Rattle.hand_model.specs.Holding.{stopped_by, last_minute}
-use Rattle.hand_model.specs.declared.held.EnterFault.{EnterFault}
-use Rattle.hand_model.specs.declared.held.EnterFault.TheVariants as enter
+use Rattle.run_devices.specs.hand_model.Holding.{stopped_by, last_minute}
+use Rattle.run_devices.specs.hand_model.declared.held.EnterFault.{EnterFault}
+use Rattle.run_devices.specs.hand_model.declared.held.EnterFault.TheVariants as enter
 use Rattle.run_record.proofs.Stopped.{stopped-as, stopped-told, stopped-done, stopped-now, before-not, before-so}
-use Rattle.safety_model.specs.ByHand.{IsStoppedBy, IsTold}
+use Rattle.run_devices.specs.safety_model.ByHand.{IsStoppedBy, IsTold}
 
 -- ---- what slots and speed let pass
 

@@ -1,41 +1,41 @@
 -- What the calls of a power-on say of the devices is what the record needs: the unit was read, or not; and mended, or not.
 use Rattle.std.proofs.Common.{◌≡◌, inl, inr, ⊎_elim, ℕ, ◌+◌, ◌<◌, ◌≤◌, nat_le, Bool, true, false, not, Some, is_some, List, [], All, refl, ap, subst, ◌∙◌, arith}
 use Rattle.std.proofs.lemmas.Bool.Decides.{nat_tests}
-use Rattle.trace_model.specs.declared.Card.{Card}
-use Rattle.trace_model.specs.declared.Card.TheVariants.{A, B}
-use Rattle.trace_model.specs.Trace.{TraceSecond}
+use Rattle.run_devices.specs.trace_model.declared.Card.{Card}
+use Rattle.run_devices.specs.trace_model.declared.Card.TheVariants.{A, B}
+use Rattle.run_devices.specs.trace_model.Trace.{TraceSecond}
 use Rattle.tach_media.specs.Medium.{State, IsCoherent, LeavesOnly, Unchanged, Rose, HasCause, last_count, revivable}
 use Rattle.minute_rules.specs.Kept.{Kept, CountsSpan}
-use Rattle.log_model.specs.declared.lines.Mark.{Mark}
-use Rattle.log_model.specs.Causes.{device_of, RoseBy}
-use Rattle.history_model.specs.Minutes.{HistoryMinute}
-use Rattle.history_model.specs.Book.{Book, all, found, IsMark}
-use Rattle.device_rule.specs.Rules.{Standing}
-use Rattle.device_rule.specs.Views.{unit_view}
-use Rattle.unit_model.specs.Image.{last_kept, odometer_at}
-use Rattle.unit_minutes.specs.declared.notes.Notes.{Notes}
-use Rattle.unit_minutes.specs.Mends.{IsMending}
-use Rattle.run_unit_course.specs.Followed.{UnitPower, MayPower}
-use Rattle.run_unit_course.specs.Legs.{resumed}
-use Rattle.run_unit_course.specs.Travelled.{MayShow}
-use Rattle.run_unit_course.specs.Turn.{span_at}
-use Rattle.unit_rule.specs.Rule.{Started}
-use Rattle.device_calls.specs.Rule.{IsHeldMended, Both, CardRests, IsTakenUp}
-use Rattle.unit_rule.specs.Marks.{UnitFollowsBook}
-use Rattle.unit_rule.specs.Odometer.{ShowsOdometer, HasTravelled}
-use Rattle.unit_rule.proofs.Moves.{shown-last}
-use Rattle.unit_rule.proofs.Travelling.{travelled-read, travelled-found}
-use Rattle.card_image.specs.Own.{IsOwnValid}
-use Rattle.device_calls.specs.Times.{AreTimedSince}
-use Rattle.safety_model.specs.Safe.{Devices, card_of, breakdowns_of}
-use Rattle.run_promise.specs.Between.{RunLedger, devices}
-use Rattle.run_promise.specs.Cards.{IsUntouched}
-use Rattle.run_promise.specs.Found.{found_of}
-use Rattle.run_course.specs.Telling.{IsMore}
+use Rattle.run_devices.specs.log_model.declared.lines.Mark.{Mark}
+use Rattle.run_devices.specs.log_model.Causes.{device_of, RoseBy}
+use Rattle.run_devices.specs.history_model.Minutes.{HistoryMinute}
+use Rattle.run_devices.specs.history_model.Book.{Book, all, found, IsMark}
+use Rattle.run_devices.specs.device_rule.Rules.{Standing}
+use Rattle.run_devices.specs.device_rule.Views.{unit_view}
+use Rattle.run_devices.specs.unit_model.Image.{last_kept, odometer_at}
+use Rattle.run_devices.specs.unit_minutes.declared.notes.Notes.{Notes}
+use Rattle.run_devices.specs.unit_minutes.Mends.{IsMending}
+use Rattle.run_devices.specs.run_unit_course.Followed.{UnitPower, MayPower}
+use Rattle.run_devices.specs.run_unit_course.Legs.{resumed}
+use Rattle.run_devices.specs.run_unit_course.Travelled.{MayShow}
+use Rattle.run_devices.specs.run_unit_course.Turn.{span_at}
+use Rattle.run_devices.specs.unit_rule.Rule.{Started}
+use Rattle.run_devices.specs.device_calls.Rule.{IsHeldMended, Both, CardRests, IsTakenUp}
+use Rattle.run_devices.specs.unit_rule.Marks.{UnitFollowsBook}
+use Rattle.run_devices.specs.unit_rule.Odometer.{ShowsOdometer, HasTravelled}
+use Rattle.run_devices.proofs.unit_rule.Moves.{shown-last}
+use Rattle.run_devices.proofs.unit_rule.Travelling.{travelled-read, travelled-found}
+use Rattle.run_devices.specs.card_image.Own.{IsOwnValid}
+use Rattle.run_devices.specs.device_calls.Times.{AreTimedSince}
+use Rattle.run_devices.specs.safety_model.Safe.{Devices, card_of, breakdowns_of}
+use Rattle.run_devices.specs.run_promise.Between.{RunLedger, devices}
+use Rattle.run_devices.specs.run_promise.Cards.{IsUntouched}
+use Rattle.run_devices.specs.run_promise.Found.{found_of}
+use Rattle.run_devices.specs.run_course.Telling.{IsMore}
 use Rattle.run_devices.specs.Told.{carried_found, DevicesUnpowered}
 use Rattle.run_devices.proofs.Power.{found-powerless, unread-powerless, mended-powered, mended-powerless}
 use Rattle.run_devices.proofs.Travelled.{travelled-mended}
-use Rattle.run_promise.specs.Origin.{Origin, rule_of, first_of}
+use Rattle.run_devices.specs.run_promise.Origin.{Origin, rule_of, first_of}
 use Rattle.run_record.specs.Recorded.{Values, carried, AreThere, RecordUnpowered, RecordBetweenSeconds}
 use Rattle.run_record.specs.Powering.{GoOn, WasRead, IsBack, IsOnlyRead, IsNotRead}
 use Rattle.run_record.proofs.Powering.{off-of}

@@ -1,32 +1,32 @@
 -- The session of a card that is leaving is closed, or the card fails in that.
 use Rattle.std.proofs.Common.{◌≡◌, ◌⊎◌, ⊎_elim, ℕ, ◌+◌, true, false, Option, Some, None, List, [], ◌∷◌, ◌++◌, Contains, map, refl, ap, sym, subst, ◌∙◌, arith}
-use Rattle.activity_codec.specs.declared.values.Slot.{Slot}
-use Rattle.trace_model.specs.declared.Card.{Card}
-use Rattle.trace_model.specs.Trace.{TraceSecond}
-use Rattle.log_model.specs.declared.lines.Break.{Break}
-use Rattle.log_model.specs.Log.{Phase}
-use Rattle.log_model.specs.Slots.{Slots, Sitting, same_card, in_slot}
-use Rattle.log_model.specs.Course.{ToldSecond, Course, Visit, Before, visits, card_in as card_of_sitting, went}
-use Rattle.device_rule.specs.Rules.{Out}
-use Rattle.safety_model.specs.Safe.{Devices, breakdowns_of}
-use Rattle.card_slots.specs.Calls.{seat_in, is_card}
-use Rattle.card_slots.specs.Kept.{Kept}
-use Rattle.run_crew.specs.Cards.{with_session, session_of}
-use Rattle.run_crew.specs.Cabin.{left_from}
-use Rattle.run_crew.proofs.Sessions.{same_is}
-use Rattle.run_course.specs.Followed.{Progress}
-use Rattle.run_course.specs.Presence.{SlotsTell}
-use Rattle.run_course.specs.Seconds.{kept_all}
-use Rattle.run_course.specs.Reached.{moved_at, IsTearAt}
-use Rattle.run_course.specs.Lines.{times_of, IsTornAt}
-use Rattle.run_course.specs.Moment.{Moment}
-use Rattle.run_course.specs.Telling.{IsMore, IsOneOut, BrokeDown}
-use Rattle.run_course.specs.Kept.{StaysOut}
-use Rattle.run_course.proofs.Reached.{leaves-first}
-use Rattle.run_course.proofs.Telling.{card-torn, breakdowns-only}
-use Rattle.run_course.proofs.Kept.{nothing-else}
+use Rattle.minute_rules.specs.activity_codec.declared.values.Slot.{Slot}
+use Rattle.run_devices.specs.trace_model.declared.Card.{Card}
+use Rattle.run_devices.specs.trace_model.Trace.{TraceSecond}
+use Rattle.run_devices.specs.log_model.declared.lines.Break.{Break}
+use Rattle.run_devices.specs.log_model.Log.{Phase}
+use Rattle.run_devices.specs.log_model.Slots.{Slots, Sitting, same_card, in_slot}
+use Rattle.run_devices.specs.log_model.Course.{ToldSecond, Course, Visit, Before, visits, card_in as card_of_sitting, went}
+use Rattle.run_devices.specs.device_rule.Rules.{Out}
+use Rattle.run_devices.specs.safety_model.Safe.{Devices, breakdowns_of}
+use Rattle.run_devices.specs.card_slots.Calls.{seat_in, is_card}
+use Rattle.run_devices.specs.card_slots.Kept.{Kept}
+use Rattle.run_devices.specs.run_crew.Cards.{with_session, session_of}
+use Rattle.run_devices.specs.run_crew.Cabin.{left_from}
+use Rattle.run_devices.proofs.run_crew.Sessions.{same_is}
+use Rattle.run_devices.specs.run_course.Followed.{Progress}
+use Rattle.run_devices.specs.run_course.Presence.{SlotsTell}
+use Rattle.run_devices.specs.run_course.Seconds.{kept_all}
+use Rattle.run_devices.specs.run_course.Reached.{moved_at, IsTearAt}
+use Rattle.run_devices.specs.run_course.Lines.{times_of, IsTornAt}
+use Rattle.run_devices.specs.run_course.Moment.{Moment}
+use Rattle.run_devices.specs.run_course.Telling.{IsMore, IsOneOut, BrokeDown}
+use Rattle.run_devices.specs.run_course.Kept.{StaysOut}
+use Rattle.run_devices.proofs.run_course.Reached.{leaves-first}
+use Rattle.run_devices.proofs.run_course.Telling.{card-torn, breakdowns-only}
+use Rattle.run_devices.proofs.run_course.Kept.{nothing-else}
 use Rattle.run_devices.specs.Told.{DevicesPowered, for_card}
-use Rattle.run_promise.specs.Origin.{Origin, rule_of, start_at}
+use Rattle.run_devices.specs.run_promise.Origin.{Origin, rule_of, start_at}
 use Rattle.run_devices.specs.Presence.{PresentStand, IsSeated, sits}
 use Rattle.run_devices.proofs.Presence.{none-to_keep}
 use Rattle.run_record.specs.Recorded.{Values, carried, AreBack}

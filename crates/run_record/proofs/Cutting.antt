@@ -1,63 +1,63 @@
 -- A cut ends a second: behind it all is recorded.
 use Rattle.std.specs.Prelude.{IfSome, option_map, option_to_list}
-use Rattle.tacho_types.specs.CardNumber.{card_number_bytes}
-use Rattle.run_course.specs.Lines.{times_of}
-use Rattle.run_course.specs.Kept.{HasDecided}
+use Rattle.run_devices.specs.tacho_types.CardNumber.{card_number_bytes}
+use Rattle.run_devices.specs.run_course.Lines.{times_of}
+use Rattle.run_devices.specs.run_course.Kept.{HasDecided}
 use Rattle.std.proofs.Common.{◌≡◌, ◌⊎◌, inl, inr, ⊎_elim, ℕ, suc, ◌+◌, ◌-◌, ◌/◌, ◌<◌, ◌≤◌, Bool, true, false, ◌||◌, Option, Some, None, is_some, List, [], ◌∷◌, ◌++◌, All, Contains, length, refl, ap, sym, subst, ◌∙◌, arith, append-nil, append_assoc}
 use Rattle.std.specs.List.{AllByRecursion, list_any}
 use Rattle.std.proofs.lemmas.List.Elements.{All-head, All-tail, Contains-push_cases}
-use Rattle.trace_model.specs.declared.Card.{Card}
-use Rattle.trace_model.specs.declared.Card.TheVariants.{A, B}
-use Rattle.trace_model.specs.declared.Action.{Action}
-use Rattle.trace_model.specs.Trace.{TraceSecond}
-use Rattle.minute_model.specs.declared.Minute.{Minute}
-use Rattle.minute_model.specs.Span.{ungiven_of}
-use Rattle.log_model.specs.declared.lines.Break.{Break}
-use Rattle.log_model.specs.declared.lines.Mark.{Mark}
-use Rattle.log_model.specs.declared.lines.Verdict.{Verdict}
-use Rattle.log_model.specs.Log.{RunLog, Phase, In, Keeping}
-use Rattle.log_model.specs.Slots.{Slots, Sitting, is_accepted}
-use Rattle.log_model.specs.Causes.{second_of}
-use Rattle.log_model.specs.Course.{ToldSecond, Went, Course, Visit, powerless, is_settling, cut_told, went}
-use Rattle.history_model.specs.Minutes.{HistoryMinute}
-use Rattle.history_model.specs.Presence.{Start}
-use Rattle.history_model.specs.History.{seated, decided_of}
-use Rattle.history_model.specs.Book.{Book}
-use Rattle.history_model.proofs.Stilled.{minutes-still}
-use Rattle.run_unit_course.specs.Lines.{cut_at}
-use Rattle.run_unit_course.specs.Followed.{Lost}
-use Rattle.run_unit_course.specs.Legs.{stranded_at, all_travelled}
-use Rattle.run_unit_course.specs.Turn.{begins_with, span_at}
-use Rattle.card_image.specs.Own.{IsOwnValid}
-use Rattle.safety_model.specs.Safe.{Devices, card_of, breakdowns_of, entered_by, IsVerdict}
-use Rattle.run_crew.specs.declared.cards.Cards.{Cards}
-use Rattle.run_crew.specs.Cabin.{with_power_lost}
-use Rattle.run_crew.specs.Cards.{known_of, with_session, session_of}
-use Rattle.run_crew.proofs.Sessions.{all_gone}
-use Rattle.run_promise.specs.Found.{Found, found_of}
-use Rattle.run_course.specs.Moments.{and_break}
-use Rattle.run_course.specs.Followed.{Progress, BookFollowsRun}
-use Rattle.run_course.specs.Seconds.{GoesOnBy, next_told, kept_all, broken_at}
-use Rattle.run_course.specs.Presence.{SlotsTell}
-use Rattle.run_course.specs.Within.{not_begun}
-use Rattle.run_course.specs.Complete.{AllMarked}
-use Rattle.run_course.proofs.New.{are-new}
-use Rattle.run_course.proofs.Presence.{power-lost, second-gone, time-passes}
-use Rattle.run_course.proofs.Steps.{now-is, now-told}
-use Rattle.run_promise.specs.Going.{IsTakenAt}
-use Rattle.run_promise.proofs.Going.{sure-kept}
-use Rattle.run_course.specs.Telling.{begun_by, IsLeft, told_with}
-use Rattle.run_course.proofs.Reached.{push-each}
-use Rattle.run_course.proofs.Telling.{cut-ends_told}
-use Rattle.run_course.proofs.Kept.{second-decided}
-use Rattle.run_course.proofs.Cutting.{cut-decided}
+use Rattle.run_devices.specs.trace_model.declared.Card.{Card}
+use Rattle.run_devices.specs.trace_model.declared.Card.TheVariants.{A, B}
+use Rattle.run_devices.specs.trace_model.declared.Action.{Action}
+use Rattle.run_devices.specs.trace_model.Trace.{TraceSecond}
+use Rattle.minute_rules.specs.minute_model.declared.Minute.{Minute}
+use Rattle.minute_rules.specs.minute_model.Span.{ungiven_of}
+use Rattle.run_devices.specs.log_model.declared.lines.Break.{Break}
+use Rattle.run_devices.specs.log_model.declared.lines.Mark.{Mark}
+use Rattle.run_devices.specs.log_model.declared.lines.Verdict.{Verdict}
+use Rattle.run_devices.specs.log_model.Log.{RunLog, Phase, In, Keeping}
+use Rattle.run_devices.specs.log_model.Slots.{Slots, Sitting, is_accepted}
+use Rattle.run_devices.specs.log_model.Causes.{second_of}
+use Rattle.run_devices.specs.log_model.Course.{ToldSecond, Went, Course, Visit, powerless, is_settling, cut_told, went}
+use Rattle.run_devices.specs.history_model.Minutes.{HistoryMinute}
+use Rattle.run_devices.specs.history_model.Presence.{Start}
+use Rattle.run_devices.specs.history_model.History.{seated, decided_of}
+use Rattle.run_devices.specs.history_model.Book.{Book}
+use Rattle.run_devices.proofs.history_model.Stilled.{minutes-still}
+use Rattle.run_devices.specs.run_unit_course.Lines.{cut_at}
+use Rattle.run_devices.specs.run_unit_course.Followed.{Lost}
+use Rattle.run_devices.specs.run_unit_course.Legs.{stranded_at, all_travelled}
+use Rattle.run_devices.specs.run_unit_course.Turn.{begins_with, span_at}
+use Rattle.run_devices.specs.card_image.Own.{IsOwnValid}
+use Rattle.run_devices.specs.safety_model.Safe.{Devices, card_of, breakdowns_of, entered_by, IsVerdict}
+use Rattle.run_devices.specs.run_crew.declared.cards.Cards.{Cards}
+use Rattle.run_devices.specs.run_crew.Cabin.{with_power_lost}
+use Rattle.run_devices.specs.run_crew.Cards.{known_of, with_session, session_of}
+use Rattle.run_devices.proofs.run_crew.Sessions.{all_gone}
+use Rattle.run_devices.specs.run_promise.Found.{Found, found_of}
+use Rattle.run_devices.specs.run_course.Moments.{and_break}
+use Rattle.run_devices.specs.run_course.Followed.{Progress, BookFollowsRun}
+use Rattle.run_devices.specs.run_course.Seconds.{GoesOnBy, next_told, kept_all, broken_at}
+use Rattle.run_devices.specs.run_course.Presence.{SlotsTell}
+use Rattle.run_devices.specs.run_course.Within.{not_begun}
+use Rattle.run_devices.specs.run_course.Complete.{AllMarked}
+use Rattle.run_devices.proofs.run_course.New.{are-new}
+use Rattle.run_devices.proofs.run_course.Presence.{power-lost, second-gone, time-passes}
+use Rattle.run_devices.proofs.run_course.Steps.{now-is, now-told}
+use Rattle.run_devices.specs.run_promise.Going.{IsTakenAt}
+use Rattle.run_devices.proofs.run_promise.Going.{sure-kept}
+use Rattle.run_devices.specs.run_course.Telling.{begun_by, IsLeft, told_with}
+use Rattle.run_devices.proofs.run_course.Reached.{push-each}
+use Rattle.run_devices.proofs.run_course.Telling.{cut-ends_told}
+use Rattle.run_devices.proofs.run_course.Kept.{second-decided}
+use Rattle.run_devices.proofs.run_course.Cutting.{cut-decided}
 use Rattle.run_devices.specs.Told.{AreFoundCards}
-use Rattle.run_promise.specs.Origin.{Origin, rule_of, start_at, first_of, HistoryIsRecorded}
-use Rattle.run_promise.specs.Seconds.{broke_off, seated_now, seated_next, AreTaken}
-use Rattle.run_promise.specs.Ends.{recording_by, BringsAll, AreFound, AreVerdicts, AreSpared}
-use Rattle.run_promise.specs.Beside.{MayBeFound, AreFewFound}
-use Rattle.run_promise.proofs.Seconds.{second-is_broken}
-use Rattle.run_promise.proofs.Beside.{second-tells, verdicts-on, kept-on_cut}
+use Rattle.run_devices.specs.run_promise.Origin.{Origin, rule_of, start_at, first_of, HistoryIsRecorded}
+use Rattle.run_devices.specs.run_promise.Seconds.{broke_off, seated_now, seated_next, AreTaken}
+use Rattle.run_devices.specs.run_promise.Ends.{recording_by, BringsAll, AreFound, AreVerdicts, AreSpared}
+use Rattle.run_devices.specs.run_promise.Beside.{MayBeFound, AreFewFound}
+use Rattle.run_devices.proofs.run_promise.Seconds.{second-is_broken}
+use Rattle.run_devices.proofs.run_promise.Beside.{second-tells, verdicts-on, kept-on_cut}
 use Rattle.run_record.specs.Recorded.{Values, progress, carried, IsWritten, RecordUnpowered, RecordBetweenSeconds}
 use Rattle.run_record.specs.Within.{told_before, course_in, lost_minute, overlaps_by, MayBeWrittenSo, RecordAtFailure, cut_values}
 use Rattle.run_record.proofs.Left.{counted-part}
@@ -67,7 +67,7 @@ use Rattle.run_record.proofs.Parts.{verdict-by, often-by, entered-grows, entered
 use Rattle.run_record.proofs.Asked.{same-seconds, next-powers, asked-broken}
 use Rattle.run_record.proofs.HandedSteps.{handed-over}
 use Rattle.run_record.specs.Handed.{AreHandedBehind}
-use Rattle.log_model.specs.Same.{SameAt}
+use Rattle.run_devices.specs.log_model.Same.{SameAt}
 
 -- ALL MINUTES that are decided are over
 pub all-rec : (n : ℕ) (xs : List Minute) → All (λ (d : Minute). d.minute < n) xs → AllByRecursion (λ (d : Minute). d.minute < n) xs

@@ -3,11 +3,11 @@ use Rattle.std.proofs.Common.{◌≡◌, Bool, true, false, cond, not, ◌||◌,
 use Rattle.std.specs.Prelude.{◌&&◌, nat_eq}
 use Rattle.std.proofs.lemmas.List.Elements.{All-weaker, All-filter, filter-append}
 use Rattle.std.proofs.lemmas.List.Folds.{list_any-append}
-use Rattle.trace_model.specs.declared.Card.{Card}
-use Rattle.log_model.specs.declared.lines.Refused.{Refused}
-use Rattle.log_model.specs.Slots.{same_card}
-use Rattle.log_model.specs.ByHand.{Asked, is_stop, is_stopped, stops as stops_of}
-use Rattle.history_model.proofs.Filters.{filter-alike}
+use Rattle.run_devices.specs.trace_model.declared.Card.{Card}
+use Rattle.run_devices.specs.log_model.declared.lines.Refused.{Refused}
+use Rattle.run_devices.specs.log_model.Slots.{same_card}
+use Rattle.run_devices.specs.log_model.ByHand.{Asked, is_stop, is_stopped, stops as stops_of}
+use Rattle.run_devices.proofs.history_model.Filters.{filter-alike}
 use Rattle.run_record.specs.Handed.{done_for}
 
 -- a line is at the place of one that was asked

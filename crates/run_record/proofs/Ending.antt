@@ -1,49 +1,49 @@
 -- A second ends: behind it all is recorded.
-use Rattle.run_course.specs.Lines.{times_of}
-use Rattle.run_course.specs.Kept.{AreMarkedSoFar}
+use Rattle.run_devices.specs.run_course.Lines.{times_of}
+use Rattle.run_devices.specs.run_course.Kept.{AreMarkedSoFar}
 use Rattle.std.proofs.Common.{◌≡◌, ◌⊎◌, inl, inr, ⊎_elim, ℕ, suc, ◌+◌, ◌-◌, ◌/◌, ◌<◌, false, Some, None, List, [], ◌∷◌, ◌++◌, All, Contains, length, refl, ap, sym, subst, ◌∙◌, arith, append-nil}
 use Rattle.std.proofs.lemmas.List.Elements.{Contains-push_cases}
-use Rattle.trace_model.specs.declared.Card.{Card}
-use Rattle.trace_model.specs.Trace.{TraceSecond}
-use Rattle.minute_model.specs.declared.Minute.{Minute}
-use Rattle.minute_model.specs.Span.{Span, fed, ungiven_of}
+use Rattle.run_devices.specs.trace_model.declared.Card.{Card}
+use Rattle.run_devices.specs.trace_model.Trace.{TraceSecond}
+use Rattle.minute_rules.specs.minute_model.declared.Minute.{Minute}
+use Rattle.minute_rules.specs.minute_model.Span.{Span, fed, ungiven_of}
 use Rattle.minute_rules.specs.Kept.{CountsSpan}
-use Rattle.history_model.specs.Growth.{picking, settled_where}
-use Rattle.log_model.specs.declared.lines.Verdict.{Verdict}
-use Rattle.log_model.specs.Log.{RunLog, Keeping}
-use Rattle.log_model.specs.Slots.{Slots}
-use Rattle.log_model.specs.Course.{ToldSecond, Went, Course, Visit, fresh, went}
-use Rattle.history_model.specs.Minutes.{HistoryMinute}
-use Rattle.history_model.specs.History.{decided_of}
-use Rattle.history_model.specs.Book.{Book}
-use Rattle.run_unit_course.specs.Followed.{Lit}
-use Rattle.run_unit_course.specs.Legs.{Travel, travelled, all_travelled}
-use Rattle.run_unit_course.specs.Turn.{begins_with, span_at}
-use Rattle.safety_model.specs.Safe.{Devices, card_of, breakdowns_of, entered_by, IsVerdict}
-use Rattle.run_promise.specs.Found.{found_of}
-use Rattle.run_course.specs.Followed.{Progress, BookFollowsRun}
-use Rattle.run_course.specs.Seconds.{GoesOnBy, next_told, kept_all}
-use Rattle.run_course.specs.Presence.{SlotsTell}
-use Rattle.run_course.specs.Complete.{AreAcknowledged}
-use Rattle.run_course.proofs.New.{are-new}
-use Rattle.run_course.proofs.Presence.{second-gone}
-use Rattle.run_course.proofs.Steps.{now-is, now-told, rules_see}
-use Rattle.run_promise.specs.Going.{IsTakenAt}
-use Rattle.run_promise.proofs.Going.{sure-kept}
-use Rattle.run_course.specs.Moment.{goes_on}
-use Rattle.run_course.specs.Telling.{told_with}
-use Rattle.run_course.proofs.Telling.{second-ends_told}
-use Rattle.run_course.proofs.Kept.{second-decided, all-acknowledged}
+use Rattle.run_devices.specs.history_model.Growth.{picking, settled_where}
+use Rattle.run_devices.specs.log_model.declared.lines.Verdict.{Verdict}
+use Rattle.run_devices.specs.log_model.Log.{RunLog, Keeping}
+use Rattle.run_devices.specs.log_model.Slots.{Slots}
+use Rattle.run_devices.specs.log_model.Course.{ToldSecond, Went, Course, Visit, fresh, went}
+use Rattle.run_devices.specs.history_model.Minutes.{HistoryMinute}
+use Rattle.run_devices.specs.history_model.History.{decided_of}
+use Rattle.run_devices.specs.history_model.Book.{Book}
+use Rattle.run_devices.specs.run_unit_course.Followed.{Lit}
+use Rattle.run_devices.specs.run_unit_course.Legs.{Travel, travelled, all_travelled}
+use Rattle.run_devices.specs.run_unit_course.Turn.{begins_with, span_at}
+use Rattle.run_devices.specs.safety_model.Safe.{Devices, card_of, breakdowns_of, entered_by, IsVerdict}
+use Rattle.run_devices.specs.run_promise.Found.{found_of}
+use Rattle.run_devices.specs.run_course.Followed.{Progress, BookFollowsRun}
+use Rattle.run_devices.specs.run_course.Seconds.{GoesOnBy, next_told, kept_all}
+use Rattle.run_devices.specs.run_course.Presence.{SlotsTell}
+use Rattle.run_devices.specs.run_course.Complete.{AreAcknowledged}
+use Rattle.run_devices.proofs.run_course.New.{are-new}
+use Rattle.run_devices.proofs.run_course.Presence.{second-gone}
+use Rattle.run_devices.proofs.run_course.Steps.{now-is, now-told, rules_see}
+use Rattle.run_devices.specs.run_promise.Going.{IsTakenAt}
+use Rattle.run_devices.proofs.run_promise.Going.{sure-kept}
+use Rattle.run_devices.specs.run_course.Moment.{goes_on}
+use Rattle.run_devices.specs.run_course.Telling.{told_with}
+use Rattle.run_devices.proofs.run_course.Telling.{second-ends_told}
+use Rattle.run_devices.proofs.run_course.Kept.{second-decided, all-acknowledged}
 use Rattle.run_devices.specs.Presence.{PresentStand}
 use Rattle.run_devices.proofs.Presence.{next-begins}
-use Rattle.run_promise.specs.Origin.{Origin, rule_of, start_at, first_of, HistoryIsRecorded}
-use Rattle.run_promise.specs.Seconds.{went_on, seated_now, AreTaken}
-use Rattle.run_promise.specs.Ends.{recording_by, BringsAll, AreFound, AreVerdicts, AreSpared}
-use Rattle.run_promise.specs.Beside.{MayBeFound, AreFewFound}
-use Rattle.run_promise.proofs.Seconds.{second-is_recorded}
-use Rattle.run_promise.proofs.Beside.{second-tells, verdicts-on, kept-on}
-use Rattle.unit_model.specs.Image.{odometer_at}
-use Rattle.unit_rule.specs.Odometer.{odometer_after}
+use Rattle.run_devices.specs.run_promise.Origin.{Origin, rule_of, start_at, first_of, HistoryIsRecorded}
+use Rattle.run_devices.specs.run_promise.Seconds.{went_on, seated_now, AreTaken}
+use Rattle.run_devices.specs.run_promise.Ends.{recording_by, BringsAll, AreFound, AreVerdicts, AreSpared}
+use Rattle.run_devices.specs.run_promise.Beside.{MayBeFound, AreFewFound}
+use Rattle.run_devices.proofs.run_promise.Seconds.{second-is_recorded}
+use Rattle.run_devices.proofs.run_promise.Beside.{second-tells, verdicts-on, kept-on}
+use Rattle.run_devices.specs.unit_model.Image.{odometer_at}
+use Rattle.run_devices.specs.unit_rule.Odometer.{odometer_after}
 use Rattle.run_record.specs.Recorded.{Values, progress, AreBack, IsWritten}
 use Rattle.run_record.specs.Within.{told_before, course_in, overlaps_by, MayBeWrittenSo, RecordInSecond, passed_values, RecordedFrom}
 use Rattle.run_record.proofs.Cutting.{marks-all}
@@ -55,8 +55,8 @@ use Rattle.run_record.proofs.Parts.{still, verdict-by, often-by, entered-grows, 
 use Rattle.run_record.proofs.Asked.{same-seconds, next-powers, asked-whole}
 use Rattle.run_record.proofs.HandedSteps.{handed-over, none-less}
 use Rattle.run_record.specs.Handed.{AreHandedBehind}
-use Rattle.log_model.specs.Same.{SameAt}
-use Rattle.run_crew.specs.Cards.{session_of}
+use Rattle.run_devices.specs.log_model.Same.{SameAt}
+use Rattle.run_devices.specs.run_crew.Cards.{session_of}
 
 -- minutes that are kept add nothing to what was travelled before the span
 pub same-before : (ds : List Minute) (g : Travel) → (all_travelled ds g).before ≡ g.before

@@ -1,29 +1,29 @@
 -- A second is fed behind all of its actions: its keeping comes, and these minutes are to be kept.
 use Rattle.std.proofs.Common.{◌≡◌, inl, ℕ, zero, suc, ◌+◌, ◌-◌, ◌/◌, ◌≤◌, Some, None, List, [], ◌++◌, length, refl, ap, sym, subst, ◌∙◌, arith, length-append}
 use Rattle.std.proofs.lemmas.List.{length-map, take_all}
-use Rattle.trace_model.specs.Trace.{TraceSecond}
-use Rattle.trace_model.specs.declared.Action.{Action}
-use Rattle.minute_model.specs.declared.Minute.{Minute}
-use Rattle.minute_model.proofs.Counted.{judged, decided-counted}
-use Rattle.minute_model.specs.Span.{Span, fed, count_from, decided_in, ungiven_of}
+use Rattle.run_devices.specs.trace_model.Trace.{TraceSecond}
+use Rattle.run_devices.specs.trace_model.declared.Action.{Action}
+use Rattle.minute_rules.specs.minute_model.declared.Minute.{Minute}
+use Rattle.minute_rules.proofs.minute_model.Counted.{judged, decided-counted}
+use Rattle.minute_rules.specs.minute_model.Span.{Span, fed, count_from, decided_in, ungiven_of}
 use Rattle.minute_rules.specs.Kept.{Kept, CountsSpan}
-use Rattle.log_model.specs.Log.{In, Keeping}
-use Rattle.log_model.specs.Course.{ToldSecond, Course, went}
-use Rattle.safety_model.specs.Safe.{Devices, breakdowns_of}
-use Rattle.run_course.specs.Followed.{Progress}
-use Rattle.run_course.specs.Presence.{SlotsTell}
-use Rattle.run_course.specs.Moment.{Moment}
-use Rattle.run_course.specs.Kept.{HasDecided, AreMarkedSoFar}
-use Rattle.run_course.proofs.Telling.{keeping-comes}
-use Rattle.run_course.proofs.Kept.{second-fed}
-use Rattle.run_promise.specs.Origin.{Origin, rule_of, start_at}
+use Rattle.run_devices.specs.log_model.Log.{In, Keeping}
+use Rattle.run_devices.specs.log_model.Course.{ToldSecond, Course, went}
+use Rattle.run_devices.specs.safety_model.Safe.{Devices, breakdowns_of}
+use Rattle.run_devices.specs.run_course.Followed.{Progress}
+use Rattle.run_devices.specs.run_course.Presence.{SlotsTell}
+use Rattle.run_devices.specs.run_course.Moment.{Moment}
+use Rattle.run_devices.specs.run_course.Kept.{HasDecided, AreMarkedSoFar}
+use Rattle.run_devices.proofs.run_course.Telling.{keeping-comes}
+use Rattle.run_devices.proofs.run_course.Kept.{second-fed}
+use Rattle.run_devices.specs.run_promise.Origin.{Origin, rule_of, start_at}
 use Rattle.run_devices.specs.Presence.{PresentStand}
 use Rattle.run_record.specs.Recorded.{Values}
 use Rattle.run_record.specs.Within.{told_before, course_in, IsFoundSo, MayBeWrittenSo, IsSparedSo, RecordInSecond, SecondGoesOn}
 use Rattle.run_record.proofs.Back.{back-plain}
 use Rattle.run_record.proofs.HandedSteps.{handed-on}
 use Rattle.run_record.specs.Handed.{asked_so_far}
-use Rattle.run_crew.specs.Cards.{session_of}
+use Rattle.run_devices.specs.run_crew.Cards.{session_of}
 
 many : (a n : ℕ) → length (count_from a n) ≡ n
 many a zero = refl

@@ -2,64 +2,64 @@
 use Rattle.std.proofs.Common.{◌≡◌, ◌⊎◌, inl, inr, ⊎_elim, ℕ, zero, suc, ◌+◌, ◌-◌, ◌/◌, ◌%◌, ◌<◌, ◌≤◌, true, false, None, List, [], ◌∷◌, ◌++◌, Contains, length, map, refl, ap, sym, subst, ◌∙◌, arith, append_assoc}
 use Rattle.std.specs.Prelude.{max}
 use Rattle.std.proofs.lemmas.List.{same_from_push}
-use Rattle.trace_model.specs.declared.Card.{Card}
-use Rattle.trace_model.specs.declared.Action.{Action}
-use Rattle.trace_model.specs.Trace.{TraceSecond, driven, dark}
-use Rattle.minute_model.specs.declared.Rule.{Rule}
-use Rattle.minute_model.specs.Minute.{minutes_ahead}
-use Rattle.minute_model.specs.Span.{Span, end_of, fed_many, ungiven_of, latest}
-use Rattle.minute_model.proofs.Counted.{ungiven-most}
-use Rattle.minute_model.proofs.Spans.{fed_many-end, fed_many-rule, fed_many-first_number, fed_many-settlings}
+use Rattle.run_devices.specs.trace_model.declared.Card.{Card}
+use Rattle.run_devices.specs.trace_model.declared.Action.{Action}
+use Rattle.run_devices.specs.trace_model.Trace.{TraceSecond, driven, dark}
+use Rattle.minute_rules.specs.minute_model.declared.Rule.{Rule}
+use Rattle.minute_rules.specs.minute_model.Minute.{minutes_ahead}
+use Rattle.minute_rules.specs.minute_model.Span.{Span, end_of, fed_many, ungiven_of, latest}
+use Rattle.minute_rules.proofs.minute_model.Counted.{ungiven-most}
+use Rattle.minute_rules.proofs.minute_model.Spans.{fed_many-end, fed_many-rule, fed_many-first_number, fed_many-settlings}
 use Rattle.minute_rules.specs.Kept.{Kept, CountsSpan}
-use Rattle.log_model.specs.declared.lines.Mark.{Mark}
-use Rattle.log_model.specs.declared.lines.Refused.{Refused}
-use Rattle.log_model.specs.Log.{RunLog}
-use Rattle.log_model.specs.Slots.{Slots, is_accepted}
-use Rattle.log_model.specs.Causes.{refusals_at, refusal_told}
-use Rattle.log_model.specs.Course.{ToldSecond, Went, powerless, fresh, went, without_power, has_power}
-use Rattle.log_model.specs.ByHand.{Asked, asked_of, is_stop}
-use Rattle.history_model.specs.Growth.{as_span}
-use Rattle.history_model.specs.Minutes.{HistoryMinute}
-use Rattle.history_model.specs.Presence.{Start}
-use Rattle.history_model.specs.Book.{not_begun}
-use Rattle.history_model.proofs.Deciding.{counted}
-use Rattle.device_rule.specs.Rules.{Standing, Out}
-use Rattle.run_unit_course.specs.Followed.{UnitPower, Lit, Due, Lost, IsDark}
-use Rattle.run_unit_course.specs.Legs.{not_travelled}
-use Rattle.run_unit_course.specs.Lines.{cut_at}
-use Rattle.run_unit_course.specs.Turn.{span_at, cut_at_end}
-use Rattle.run_unit_course.proofs.Parts.{driven-order, driven-length, dark-order, dark-length}
-use Rattle.safety_model.specs.Safe.{Devices, card_of, breakdowns_of, entered_by}
-use Rattle.safety_model.specs.Hands.{sessions_in}
-use Rattle.card_slots.specs.Kept.{Kept as SlotsKept, nothing_yet}
-use Rattle.run_crew.specs.declared.cards.Cards.{Cards}
-use Rattle.run_crew.specs.declared.cabin.Cabin.{Cabin}
-use Rattle.run_crew.specs.Cabin.{with_power_lost}
-use Rattle.run_crew.proofs.Sessions.{all_gone}
-use Rattle.run_crew.specs.Cards.{session_of}
-use Rattle.run_promise.specs.Found.{Found, found_of}
-use Rattle.run_promise.specs.Between.{RunLedger}
-use Rattle.run_promise.proofs.End.{lit-carried}
-use Rattle.run_course.specs.Followed.{Progress, BookFollowsRun}
-use Rattle.run_course.specs.Moments.{and_break}
-use Rattle.run_course.specs.Presence.{SlotsTell}
-use Rattle.run_course.specs.Quiet.{quiet_second, quiet_seconds}
-use Rattle.run_course.specs.Dark.{all_dark}
-use Rattle.run_course.proofs.Dark.{lost-are-told, off-are-told, dark-tell}
-use Rattle.run_course.proofs.Logs.{went-refused}
-use Rattle.run_course.proofs.Presence.{nobody-sits, last-cut}
-use Rattle.run_course.proofs.Quiet.{quiet-are-told, rules-see-quiet, quiet-tell}
-use Rattle.run_course.proofs.Steps.{span-end, lit-parts, cut-parts}
+use Rattle.run_devices.specs.log_model.declared.lines.Mark.{Mark}
+use Rattle.run_devices.specs.log_model.declared.lines.Refused.{Refused}
+use Rattle.run_devices.specs.log_model.Log.{RunLog}
+use Rattle.run_devices.specs.log_model.Slots.{Slots, is_accepted}
+use Rattle.run_devices.specs.log_model.Causes.{refusals_at, refusal_told}
+use Rattle.run_devices.specs.log_model.Course.{ToldSecond, Went, powerless, fresh, went, without_power, has_power}
+use Rattle.run_devices.specs.log_model.ByHand.{Asked, asked_of, is_stop}
+use Rattle.run_devices.specs.history_model.Growth.{as_span}
+use Rattle.run_devices.specs.history_model.Minutes.{HistoryMinute}
+use Rattle.run_devices.specs.history_model.Presence.{Start}
+use Rattle.run_devices.specs.history_model.Book.{not_begun}
+use Rattle.run_devices.proofs.history_model.Deciding.{counted}
+use Rattle.run_devices.specs.device_rule.Rules.{Standing, Out}
+use Rattle.run_devices.specs.run_unit_course.Followed.{UnitPower, Lit, Due, Lost, IsDark}
+use Rattle.run_devices.specs.run_unit_course.Legs.{not_travelled}
+use Rattle.run_devices.specs.run_unit_course.Lines.{cut_at}
+use Rattle.run_devices.specs.run_unit_course.Turn.{span_at, cut_at_end}
+use Rattle.run_devices.proofs.run_unit_course.Parts.{driven-order, driven-length, dark-order, dark-length}
+use Rattle.run_devices.specs.safety_model.Safe.{Devices, card_of, breakdowns_of, entered_by}
+use Rattle.run_devices.specs.safety_model.Hands.{sessions_in}
+use Rattle.run_devices.specs.card_slots.Kept.{Kept as SlotsKept, nothing_yet}
+use Rattle.run_devices.specs.run_crew.declared.cards.Cards.{Cards}
+use Rattle.run_devices.specs.run_crew.declared.cabin.Cabin.{Cabin}
+use Rattle.run_devices.specs.run_crew.Cabin.{with_power_lost}
+use Rattle.run_devices.proofs.run_crew.Sessions.{all_gone}
+use Rattle.run_devices.specs.run_crew.Cards.{session_of}
+use Rattle.run_devices.specs.run_promise.Found.{Found, found_of}
+use Rattle.run_devices.specs.run_promise.Between.{RunLedger}
+use Rattle.run_devices.proofs.run_promise.End.{lit-carried}
+use Rattle.run_devices.specs.run_course.Followed.{Progress, BookFollowsRun}
+use Rattle.run_devices.specs.run_course.Moments.{and_break}
+use Rattle.run_devices.specs.run_course.Presence.{SlotsTell}
+use Rattle.run_devices.specs.run_course.Quiet.{quiet_second, quiet_seconds}
+use Rattle.run_devices.specs.run_course.Dark.{all_dark}
+use Rattle.run_devices.proofs.run_course.Dark.{lost-are-told, off-are-told, dark-tell}
+use Rattle.run_devices.proofs.run_course.Logs.{went-refused}
+use Rattle.run_devices.proofs.run_course.Presence.{nobody-sits, last-cut}
+use Rattle.run_devices.proofs.run_course.Quiet.{quiet-are-told, rules-see-quiet, quiet-tell}
+use Rattle.run_devices.proofs.run_course.Steps.{span-end, lit-parts, cut-parts}
 use Rattle.run_devices.specs.Presence.{PresentStand}
 use Rattle.run_devices.proofs.Presence.{next-begins}
 use Rattle.run_devices.specs.Told.{DevicesPowered, DevicesUnpowered}
 use Rattle.run_devices.proofs.Parts.{held-dark}
-use Rattle.run_promise.specs.Origin.{Origin, rule_of, start_at, first_of}
-use Rattle.run_promise.specs.Ends.{recording_by, AreFound, AreVerdicts, AreSpared, MayBeWritten}
-use Rattle.run_promise.specs.Beside.{TellsMore, AreIdle, AreFewFound}
-use Rattle.run_promise.specs.Seconds.{empty_log, at_start}
-use Rattle.run_promise.proofs.Beside.{dark-tells, off-tells, off-cut-tells, quiet-tells, idle-verdicts, idle-spared, idle-few, few-on, written-on, entered-same, kept-cut}
-use Rattle.run_promise.proofs.Seconds as seconds
+use Rattle.run_devices.specs.run_promise.Origin.{Origin, rule_of, start_at, first_of}
+use Rattle.run_devices.specs.run_promise.Ends.{recording_by, AreFound, AreVerdicts, AreSpared, MayBeWritten}
+use Rattle.run_devices.specs.run_promise.Beside.{TellsMore, AreIdle, AreFewFound}
+use Rattle.run_devices.specs.run_promise.Seconds.{empty_log, at_start}
+use Rattle.run_devices.proofs.run_promise.Beside.{dark-tells, off-tells, off-cut-tells, quiet-tells, idle-verdicts, idle-spared, idle-few, few-on, written-on, entered-same, kept-cut}
+use Rattle.run_devices.proofs.run_promise.Seconds as seconds
 use Rattle.run_record.specs.Recorded.{Values, progress, carried, slots_of, AreBack, IsWrittenSince, IsWritten, RecordPowered, RecordUnpowered, RecordBetweenSeconds}
 use Rattle.run_record.specs.Within.{RecordedFrom}
 use Rattle.run_record.specs.Going.{dark_values, DarkSecondsStayRecorded, off_values, AnOffLineStaysRecorded, off_cut_values, AnOffCutStaysRecorded, quiet_values, quiet_span, QuietSecondsStayRecorded, MayStart, ARunBegins}
@@ -68,12 +68,12 @@ use Rattle.run_record.proofs.Cutting.{found-cut, dark-seat}
 use Rattle.run_record.proofs.Stays.{since-later, since-cut}
 use Rattle.run_record.specs.Handed.{done_for, AreToldOf, asked_for}
 use Rattle.run_record.proofs.HandedSteps.{go-as, known-none, hands-none, handed-idle, none-less}
-use Rattle.hand_model.specs.Written.{no_hands}
+use Rattle.run_devices.specs.hand_model.Written.{no_hands}
 use Rattle.run_record.proofs.Asked.{asked-unlit, asked-refused, asked-off, asked-cut_off, asked-driven}
-use Rattle.run_course.proofs.Told.{lost-dark}
+use Rattle.run_devices.proofs.run_course.Told.{lost-dark}
 use Rattle.std.proofs.lemmas.List.Elements.{All-nil}
 use Rattle.run_record.proofs.Stopped.{stopped-as}
-use Rattle.safety_model.specs.ByHand.{IsStoppedBy}
+use Rattle.run_devices.specs.safety_model.ByHand.{IsStoppedBy}
 use Rattle.run_record.specs.HeldHands.{IsKnown}
 
 -- ---- no card enters in some seconds more

@@ -2,31 +2,31 @@
 use Rattle.std.proofs.Common.{◌≡◌, inl, ⊎_elim, ℕ, Option, Some, None, List, [], ◌∷◌, ◌++◌, map, refl, ap, sym, ◌∙◌, subst, arith, append-nil, inr}
 use Rattle.std.specs.Prelude.{flat_map}
 use Rattle.std.proofs.lemmas.Grind.{flat_map-append}
-use Rattle.trace_model.specs.declared.Card.{Card}
-use Rattle.trace_model.specs.Trace.{TraceSecond}
-use Rattle.log_model.specs.declared.lines.Mark.{Mark}
-use Rattle.log_model.specs.declared.lines.Refused.{Refused}
-use Rattle.log_model.specs.declared.lines.Verdict.{Verdict}
-use Rattle.log_model.specs.Causes.{device_of}
-use Rattle.log_model.specs.Log.{RunLog, Phase, In}
-use Rattle.log_model.specs.Course.{ToldSecond, Visit, Course, went}
-use Rattle.log_model.specs.ByHand.{Asked, asked_of}
-use Rattle.hand_model.specs.Written.{Hands, no_hands}
-use Rattle.safety_model.specs.Unit.{marks_of}
-use Rattle.safety_model.specs.Hands.{Session, sessions_of, sessions_found, sessions_in}
-use Rattle.run_promise.specs.Found.{Found}
-use Rattle.run_promise.specs.Cards.{FirstKeep}
-use Rattle.run_promise.specs.Beside.{CardsTold, cards_of, TellsMore, AreIdle}
-use Rattle.run_crew.specs.declared.cards.Accepted.{Accepted}
+use Rattle.run_devices.specs.trace_model.declared.Card.{Card}
+use Rattle.run_devices.specs.trace_model.Trace.{TraceSecond}
+use Rattle.run_devices.specs.log_model.declared.lines.Mark.{Mark}
+use Rattle.run_devices.specs.log_model.declared.lines.Refused.{Refused}
+use Rattle.run_devices.specs.log_model.declared.lines.Verdict.{Verdict}
+use Rattle.run_devices.specs.log_model.Causes.{device_of}
+use Rattle.run_devices.specs.log_model.Log.{RunLog, Phase, In}
+use Rattle.run_devices.specs.log_model.Course.{ToldSecond, Visit, Course, went}
+use Rattle.run_devices.specs.log_model.ByHand.{Asked, asked_of}
+use Rattle.run_devices.specs.hand_model.Written.{Hands, no_hands}
+use Rattle.run_devices.specs.safety_model.Unit.{marks_of}
+use Rattle.run_devices.specs.safety_model.Hands.{Session, sessions_of, sessions_found, sessions_in}
+use Rattle.run_devices.specs.run_promise.Found.{Found}
+use Rattle.run_devices.specs.run_promise.Cards.{FirstKeep}
+use Rattle.run_devices.specs.run_promise.Beside.{CardsTold, cards_of, TellsMore, AreIdle}
+use Rattle.run_devices.specs.run_crew.declared.cards.Accepted.{Accepted}
 use Rattle.run_record.specs.HeldHands.{HandsGo, WasKnown, WasKnownLast}
 use Rattle.run_record.specs.Handed.{actions_to, asked_so_far, done_for, sessions_so_far, AreToldOf, AreHanded, StayOrEnd, AreHandedBehind, AreHandedIn, asked_for}
 use Rattle.run_record.proofs.HandsFold.{hands-gone}
-use Rattle.trace_model.specs.declared.Card.TheVariants.{A, B}
-use Rattle.run_crew.specs.declared.cards.Cards.{Cards}
-use Rattle.run_crew.specs.Cards.{session_of, with_session}
+use Rattle.run_devices.specs.trace_model.declared.Card.TheVariants.{A, B}
+use Rattle.run_devices.specs.run_crew.declared.cards.Cards.{Cards}
+use Rattle.run_devices.specs.run_crew.Cards.{session_of, with_session}
 use Rattle.run_record.proofs.Stopped.{stopped-as, known-behind, stopped-behind}
-use Rattle.history_model.specs.Minutes.{HistoryMinute}
-use Rattle.history_model.specs.Presence.{Start}
+use Rattle.run_devices.specs.history_model.Minutes.{HistoryMinute}
+use Rattle.run_devices.specs.history_model.Presence.{Start}
 
 -- the same sessions, the same done, the same marks, the same session
 pub go-as : (all now : List Session) (done after_it : List Asked) (marks ms : List Mark) (h : Hands) (firsts : List FirstKeep) (x y : Option Accepted) → all ≡ now → done ≡ after_it → marks ≡ ms → x ≡ y → HandsGo all done marks h firsts x → HandsGo now after_it ms h firsts y

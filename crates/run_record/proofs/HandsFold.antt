@@ -5,21 +5,21 @@ use Rattle.std.proofs.lemmas.Bool.{leb-true, ltb-true}
 use Rattle.std.proofs.lemmas.Bool.Decides.{nat_tests}
 use Rattle.std.proofs.lemmas.List.{same_from_push, map-append}
 use Rattle.std.proofs.lemmas.List.Elements.{All-nil, All-append, All-weaker, All-contains, All-contains_itself, filter-append, Contains-append_left, Contains-append_right, Contains-append_cases, Contains-push, Contains-push_cases}
-use Rattle.activity_codec.specs.declared.entries.Manual.{Manual}
-use Rattle.trace_model.specs.declared.Card.{Card}
-use Rattle.log_model.specs.declared.lines.Mark.{Mark}
-use Rattle.log_model.specs.Causes.{device_of}
-use Rattle.log_model.specs.ByHand.{Asked}
-use Rattle.history_model.proofs.Filters.{filter-alike, filter-none, filter-whole, all-one}
-use Rattle.hand_model.specs.Holding.{Holding, none_held, begun_by, first_of, of_day}
-use Rattle.hand_model.specs.Written.{Hands, IsPartOf, and_sure, and_given}
-use Rattle.hand_model.proofs.Written.{part_self, part_both, part_wider}
-use Rattle.safety_model.specs.Recording.{Recording}
-use Rattle.safety_model.specs.Unit.{marks_of}
-use Rattle.safety_model.specs.Hands.{Session, IsFirstOf, hand_of, is_behind, is_within, is_between, of_session, sessions, done as done_of}
-use Rattle.run_promise.specs.Cards.{FirstKeep, and_first}
-use Rattle.run_promise.specs.Between.{HandsFollowed}
-use Rattle.run_crew.specs.declared.cards.Accepted.{Accepted}
+use Rattle.minute_rules.specs.activity_codec.declared.entries.Manual.{Manual}
+use Rattle.run_devices.specs.trace_model.declared.Card.{Card}
+use Rattle.run_devices.specs.log_model.declared.lines.Mark.{Mark}
+use Rattle.run_devices.specs.log_model.Causes.{device_of}
+use Rattle.run_devices.specs.log_model.ByHand.{Asked}
+use Rattle.run_devices.proofs.history_model.Filters.{filter-alike, filter-none, filter-whole, all-one}
+use Rattle.run_devices.specs.hand_model.Holding.{Holding, none_held, begun_by, first_of, of_day}
+use Rattle.run_devices.specs.hand_model.Written.{Hands, IsPartOf, and_sure, and_given}
+use Rattle.run_devices.proofs.hand_model.Written.{part_self, part_both, part_wider}
+use Rattle.run_devices.specs.safety_model.Recording.{Recording}
+use Rattle.run_devices.specs.safety_model.Unit.{marks_of}
+use Rattle.run_devices.specs.safety_model.Hands.{Session, IsFirstOf, hand_of, is_behind, is_within, is_between, of_session, sessions, done as done_of}
+use Rattle.run_devices.specs.run_promise.Cards.{FirstKeep, and_first}
+use Rattle.run_devices.specs.run_promise.Between.{HandsFollowed}
+use Rattle.run_devices.specs.run_crew.declared.cards.Accepted.{Accepted}
 use Rattle.run_record.specs.HeldHands.{WasWritten, HandsGo}
 
 -- ---- lists

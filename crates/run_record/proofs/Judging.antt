@@ -2,34 +2,34 @@
 use Rattle.std.proofs.Common.{◌≡◌, ◌⊎◌, inl, inr, ⊎_elim, ℕ, ◌≤◌, Bool, true, false, cond, is_some, Option, Some, None, List, [], ◌∷◌, ◌++◌, Contains, map, refl, ap, sym, subst, ◌∙◌, arith}
 use Rattle.std.specs.Prelude.{option_map}
 use Rattle.std.proofs.lemmas.List.Elements.{Contains-push_cases}
-use Rattle.activity_codec.specs.declared.values.Slot.{Slot}
-use Rattle.trace_model.specs.declared.Card.{Card}
-use Rattle.trace_model.specs.Trace.{TraceSecond}
-use Rattle.log_model.specs.declared.lines.Find.{Find}
-use Rattle.log_model.specs.declared.lines.Mark.{Mark}
-use Rattle.log_model.specs.declared.lines.Verdict.{Verdict}
-use Rattle.log_model.specs.Log.{Phase, is_accepting}
-use Rattle.log_model.specs.Slots.{Slots, Sitting, in_slot, same_card}
-use Rattle.log_model.specs.Course.{ToldSecond, Course, Visit, card_in, with_slot, went}
-use Rattle.device_rule.specs.Rules.{Standing}
-use Rattle.safety_model.specs.Safe.{Devices, card_of, breakdowns_of}
-use Rattle.card_slots.specs.Kept.{Kept}
-use Rattle.run_crew.specs.declared.cabin.Cabin.{Cabin}
-use Rattle.run_crew.specs.Cards.{session_of}
-use Rattle.run_promise.specs.Found.{found_of}
-use Rattle.run_course.specs.Moments.{and_find}
-use Rattle.run_course.specs.Followed.{Progress}
-use Rattle.run_course.specs.Presence.{SlotsTell}
-use Rattle.run_course.specs.Within.{IsFoundOf}
-use Rattle.run_course.proofs.Within.{acceptance-tells}
-use Rattle.run_course.specs.Moment.{Moment}
-use Rattle.run_course.specs.Kept.{HasDecided, AreMarkedSoFar}
-use Rattle.run_course.specs.Telling.{IsMore}
-use Rattle.run_course.proofs.Telling.{breakdowns-only, card-judged}
-use Rattle.run_course.proofs.Kept.{nothing-else, marks-stay}
+use Rattle.minute_rules.specs.activity_codec.declared.values.Slot.{Slot}
+use Rattle.run_devices.specs.trace_model.declared.Card.{Card}
+use Rattle.run_devices.specs.trace_model.Trace.{TraceSecond}
+use Rattle.run_devices.specs.log_model.declared.lines.Find.{Find}
+use Rattle.run_devices.specs.log_model.declared.lines.Mark.{Mark}
+use Rattle.run_devices.specs.log_model.declared.lines.Verdict.{Verdict}
+use Rattle.run_devices.specs.log_model.Log.{Phase, is_accepting}
+use Rattle.run_devices.specs.log_model.Slots.{Slots, Sitting, in_slot, same_card}
+use Rattle.run_devices.specs.log_model.Course.{ToldSecond, Course, Visit, card_in, with_slot, went}
+use Rattle.run_devices.specs.device_rule.Rules.{Standing}
+use Rattle.run_devices.specs.safety_model.Safe.{Devices, card_of, breakdowns_of}
+use Rattle.run_devices.specs.card_slots.Kept.{Kept}
+use Rattle.run_devices.specs.run_crew.declared.cabin.Cabin.{Cabin}
+use Rattle.run_devices.specs.run_crew.Cards.{session_of}
+use Rattle.run_devices.specs.run_promise.Found.{found_of}
+use Rattle.run_devices.specs.run_course.Moments.{and_find}
+use Rattle.run_devices.specs.run_course.Followed.{Progress}
+use Rattle.run_devices.specs.run_course.Presence.{SlotsTell}
+use Rattle.run_devices.specs.run_course.Within.{IsFoundOf}
+use Rattle.run_devices.proofs.run_course.Within.{acceptance-tells}
+use Rattle.run_devices.specs.run_course.Moment.{Moment}
+use Rattle.run_devices.specs.run_course.Kept.{HasDecided, AreMarkedSoFar}
+use Rattle.run_devices.specs.run_course.Telling.{IsMore}
+use Rattle.run_devices.proofs.run_course.Telling.{breakdowns-only, card-judged}
+use Rattle.run_devices.proofs.run_course.Kept.{nothing-else, marks-stay}
 use Rattle.run_devices.specs.Presence.{PresentStand, IsSeated, sits}
 use Rattle.run_devices.proofs.Presence.{none-to_keep}
-use Rattle.run_promise.specs.Origin.{Origin, rule_of, start_at}
+use Rattle.run_devices.specs.run_promise.Origin.{Origin, rule_of, start_at}
 use Rattle.run_record.specs.Recorded.{Values, AreBack, SitsAccepted, GoesOnIn}
 use Rattle.run_record.specs.Within.{told_before, course_in, VerdictBy, often, IsFoundSo, MayBeWrittenSo, IsSparedSo, RecordInSecond}
 use Rattle.run_record.specs.Judging.{IsAcceptedSo, IsSeatedBy, IsAccepted, IsJudged, ACardIsJudged, AJudgingFails}
@@ -40,9 +40,9 @@ use Rattle.run_record.proofs.Written.{written-judged, accepted-written, accepted
 use Rattle.run_record.proofs.Sitting.{another, sits-with, seated-still, verdicts-later}
 use Rattle.run_record.proofs.Opened.{MayBe, as-opened, none-opened, judged-handed}
 use Rattle.run_record.specs.Handed.{AreHandedIn}
-use Rattle.run_promise.specs.Cards.{CardMarksHold}
-use Rattle.run_crew.specs.declared.cards.Accepted.{Accepted}
-use Rattle.run_course.specs.Seconds.{kept_all}
+use Rattle.run_devices.specs.run_promise.Cards.{CardMarksHold}
+use Rattle.run_devices.specs.run_crew.declared.cards.Accepted.{Accepted}
+use Rattle.run_devices.specs.run_course.Seconds.{kept_all}
 
 -- one find is another
 abbrev IsSame : Visit × Verdict → Visit × Verdict → Type 0

@@ -2,31 +2,31 @@
 use Rattle.std.proofs.Common.{◌≡◌, ⊎_elim, ℕ, ◌<◌, ◌≤◌, Option, Some, None, List, [], ◌++◌, All, Contains, refl, ap, sym, subst, ◌∙◌, arith, append-nil}
 use Rattle.std.specs.Prelude.{option_to_list}
 use Rattle.std.proofs.lemmas.List.Elements.{All-contains}
-use Rattle.activity_codec.specs.declared.values.Slot.{Slot}
-use Rattle.activity_codec.specs.declared.values.Slot.TheVariants.{Driver, CoDriver}
-use Rattle.trace_model.specs.declared.Card.{Card}
-use Rattle.trace_model.specs.Trace.{TraceSecond}
-use Rattle.log_model.specs.Log.{Phase}
-use Rattle.log_model.specs.Slots.{Slots, Sitting, in_slot}
-use Rattle.log_model.specs.Course.{ToldSecond, Visit}
-use Rattle.history_model.specs.Minutes.{HistoryMinute}
-use Rattle.history_model.specs.Presence.{Start}
-use Rattle.history_model.specs.Book.{Book, all, IsMark, Ordered}
-use Rattle.device_rule.specs.Views.{unit_view}
-use Rattle.minute_model.specs.declared.Minute.{Minute}
-use Rattle.unit_model.specs.Image.{last_kept}
-use Rattle.unit_rule.specs.Rule.{once_mended}
-use Rattle.unit_rule.specs.Marks.{UnitFollowsBook}
-use Rattle.unit_rule.proofs.Moves.{shown-last}
-use Rattle.safety_model.specs.Safe.{Devices}
-use Rattle.card_slots.specs.declared.seats.Seat.{Seat}
-use Rattle.card_slots.specs.Calls.{seat_in}
-use Rattle.card_slots.specs.Kept.{Kept, put_in, cut_off}
-use Rattle.run_course.specs.Presence.{IsNewest, SitsAs, SlotsTell}
-use Rattle.run_course.specs.Seconds.{kept_all}
-use Rattle.run_promise.specs.Going.{IsTakenAt}
-use Rattle.run_promise.proofs.Going.{sure-kept}
-use Rattle.run_promise.specs.Origin.{Origin, first_of}
+use Rattle.minute_rules.specs.activity_codec.declared.values.Slot.{Slot}
+use Rattle.minute_rules.specs.activity_codec.declared.values.Slot.TheVariants.{Driver, CoDriver}
+use Rattle.run_devices.specs.trace_model.declared.Card.{Card}
+use Rattle.run_devices.specs.trace_model.Trace.{TraceSecond}
+use Rattle.run_devices.specs.log_model.Log.{Phase}
+use Rattle.run_devices.specs.log_model.Slots.{Slots, Sitting, in_slot}
+use Rattle.run_devices.specs.log_model.Course.{ToldSecond, Visit}
+use Rattle.run_devices.specs.history_model.Minutes.{HistoryMinute}
+use Rattle.run_devices.specs.history_model.Presence.{Start}
+use Rattle.run_devices.specs.history_model.Book.{Book, all, IsMark, Ordered}
+use Rattle.run_devices.specs.device_rule.Views.{unit_view}
+use Rattle.minute_rules.specs.minute_model.declared.Minute.{Minute}
+use Rattle.run_devices.specs.unit_model.Image.{last_kept}
+use Rattle.run_devices.specs.unit_rule.Rule.{once_mended}
+use Rattle.run_devices.specs.unit_rule.Marks.{UnitFollowsBook}
+use Rattle.run_devices.proofs.unit_rule.Moves.{shown-last}
+use Rattle.run_devices.specs.safety_model.Safe.{Devices}
+use Rattle.run_devices.specs.card_slots.declared.seats.Seat.{Seat}
+use Rattle.run_devices.specs.card_slots.Calls.{seat_in}
+use Rattle.run_devices.specs.card_slots.Kept.{Kept, put_in, cut_off}
+use Rattle.run_devices.specs.run_course.Presence.{IsNewest, SitsAs, SlotsTell}
+use Rattle.run_devices.specs.run_course.Seconds.{kept_all}
+use Rattle.run_devices.specs.run_promise.Going.{IsTakenAt}
+use Rattle.run_devices.proofs.run_promise.Going.{sure-kept}
+use Rattle.run_devices.specs.run_promise.Origin.{Origin, first_of}
 use Rattle.run_record.specs.Recorded.{Values}
 use Rattle.run_record.specs.Within.{RecordInSecond}
 

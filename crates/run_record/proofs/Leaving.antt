@@ -1,38 +1,38 @@
 -- The card of a slot leaves it: its session is not closed yet.
 use Rattle.std.proofs.Common.{◌≡◌, ◌⊎◌, inl, inr, ⊎_elim, ℕ, suc, ◌+◌, ◌/◌, ◌≤◌, Bool, true, Option, Some, None, IfSome, is_some, List, [], ◌∷◌, ◌++◌, Contains, length, map, refl, ap, sym, subst, ◌∙◌, arith}
 use Rattle.std.specs.Prelude.{if◌then◌else◌}
-use Rattle.activity_codec.specs.declared.values.Slot.{Slot}
-use Rattle.activity_codec.specs.declared.values.Slot.TheVariants.{Driver, CoDriver}
-use Rattle.trace_model.specs.declared.Card.{Card}
-use Rattle.trace_model.specs.declared.Action.{Action}
-use Rattle.trace_model.specs.declared.Action.TheVariants.{Withdraw}
-use Rattle.trace_model.specs.Trace.{TraceSecond}
-use Rattle.minute_model.specs.declared.Minute.{Minute}
-use Rattle.minute_model.specs.Span.{settled, decided_in}
+use Rattle.minute_rules.specs.activity_codec.declared.values.Slot.{Slot}
+use Rattle.minute_rules.specs.activity_codec.declared.values.Slot.TheVariants.{Driver, CoDriver}
+use Rattle.run_devices.specs.trace_model.declared.Card.{Card}
+use Rattle.run_devices.specs.trace_model.declared.Action.{Action}
+use Rattle.run_devices.specs.trace_model.declared.Action.TheVariants.{Withdraw}
+use Rattle.run_devices.specs.trace_model.Trace.{TraceSecond}
+use Rattle.minute_rules.specs.minute_model.declared.Minute.{Minute}
+use Rattle.minute_rules.specs.minute_model.Span.{settled, decided_in}
 use Rattle.minute_rules.specs.Kept.{Kept, CountsSpan}
-use Rattle.log_model.specs.declared.lines.SlotFault.{SlotFault}
-use Rattle.log_model.specs.Log.{In}
-use Rattle.log_model.specs.Slots.{Sitting, in_slot, refusal}
-use Rattle.log_model.specs.Course.{ToldSecond, Course, Visit, Before, Moved, visits, card_in as card_of_sitting, moved_by, carried_out, went}
-use Rattle.safety_model.specs.Safe.{Devices, breakdowns_of}
-use Rattle.card_slots.specs.declared.seats.Seat.{Seat}
-use Rattle.card_slots.specs.declared.seats.Present.{Present}
-use Rattle.card_slots.specs.Calls.{seat_in, card_in, is_card, present_in}
-use Rattle.card_slots.specs.Kept.{SitsSince, SitStill, left_of}
-use Rattle.card_slots.proofs.Newest.{found_sits}
-use Rattle.run_crew.specs.Cards.{session_of}
-use Rattle.run_crew.proofs.Sessions.{same_self, same_is}
-use Rattle.run_course.specs.Followed.{Progress}
-use Rattle.run_course.specs.Presence.{SlotsTell}
-use Rattle.run_course.proofs.Presence.{taken-out}
-use Rattle.run_course.specs.Reached.{moved_at}
-use Rattle.run_course.specs.Lines.{times_of}
-use Rattle.run_course.specs.Moment.{Moment}
-use Rattle.run_course.specs.Kept.{HasDecided}
-use Rattle.run_course.proofs.Reached.{action-reached}
-use Rattle.run_course.proofs.Moment.{reaches-of, action-done}
-use Rattle.run_course.proofs.Kept.{settling-decides}
-use Rattle.run_promise.specs.Origin.{Origin, rule_of, start_at}
+use Rattle.run_devices.specs.log_model.declared.lines.SlotFault.{SlotFault}
+use Rattle.run_devices.specs.log_model.Log.{In}
+use Rattle.run_devices.specs.log_model.Slots.{Sitting, in_slot, refusal}
+use Rattle.run_devices.specs.log_model.Course.{ToldSecond, Course, Visit, Before, Moved, visits, card_in as card_of_sitting, moved_by, carried_out, went}
+use Rattle.run_devices.specs.safety_model.Safe.{Devices, breakdowns_of}
+use Rattle.run_devices.specs.card_slots.declared.seats.Seat.{Seat}
+use Rattle.run_devices.specs.card_slots.declared.seats.Present.{Present}
+use Rattle.run_devices.specs.card_slots.Calls.{seat_in, card_in, is_card, present_in}
+use Rattle.run_devices.specs.card_slots.Kept.{SitsSince, SitStill, left_of}
+use Rattle.run_devices.proofs.card_slots.Newest.{found_sits}
+use Rattle.run_devices.specs.run_crew.Cards.{session_of}
+use Rattle.run_devices.proofs.run_crew.Sessions.{same_self, same_is}
+use Rattle.run_devices.specs.run_course.Followed.{Progress}
+use Rattle.run_devices.specs.run_course.Presence.{SlotsTell}
+use Rattle.run_devices.proofs.run_course.Presence.{taken-out}
+use Rattle.run_devices.specs.run_course.Reached.{moved_at}
+use Rattle.run_devices.specs.run_course.Lines.{times_of}
+use Rattle.run_devices.specs.run_course.Moment.{Moment}
+use Rattle.run_devices.specs.run_course.Kept.{HasDecided}
+use Rattle.run_devices.proofs.run_course.Reached.{action-reached}
+use Rattle.run_devices.proofs.run_course.Moment.{reaches-of, action-done}
+use Rattle.run_devices.proofs.run_course.Kept.{settling-decides}
+use Rattle.run_devices.specs.run_promise.Origin.{Origin, rule_of, start_at}
 use Rattle.run_devices.specs.Presence.{sits}
 use Rattle.run_devices.proofs.Presence.{step-leaves}
 use Rattle.run_record.specs.Recorded.{Values}
@@ -46,7 +46,7 @@ use Rattle.run_record.proofs.Until.{settles-to, settles-here}
 use Rattle.run_record.proofs.Onward.{IsStep, steps-on}
 use Rattle.run_record.proofs.Putting.{still-goes, slot-itself}
 use Rattle.run_record.proofs.Asked.{asked-quiet}
-use Rattle.log_model.specs.ByHand.{asks}
+use Rattle.run_devices.specs.log_model.ByHand.{asks}
 
 module _ (o : Origin) (done : List TraceSecond) (s : TraceSecond) (v : Values) (d : Devices) (front : List Action) (slot : Slot) (card : Card) (rest : List Action) (are : s.actions ≡ front ++ Withdraw slot ∷ rest)
     (w : RecordInSecond o done s (In (length front)) [] None [] v d) (is : refusal (course_in w.b done s (In (length front)) v.log).slots s.speed (Withdraw slot) ≡ None) (seated : card_in (seat_in v.cabin.slots.seats slot) ≡ Some card)

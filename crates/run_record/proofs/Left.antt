@@ -1,18 +1,18 @@
 -- What was found stays found as more was left; minutes that follow one another, and one more in the book.
 use Rattle.std.proofs.Common.{◌≡◌, ◌⊎◌, inl, inr, ⊎_elim, ℕ, suc, ◌+◌, List, [], ◌∷◌, ◌++◌, Contains, length, map, ap, ◌∙◌, arith}
-use Rattle.trace_model.specs.declared.Card.{Card}
-use Rattle.trace_model.specs.Trace.{TraceSecond}
-use Rattle.minute_model.specs.declared.Minute.{Minute}
-use Rattle.minute_model.specs.Span.{count_from}
-use Rattle.log_model.specs.declared.lines.Mark.{Mark}
-use Rattle.log_model.specs.declared.lines.Verdict.{Verdict}
-use Rattle.log_model.specs.declared.lines.Verdict.TheVariants.{Accepted, NotValid, TimeOverlap}
-use Rattle.log_model.specs.Log.{RunLog}
-use Rattle.safety_model.specs.Recording.{brought}
-use Rattle.safety_model.specs.Safe.{IsVerdict}
-use Rattle.run_promise.specs.Origin.{Origin}
-use Rattle.run_promise.specs.Ends.{recording_by, BringsAll}
-use Rattle.run_promise.proofs.Beside.{marked-on}
+use Rattle.run_devices.specs.trace_model.declared.Card.{Card}
+use Rattle.run_devices.specs.trace_model.Trace.{TraceSecond}
+use Rattle.minute_rules.specs.minute_model.declared.Minute.{Minute}
+use Rattle.minute_rules.specs.minute_model.Span.{count_from}
+use Rattle.run_devices.specs.log_model.declared.lines.Mark.{Mark}
+use Rattle.run_devices.specs.log_model.declared.lines.Verdict.{Verdict}
+use Rattle.run_devices.specs.log_model.declared.lines.Verdict.TheVariants.{Accepted, NotValid, TimeOverlap}
+use Rattle.run_devices.specs.log_model.Log.{RunLog}
+use Rattle.run_devices.specs.safety_model.Recording.{brought}
+use Rattle.run_devices.specs.safety_model.Safe.{IsVerdict}
+use Rattle.run_devices.specs.run_promise.Origin.{Origin}
+use Rattle.run_devices.specs.run_promise.Ends.{recording_by, BringsAll}
+use Rattle.run_devices.proofs.run_promise.Beside.{marked-on}
 use Rattle.run_record.specs.Within.{Beginning, SeenBy, BringsBy, VerdictBy}
 
 -- what was found may be found as more was left

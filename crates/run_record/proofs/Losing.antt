@@ -1,42 +1,42 @@
 -- A card that waits is accepted and torn out in one call.
 use Rattle.std.proofs.Common.{◌≡◌, inl, ⊎_elim, ℕ, zero, suc, ◌≤◌, Bool, true, false, cond, is_some, Option, Some, None, List, [], ◌∷◌, ◌++◌, Contains, map, refl, ap, sym, subst, ◌∙◌, arith, inr}
 use Rattle.std.specs.Prelude.{option_map, slice_get}
-use Rattle.activity_codec.specs.declared.values.Slot.{Slot}
-use Rattle.activity_codec.specs.declared.values.Slot.TheVariants.{Driver, CoDriver}
-use Rattle.trace_model.specs.declared.Card.{Card}
-use Rattle.trace_model.specs.declared.Action.{Action}
-use Rattle.trace_model.specs.declared.Action.TheVariants.{Select, Insert, Withdraw, Tear as Pull, Place, Manual}
-use Rattle.trace_model.specs.Trace.{TraceSecond}
-use Rattle.log_model.specs.declared.lines.Break.{Break}
-use Rattle.log_model.specs.declared.lines.Find.{Find}
-use Rattle.log_model.specs.declared.lines.Mark.{Mark}
-use Rattle.log_model.specs.declared.lines.SlotFault.{SlotFault}
-use Rattle.log_model.specs.declared.lines.Verdict.{Verdict}
-use Rattle.log_model.specs.Log.{RunLog, Phase, In, Keeping, is_torn_in}
-use Rattle.log_model.specs.Slots.{Slots, Sitting, in_slot, refusal}
-use Rattle.log_model.specs.Course.{ToldSecond, Course, Before, Visit, visits, card_in, with_slot, moved_by, went}
-use Rattle.event_model.specs.Events.{course_by}
-use Rattle.device_rule.specs.Rules.{Standing}
-use Rattle.safety_model.specs.Safe.{Devices, breakdowns_of, card_of}
-use Rattle.card_slots.specs.Kept.{Kept}
-use Rattle.run_crew.specs.declared.cabin.Cabin.{Cabin}
-use Rattle.run_crew.specs.Cards.{session_of}
-use Rattle.run_course.specs.Moments.{and_break, and_find}
-use Rattle.run_course.specs.Followed.{Progress}
-use Rattle.run_course.specs.Presence.{SlotsTell}
-use Rattle.run_course.proofs.Within.{tear-tells}
-use Rattle.run_course.specs.Reached.{moved_with, moved_at}
-use Rattle.run_course.specs.Lines.{IsTornAt}
-use Rattle.run_course.specs.Moment.{Moment}
-use Rattle.run_course.specs.Telling.{IsOneOut}
-use Rattle.run_course.specs.Kept.{HasDecided, AreMarkedSoFar}
-use Rattle.run_course.proofs.Reached.{enters-first}
-use Rattle.run_course.proofs.Lines.{who-sits}
-use Rattle.run_course.proofs.Telling.{card-torn}
-use Rattle.run_course.proofs.Kept.{nothing-else, marks-stay}
+use Rattle.minute_rules.specs.activity_codec.declared.values.Slot.{Slot}
+use Rattle.minute_rules.specs.activity_codec.declared.values.Slot.TheVariants.{Driver, CoDriver}
+use Rattle.run_devices.specs.trace_model.declared.Card.{Card}
+use Rattle.run_devices.specs.trace_model.declared.Action.{Action}
+use Rattle.run_devices.specs.trace_model.declared.Action.TheVariants.{Select, Insert, Withdraw, Tear as Pull, Place, Manual}
+use Rattle.run_devices.specs.trace_model.Trace.{TraceSecond}
+use Rattle.run_devices.specs.log_model.declared.lines.Break.{Break}
+use Rattle.run_devices.specs.log_model.declared.lines.Find.{Find}
+use Rattle.run_devices.specs.log_model.declared.lines.Mark.{Mark}
+use Rattle.run_devices.specs.log_model.declared.lines.SlotFault.{SlotFault}
+use Rattle.run_devices.specs.log_model.declared.lines.Verdict.{Verdict}
+use Rattle.run_devices.specs.log_model.Log.{RunLog, Phase, In, Keeping, is_torn_in}
+use Rattle.run_devices.specs.log_model.Slots.{Slots, Sitting, in_slot, refusal}
+use Rattle.run_devices.specs.log_model.Course.{ToldSecond, Course, Before, Visit, visits, card_in, with_slot, moved_by, went}
+use Rattle.run_devices.specs.event_model.Events.{course_by}
+use Rattle.run_devices.specs.device_rule.Rules.{Standing}
+use Rattle.run_devices.specs.safety_model.Safe.{Devices, breakdowns_of, card_of}
+use Rattle.run_devices.specs.card_slots.Kept.{Kept}
+use Rattle.run_devices.specs.run_crew.declared.cabin.Cabin.{Cabin}
+use Rattle.run_devices.specs.run_crew.Cards.{session_of}
+use Rattle.run_devices.specs.run_course.Moments.{and_break, and_find}
+use Rattle.run_devices.specs.run_course.Followed.{Progress}
+use Rattle.run_devices.specs.run_course.Presence.{SlotsTell}
+use Rattle.run_devices.proofs.run_course.Within.{tear-tells}
+use Rattle.run_devices.specs.run_course.Reached.{moved_with, moved_at}
+use Rattle.run_devices.specs.run_course.Lines.{IsTornAt}
+use Rattle.run_devices.specs.run_course.Moment.{Moment}
+use Rattle.run_devices.specs.run_course.Telling.{IsOneOut}
+use Rattle.run_devices.specs.run_course.Kept.{HasDecided, AreMarkedSoFar}
+use Rattle.run_devices.proofs.run_course.Reached.{enters-first}
+use Rattle.run_devices.proofs.run_course.Lines.{who-sits}
+use Rattle.run_devices.proofs.run_course.Telling.{card-torn}
+use Rattle.run_devices.proofs.run_course.Kept.{nothing-else, marks-stay}
 use Rattle.run_devices.specs.Presence.{PresentStand, IsSeated, sits}
 use Rattle.run_devices.proofs.Presence.{none-to_keep}
-use Rattle.run_promise.specs.Origin.{Origin, rule_of, start_at}
+use Rattle.run_devices.specs.run_promise.Origin.{Origin, rule_of, start_at}
 use Rattle.run_record.specs.Recorded.{Values, AreBack, GoesOnIn}
 use Rattle.run_record.specs.Within.{told_before, course_in, often, IsFoundSo, MayBeWrittenSo, IsSparedSo, RecordInSecond}
 use Rattle.run_record.specs.Judging.{IsJudged}
@@ -49,10 +49,10 @@ use Rattle.run_record.proofs.Judging as judged
 use Rattle.run_record.proofs.Asked.{asked-torn}
 use Rattle.run_record.proofs.HandedSteps.{handed-fewer}
 use Rattle.run_record.specs.Handed.{StayOrEnd, AreHandedIn}
-use Rattle.run_promise.specs.Cards.{CardMarksHold}
-use Rattle.run_crew.specs.declared.cards.Accepted.{Accepted}
-use Rattle.run_course.specs.Seconds.{kept_all}
-use Rattle.run_promise.specs.Found.{found_of}
+use Rattle.run_devices.specs.run_promise.Cards.{CardMarksHold}
+use Rattle.run_devices.specs.run_crew.declared.cards.Accepted.{Accepted}
+use Rattle.run_devices.specs.run_course.Seconds.{kept_all}
+use Rattle.run_devices.specs.run_promise.Found.{found_of}
 
 -- where a card enters none is taken out, whatever else is told
 stays-in : (n : ℕ) (o later : Option SlotFault) (a : Action) (slots now : Slots) (x y : Slot) → (moved_by n o a slots).enters x ≡ true → (moved_by n later a now).leaving y ≡ []

@@ -2,22 +2,22 @@
 use Rattle.std.proofs.Common.{◌≡◌, ℕ, zero, suc, ◌+◌, Bool, true, false, cond, Option, Some, None, List, [], ◌∷◌, ◌++◌, map, refl, ap, sym, ◌∙◌, append-nil, append_assoc}
 use Rattle.std.specs.Prelude.{option_map, slice_get, flat_map}
 use Rattle.std.specs.List.{list_any}
-use Rattle.activity_codec.specs.declared.values.Slot.{Slot}
-use Rattle.activity_codec.specs.declared.values.Slot.TheVariants.{Driver, CoDriver}
-use Rattle.trace_model.specs.declared.Action.{Action}
-use Rattle.trace_model.specs.declared.Action.TheVariants.{Select, Insert, Withdraw, Tear as Pull, Place, Manual}
-use Rattle.trace_model.specs.Trace.{TraceSecond}
-use Rattle.log_model.specs.declared.lines.Break.{Break}
-use Rattle.log_model.specs.declared.lines.SlotFault.{SlotFault}
-use Rattle.log_model.specs.declared.lines.Verdict.{Verdict}
-use Rattle.log_model.specs.Log.{RunLog, Phase, In, Keeping, is_torn_in, found_in, is_accepting}
-use Rattle.log_model.specs.Slots.{Slots, Sitting, in_slot, refusal}
-use Rattle.log_model.specs.Course.{Course, Visit, Before, Moved, visits, with_slot, leaves, slot_told, both_told, moved_by, carried_out, answered}
-use Rattle.run_course.specs.Moments.{and_break}
-use Rattle.run_course.proofs.Lookups.{break-more}
-use Rattle.run_course.specs.Reached.{moved_with, course_with, begun_at, moved_at, course_at, IsUpTo}
-use Rattle.run_course.proofs.Reached.{tear-up_to}
-use Rattle.run_course.proofs.Lines.{tear-begun}
+use Rattle.minute_rules.specs.activity_codec.declared.values.Slot.{Slot}
+use Rattle.minute_rules.specs.activity_codec.declared.values.Slot.TheVariants.{Driver, CoDriver}
+use Rattle.run_devices.specs.trace_model.declared.Action.{Action}
+use Rattle.run_devices.specs.trace_model.declared.Action.TheVariants.{Select, Insert, Withdraw, Tear as Pull, Place, Manual}
+use Rattle.run_devices.specs.trace_model.Trace.{TraceSecond}
+use Rattle.run_devices.specs.log_model.declared.lines.Break.{Break}
+use Rattle.run_devices.specs.log_model.declared.lines.SlotFault.{SlotFault}
+use Rattle.run_devices.specs.log_model.declared.lines.Verdict.{Verdict}
+use Rattle.run_devices.specs.log_model.Log.{RunLog, Phase, In, Keeping, is_torn_in, found_in, is_accepting}
+use Rattle.run_devices.specs.log_model.Slots.{Slots, Sitting, in_slot, refusal}
+use Rattle.run_devices.specs.log_model.Course.{Course, Visit, Before, Moved, visits, with_slot, leaves, slot_told, both_told, moved_by, carried_out, answered}
+use Rattle.run_devices.specs.run_course.Moments.{and_break}
+use Rattle.run_devices.proofs.run_course.Lookups.{break-more}
+use Rattle.run_devices.specs.run_course.Reached.{moved_with, course_with, begun_at, moved_at, course_at, IsUpTo}
+use Rattle.run_devices.proofs.run_course.Reached.{tear-up_to}
+use Rattle.run_devices.proofs.run_course.Lines.{tear-begun}
 use Rattle.run_record.specs.Taking.{AreTearsAt}
 
 -- A SLOT THAT IS EMPTY is so still, whatever is told of a moment

@@ -3,19 +3,19 @@ use Rattle.std.proofs.Common.{◌≡◌, ⊎_elim, suc, ◌≤◌, ◌%◌, Bool
 use Rattle.std.specs.Prelude.{nat_eq, max}
 use Rattle.std.proofs.lemmas.List.Elements.{Contains-append_left, Contains-append_cases, Contains-push, Contains-push_cases}
 use Rattle.std.proofs.Math.Nat.{le-max_right}
-use Rattle.activity_codec.specs.declared.entries.Entry.{Entry}
-use Rattle.minute_model.specs.Activity.{last}
-use Rattle.trace_model.specs.declared.Card.{Card}
+use Rattle.minute_rules.specs.activity_codec.declared.entries.Entry.{Entry}
+use Rattle.minute_rules.specs.minute_model.Activity.{last}
+use Rattle.run_devices.specs.trace_model.declared.Card.{Card}
 use Rattle.tach_media.specs.Medium.{State}
-use Rattle.log_model.specs.declared.lines.Mark.{Mark}
-use Rattle.card_retention.specs.Retains.{Rise}
-use Rattle.history_model.specs.Minutes.{HistoryMinute, card_history}
-use Rattle.history_model.specs.Book.{Book}
-use Rattle.history_model.specs.Presence.{CardStart, closed_at, trimmed_by}
-use Rattle.history_model.proofs.Books.{all-none}
-use Rattle.device_rule.proofs.Pairs.{last-append}
-use Rattle.run_promise.specs.Found.{CardFound}
-use Rattle.run_promise.specs.Cards.{brought_by, IsCardHeld}
+use Rattle.run_devices.specs.log_model.declared.lines.Mark.{Mark}
+use Rattle.run_devices.specs.card_retention.Retains.{Rise}
+use Rattle.run_devices.specs.history_model.Minutes.{HistoryMinute, card_history}
+use Rattle.run_devices.specs.history_model.Book.{Book}
+use Rattle.run_devices.specs.history_model.Presence.{CardStart, closed_at, trimmed_by}
+use Rattle.run_devices.proofs.history_model.Books.{all-none}
+use Rattle.run_devices.proofs.device_rule.Pairs.{last-append}
+use Rattle.run_devices.specs.run_promise.Found.{CardFound}
+use Rattle.run_devices.specs.run_promise.Cards.{brought_by, IsCardHeld}
 
 closed-least : (e : Entry) → e.minute ≤ closed_at (Some e)
 closed-least e = by (nat_eq (suc e.minute % 1440) 0)

@@ -1,30 +1,30 @@
 -- A second goes on behind a step in which nothing was found and no minute was kept; or the unit failed in that step.
 use Rattle.std.proofs.Common.{◌≡◌, ◌⊎◌, inl, inr, ⊎_elim, ◌+◌, ◌-◌, ◌≤◌, None, List, [], ◌++◌, Contains, length, refl, ap, sym, subst, ◌∙◌, arith, Option}
-use Rattle.trace_model.specs.declared.Card.{Card}
-use Rattle.trace_model.specs.Trace.{TraceSecond}
-use Rattle.run_model.specs.declared.Device.TheVariants.{Unit as Recorder}
-use Rattle.minute_model.specs.declared.Minute.{Minute}
-use Rattle.minute_model.specs.Span.{Span, ungiven_of}
+use Rattle.run_devices.specs.trace_model.declared.Card.{Card}
+use Rattle.run_devices.specs.trace_model.Trace.{TraceSecond}
+use Rattle.run_devices.specs.run_model.declared.Device.TheVariants.{Unit as Recorder}
+use Rattle.minute_rules.specs.minute_model.declared.Minute.{Minute}
+use Rattle.minute_rules.specs.minute_model.Span.{Span, ungiven_of}
 use Rattle.minute_rules.specs.Kept.{CountsSpan}
-use Rattle.log_model.specs.declared.lines.Mark.{Mark}
-use Rattle.log_model.specs.declared.lines.Verdict.{Verdict}
-use Rattle.log_model.specs.Log.{Phase, Keeping}
-use Rattle.log_model.specs.Causes.{RoseBy}
-use Rattle.log_model.specs.Course.{ToldSecond, Course, Visit, went}
-use Rattle.device_rule.specs.Rules.{Standing}
-use Rattle.run_unit_course.specs.Legs.{all_travelled}
-use Rattle.unit_model.specs.Image.{odometer_at}
-use Rattle.unit_rule.specs.Odometer.{HasTravelled}
-use Rattle.safety_model.specs.Safe.{Devices, card_of, breakdowns_of}
-use Rattle.run_promise.specs.Found.{found_of}
-use Rattle.run_course.specs.Presence.{SlotsTell}
-use Rattle.run_course.specs.Seconds.{kept_all}
-use Rattle.run_course.specs.Lines.{times_of}
-use Rattle.run_course.specs.Moment.{Moment}
-use Rattle.run_course.specs.Kept.{HasDecided, AreMarkedSoFar, StaysOut}
-use Rattle.run_course.proofs.Kept.{marks-stay}
+use Rattle.run_devices.specs.log_model.declared.lines.Mark.{Mark}
+use Rattle.run_devices.specs.log_model.declared.lines.Verdict.{Verdict}
+use Rattle.run_devices.specs.log_model.Log.{Phase, Keeping}
+use Rattle.run_devices.specs.log_model.Causes.{RoseBy}
+use Rattle.run_devices.specs.log_model.Course.{ToldSecond, Course, Visit, went}
+use Rattle.run_devices.specs.device_rule.Rules.{Standing}
+use Rattle.run_devices.specs.run_unit_course.Legs.{all_travelled}
+use Rattle.run_devices.specs.unit_model.Image.{odometer_at}
+use Rattle.run_devices.specs.unit_rule.Odometer.{HasTravelled}
+use Rattle.run_devices.specs.safety_model.Safe.{Devices, card_of, breakdowns_of}
+use Rattle.run_devices.specs.run_promise.Found.{found_of}
+use Rattle.run_devices.specs.run_course.Presence.{SlotsTell}
+use Rattle.run_devices.specs.run_course.Seconds.{kept_all}
+use Rattle.run_devices.specs.run_course.Lines.{times_of}
+use Rattle.run_devices.specs.run_course.Moment.{Moment}
+use Rattle.run_devices.specs.run_course.Kept.{HasDecided, AreMarkedSoFar, StaysOut}
+use Rattle.run_devices.proofs.run_course.Kept.{marks-stay}
 use Rattle.run_devices.specs.Told.{AreFoundCards, DevicesPowered, DevicesUnpowered}
-use Rattle.run_promise.specs.Origin.{Origin, rule_of, start_at}
+use Rattle.run_devices.specs.run_promise.Origin.{Origin, rule_of, start_at}
 use Rattle.run_devices.specs.Presence.{PresentStand}
 use Rattle.run_record.specs.Recorded.{Values, carried, GoesOnIn}
 use Rattle.run_record.specs.Within.{told_before, course_in, overlaps_by, IsFoundSo, MayBeWrittenSo, IsSparedSo, AreBackAt, AreOld, GoesOnSo, RecordInSecond, SecondGoesOn, RecordAtFailure}
@@ -32,9 +32,9 @@ use Rattle.run_record.proofs.Left.{verdict-left}
 use Rattle.run_record.proofs.Sitting.{verdicts-later}
 use Rattle.run_record.proofs.Stays.{since-on}
 use Rattle.run_record.proofs.Until.{up-to}
-use Rattle.log_model.specs.declared.lines.Refused.{Refused}
-use Rattle.run_crew.specs.declared.cards.Accepted.{Accepted}
-use Rattle.run_crew.specs.Cards.{session_of}
+use Rattle.run_devices.specs.log_model.declared.lines.Refused.{Refused}
+use Rattle.run_devices.specs.run_crew.declared.cards.Accepted.{Accepted}
+use Rattle.run_devices.specs.run_crew.Cards.{session_of}
 use Rattle.run_record.specs.Handed.{actions_to, asked_so_far, StayOrEnd, AreHandedIn}
 use Rattle.run_record.proofs.HandedSteps.{handed-fewer}
 

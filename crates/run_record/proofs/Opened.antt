@@ -5,52 +5,52 @@ use Rattle.std.specs.List.{AllByRecursion}
 use Rattle.std.proofs.lemmas.Bool.Decides.{nat_tests}
 use Rattle.std.proofs.lemmas.List.{length-map, length-take, map-append}
 use Rattle.std.proofs.lemmas.List.Elements.{All-nil, All-cons, All-append, All-head, All-map, All-tail, All-weaker, All-contains, All-contains_itself, filter-append, Contains-append_left, Contains-append_right, Contains-append_cases, Contains-push, Contains-push_cases, All-filter}
-use Rattle.activity_codec.specs.declared.entries.Entry.{Entry}
-use Rattle.trace_model.specs.declared.Action.{Action}
-use Rattle.trace_model.specs.declared.Card.{Card}
-use Rattle.trace_model.specs.declared.Card.TheVariants.{A, B}
-use Rattle.trace_model.specs.Trace.{TraceSecond}
-use Rattle.minute_model.specs.declared.Minute.{Minute}
-use Rattle.minute_model.specs.Span.{count_from, decided_in, ungiven_of}
-use Rattle.minute_model.proofs.Counted.{decided-minutes}
-use Rattle.log_model.specs.declared.lines.Find.{Find}
-use Rattle.log_model.specs.declared.lines.Mark.{Mark}
-use Rattle.log_model.specs.declared.lines.Verdict.{Verdict}
-use Rattle.log_model.specs.Log.{Phase, In, is_accepting}
-use Rattle.log_model.specs.Slots.{same_card}
-use Rattle.log_model.specs.Causes.{device_of}
-use Rattle.log_model.specs.Course.{ToldSecond, Visit, Course, went}
-use Rattle.log_model.specs.ByHand.{Asked}
-use Rattle.history_model.specs.Minutes.{HistoryMinute, card_history}
-use Rattle.history_model.specs.History.{decided_of, minutes_after}
-use Rattle.history_model.specs.Book.{Book, all, IsMark, Ordered}
-use Rattle.run_unit_course.specs.Turn.{span_at}
-use Rattle.device_rule.specs.Own.{own_number, own_view}
-use Rattle.device_rule.specs.Views.{unit_view, other}
-use Rattle.card_image.specs.Own.{IsOwnValid}
-use Rattle.hand_model.specs.Holding.{none_held}
-use Rattle.safety_model.specs.Recording.{card_image, unit_seen, brought as brought_at, Recording}
-use Rattle.safety_model.specs.Safe.{Devices, card_of, IsVerdict}
-use Rattle.safety_model.specs.Unit.{marks_of, Increase}
-use Rattle.safety_model.specs.Cards.{acceptances}
-use Rattle.safety_model.specs.Hands.{Session, begun_at, brought_by, sessions_of, sessions_found, sessions_in, is_behind}
-use Rattle.run_course.specs.Moments.{and_find}
-use Rattle.run_course.specs.Seconds.{kept_all}
-use Rattle.run_course.proofs.Logs.{all-before}
-use Rattle.run_promise.specs.Found.{found_of}
-use Rattle.run_promise.specs.Cards.{IsCardHeld, CardMarksHold, brought_by as entries_brought}
-use Rattle.run_promise.specs.Going.{acceptances_in, IsTakenAt}
-use Rattle.run_promise.specs.Accounts.{so_far}
-use Rattle.run_promise.specs.Origin.{Origin, rule_of, start_at, first_of}
-use Rattle.run_promise.proofs.Accounts.{last-of}
-use Rattle.run_promise.proofs.Behind.{said-by, owed-until, rising-above}
-use Rattle.run_promise.proofs.Beside.{found-tells}
-use Rattle.run_promise.proofs.Going.{sure-kept}
-use Rattle.run_promise.proofs.Lines.{counted-from, seated-from}
-use Rattle.run_crew.specs.declared.cabin.Cabin.{Cabin}
-use Rattle.run_crew.specs.declared.cards.Accepted.{Accepted}
-use Rattle.run_crew.specs.Cards.{session_of}
-use Rattle.run_crew.proofs.Sessions.{same_is}
+use Rattle.minute_rules.specs.activity_codec.declared.entries.Entry.{Entry}
+use Rattle.run_devices.specs.trace_model.declared.Action.{Action}
+use Rattle.run_devices.specs.trace_model.declared.Card.{Card}
+use Rattle.run_devices.specs.trace_model.declared.Card.TheVariants.{A, B}
+use Rattle.run_devices.specs.trace_model.Trace.{TraceSecond}
+use Rattle.minute_rules.specs.minute_model.declared.Minute.{Minute}
+use Rattle.minute_rules.specs.minute_model.Span.{count_from, decided_in, ungiven_of}
+use Rattle.minute_rules.proofs.minute_model.Counted.{decided-minutes}
+use Rattle.run_devices.specs.log_model.declared.lines.Find.{Find}
+use Rattle.run_devices.specs.log_model.declared.lines.Mark.{Mark}
+use Rattle.run_devices.specs.log_model.declared.lines.Verdict.{Verdict}
+use Rattle.run_devices.specs.log_model.Log.{Phase, In, is_accepting}
+use Rattle.run_devices.specs.log_model.Slots.{same_card}
+use Rattle.run_devices.specs.log_model.Causes.{device_of}
+use Rattle.run_devices.specs.log_model.Course.{ToldSecond, Visit, Course, went}
+use Rattle.run_devices.specs.log_model.ByHand.{Asked}
+use Rattle.run_devices.specs.history_model.Minutes.{HistoryMinute, card_history}
+use Rattle.run_devices.specs.history_model.History.{decided_of, minutes_after}
+use Rattle.run_devices.specs.history_model.Book.{Book, all, IsMark, Ordered}
+use Rattle.run_devices.specs.run_unit_course.Turn.{span_at}
+use Rattle.run_devices.specs.device_rule.Own.{own_number, own_view}
+use Rattle.run_devices.specs.device_rule.Views.{unit_view, other}
+use Rattle.run_devices.specs.card_image.Own.{IsOwnValid}
+use Rattle.run_devices.specs.hand_model.Holding.{none_held}
+use Rattle.run_devices.specs.safety_model.Recording.{card_image, unit_seen, brought as brought_at, Recording}
+use Rattle.run_devices.specs.safety_model.Safe.{Devices, card_of, IsVerdict}
+use Rattle.run_devices.specs.safety_model.Unit.{marks_of, Increase}
+use Rattle.run_devices.specs.safety_model.Cards.{acceptances}
+use Rattle.run_devices.specs.safety_model.Hands.{Session, begun_at, brought_by, sessions_of, sessions_found, sessions_in, is_behind}
+use Rattle.run_devices.specs.run_course.Moments.{and_find}
+use Rattle.run_devices.specs.run_course.Seconds.{kept_all}
+use Rattle.run_devices.proofs.run_course.Logs.{all-before}
+use Rattle.run_devices.specs.run_promise.Found.{found_of}
+use Rattle.run_devices.specs.run_promise.Cards.{IsCardHeld, CardMarksHold, brought_by as entries_brought}
+use Rattle.run_devices.specs.run_promise.Going.{acceptances_in, IsTakenAt}
+use Rattle.run_devices.specs.run_promise.Accounts.{so_far}
+use Rattle.run_devices.specs.run_promise.Origin.{Origin, rule_of, start_at, first_of}
+use Rattle.run_devices.proofs.run_promise.Accounts.{last-of}
+use Rattle.run_devices.proofs.run_promise.Behind.{said-by, owed-until, rising-above}
+use Rattle.run_devices.proofs.run_promise.Beside.{found-tells}
+use Rattle.run_devices.proofs.run_promise.Going.{sure-kept}
+use Rattle.run_devices.proofs.run_promise.Lines.{counted-from, seated-from}
+use Rattle.run_devices.specs.run_crew.declared.cabin.Cabin.{Cabin}
+use Rattle.run_devices.specs.run_crew.declared.cards.Accepted.{Accepted}
+use Rattle.run_devices.specs.run_crew.Cards.{session_of}
+use Rattle.run_devices.proofs.run_crew.Sessions.{same_is}
 use Rattle.run_devices.specs.Told.{card_marks}
 use Rattle.run_devices.proofs.Marked.{own-marks, other-marks}
 use Rattle.run_record.specs.Recorded.{Values}
@@ -63,13 +63,13 @@ use Rattle.run_record.proofs.HandedSteps.{go-as, known-as, known-none}
 use Rattle.run_record.proofs.HandsFold.{hands-taken, hands-accepted, hands-gone}
 use Rattle.run_record.proofs.Left.{counted-part}
 use Rattle.run_record.proofs.Written.{accepted-valid}
-use Rattle.history_model.specs.Presence.{CardStart, trimmed_by, newest_minute}
-use Rattle.minute_model.proofs.Ranges.{last-push}
-use Rattle.log_model.specs.declared.lines.Verdict.TheVariants.{Accepted as Takes, NotValid, TimeOverlap}
-use Rattle.run_promise.specs.Ends.{recording_by}
+use Rattle.run_devices.specs.history_model.Presence.{CardStart, trimmed_by, newest_minute}
+use Rattle.minute_rules.proofs.minute_model.Ranges.{last-push}
+use Rattle.run_devices.specs.log_model.declared.lines.Verdict.TheVariants.{Accepted as Takes, NotValid, TimeOverlap}
+use Rattle.run_devices.specs.run_promise.Ends.{recording_by}
 use Rattle.run_record.proofs.Stopped.{stopped-as, stopped-taken}
 use Rattle.run_record.proofs.Newest.{mark-trimmed}
-use Rattle.safety_model.specs.ByHand.{IsStoppedBy}
+use Rattle.run_devices.specs.safety_model.ByHand.{IsStoppedBy}
 
 -- ---- sessions by finds
 

@@ -4,27 +4,27 @@ use Rattle.std.specs.Prelude.{flat_map}
 use Rattle.std.specs.List.{AllByRecursion}
 use Rattle.std.proofs.lemmas.Bool.Decides.{nat_tests}
 use Rattle.std.proofs.lemmas.List.Elements.{All-head, All-tail, Contains-append_left, Contains-append_right, Contains-push}
-use Rattle.trace_model.specs.declared.Card.{Card}
-use Rattle.trace_model.specs.Trace.{TraceSecond}
-use Rattle.minute_model.specs.declared.Minute.{Minute}
-use Rattle.minute_model.specs.Span.{Span, count_from}
-use Rattle.log_model.specs.declared.lines.Mark.{Mark}
-use Rattle.log_model.specs.declared.lines.Verdict.{Verdict}
-use Rattle.log_model.specs.declared.lines.Verdict.TheVariants.{Accepted, NotValid, TimeOverlap}
-use Rattle.log_model.specs.Log.{RunLog, is_accepting}
-use Rattle.log_model.specs.Slots.{same_card}
-use Rattle.log_model.specs.Course.{ToldSecond, Visit, went}
-use Rattle.history_model.specs.Minutes.{HistoryMinute}
-use Rattle.history_model.specs.Presence.{Start}
-use Rattle.history_model.specs.History.{minutes_after}
-use Rattle.history_model.proofs.Stilled.{minutes-still}
-use Rattle.safety_model.specs.Cards.{entered, overlaps, is_overlap}
-use Rattle.safety_model.specs.Safe.{entered_by, IsVerdict}
-use Rattle.run_promise.specs.Going.{acceptances_in}
-use Rattle.run_crew.proofs.Sessions.{same_is}
-use Rattle.run_course.specs.Lines.{times_of}
-use Rattle.run_promise.specs.Origin.{Origin}
-use Rattle.run_promise.specs.Ends.{recording_by, BringsAll}
+use Rattle.run_devices.specs.trace_model.declared.Card.{Card}
+use Rattle.run_devices.specs.trace_model.Trace.{TraceSecond}
+use Rattle.minute_rules.specs.minute_model.declared.Minute.{Minute}
+use Rattle.minute_rules.specs.minute_model.Span.{Span, count_from}
+use Rattle.run_devices.specs.log_model.declared.lines.Mark.{Mark}
+use Rattle.run_devices.specs.log_model.declared.lines.Verdict.{Verdict}
+use Rattle.run_devices.specs.log_model.declared.lines.Verdict.TheVariants.{Accepted, NotValid, TimeOverlap}
+use Rattle.run_devices.specs.log_model.Log.{RunLog, is_accepting}
+use Rattle.run_devices.specs.log_model.Slots.{same_card}
+use Rattle.run_devices.specs.log_model.Course.{ToldSecond, Visit, went}
+use Rattle.run_devices.specs.history_model.Minutes.{HistoryMinute}
+use Rattle.run_devices.specs.history_model.Presence.{Start}
+use Rattle.run_devices.specs.history_model.History.{minutes_after}
+use Rattle.run_devices.proofs.history_model.Stilled.{minutes-still}
+use Rattle.run_devices.specs.safety_model.Cards.{entered, overlaps, is_overlap}
+use Rattle.run_devices.specs.safety_model.Safe.{entered_by, IsVerdict}
+use Rattle.run_devices.specs.run_promise.Going.{acceptances_in}
+use Rattle.run_devices.proofs.run_crew.Sessions.{same_is}
+use Rattle.run_devices.specs.run_course.Lines.{times_of}
+use Rattle.run_devices.specs.run_promise.Origin.{Origin}
+use Rattle.run_devices.specs.run_promise.Ends.{recording_by, BringsAll}
 use Rattle.run_record.specs.Within.{Beginning, SeenBy, BringsBy, VerdictBy}
 
 -- EACH MINUTE that was decided is over

@@ -1,45 +1,45 @@
 -- Power is back: the unit was read. It was mended, and the second begins; or that failed.
 use Rattle.std.proofs.Common.{◌≡◌, inl, inr, ⊎_elim, ℕ, ◌+◌, ◌-◌, ◌/◌, ◌<◌, max, true, false, is_some, None, List, [], ◌++◌, Contains, refl, ap, sym, subst, ◌∙◌, arith}
-use Rattle.activity_codec.specs.declared.values.Slot.{Slot}
-use Rattle.activity_codec.specs.declared.values.Slot.TheVariants.{Driver, CoDriver}
-use Rattle.trace_model.specs.declared.Card.{Card}
-use Rattle.trace_model.specs.Trace.{TraceSecond}
-use Rattle.run_model.specs.declared.Device.{Device}
-use Rattle.minute_model.specs.declared.Rule.{Rule}
-use Rattle.minute_model.specs.Minute.{minutes_ahead}
-use Rattle.minute_model.specs.Span.{ungiven_of}
-use Rattle.log_model.specs.declared.lines.Verdict.{Verdict}
-use Rattle.log_model.specs.Log.{In, Keeping}
-use Rattle.log_model.specs.Slots.{Slots, in_slot, is_accepted}
-use Rattle.log_model.specs.Course.{Went, Course, Visit, fresh, went}
-use Rattle.history_model.specs.Book.{found}
-use Rattle.history_model.specs.Minutes.{HistoryMinute, up_to}
-use Rattle.history_model.proofs.Books.{up_to-all}
+use Rattle.minute_rules.specs.activity_codec.declared.values.Slot.{Slot}
+use Rattle.minute_rules.specs.activity_codec.declared.values.Slot.TheVariants.{Driver, CoDriver}
+use Rattle.run_devices.specs.trace_model.declared.Card.{Card}
+use Rattle.run_devices.specs.trace_model.Trace.{TraceSecond}
+use Rattle.run_devices.specs.run_model.declared.Device.{Device}
+use Rattle.minute_rules.specs.minute_model.declared.Rule.{Rule}
+use Rattle.minute_rules.specs.minute_model.Minute.{minutes_ahead}
+use Rattle.minute_rules.specs.minute_model.Span.{ungiven_of}
+use Rattle.run_devices.specs.log_model.declared.lines.Verdict.{Verdict}
+use Rattle.run_devices.specs.log_model.Log.{In, Keeping}
+use Rattle.run_devices.specs.log_model.Slots.{Slots, in_slot, is_accepted}
+use Rattle.run_devices.specs.log_model.Course.{Went, Course, Visit, fresh, went}
+use Rattle.run_devices.specs.history_model.Book.{found}
+use Rattle.run_devices.specs.history_model.Minutes.{HistoryMinute, up_to}
+use Rattle.run_devices.proofs.history_model.Books.{up_to-all}
 use Rattle.std.specs.Prelude.{option_to_list}
-use Rattle.device_rule.specs.Rules.{Standing, Out}
-use Rattle.run_unit_course.specs.Followed.{UnitPower, Lit, Due, Lost, MayPower}
-use Rattle.run_unit_course.specs.Legs.{resumed}
-use Rattle.run_unit_course.specs.Travelled.{MayShow}
-use Rattle.run_unit_course.specs.Turn.{span_at}
-use Rattle.safety_model.specs.Cards.{entered}
-use Rattle.safety_model.specs.Safe.{Devices, breakdowns_of, entered_by}
-use Rattle.run_crew.specs.Cards.{session_of}
-use Rattle.run_promise.specs.Between.{RunLedger}
-use Rattle.run_course.specs.Followed.{Progress}
-use Rattle.run_course.specs.Presence.{SlotsTell}
-use Rattle.run_course.proofs.Logs.{went-found}
-use Rattle.run_course.proofs.Presence.{time-passes, found-kept}
-use Rattle.run_course.specs.Moment.{Moment}
-use Rattle.run_course.specs.Kept.{HasDecided}
-use Rattle.run_course.proofs.Moment.{moment-begins}
-use Rattle.run_course.proofs.Reached.{nothing-told}
-use Rattle.run_course.proofs.Kept.{nothing-decided, nothing-marked}
-use Rattle.run_promise.specs.Origin.{Origin, rule_of, start_at, first_of, HistoryIsRecorded}
-use Rattle.run_promise.specs.Seconds.{found_again}
-use Rattle.run_promise.specs.Ends.{recording_by, AreVerdicts}
-use Rattle.run_promise.proofs.Seconds.{found-recorded, more-recorded}
-use Rattle.run_promise.specs.Beside.{AreFewFound}
-use Rattle.run_promise.proofs.Beside.{found-tells, few-on, written-on, idle-verdicts, kept-later, kept-found}
+use Rattle.run_devices.specs.device_rule.Rules.{Standing, Out}
+use Rattle.run_devices.specs.run_unit_course.Followed.{UnitPower, Lit, Due, Lost, MayPower}
+use Rattle.run_devices.specs.run_unit_course.Legs.{resumed}
+use Rattle.run_devices.specs.run_unit_course.Travelled.{MayShow}
+use Rattle.run_devices.specs.run_unit_course.Turn.{span_at}
+use Rattle.run_devices.specs.safety_model.Cards.{entered}
+use Rattle.run_devices.specs.safety_model.Safe.{Devices, breakdowns_of, entered_by}
+use Rattle.run_devices.specs.run_crew.Cards.{session_of}
+use Rattle.run_devices.specs.run_promise.Between.{RunLedger}
+use Rattle.run_devices.specs.run_course.Followed.{Progress}
+use Rattle.run_devices.specs.run_course.Presence.{SlotsTell}
+use Rattle.run_devices.proofs.run_course.Logs.{went-found}
+use Rattle.run_devices.proofs.run_course.Presence.{time-passes, found-kept}
+use Rattle.run_devices.specs.run_course.Moment.{Moment}
+use Rattle.run_devices.specs.run_course.Kept.{HasDecided}
+use Rattle.run_devices.proofs.run_course.Moment.{moment-begins}
+use Rattle.run_devices.proofs.run_course.Reached.{nothing-told}
+use Rattle.run_devices.proofs.run_course.Kept.{nothing-decided, nothing-marked}
+use Rattle.run_devices.specs.run_promise.Origin.{Origin, rule_of, start_at, first_of, HistoryIsRecorded}
+use Rattle.run_devices.specs.run_promise.Seconds.{found_again}
+use Rattle.run_devices.specs.run_promise.Ends.{recording_by, AreVerdicts}
+use Rattle.run_devices.proofs.run_promise.Seconds.{found-recorded, more-recorded}
+use Rattle.run_devices.specs.run_promise.Beside.{AreFewFound}
+use Rattle.run_devices.proofs.run_promise.Beside.{found-tells, few-on, written-on, idle-verdicts, kept-later, kept-found}
 use Rattle.run_devices.specs.Presence.{PresentStand, sits}
 use Rattle.run_devices.proofs.Presence.{none-to_keep}
 use Rattle.run_record.specs.Recorded.{Values, progress, carried, IsWritten, RecordUnpowered, IsHeldBy, RecordBetweenSeconds}
@@ -52,8 +52,8 @@ use Rattle.run_record.proofs.Written.{written-begins}
 use Rattle.run_record.proofs.Asked.{asked-known}
 use Rattle.run_record.proofs.HandedSteps.{all-go, none-less, handed-begins, handed-gone, handed-more}
 use Rattle.run_record.specs.Handed.{AreHandedBehind, AreHandedIn}
-use Rattle.safety_model.specs.Hands.{sessions_in}
-use Rattle.log_model.specs.ByHand.{asked_of}
+use Rattle.run_devices.specs.safety_model.Hands.{sessions_in}
+use Rattle.run_devices.specs.log_model.ByHand.{asked_of}
 
 -- WITHOUT POWER, where power may come
 pub off-of : (o : Origin) (done : List TraceSecond) (supply : UnitPower) (v : Values) (w : RunLedger) (d : Devices) → MayPower supply v.next → IsHeldBy o done supply v w d → RecordUnpowered o done v w d

@@ -1,36 +1,36 @@
 -- A card is pulled out of its slot, and no device is called.
 use Rattle.std.proofs.Common.{◌≡◌, inr, ℕ, suc, ◌+◌, ◌/◌, ◌≤◌, true, Option, Some, None, is_some, List, [], ◌∷◌, ◌++◌, Contains, length, map, refl, ap, sym, subst, ◌∙◌, arith, false}
 use Rattle.std.proofs.lemmas.List.Elements.{Contains-append_left, Contains-push}
-use Rattle.activity_codec.specs.declared.entries.Entry.{Entry}
-use Rattle.activity_codec.specs.declared.values.Slot.{Slot}
-use Rattle.trace_model.specs.declared.Card.{Card}
-use Rattle.trace_model.specs.declared.Action.{Action}
-use Rattle.trace_model.specs.declared.Action.TheVariants.{Tear as Pull}
-use Rattle.trace_model.specs.Trace.{TraceSecond}
+use Rattle.minute_rules.specs.activity_codec.declared.entries.Entry.{Entry}
+use Rattle.minute_rules.specs.activity_codec.declared.values.Slot.{Slot}
+use Rattle.run_devices.specs.trace_model.declared.Card.{Card}
+use Rattle.run_devices.specs.trace_model.declared.Action.{Action}
+use Rattle.run_devices.specs.trace_model.declared.Action.TheVariants.{Tear as Pull}
+use Rattle.run_devices.specs.trace_model.Trace.{TraceSecond}
 use Rattle.tach_media.specs.Medium.{State}
-use Rattle.log_model.specs.Log.{Phase, In}
-use Rattle.log_model.specs.Slots.{Sitting, in_slot, refusal}
-use Rattle.log_model.specs.Course.{ToldSecond, Course, Visit, Before, visits, card_in as card_of_sitting, with_slot, carried_out, went}
-use Rattle.device_rule.specs.Rules.{Standing, In as IsIn, Torn}
-use Rattle.safety_model.specs.Safe.{Devices, card_of, breakdowns_of}
-use Rattle.card_slots.specs.Calls.{seat_in, card_in}
-use Rattle.card_slots.specs.Kept.{Kept, taken}
-use Rattle.run_crew.specs.declared.cards.Accepted.{Accepted}
-use Rattle.run_crew.specs.declared.cards.Cards.{Cards}
-use Rattle.run_crew.specs.Cards.{session_of}
-use Rattle.run_crew.specs.Cabin.{CabinIsSound, slot_with, torn_out}
-use Rattle.run_promise.specs.Found.{CardFound, found_of}
-use Rattle.run_course.specs.Followed.{Progress}
-use Rattle.run_course.specs.Presence.{SlotsTell}
-use Rattle.run_course.specs.Seconds.{kept_all}
-use Rattle.run_course.proofs.Presence.{taken-out}
-use Rattle.run_course.specs.Lines.{times_of}
-use Rattle.run_course.specs.Moment.{Moment}
-use Rattle.run_course.specs.Kept.{StaysOut}
-use Rattle.run_course.proofs.Moment.{card-pulled}
-use Rattle.run_course.proofs.Kept.{nothing-else}
+use Rattle.run_devices.specs.log_model.Log.{Phase, In}
+use Rattle.run_devices.specs.log_model.Slots.{Sitting, in_slot, refusal}
+use Rattle.run_devices.specs.log_model.Course.{ToldSecond, Course, Visit, Before, visits, card_in as card_of_sitting, with_slot, carried_out, went}
+use Rattle.run_devices.specs.device_rule.Rules.{Standing, In as IsIn, Torn}
+use Rattle.run_devices.specs.safety_model.Safe.{Devices, card_of, breakdowns_of}
+use Rattle.run_devices.specs.card_slots.Calls.{seat_in, card_in}
+use Rattle.run_devices.specs.card_slots.Kept.{Kept, taken}
+use Rattle.run_devices.specs.run_crew.declared.cards.Accepted.{Accepted}
+use Rattle.run_devices.specs.run_crew.declared.cards.Cards.{Cards}
+use Rattle.run_devices.specs.run_crew.Cards.{session_of}
+use Rattle.run_devices.specs.run_crew.Cabin.{CabinIsSound, slot_with, torn_out}
+use Rattle.run_devices.specs.run_promise.Found.{CardFound, found_of}
+use Rattle.run_devices.specs.run_course.Followed.{Progress}
+use Rattle.run_devices.specs.run_course.Presence.{SlotsTell}
+use Rattle.run_devices.specs.run_course.Seconds.{kept_all}
+use Rattle.run_devices.proofs.run_course.Presence.{taken-out}
+use Rattle.run_devices.specs.run_course.Lines.{times_of}
+use Rattle.run_devices.specs.run_course.Moment.{Moment}
+use Rattle.run_devices.specs.run_course.Kept.{StaysOut}
+use Rattle.run_devices.proofs.run_course.Moment.{card-pulled}
+use Rattle.run_devices.proofs.run_course.Kept.{nothing-else}
 use Rattle.run_devices.specs.Told.{DevicesPowered, GoesWith, for_card}
-use Rattle.run_promise.specs.Origin.{Origin, rule_of, start_at}
+use Rattle.run_devices.specs.run_promise.Origin.{Origin, rule_of, start_at}
 use Rattle.run_devices.specs.Presence.{PresentStand, IsSeated, sits}
 use Rattle.run_record.specs.Recorded.{Values, carried}
 use Rattle.run_record.specs.Within.{told_before, course_in, AreBackAt, RecordInSecond, SecondGoesOn}
@@ -43,7 +43,7 @@ use Rattle.run_record.proofs.Until.{few-left}
 use Rattle.run_record.proofs.Onward.{IsStep, steps-on}
 use Rattle.run_record.proofs.Putting.{still-goes}
 use Rattle.run_record.proofs.Torn.{slots-taken, back-torn, torn-present, bare-present, pull-powered}
-use Rattle.hand_model.specs.Written.{Hands}
+use Rattle.run_devices.specs.hand_model.Written.{Hands}
 use Rattle.run_record.proofs.Asked.{asked-torn, asked-quiet, asks-pull}
 use Rattle.run_record.proofs.HandedSteps.{less-stay}
 

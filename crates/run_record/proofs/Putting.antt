@@ -1,33 +1,33 @@
 -- A card is put into a slot: it waits there, and once the minutes before are kept it may be judged.
 use Rattle.std.proofs.Common.{◌≡◌, ◌⊎◌, inl, ⊎_elim, ℕ, suc, ◌+◌, ◌≤◌, true, Option, Some, None, List, [], ◌∷◌, ◌++◌, Contains, length, refl, ap, sym, subst, ◌∙◌, arith}
-use Rattle.activity_codec.specs.declared.values.Slot.{Slot}
-use Rattle.activity_codec.specs.declared.values.Slot.TheVariants.{Driver, CoDriver}
-use Rattle.activity_codec.specs.Activity.{same_slot}
-use Rattle.trace_model.specs.declared.Card.{Card}
-use Rattle.trace_model.specs.declared.Action.{Action}
-use Rattle.trace_model.specs.declared.Action.TheVariants.{Insert}
-use Rattle.trace_model.specs.Trace.{TraceSecond}
-use Rattle.minute_model.specs.declared.Minute.{Minute}
-use Rattle.minute_model.specs.Span.{settled, decided_in}
+use Rattle.minute_rules.specs.activity_codec.declared.values.Slot.{Slot}
+use Rattle.minute_rules.specs.activity_codec.declared.values.Slot.TheVariants.{Driver, CoDriver}
+use Rattle.minute_rules.specs.activity_codec.Activity.{same_slot}
+use Rattle.run_devices.specs.trace_model.declared.Card.{Card}
+use Rattle.run_devices.specs.trace_model.declared.Action.{Action}
+use Rattle.run_devices.specs.trace_model.declared.Action.TheVariants.{Insert}
+use Rattle.run_devices.specs.trace_model.Trace.{TraceSecond}
+use Rattle.minute_rules.specs.minute_model.declared.Minute.{Minute}
+use Rattle.minute_rules.specs.minute_model.Span.{settled, decided_in}
 use Rattle.minute_rules.specs.Kept.{Kept, CountsSpan}
-use Rattle.log_model.specs.declared.lines.SlotFault.{SlotFault}
-use Rattle.log_model.specs.Log.{Phase, In}
-use Rattle.log_model.specs.Slots.{in_slot, refusal}
-use Rattle.log_model.specs.Course.{ToldSecond, Course, Visit, Before, Moved, moved_by, carried_out, went}
-use Rattle.safety_model.specs.Safe.{Devices, breakdowns_of}
-use Rattle.card_slots.specs.Kept.{IsFree}
-use Rattle.run_course.specs.Followed.{Progress}
-use Rattle.run_course.specs.Presence.{SlotsTell}
-use Rattle.run_course.proofs.Presence.{put-in}
-use Rattle.run_course.specs.Reached.{moved_at}
-use Rattle.run_course.specs.Lines.{times_of}
-use Rattle.run_course.specs.Moment.{Moment, entering_by}
-use Rattle.run_course.specs.Kept.{HasDecided}
-use Rattle.run_course.proofs.Reached.{action-reached}
-use Rattle.run_course.proofs.Moment.{reaches-of, action-done}
-use Rattle.run_course.proofs.Kept.{settling-decides}
-use Rattle.run_course.proofs.Lines.{times-append}
-use Rattle.run_promise.specs.Origin.{Origin, rule_of, start_at}
+use Rattle.run_devices.specs.log_model.declared.lines.SlotFault.{SlotFault}
+use Rattle.run_devices.specs.log_model.Log.{Phase, In}
+use Rattle.run_devices.specs.log_model.Slots.{in_slot, refusal}
+use Rattle.run_devices.specs.log_model.Course.{ToldSecond, Course, Visit, Before, Moved, moved_by, carried_out, went}
+use Rattle.run_devices.specs.safety_model.Safe.{Devices, breakdowns_of}
+use Rattle.run_devices.specs.card_slots.Kept.{IsFree}
+use Rattle.run_devices.specs.run_course.Followed.{Progress}
+use Rattle.run_devices.specs.run_course.Presence.{SlotsTell}
+use Rattle.run_devices.proofs.run_course.Presence.{put-in}
+use Rattle.run_devices.specs.run_course.Reached.{moved_at}
+use Rattle.run_devices.specs.run_course.Lines.{times_of}
+use Rattle.run_devices.specs.run_course.Moment.{Moment, entering_by}
+use Rattle.run_devices.specs.run_course.Kept.{HasDecided}
+use Rattle.run_devices.proofs.run_course.Reached.{action-reached}
+use Rattle.run_devices.proofs.run_course.Moment.{reaches-of, action-done}
+use Rattle.run_devices.proofs.run_course.Kept.{settling-decides}
+use Rattle.run_devices.proofs.run_course.Lines.{times-append}
+use Rattle.run_devices.specs.run_promise.Origin.{Origin, rule_of, start_at}
 use Rattle.run_devices.specs.Presence.{sits}
 use Rattle.run_devices.proofs.Presence.{step-leaves}
 use Rattle.run_record.specs.Recorded.{Values}
@@ -43,7 +43,7 @@ use Rattle.run_record.proofs.Until.{settles-to, settles-here}
 use Rattle.run_record.proofs.Moved.{tears-begun, tears-found}
 use Rattle.run_record.proofs.Onward.{IsStep, steps-on}
 use Rattle.run_record.proofs.Asked.{asked-quiet}
-use Rattle.log_model.specs.ByHand.{asks}
+use Rattle.run_devices.specs.log_model.ByHand.{asks}
 
 -- no device is called
 pub still-goes : (o : Origin) (v : Values) (d : Devices) → GoesOnSo o v.cabin.cards d d

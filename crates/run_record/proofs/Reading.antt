@@ -1,37 +1,37 @@
 -- Power comes, and the unit was not read: a cut ends the second.
 use Rattle.std.proofs.Common.{◌≡◌, ◌⊎◌, inl, inr, ⊎_elim, ℕ, suc, ◌-◌, ◌/◌, ◌≤◌, true, false, ◌&&◌, Option, Some, None, List, [], ◌∷◌, ◌++◌, Contains, length, filter, refl, ap, sym, subst, ◌∙◌, arith, append-nil, All}
 use Rattle.std.proofs.lemmas.List.Elements.{Contains-push_cases}
-use Rattle.trace_model.specs.declared.Card.{Card}
-use Rattle.trace_model.specs.declared.Card.TheVariants.{A, B}
-use Rattle.trace_model.specs.Trace.{TraceSecond}
-use Rattle.log_model.specs.declared.lines.Verdict.{Verdict}
-use Rattle.log_model.specs.Log.{RunLog, In}
-use Rattle.log_model.specs.Slots.{Slots, Sitting, same_card, is_accepted}
-use Rattle.log_model.specs.Course.{ToldSecond, Went, Course, Visit, fresh, powerless, cut_told, went}
-use Rattle.run_unit_course.specs.Lines.{cut_at}
-use Rattle.run_unit_course.specs.Followed.{UnitPower, Lit, Due, Lost, MayPower, MayFail}
-use Rattle.safety_model.specs.Cards.{is_overlap}
-use Rattle.safety_model.specs.Safe.{Devices, card_of, breakdowns_of}
-use Rattle.run_crew.specs.Cabin.{with_power_lost}
-use Rattle.run_crew.specs.Cards.{with_session, session_of}
-use Rattle.run_crew.proofs.Sessions.{all_gone}
-use Rattle.run_course.specs.Moments.{and_break}
-use Rattle.run_course.specs.Followed.{Progress, BookFollowsRun}
-use Rattle.run_course.specs.Seconds.{GoesOnBy, next_told}
-use Rattle.run_course.specs.Presence.{SlotsTell}
-use Rattle.run_course.specs.Within.{not_begun}
-use Rattle.run_course.proofs.Presence.{power-lost, second-gone, time-passes}
-use Rattle.run_course.proofs.Steps.{now-is, now-told}
-use Rattle.run_course.specs.Telling.{told_with}
-use Rattle.run_course.proofs.Failing.{power-on_cut}
+use Rattle.run_devices.specs.trace_model.declared.Card.{Card}
+use Rattle.run_devices.specs.trace_model.declared.Card.TheVariants.{A, B}
+use Rattle.run_devices.specs.trace_model.Trace.{TraceSecond}
+use Rattle.run_devices.specs.log_model.declared.lines.Verdict.{Verdict}
+use Rattle.run_devices.specs.log_model.Log.{RunLog, In}
+use Rattle.run_devices.specs.log_model.Slots.{Slots, Sitting, same_card, is_accepted}
+use Rattle.run_devices.specs.log_model.Course.{ToldSecond, Went, Course, Visit, fresh, powerless, cut_told, went}
+use Rattle.run_devices.specs.run_unit_course.Lines.{cut_at}
+use Rattle.run_devices.specs.run_unit_course.Followed.{UnitPower, Lit, Due, Lost, MayPower, MayFail}
+use Rattle.run_devices.specs.safety_model.Cards.{is_overlap}
+use Rattle.run_devices.specs.safety_model.Safe.{Devices, card_of, breakdowns_of}
+use Rattle.run_devices.specs.run_crew.Cabin.{with_power_lost}
+use Rattle.run_devices.specs.run_crew.Cards.{with_session, session_of}
+use Rattle.run_devices.proofs.run_crew.Sessions.{all_gone}
+use Rattle.run_devices.specs.run_course.Moments.{and_break}
+use Rattle.run_devices.specs.run_course.Followed.{Progress, BookFollowsRun}
+use Rattle.run_devices.specs.run_course.Seconds.{GoesOnBy, next_told}
+use Rattle.run_devices.specs.run_course.Presence.{SlotsTell}
+use Rattle.run_devices.specs.run_course.Within.{not_begun}
+use Rattle.run_devices.proofs.run_course.Presence.{power-lost, second-gone, time-passes}
+use Rattle.run_devices.proofs.run_course.Steps.{now-is, now-told}
+use Rattle.run_devices.specs.run_course.Telling.{told_with}
+use Rattle.run_devices.proofs.run_course.Failing.{power-on_cut}
 use Rattle.run_devices.proofs.Known.{found-session}
-use Rattle.run_promise.specs.Origin.{Origin, rule_of, start_at, first_of}
-use Rattle.run_promise.specs.Ends.{recording_by, AreVerdicts, AreSpared}
-use Rattle.run_promise.specs.Beside.{TellsMore, entered_in, AreFewer, AreFewFound}
-use Rattle.run_promise.proofs.Seconds.{failed-recorded}
-use Rattle.run_promise.proofs.Beside.{second-tells, few-on, written-on, verdicts-on, spared-on, kept-later, kept-cut}
-use Rattle.run_promise.specs.Found.{found_of}
-use Rattle.run_promise.specs.Cards.{IsUntouched}
+use Rattle.run_devices.specs.run_promise.Origin.{Origin, rule_of, start_at, first_of}
+use Rattle.run_devices.specs.run_promise.Ends.{recording_by, AreVerdicts, AreSpared}
+use Rattle.run_devices.specs.run_promise.Beside.{TellsMore, entered_in, AreFewer, AreFewFound}
+use Rattle.run_devices.proofs.run_promise.Seconds.{failed-recorded}
+use Rattle.run_devices.proofs.run_promise.Beside.{second-tells, few-on, written-on, verdicts-on, spared-on, kept-later, kept-cut}
+use Rattle.run_devices.specs.run_promise.Found.{found_of}
+use Rattle.run_devices.specs.run_promise.Cards.{IsUntouched}
 use Rattle.run_record.specs.Recorded.{Values, progress, carried, IsWritten, RecordUnpowered, RecordBetweenSeconds}
 use Rattle.run_record.specs.Within.{cut_values}
 use Rattle.run_record.specs.Powering.{IsNotRead, AReadingFails}
@@ -41,8 +41,8 @@ use Rattle.run_record.proofs.Powering.{off-of}
 use Rattle.run_record.proofs.Asked.{same-seconds, next-powers, asked-broken}
 use Rattle.run_record.proofs.HandedSteps.{handed-over, handed-begins}
 use Rattle.run_record.specs.Handed.{AreHandedBehind}
-use Rattle.log_model.specs.Same.{SameAt}
-use Rattle.run_course.proofs.Reached.{nothing-told}
+use Rattle.run_devices.specs.log_model.Same.{SameAt}
+use Rattle.run_devices.proofs.run_course.Reached.{nothing-told}
 
 -- where power may come it may fail
 may-fail : (supply : UnitPower) (next : ℕ) → MayPower supply next → MayFail supply next

@@ -1,31 +1,31 @@
 -- An accepted card failed in its slot, as something was to be noted on it: it is torn out.
 use Rattle.std.proofs.Common.{◌≡◌, inl, ℕ, ◌+◌, ◌/◌, ◌≤◌, false, Option, Some, None, List, [], ◌∷◌, ◌++◌, Contains, map, refl, ap, sym, subst, ◌∙◌, arith, true}
 use Rattle.std.proofs.lemmas.List.Elements.{Contains-push}
-use Rattle.activity_codec.specs.declared.values.Slot.{Slot}
-use Rattle.trace_model.specs.declared.Card.{Card}
-use Rattle.trace_model.specs.Trace.{TraceSecond}
-use Rattle.log_model.specs.declared.lines.Break.{Break}
-use Rattle.log_model.specs.Log.{Phase, is_torn_in}
-use Rattle.log_model.specs.Slots.{Sitting, in_slot}
-use Rattle.log_model.specs.Course.{ToldSecond, Course, Visit, Before, visits, card_in as card_of_sitting, went}
-use Rattle.device_rule.specs.Rules.{Standing, In as IsIn, Torn}
-use Rattle.safety_model.specs.Safe.{Devices, breakdowns_of}
-use Rattle.card_slots.specs.Kept.{Kept, taken}
-use Rattle.run_crew.specs.Cabin.{slot_with, torn_out}
-use Rattle.run_course.specs.Followed.{Progress}
-use Rattle.run_course.specs.Presence.{SlotsTell}
-use Rattle.run_course.specs.Seconds.{kept_all}
-use Rattle.run_course.proofs.Within.{tear-tells}
-use Rattle.run_course.specs.Reached.{moved_at}
-use Rattle.run_course.specs.Lines.{times_of, IsTornAt}
-use Rattle.run_course.specs.Moment.{Moment}
-use Rattle.run_course.specs.Telling.{IsOneOut}
-use Rattle.run_course.specs.Kept.{StaysOut}
-use Rattle.run_course.proofs.Lines.{who-sits}
-use Rattle.run_course.proofs.Telling.{card-torn}
-use Rattle.run_course.proofs.Kept.{nothing-else}
+use Rattle.minute_rules.specs.activity_codec.declared.values.Slot.{Slot}
+use Rattle.run_devices.specs.trace_model.declared.Card.{Card}
+use Rattle.run_devices.specs.trace_model.Trace.{TraceSecond}
+use Rattle.run_devices.specs.log_model.declared.lines.Break.{Break}
+use Rattle.run_devices.specs.log_model.Log.{Phase, is_torn_in}
+use Rattle.run_devices.specs.log_model.Slots.{Sitting, in_slot}
+use Rattle.run_devices.specs.log_model.Course.{ToldSecond, Course, Visit, Before, visits, card_in as card_of_sitting, went}
+use Rattle.run_devices.specs.device_rule.Rules.{Standing, In as IsIn, Torn}
+use Rattle.run_devices.specs.safety_model.Safe.{Devices, breakdowns_of}
+use Rattle.run_devices.specs.card_slots.Kept.{Kept, taken}
+use Rattle.run_devices.specs.run_crew.Cabin.{slot_with, torn_out}
+use Rattle.run_devices.specs.run_course.Followed.{Progress}
+use Rattle.run_devices.specs.run_course.Presence.{SlotsTell}
+use Rattle.run_devices.specs.run_course.Seconds.{kept_all}
+use Rattle.run_devices.proofs.run_course.Within.{tear-tells}
+use Rattle.run_devices.specs.run_course.Reached.{moved_at}
+use Rattle.run_devices.specs.run_course.Lines.{times_of, IsTornAt}
+use Rattle.run_devices.specs.run_course.Moment.{Moment}
+use Rattle.run_devices.specs.run_course.Telling.{IsOneOut}
+use Rattle.run_devices.specs.run_course.Kept.{StaysOut}
+use Rattle.run_devices.proofs.run_course.Lines.{who-sits}
+use Rattle.run_devices.proofs.run_course.Telling.{card-torn}
+use Rattle.run_devices.proofs.run_course.Kept.{nothing-else}
 use Rattle.run_devices.specs.Told.{DevicesPowered, for_card}
-use Rattle.run_promise.specs.Origin.{Origin, rule_of, start_at}
+use Rattle.run_devices.specs.run_promise.Origin.{Origin, rule_of, start_at}
 use Rattle.run_devices.specs.Presence.{PresentStand, sits}
 use Rattle.run_record.specs.Recorded.{Values, carried}
 use Rattle.run_record.specs.Within.{told_before, course_in, RecordInSecond, SecondGoesOn}

@@ -2,32 +2,32 @@
 use Rattle.std.proofs.Common.{◌≡◌, ◌⊎◌, inl, inr, ℕ, ◌+◌, ◌/◌, Bool, true, false, ◌||◌, Option, Some, None, IfSome, is_some, List, [], ◌++◌, refl, ap, sym, subst, ◌∙◌, append-nil}
 use Rattle.std.specs.Prelude.{if◌then◌else◌}
 use Rattle.std.specs.List.{list_any}
-use Rattle.activity_codec.specs.declared.values.Slot.{Slot}
-use Rattle.activity_codec.specs.declared.values.Slot.TheVariants.{Driver, CoDriver}
-use Rattle.tacho_types.specs.CardNumber.{card_number_bytes}
-use Rattle.tacho_types.specs.declared.card_number.FullCardNumber.{FullCardNumber}
-use Rattle.trace_model.specs.declared.Card.{Card}
-use Rattle.trace_model.specs.declared.Card.TheVariants.{A, B}
-use Rattle.trace_model.specs.declared.Action.TheVariants.{Insert}
-use Rattle.log_model.specs.declared.lines.SlotFault.TheVariants.{Occupied, Elsewhere}
-use Rattle.log_model.specs.Slots.{Slots, Sitting, same_card, in_slot, other_slot, holds, refusal}
-use Rattle.log_model.specs.Course.{ToldSecond, Course, card_in as card_of_sitting, with_slot}
-use Rattle.history_model.specs.Minutes.{HistoryMinute}
-use Rattle.history_model.specs.Presence.{Start}
-use Rattle.device_rule.specs.Rules.{Standing}
-use Rattle.card_slots.specs.declared.seats.Seat.{Seat}
-use Rattle.card_slots.specs.declared.seats.Lefts.{Lefts}
-use Rattle.card_slots.specs.Calls.{Seats, seat_in, with_seat, card_in, is_card}
-use Rattle.card_slots.specs.Kept.{Kept, IsFree, with_left, left_of}
-use Rattle.run_crew.specs.declared.cards.Accepted.{Accepted}
-use Rattle.run_crew.specs.declared.cards.Cards.{Cards}
-use Rattle.run_crew.specs.declared.cabin.Cabin.{Cabin}
-use Rattle.run_crew.specs.Cards.{known_of, session_of, with_session}
-use Rattle.run_crew.specs.Cabin.{SitsNowhere, AnswersTo, SeatAnswers, CabinIsSound, slot_with}
-use Rattle.run_crew.proofs.Sessions.{same_self}
-use Rattle.run_promise.specs.Found.{Found, found_of}
-use Rattle.run_course.specs.Presence.{SitsAs, has_left, SlotsTell}
-use Rattle.run_course.specs.Within.{IsTornFrom}
+use Rattle.minute_rules.specs.activity_codec.declared.values.Slot.{Slot}
+use Rattle.minute_rules.specs.activity_codec.declared.values.Slot.TheVariants.{Driver, CoDriver}
+use Rattle.run_devices.specs.tacho_types.CardNumber.{card_number_bytes}
+use Rattle.run_devices.specs.tacho_types.declared.card_number.FullCardNumber.{FullCardNumber}
+use Rattle.run_devices.specs.trace_model.declared.Card.{Card}
+use Rattle.run_devices.specs.trace_model.declared.Card.TheVariants.{A, B}
+use Rattle.run_devices.specs.trace_model.declared.Action.TheVariants.{Insert}
+use Rattle.run_devices.specs.log_model.declared.lines.SlotFault.TheVariants.{Occupied, Elsewhere}
+use Rattle.run_devices.specs.log_model.Slots.{Slots, Sitting, same_card, in_slot, other_slot, holds, refusal}
+use Rattle.run_devices.specs.log_model.Course.{ToldSecond, Course, card_in as card_of_sitting, with_slot}
+use Rattle.run_devices.specs.history_model.Minutes.{HistoryMinute}
+use Rattle.run_devices.specs.history_model.Presence.{Start}
+use Rattle.run_devices.specs.device_rule.Rules.{Standing}
+use Rattle.run_devices.specs.card_slots.declared.seats.Seat.{Seat}
+use Rattle.run_devices.specs.card_slots.declared.seats.Lefts.{Lefts}
+use Rattle.run_devices.specs.card_slots.Calls.{Seats, seat_in, with_seat, card_in, is_card}
+use Rattle.run_devices.specs.card_slots.Kept.{Kept, IsFree, with_left, left_of}
+use Rattle.run_devices.specs.run_crew.declared.cards.Accepted.{Accepted}
+use Rattle.run_devices.specs.run_crew.declared.cards.Cards.{Cards}
+use Rattle.run_devices.specs.run_crew.declared.cabin.Cabin.{Cabin}
+use Rattle.run_devices.specs.run_crew.Cards.{known_of, session_of, with_session}
+use Rattle.run_devices.specs.run_crew.Cabin.{SitsNowhere, AnswersTo, SeatAnswers, CabinIsSound, slot_with}
+use Rattle.run_devices.proofs.run_crew.Sessions.{same_self}
+use Rattle.run_devices.specs.run_promise.Found.{Found, found_of}
+use Rattle.run_devices.specs.run_course.Presence.{SitsAs, has_left, SlotsTell}
+use Rattle.run_devices.specs.run_course.Within.{IsTornFrom}
 use Rattle.run_devices.specs.Told.{AreFoundCards, for_card}
 use Rattle.run_devices.specs.Presence.{sits}
 

@@ -1,26 +1,26 @@
 -- Who sits in the slots as one card of them is accepted or leaves.
 use Rattle.std.proofs.Common.{◌≡◌, ◌⊎◌, inl, inr, ℕ, true, false, Option, Some, None, List, refl, ap, sym, ◌∙◌}
-use Rattle.activity_codec.specs.declared.values.Slot.{Slot}
-use Rattle.activity_codec.specs.declared.values.Slot.TheVariants.{Driver, CoDriver}
-use Rattle.trace_model.specs.declared.Card.{Card}
-use Rattle.trace_model.specs.declared.Card.TheVariants.{A, B}
-use Rattle.trace_model.specs.Trace.{TraceSecond}
-use Rattle.log_model.specs.Slots.{Slots, Sitting, same_card, in_slot}
-use Rattle.log_model.specs.Course.{ToldSecond, with_slot}
-use Rattle.history_model.specs.Minutes.{HistoryMinute}
-use Rattle.history_model.specs.Presence.{Start}
-use Rattle.card_slots.specs.declared.seats.Seat.{Seat}
-use Rattle.card_slots.specs.Calls.{seat_in, is_card}
-use Rattle.card_slots.specs.Kept.{Kept}
-use Rattle.device_rule.specs.Rules.{Standing}
-use Rattle.safety_model.specs.Safe.{Devices, card_of}
-use Rattle.run_promise.specs.Found.{Found, found_of}
-use Rattle.run_course.specs.Presence.{SitsAs, SlotsTell}
+use Rattle.minute_rules.specs.activity_codec.declared.values.Slot.{Slot}
+use Rattle.minute_rules.specs.activity_codec.declared.values.Slot.TheVariants.{Driver, CoDriver}
+use Rattle.run_devices.specs.trace_model.declared.Card.{Card}
+use Rattle.run_devices.specs.trace_model.declared.Card.TheVariants.{A, B}
+use Rattle.run_devices.specs.trace_model.Trace.{TraceSecond}
+use Rattle.run_devices.specs.log_model.Slots.{Slots, Sitting, same_card, in_slot}
+use Rattle.run_devices.specs.log_model.Course.{ToldSecond, with_slot}
+use Rattle.run_devices.specs.history_model.Minutes.{HistoryMinute}
+use Rattle.run_devices.specs.history_model.Presence.{Start}
+use Rattle.run_devices.specs.card_slots.declared.seats.Seat.{Seat}
+use Rattle.run_devices.specs.card_slots.Calls.{seat_in, is_card}
+use Rattle.run_devices.specs.card_slots.Kept.{Kept}
+use Rattle.run_devices.specs.device_rule.Rules.{Standing}
+use Rattle.run_devices.specs.safety_model.Safe.{Devices, card_of}
+use Rattle.run_devices.specs.run_promise.Found.{Found, found_of}
+use Rattle.run_devices.specs.run_course.Presence.{SitsAs, SlotsTell}
 use Rattle.run_devices.specs.Presence.{IsSeated, sits}
-use Rattle.run_promise.specs.Origin.{Origin}
-use Rattle.run_promise.specs.Ends.{AreVerdicts}
-use Rattle.run_promise.specs.Beside.{HaveLeftMore}
-use Rattle.run_promise.proofs.Beside.{kept-later}
+use Rattle.run_devices.specs.run_promise.Origin.{Origin}
+use Rattle.run_devices.specs.run_promise.Ends.{AreVerdicts}
+use Rattle.run_devices.specs.run_promise.Beside.{HaveLeftMore}
+use Rattle.run_devices.proofs.run_promise.Beside.{kept-later}
 use Rattle.run_record.specs.Within.{Beginning}
 use Rattle.run_record.proofs.Left.{seen-left}
 

@@ -2,13 +2,13 @@
 use Rattle.std.proofs.Common.{◌≡◌, ℕ, zero, suc, ◌+◌, ◌-◌, ◌/◌, ◌≤◌, max, Bool, true, false, nat_lt, List, [], ◌∷◌, ◌++◌, refl, ap, sym, subst, ◌∙◌, arith}
 use Rattle.std.specs.List.{AllByRecursion}
 use Rattle.std.proofs.lemmas.Bool.Decides.{nat_tests}
-use Rattle.activity_codec.specs.declared.values.Slot.{Slot}
-use Rattle.activity_codec.specs.declared.values.Pick.{Pick}
-use Rattle.minute_model.specs.Minute.{minutes_ahead}
-use Rattle.minute_model.specs.Span.{Span, end_of, fed, settled, latest, ungiven_of}
+use Rattle.minute_rules.specs.activity_codec.declared.values.Slot.{Slot}
+use Rattle.minute_rules.specs.activity_codec.declared.values.Pick.{Pick}
+use Rattle.minute_rules.specs.minute_model.Minute.{minutes_ahead}
+use Rattle.minute_rules.specs.minute_model.Span.{Span, end_of, fed, settled, latest, ungiven_of}
 use Rattle.minute_rules.specs.Kept.{Kept, kept_at, CountsSpan}
-use Rattle.history_model.specs.Growth.{picking, settled_where}
-use Rattle.run_course.specs.Kept.{settled_times}
+use Rattle.run_devices.specs.history_model.Growth.{picking, settled_where}
+use Rattle.run_devices.specs.run_course.Kept.{settled_times}
 
 -- a span with other settlings
 abbrev with : List ℕ → Span → Span

@@ -1,15 +1,15 @@
 -- Who sits accepted does so still over each step on the slots, or has left.
 use Rattle.std.proofs.Common.{◌≡◌, ◌⊎◌, inl, inr, ⊎_elim, ℕ, ◌/◌, ◌≤◌, Option, Some, None, refl, ap, sym, subst, ◌∙◌, arith}
-use Rattle.activity_codec.specs.declared.values.Slot.{Slot}
-use Rattle.activity_codec.specs.declared.values.Slot.TheVariants.{Driver, CoDriver}
-use Rattle.trace_model.specs.declared.Card.{Card}
-use Rattle.trace_model.specs.declared.Card.TheVariants.{A, B}
-use Rattle.card_slots.specs.declared.seats.Seat.{Seat}
-use Rattle.card_slots.specs.declared.seats.Lefts.{Lefts}
-use Rattle.card_slots.specs.Calls.{Seats, seat_in, with_seat}
-use Rattle.card_slots.specs.Kept.{Kept, IsFree, put_in, taken, cut_off, with_left, left_of}
-use Rattle.run_crew.specs.Cabin.{left_from}
-use Rattle.run_promise.specs.Origin.{Origin}
+use Rattle.minute_rules.specs.activity_codec.declared.values.Slot.{Slot}
+use Rattle.minute_rules.specs.activity_codec.declared.values.Slot.TheVariants.{Driver, CoDriver}
+use Rattle.run_devices.specs.trace_model.declared.Card.{Card}
+use Rattle.run_devices.specs.trace_model.declared.Card.TheVariants.{A, B}
+use Rattle.run_devices.specs.card_slots.declared.seats.Seat.{Seat}
+use Rattle.run_devices.specs.card_slots.declared.seats.Lefts.{Lefts}
+use Rattle.run_devices.specs.card_slots.Calls.{Seats, seat_in, with_seat}
+use Rattle.run_devices.specs.card_slots.Kept.{Kept, IsFree, put_in, taken, cut_off, with_left, left_of}
+use Rattle.run_devices.specs.run_crew.Cabin.{left_from}
+use Rattle.run_devices.specs.run_promise.Origin.{Origin}
 use Rattle.run_record.specs.Recorded.{SitsAccepted, LeftSince, IsWrittenSince, GoesOnIn}
 
 which : (c d : Card) → (c ≡ d) ⊎ (c ≡ d → ⊥)

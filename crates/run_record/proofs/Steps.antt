@@ -1,25 +1,25 @@
 -- A call on the devices of which nothing is told: it went well, or the unit failed in it.
 use Rattle.std.proofs.Common.{ℕ, ◌-◌, List, refl, subst, arith}
-use Rattle.trace_model.specs.declared.Card.{Card}
-use Rattle.trace_model.specs.Trace.{TraceSecond}
-use Rattle.minute_model.specs.declared.Minute.{Minute}
-use Rattle.log_model.specs.declared.lines.Mark.{Mark}
-use Rattle.log_model.specs.Course.{Course, went}
-use Rattle.history_model.specs.Minutes.{HistoryMinute}
-use Rattle.history_model.specs.Book.{kept}
-use Rattle.safety_model.specs.Safe.{Devices, card_of, breakdowns_of}
-use Rattle.run_promise.specs.Found.{found_of}
-use Rattle.run_course.specs.Kept.{HasDecided}
-use Rattle.run_course.proofs.Telling.{breakdowns-only}
-use Rattle.run_promise.specs.Origin.{Origin, rule_of, start_at}
-use Rattle.run_promise.specs.Ends.{AreVerdicts}
-use Rattle.run_promise.specs.Beside.{HaveLeftMore}
-use Rattle.run_promise.proofs.Beside.{kept-later}
+use Rattle.run_devices.specs.trace_model.declared.Card.{Card}
+use Rattle.run_devices.specs.trace_model.Trace.{TraceSecond}
+use Rattle.minute_rules.specs.minute_model.declared.Minute.{Minute}
+use Rattle.run_devices.specs.log_model.declared.lines.Mark.{Mark}
+use Rattle.run_devices.specs.log_model.Course.{Course, went}
+use Rattle.run_devices.specs.history_model.Minutes.{HistoryMinute}
+use Rattle.run_devices.specs.history_model.Book.{kept}
+use Rattle.run_devices.specs.safety_model.Safe.{Devices, card_of, breakdowns_of}
+use Rattle.run_devices.specs.run_promise.Found.{found_of}
+use Rattle.run_devices.specs.run_course.Kept.{HasDecided}
+use Rattle.run_devices.proofs.run_course.Telling.{breakdowns-only}
+use Rattle.run_devices.specs.run_promise.Origin.{Origin, rule_of, start_at}
+use Rattle.run_devices.specs.run_promise.Ends.{AreVerdicts}
+use Rattle.run_devices.specs.run_promise.Beside.{HaveLeftMore}
+use Rattle.run_devices.proofs.run_promise.Beside.{kept-later}
 use Rattle.run_record.specs.Within.{Beginning, told_before, course_in, IsFoundSo, ACallIsRecorded, AFailureIsRecorded}
 use Rattle.run_record.proofs.Left.{verdict-left, seen-left}
 use Rattle.run_record.proofs.Written.{spared-called}
 use Rattle.run_record.proofs.HandedSteps.{handed-gone}
-use Rattle.run_crew.specs.Cards.{session_of}
+use Rattle.run_devices.specs.run_crew.Cards.{session_of}
 
 verdicts-left : (o : Origin) (done : List TraceSecond) (b : Beginning) (d e : Devices) → HaveLeftMore o d e → AreVerdicts o done b.run.log b.run.unfound b.marks d → AreVerdicts o done b.run.log b.run.unfound b.marks e
 verdicts-left o done b d e left h = record {

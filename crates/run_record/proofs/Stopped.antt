@@ -3,27 +3,27 @@ use Rattle.std.proofs.Common.{◌≡◌, ◌⊎◌, inl, inr, ⊎_elim, ℕ, ◌
 use Rattle.std.specs.Prelude.{◌&&◌, not, nat_le, nat_lt, slice_get, option_map, nat_eq}
 use Rattle.std.proofs.lemmas.Bool.Decides.{nat_tests}
 use Rattle.std.proofs.lemmas.List.Elements.{All-nil, All-cons, All-head, All-tail, All-contains_itself, All-weaker, filter-append, Contains-append_left, Contains-append_right, Contains-append_cases, Contains-push, Contains-push_cases, All-contains}
-use Rattle.activity_codec.specs.declared.entries.Manual.{Manual}
-use Rattle.history_model.proofs.Filters.{filter-none, filter-whole, all-one}
-use Rattle.log_model.specs.declared.lines.Mark.{Mark}
-use Rattle.log_model.specs.declared.lines.Refused.{Refused}
-use Rattle.log_model.specs.declared.lines.SlotFault.{SlotFault}
-use Rattle.log_model.specs.ByHand.{Asked, stopped_by}
-use Rattle.hand_model.specs.Holding.{last_minute, stopped_by as hand_stopped}
-use Rattle.safety_model.specs.Hands.{Session, IsFirstOf, IsSessionOf, IsFirstBefore, held_before, hand_of, is_behind, is_asked_before, is_between, is_within}
-use Rattle.safety_model.specs.ByHand.{IsStoppedBy, IsTold}
+use Rattle.minute_rules.specs.activity_codec.declared.entries.Manual.{Manual}
+use Rattle.run_devices.proofs.history_model.Filters.{filter-none, filter-whole, all-one}
+use Rattle.run_devices.specs.log_model.declared.lines.Mark.{Mark}
+use Rattle.run_devices.specs.log_model.declared.lines.Refused.{Refused}
+use Rattle.run_devices.specs.log_model.declared.lines.SlotFault.{SlotFault}
+use Rattle.run_devices.specs.log_model.ByHand.{Asked, stopped_by}
+use Rattle.run_devices.specs.hand_model.Holding.{last_minute, stopped_by as hand_stopped}
+use Rattle.run_devices.specs.safety_model.Hands.{Session, IsFirstOf, IsSessionOf, IsFirstBefore, held_before, hand_of, is_behind, is_asked_before, is_between, is_within}
+use Rattle.run_devices.specs.safety_model.ByHand.{IsStoppedBy, IsTold}
 use Rattle.run_record.proofs.HandsFold.{count-append, none-between, first-still, last-first, last-in, next-in}
 use Rattle.std.proofs.lemmas.Bool.{leb-true}
-use Rattle.hand_model.specs.Written.{Hands}
-use Rattle.hand_model.specs.declared.held.EnterFault.TheVariants as enter
-use Rattle.log_model.specs.declared.lines.SlotFault.TheVariants.{Begun, NotFree, Full}
-use Rattle.run_promise.specs.Cards.{FirstKeep}
-use Rattle.run_crew.specs.declared.cards.Accepted.{Accepted}
+use Rattle.run_devices.specs.hand_model.Written.{Hands}
+use Rattle.run_devices.specs.hand_model.declared.held.EnterFault.TheVariants as enter
+use Rattle.run_devices.specs.log_model.declared.lines.SlotFault.TheVariants.{Begun, NotFree, Full}
+use Rattle.run_devices.specs.run_promise.Cards.{FirstKeep}
+use Rattle.run_devices.specs.run_crew.declared.cards.Accepted.{Accepted}
 use Rattle.run_record.specs.Within.{stop_of, stop_told}
 use Rattle.run_record.specs.HeldHands.{HandsGo, IsKnown, WasKnown}
-use Rattle.trace_model.specs.declared.Card.{Card}
-use Rattle.history_model.specs.Minutes.{HistoryMinute}
-use Rattle.history_model.specs.Presence.{Start}
+use Rattle.run_devices.specs.trace_model.declared.Card.{Card}
+use Rattle.run_devices.specs.history_model.Minutes.{HistoryMinute}
+use Rattle.run_devices.specs.history_model.Presence.{Start}
 
 -- ---- the same
 

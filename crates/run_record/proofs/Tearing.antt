@@ -1,39 +1,39 @@
 -- A card that waits is torn out before it is judged.
 use Rattle.std.proofs.Common.{◌≡◌, inl, inr, ⊎_elim, ℕ, ◌≤◌, ◌/◌, Bool, true, false, ◌&&◌, ◌||◌, nat_eq, is_some, Option, Some, None, List, [], ◌∷◌, ◌++◌, Contains, map, refl, ap, sym, subst, ◌∙◌, arith}
-use Rattle.activity_codec.specs.declared.values.Slot.{Slot}
-use Rattle.activity_codec.specs.declared.values.Slot.TheVariants.{Driver, CoDriver}
-use Rattle.activity_codec.specs.Activity.{same_slot}
-use Rattle.trace_model.specs.declared.Card.{Card}
-use Rattle.trace_model.specs.Trace.{TraceSecond}
-use Rattle.log_model.specs.declared.lines.Break.{Break}
-use Rattle.log_model.specs.declared.lines.Verdict.{Verdict}
-use Rattle.log_model.specs.Log.{RunLog, Phase, In, Keeping, same_phase, phase_of, tears_here, is_torn_in}
-use Rattle.log_model.specs.Slots.{Slots, Sitting, in_slot}
-use Rattle.log_model.specs.Course.{ToldSecond, Course, Visit, visits, card_in, went}
-use Rattle.device_rule.specs.Rules.{Standing}
-use Rattle.safety_model.specs.Safe.{Devices, card_of, breakdowns_of}
-use Rattle.card_slots.specs.Kept.{Kept, left_of}
-use Rattle.run_crew.specs.declared.cabin.Cabin.{Cabin}
-use Rattle.run_crew.specs.Cards.{session_of}
-use Rattle.run_promise.specs.Found.{found_of}
-use Rattle.run_course.specs.Moments.{and_break}
-use Rattle.run_course.specs.Followed.{Progress}
-use Rattle.run_course.specs.Presence.{SlotsTell}
-use Rattle.run_course.proofs.Logs.{same-number}
-use Rattle.run_course.proofs.Lookups.{break-more}
-use Rattle.run_course.proofs.Within.{tear-tells}
-use Rattle.run_course.specs.Reached.{moved_at, IsTearAt}
-use Rattle.run_course.specs.Lines.{IsTornAt}
-use Rattle.run_course.specs.Moment.{Moment}
-use Rattle.run_course.specs.Telling.{IsOneOut}
-use Rattle.run_course.specs.Kept.{HasDecided, AreMarkedSoFar}
-use Rattle.run_course.proofs.Reached.{enters-first}
-use Rattle.run_course.proofs.Lines.{who-sits}
-use Rattle.run_course.proofs.Telling.{card-torn, waits-no_more}
-use Rattle.run_course.proofs.Kept.{nothing-else, marks-stay}
+use Rattle.minute_rules.specs.activity_codec.declared.values.Slot.{Slot}
+use Rattle.minute_rules.specs.activity_codec.declared.values.Slot.TheVariants.{Driver, CoDriver}
+use Rattle.minute_rules.specs.activity_codec.Activity.{same_slot}
+use Rattle.run_devices.specs.trace_model.declared.Card.{Card}
+use Rattle.run_devices.specs.trace_model.Trace.{TraceSecond}
+use Rattle.run_devices.specs.log_model.declared.lines.Break.{Break}
+use Rattle.run_devices.specs.log_model.declared.lines.Verdict.{Verdict}
+use Rattle.run_devices.specs.log_model.Log.{RunLog, Phase, In, Keeping, same_phase, phase_of, tears_here, is_torn_in}
+use Rattle.run_devices.specs.log_model.Slots.{Slots, Sitting, in_slot}
+use Rattle.run_devices.specs.log_model.Course.{ToldSecond, Course, Visit, visits, card_in, went}
+use Rattle.run_devices.specs.device_rule.Rules.{Standing}
+use Rattle.run_devices.specs.safety_model.Safe.{Devices, card_of, breakdowns_of}
+use Rattle.run_devices.specs.card_slots.Kept.{Kept, left_of}
+use Rattle.run_devices.specs.run_crew.declared.cabin.Cabin.{Cabin}
+use Rattle.run_devices.specs.run_crew.Cards.{session_of}
+use Rattle.run_devices.specs.run_promise.Found.{found_of}
+use Rattle.run_devices.specs.run_course.Moments.{and_break}
+use Rattle.run_devices.specs.run_course.Followed.{Progress}
+use Rattle.run_devices.specs.run_course.Presence.{SlotsTell}
+use Rattle.run_devices.proofs.run_course.Logs.{same-number}
+use Rattle.run_devices.proofs.run_course.Lookups.{break-more}
+use Rattle.run_devices.proofs.run_course.Within.{tear-tells}
+use Rattle.run_devices.specs.run_course.Reached.{moved_at, IsTearAt}
+use Rattle.run_devices.specs.run_course.Lines.{IsTornAt}
+use Rattle.run_devices.specs.run_course.Moment.{Moment}
+use Rattle.run_devices.specs.run_course.Telling.{IsOneOut}
+use Rattle.run_devices.specs.run_course.Kept.{HasDecided, AreMarkedSoFar}
+use Rattle.run_devices.proofs.run_course.Reached.{enters-first}
+use Rattle.run_devices.proofs.run_course.Lines.{who-sits}
+use Rattle.run_devices.proofs.run_course.Telling.{card-torn, waits-no_more}
+use Rattle.run_devices.proofs.run_course.Kept.{nothing-else, marks-stay}
 use Rattle.run_devices.specs.Presence.{PresentStand, IsSeated, sits}
 use Rattle.run_devices.proofs.Presence.{none-to_keep}
-use Rattle.run_promise.specs.Origin.{Origin, rule_of, start_at}
+use Rattle.run_devices.specs.run_promise.Origin.{Origin, rule_of, start_at}
 use Rattle.run_record.specs.Recorded.{Values, AreBack, GoesOnIn}
 use Rattle.run_record.specs.Within.{told_before, course_in, often, IsFoundSo, MayBeWrittenSo, IsSparedSo, RecordInSecond}
 use Rattle.run_record.proofs.Left.{verdict-left}
@@ -44,9 +44,9 @@ use Rattle.run_record.specs.Judging.{MayBeWrittenBy, IsTornNext, AWaitingCardIsT
 use Rattle.run_record.proofs.Sitting.{another, seat-there, sits-with, seated-still, verdicts-later}
 use Rattle.run_record.proofs.Asked.{asked-torn}
 use Rattle.run_record.proofs.HandedSteps.{handed-fewer}
-use Rattle.run_course.specs.Seconds.{kept_all}
+use Rattle.run_devices.specs.run_course.Seconds.{kept_all}
 use Rattle.run_record.specs.Handed.{StayOrEnd, AreHandedIn}
-use Rattle.run_crew.specs.declared.cards.Accepted.{Accepted}
+use Rattle.run_devices.specs.run_crew.declared.cards.Accepted.{Accepted}
 
 -- a tear that is told is one that the log tells of
 itself : (slot : Slot) → same_slot slot slot ≡ true

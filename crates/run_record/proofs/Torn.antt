@@ -1,27 +1,27 @@
 -- The card of a slot is torn or pulled out: how the cards stand behind that, who is back, and unit and cards where no device was called.
 use Rattle.std.proofs.Common.{◌≡◌, ◌⊎◌, inl, inr, ⊎_elim, ℕ, ◌+◌, ◌/◌, ◌≤◌, true, false, Option, Some, None, IfSome, is_some, List, Contains, refl, ap, sym, subst, ◌∙◌, arith}
-use Rattle.activity_codec.specs.declared.values.Slot.{Slot}
-use Rattle.trace_model.specs.declared.Card.{Card}
-use Rattle.trace_model.specs.declared.Card.TheVariants.{A, B}
-use Rattle.log_model.specs.Slots.{Slots, same_card, in_slot}
-use Rattle.log_model.specs.Course.{ToldSecond, Course, Visit, with_slot}
-use Rattle.history_model.specs.Minutes.{HistoryMinute}
-use Rattle.history_model.specs.Presence.{Start}
-use Rattle.card_image.specs.Own.{IsOwnValid}
-use Rattle.device_rule.specs.Rules.{Standing, In, Torn}
-use Rattle.safety_model.specs.Safe.{Devices}
-use Rattle.card_slots.specs.Calls.{seat_in, card_in, is_card}
-use Rattle.card_slots.specs.Kept.{Kept, left_of, taken}
-use Rattle.run_crew.specs.declared.cards.Accepted.{Accepted}
-use Rattle.run_crew.specs.declared.cards.Cards.{Cards}
-use Rattle.run_crew.specs.declared.cabin.Cabin.{Cabin}
-use Rattle.run_crew.specs.Cards.{session_of, with_session}
-use Rattle.run_crew.specs.Cabin.{left_from, torn_out}
-use Rattle.run_crew.proofs.Sessions.{same_is}
-use Rattle.run_promise.specs.Found.{Found, found_of}
-use Rattle.run_promise.specs.Between.{RunLedger}
-use Rattle.run_course.specs.Presence.{SlotsTell}
-use Rattle.run_course.specs.Kept.{StaysOut}
+use Rattle.minute_rules.specs.activity_codec.declared.values.Slot.{Slot}
+use Rattle.run_devices.specs.trace_model.declared.Card.{Card}
+use Rattle.run_devices.specs.trace_model.declared.Card.TheVariants.{A, B}
+use Rattle.run_devices.specs.log_model.Slots.{Slots, same_card, in_slot}
+use Rattle.run_devices.specs.log_model.Course.{ToldSecond, Course, Visit, with_slot}
+use Rattle.run_devices.specs.history_model.Minutes.{HistoryMinute}
+use Rattle.run_devices.specs.history_model.Presence.{Start}
+use Rattle.run_devices.specs.card_image.Own.{IsOwnValid}
+use Rattle.run_devices.specs.device_rule.Rules.{Standing, In, Torn}
+use Rattle.run_devices.specs.safety_model.Safe.{Devices}
+use Rattle.run_devices.specs.card_slots.Calls.{seat_in, card_in, is_card}
+use Rattle.run_devices.specs.card_slots.Kept.{Kept, left_of, taken}
+use Rattle.run_devices.specs.run_crew.declared.cards.Accepted.{Accepted}
+use Rattle.run_devices.specs.run_crew.declared.cards.Cards.{Cards}
+use Rattle.run_devices.specs.run_crew.declared.cabin.Cabin.{Cabin}
+use Rattle.run_devices.specs.run_crew.Cards.{session_of, with_session}
+use Rattle.run_devices.specs.run_crew.Cabin.{left_from, torn_out}
+use Rattle.run_devices.proofs.run_crew.Sessions.{same_is}
+use Rattle.run_devices.specs.run_promise.Found.{Found, found_of}
+use Rattle.run_devices.specs.run_promise.Between.{RunLedger}
+use Rattle.run_devices.specs.run_course.Presence.{SlotsTell}
+use Rattle.run_devices.specs.run_course.Kept.{StaysOut}
 use Rattle.run_devices.specs.Told.{AreFoundCards, DevicesPowered, for_card, with_standing}
 use Rattle.run_devices.proofs.Begun.{tear-powered}
 use Rattle.run_devices.specs.Presence.{PresentStand, StaysSo, IsTornOut, sits}

@@ -1,23 +1,23 @@
 -- So many seconds of one minute are fed at once.
 use Rattle.std.proofs.Common.{◌≡◌, ℕ, zero, suc, ◌+◌, ◌-◌, ◌/◌, ◌%◌, ◌<◌, ◌≤◌, max, true, false, Some, None, List, [], ◌∷◌, ◌++◌, length, map, refl, ap, sym, subst, ◌∙◌, arith, append_assoc, append-nil}
 use Rattle.std.proofs.lemmas.List.{append_cancel_left}
-use Rattle.trace_model.specs.Trace.{TraceSecond, driven}
-use Rattle.minute_model.specs.declared.Minute.{Minute}
-use Rattle.minute_model.specs.Minute.{class_of, minutes_ahead}
-use Rattle.minute_model.specs.Span.{Span, end_of, fed, fed_many, decided_in, ungiven_of, latest, count_from}
-use Rattle.minute_model.proofs.Spans.{decided-fed_many, fed_many-end}
+use Rattle.run_devices.specs.trace_model.Trace.{TraceSecond, driven}
+use Rattle.minute_rules.specs.minute_model.declared.Minute.{Minute}
+use Rattle.minute_rules.specs.minute_model.Minute.{class_of, minutes_ahead}
+use Rattle.minute_rules.specs.minute_model.Span.{Span, end_of, fed, fed_many, decided_in, ungiven_of, latest, count_from}
+use Rattle.minute_rules.proofs.minute_model.Spans.{decided-fed_many, fed_many-end}
 use Rattle.minute_rules.specs.Kept.{Kept, CountsSpan, run, decided_now, minute_ended}
 use Rattle.minute_rules.proofs.Giving.{fed-stands, fed-given}
-use Rattle.log_model.specs.Log.{In, Keeping}
-use Rattle.log_model.specs.Course.{ToldSecond}
-use Rattle.history_model.proofs.Deciding.{counted}
-use Rattle.run_course.proofs.Steps.{lit-parts, span-end}
-use Rattle.run_course.specs.Kept.{settled_times}
-use Rattle.run_unit_course.specs.Followed.{Lit}
-use Rattle.run_unit_course.specs.Turn.{begins_with, span_at}
-use Rattle.safety_model.specs.Safe.{Devices}
-use Rattle.run_course.specs.Seconds.{next_told}
-use Rattle.run_promise.specs.Origin.{Origin, rule_of, start_at, first_of}
+use Rattle.run_devices.specs.log_model.Log.{In, Keeping}
+use Rattle.run_devices.specs.log_model.Course.{ToldSecond}
+use Rattle.run_devices.proofs.history_model.Deciding.{counted}
+use Rattle.run_devices.proofs.run_course.Steps.{lit-parts, span-end}
+use Rattle.run_devices.specs.run_course.Kept.{settled_times}
+use Rattle.run_devices.specs.run_unit_course.Followed.{Lit}
+use Rattle.run_devices.specs.run_unit_course.Turn.{begins_with, span_at}
+use Rattle.run_devices.specs.safety_model.Safe.{Devices}
+use Rattle.run_devices.specs.run_course.Seconds.{next_told}
+use Rattle.run_devices.specs.run_promise.Origin.{Origin, rule_of, start_at, first_of}
 use Rattle.run_record.specs.Recorded.{Values}
 use Rattle.run_record.specs.Within.{Beginning, RecordInSecond, SecondGoesOn, RecordedFrom, undecided_from, begun_behind, passed_values}
 use Rattle.run_record.specs.Turning.{BehindFirst, last_of, before_last, IsTurned, ATurnIsFed, TheTurnEnds}

@@ -1,24 +1,24 @@
 -- Up to which minute a second has decided: none that is later than its own, all before that one behind a settling, and all but a few of them.
 use Rattle.std.proofs.Common.{◌≡◌, ℕ, ◌+◌, ◌-◌, ◌/◌, ◌≤◌, None, List, [], ◌∷◌, ◌++◌, length, ap, sym, subst, ◌∙◌, arith, length-append}
-use Rattle.trace_model.specs.Trace.{TraceSecond}
-use Rattle.minute_model.specs.declared.Rule.{Rule}
-use Rattle.minute_model.specs.declared.Rule.TheVariants.{Original, Amended}
-use Rattle.minute_model.specs.declared.Minute.{Minute}
-use Rattle.minute_model.specs.Minute.{minutes_ahead}
-use Rattle.minute_model.specs.Span.{Span, end_of, settled, decided_in, ungiven_of}
-use Rattle.minute_model.proofs.Counted.{ungiven-most, ungiven-settled}
+use Rattle.run_devices.specs.trace_model.Trace.{TraceSecond}
+use Rattle.minute_rules.specs.minute_model.declared.Rule.{Rule}
+use Rattle.minute_rules.specs.minute_model.declared.Rule.TheVariants.{Original, Amended}
+use Rattle.minute_rules.specs.minute_model.declared.Minute.{Minute}
+use Rattle.minute_rules.specs.minute_model.Minute.{minutes_ahead}
+use Rattle.minute_rules.specs.minute_model.Span.{Span, end_of, settled, decided_in, ungiven_of}
+use Rattle.minute_rules.proofs.minute_model.Counted.{ungiven-most, ungiven-settled}
 use Rattle.minute_rules.specs.Kept.{Kept, CountsSpan}
-use Rattle.log_model.specs.Log.{Phase}
-use Rattle.log_model.specs.Course.{ToldSecond, Visit}
-use Rattle.history_model.specs.Presence.{Start}
-use Rattle.history_model.proofs.Deciding.{counted}
-use Rattle.run_unit_course.specs.Followed.{UnitPower, Lit}
-use Rattle.run_unit_course.specs.Turn.{span_at}
-use Rattle.safety_model.specs.Safe.{Devices}
-use Rattle.run_course.specs.Followed.{Progress, BookFollowsRun}
-use Rattle.run_course.proofs.Steps.{span-end}
-use Rattle.run_course.proofs.Kept.{times-end}
-use Rattle.run_promise.specs.Origin.{Origin, rule_of, start_at, first_of}
+use Rattle.run_devices.specs.log_model.Log.{Phase}
+use Rattle.run_devices.specs.log_model.Course.{ToldSecond, Visit}
+use Rattle.run_devices.specs.history_model.Presence.{Start}
+use Rattle.run_devices.proofs.history_model.Deciding.{counted}
+use Rattle.run_devices.specs.run_unit_course.Followed.{UnitPower, Lit}
+use Rattle.run_devices.specs.run_unit_course.Turn.{span_at}
+use Rattle.run_devices.specs.safety_model.Safe.{Devices}
+use Rattle.run_devices.specs.run_course.Followed.{Progress, BookFollowsRun}
+use Rattle.run_devices.proofs.run_course.Steps.{span-end}
+use Rattle.run_devices.proofs.run_course.Kept.{times-end}
+use Rattle.run_devices.specs.run_promise.Origin.{Origin, rule_of, start_at, first_of}
 use Rattle.run_record.specs.Recorded.{Values}
 use Rattle.run_record.specs.Within.{RecordInSecond}
 use Rattle.run_record.proofs.Feeding.{decided-many}

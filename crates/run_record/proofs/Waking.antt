@@ -2,21 +2,21 @@
 use Rattle.std.proofs.Common.{◌≡◌, inl, inr, ⊎_elim, ℕ, Bool, true, false, cond, not, ◌&&◌, nat_eq, Some, None, List, [], ◌∷◌, ◌++◌, refl, ap, sym, ◌∙◌, arith, append-nil}
 use Rattle.std.specs.List.{AllByRecursion}
 use Rattle.std.proofs.lemmas.List.Elements.{Contains-push_cases, Contains-append_cases}
-use Rattle.activity_codec.specs.declared.values.Slot.{Slot}
-use Rattle.activity_codec.specs.declared.values.Slot.TheVariants.{Driver, CoDriver}
-use Rattle.activity_codec.specs.Activity.{same_slot}
-use Rattle.trace_model.specs.declared.Card.{Card}
-use Rattle.trace_model.specs.Trace.{TraceSecond}
-use Rattle.log_model.specs.declared.lines.Find.{Find}
-use Rattle.log_model.specs.Log.{RunLog, Phase, In, same_phase, found_in}
-use Rattle.log_model.specs.Course.{Visit, went}
-use Rattle.safety_model.specs.Safe.{Devices}
-use Rattle.card_slots.specs.Calls.{seat_in}
-use Rattle.run_course.specs.Moments.{and_find}
-use Rattle.run_course.proofs.Lookups.{find-more}
-use Rattle.run_course.specs.Telling.{WaitBut}
-use Rattle.run_course.proofs.Lines.{times-append}
-use Rattle.run_promise.specs.Origin.{Origin, start_at}
+use Rattle.minute_rules.specs.activity_codec.declared.values.Slot.{Slot}
+use Rattle.minute_rules.specs.activity_codec.declared.values.Slot.TheVariants.{Driver, CoDriver}
+use Rattle.minute_rules.specs.activity_codec.Activity.{same_slot}
+use Rattle.run_devices.specs.trace_model.declared.Card.{Card}
+use Rattle.run_devices.specs.trace_model.Trace.{TraceSecond}
+use Rattle.run_devices.specs.log_model.declared.lines.Find.{Find}
+use Rattle.run_devices.specs.log_model.Log.{RunLog, Phase, In, same_phase, found_in}
+use Rattle.run_devices.specs.log_model.Course.{Visit, went}
+use Rattle.run_devices.specs.safety_model.Safe.{Devices}
+use Rattle.run_devices.specs.card_slots.Calls.{seat_in}
+use Rattle.run_devices.specs.run_course.Moments.{and_find}
+use Rattle.run_devices.proofs.run_course.Lookups.{find-more}
+use Rattle.run_devices.specs.run_course.Telling.{WaitBut}
+use Rattle.run_devices.proofs.run_course.Lines.{times-append}
+use Rattle.run_devices.specs.run_promise.Origin.{Origin, start_at}
 use Rattle.run_record.specs.Recorded.{Values}
 use Rattle.run_record.specs.Within.{Beginning, told_before, course_in}
 use Rattle.run_record.specs.Judging.{IsNext}

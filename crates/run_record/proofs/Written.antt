@@ -1,32 +1,32 @@
 -- Which cards may be written, and are spared, goes on with each step of a second.
 use Rattle.std.proofs.Common.{◌≡◌, ◌⊎◌, inl, inr, ⊎_elim, ℕ, ◌+◌, ◌/◌, ◌≤◌, ◌<◌, Bool, true, false, cond, ◌&&◌, is_some, Some, List, [], ◌∷◌, ◌++◌, length, filter, refl, ap, sym, subst, ◌∙◌, arith, length-append}
 use Rattle.std.proofs.lemmas.List.Elements.{filter-append}
-use Rattle.activity_codec.specs.declared.values.Slot.{Slot}
-use Rattle.trace_model.specs.declared.Card.{Card}
-use Rattle.trace_model.specs.declared.Card.TheVariants.{A, B}
-use Rattle.trace_model.specs.Trace.{TraceSecond}
-use Rattle.log_model.specs.declared.lines.Mark.{Mark}
-use Rattle.log_model.specs.declared.lines.Verdict.{Verdict}
-use Rattle.log_model.specs.declared.lines.Verdict.TheVariants.{Accepted, NotValid, TimeOverlap}
-use Rattle.log_model.specs.Log.{Phase, is_accepting}
-use Rattle.log_model.specs.Slots.{same_card}
-use Rattle.log_model.specs.Course.{Course, Visit}
-use Rattle.card_image.specs.Own.{own_view, IsOwnValid}
-use Rattle.safety_model.specs.Recording.{card_image}
-use Rattle.safety_model.specs.Cards.{entered, overlaps, is_overlap}
-use Rattle.safety_model.specs.Safe.{Devices, card_of, entered_by}
-use Rattle.run_crew.specs.declared.cards.Cards.{Cards}
-use Rattle.run_crew.specs.Cards.{session_of}
-use Rattle.run_promise.specs.Found.{found_of}
-use Rattle.run_promise.specs.Cards.{IsUntouched}
-use Rattle.run_course.specs.Lines.{times_of}
-use Rattle.run_course.specs.Moment.{finds_by}
-use Rattle.run_course.specs.Telling.{WaitBut}
-use Rattle.run_promise.specs.Origin.{Origin}
-use Rattle.run_promise.specs.Ends.{recording_by}
-use Rattle.run_promise.specs.Beside.{AreFewFound}
-use Rattle.run_promise.proofs.Beside.{fewer-found}
-use Rattle.card_slots.specs.Kept.{Kept, left_of}
+use Rattle.minute_rules.specs.activity_codec.declared.values.Slot.{Slot}
+use Rattle.run_devices.specs.trace_model.declared.Card.{Card}
+use Rattle.run_devices.specs.trace_model.declared.Card.TheVariants.{A, B}
+use Rattle.run_devices.specs.trace_model.Trace.{TraceSecond}
+use Rattle.run_devices.specs.log_model.declared.lines.Mark.{Mark}
+use Rattle.run_devices.specs.log_model.declared.lines.Verdict.{Verdict}
+use Rattle.run_devices.specs.log_model.declared.lines.Verdict.TheVariants.{Accepted, NotValid, TimeOverlap}
+use Rattle.run_devices.specs.log_model.Log.{Phase, is_accepting}
+use Rattle.run_devices.specs.log_model.Slots.{same_card}
+use Rattle.run_devices.specs.log_model.Course.{Course, Visit}
+use Rattle.run_devices.specs.card_image.Own.{own_view, IsOwnValid}
+use Rattle.run_devices.specs.safety_model.Recording.{card_image}
+use Rattle.run_devices.specs.safety_model.Cards.{entered, overlaps, is_overlap}
+use Rattle.run_devices.specs.safety_model.Safe.{Devices, card_of, entered_by}
+use Rattle.run_devices.specs.run_crew.declared.cards.Cards.{Cards}
+use Rattle.run_devices.specs.run_crew.Cards.{session_of}
+use Rattle.run_devices.specs.run_promise.Found.{found_of}
+use Rattle.run_devices.specs.run_promise.Cards.{IsUntouched}
+use Rattle.run_devices.specs.run_course.Lines.{times_of}
+use Rattle.run_devices.specs.run_course.Moment.{finds_by}
+use Rattle.run_devices.specs.run_course.Telling.{WaitBut}
+use Rattle.run_devices.specs.run_promise.Origin.{Origin}
+use Rattle.run_devices.specs.run_promise.Ends.{recording_by}
+use Rattle.run_devices.specs.run_promise.Beside.{AreFewFound}
+use Rattle.run_devices.proofs.run_promise.Beside.{fewer-found}
+use Rattle.run_devices.specs.card_slots.Kept.{Kept, left_of}
 use Rattle.run_record.specs.Recorded.{SitsAccepted, LeftSince, IsWrittenSince, GoesOnIn}
 use Rattle.run_record.specs.Within.{Beginning, VerdictBy, overlaps_by, MayBeWrittenSo, IsSparedSo}
 use Rattle.run_record.proofs.Stays.{since-on}

@@ -1,36 +1,36 @@
 -- How the record goes on over seconds that are taken at once: without power, of an `off` line, and with power where
 -- nothing happens; and how it begins (profile).
 use Rattle.std.specs.Prelude.{◌≡◌, ℕ, suc, ◌+◌, ◌-◌, ◌/◌, ◌%◌, ◌<◌, ◌≤◌, None, List, [], ◌∷◌, ◌++◌, map, false}
-use Rattle.trace_model.specs.declared.Action.{Action}
-use Rattle.trace_model.specs.declared.Card.{Card}
-use Rattle.trace_model.specs.Trace.{TraceSecond, driven, dark}
+use Rattle.run_devices.specs.trace_model.declared.Action.{Action}
+use Rattle.run_devices.specs.trace_model.declared.Card.{Card}
+use Rattle.run_devices.specs.trace_model.Trace.{TraceSecond, driven, dark}
 use Rattle.minute_rules.specs.Kept.{Kept, CountsSpan}
-use Rattle.log_model.specs.declared.lines.Refused.{Refused}
-use Rattle.log_model.specs.Causes.{refusals_at, refusal_told}
-use Rattle.log_model.specs.Course.{ToldSecond, without_power}
-use Rattle.history_model.specs.Book.{not_begun}
-use Rattle.device_rule.specs.Rules.{Out}
-use Rattle.run_unit_course.specs.Followed.{UnitPower, Lit, Due, Lost, IsDark}
-use Rattle.run_unit_course.specs.Legs.{not_travelled}
-use Rattle.run_unit_course.specs.Lines.{cut_at}
-use Rattle.run_unit_course.specs.Turn.{span_at}
-use Rattle.unit_model.specs.Image.{odometer_at}
-use Rattle.unit_rule.specs.Odometer.{HasTravelled}
-use Rattle.safety_model.specs.Safe.{Devices, card_of, breakdowns_of}
-use Rattle.card_slots.specs.Kept.{nothing_yet}
-use Rattle.run_crew.specs.Cabin.{with_power_lost}
-use Rattle.run_crew.specs.Cards.{session_of}
-use Rattle.run_promise.specs.Found.{found_of}
-use Rattle.run_promise.specs.Cards.{IsUntouched}
-use Rattle.run_course.specs.Moments.{and_break}
-use Rattle.run_course.specs.Quiet.{quiet_seconds, begun_after}
-use Rattle.run_course.specs.Telling.{IsMore}
+use Rattle.run_devices.specs.log_model.declared.lines.Refused.{Refused}
+use Rattle.run_devices.specs.log_model.Causes.{refusals_at, refusal_told}
+use Rattle.run_devices.specs.log_model.Course.{ToldSecond, without_power}
+use Rattle.run_devices.specs.history_model.Book.{not_begun}
+use Rattle.run_devices.specs.device_rule.Rules.{Out}
+use Rattle.run_devices.specs.run_unit_course.Followed.{UnitPower, Lit, Due, Lost, IsDark}
+use Rattle.run_devices.specs.run_unit_course.Legs.{not_travelled}
+use Rattle.run_devices.specs.run_unit_course.Lines.{cut_at}
+use Rattle.run_devices.specs.run_unit_course.Turn.{span_at}
+use Rattle.run_devices.specs.unit_model.Image.{odometer_at}
+use Rattle.run_devices.specs.unit_rule.Odometer.{HasTravelled}
+use Rattle.run_devices.specs.safety_model.Safe.{Devices, card_of, breakdowns_of}
+use Rattle.run_devices.specs.card_slots.Kept.{nothing_yet}
+use Rattle.run_devices.specs.run_crew.Cabin.{with_power_lost}
+use Rattle.run_devices.specs.run_crew.Cards.{session_of}
+use Rattle.run_devices.specs.run_promise.Found.{found_of}
+use Rattle.run_devices.specs.run_promise.Cards.{IsUntouched}
+use Rattle.run_devices.specs.run_course.Moments.{and_break}
+use Rattle.run_devices.specs.run_course.Quiet.{quiet_seconds, begun_after}
+use Rattle.run_devices.specs.run_course.Telling.{IsMore}
 use Rattle.run_devices.specs.Told.{AreFoundCards, DevicesUnpowered}
-use Rattle.run_promise.specs.Origin.{Origin, rule_of, first_of}
-use Rattle.run_promise.specs.Seconds.{empty_log}
+use Rattle.run_devices.specs.run_promise.Origin.{Origin, rule_of, first_of}
+use Rattle.run_devices.specs.run_promise.Seconds.{empty_log}
 use Rattle.run_record.specs.Recorded.{Values, slots_of, AreThere, RecordBetweenSeconds}
 use Rattle.run_record.specs.Within.{RecordedFrom}
-use Rattle.run_promise.specs.Opening.{carried_first}
+use Rattle.run_devices.specs.run_promise.Opening.{carried_first}
 
 -- WITHOUT POWER, up to the minute's end after a failed call: the actions of the first second are refused, and the last
 -- one had so many

@@ -1,29 +1,29 @@
 -- The entries by hand of a run, between two of its seconds and within one: what was asked and done so far, and what the
 -- sessions hold of it (profile).
 use Rattle.std.specs.Prelude.{◌≡◌, ◌⊎◌, ℕ, Option, None, List, ◌++◌, filter, take, true, All, map}
-use Rattle.trace_model.specs.declared.Action.{Action}
-use Rattle.trace_model.specs.declared.Card.{Card}
-use Rattle.trace_model.specs.Trace.{TraceSecond}
-use Rattle.log_model.specs.declared.lines.Mark.{Mark}
-use Rattle.log_model.specs.declared.lines.Refused.{Refused}
-use Rattle.log_model.specs.Log.{RunLog, Phase, In, Keeping}
-use Rattle.log_model.specs.Causes.{device_of}
-use Rattle.log_model.specs.Slots.{same_card}
-use Rattle.log_model.specs.Course.{Before, ToldSecond, Course, went}
-use Rattle.log_model.specs.ByHand.{Asked, asked_by, asked_of, done_by_hand, is_stop, is_stopped}
-use Rattle.history_model.specs.Minutes.{HistoryMinute}
-use Rattle.history_model.specs.Presence.{Start}
-use Rattle.note_model.specs.Done.{course_powered}
-use Rattle.card_image.specs.Own.{IsOwnValid}
-use Rattle.hand_model.specs.Written.{Hands}
-use Rattle.safety_model.specs.Unit.{marks_of}
-use Rattle.safety_model.specs.Hands.{Session, sessions_in, sessions_found}
-use Rattle.run_promise.specs.Found.{Found, found_of}
-use Rattle.run_promise.specs.Cards.{FirstKeep}
-use Rattle.run_crew.specs.declared.cards.Accepted.{Accepted}
+use Rattle.run_devices.specs.trace_model.declared.Action.{Action}
+use Rattle.run_devices.specs.trace_model.declared.Card.{Card}
+use Rattle.run_devices.specs.trace_model.Trace.{TraceSecond}
+use Rattle.run_devices.specs.log_model.declared.lines.Mark.{Mark}
+use Rattle.run_devices.specs.log_model.declared.lines.Refused.{Refused}
+use Rattle.run_devices.specs.log_model.Log.{RunLog, Phase, In, Keeping}
+use Rattle.run_devices.specs.log_model.Causes.{device_of}
+use Rattle.run_devices.specs.log_model.Slots.{same_card}
+use Rattle.run_devices.specs.log_model.Course.{Before, ToldSecond, Course, went}
+use Rattle.run_devices.specs.log_model.ByHand.{Asked, asked_by, asked_of, done_by_hand, is_stop, is_stopped}
+use Rattle.run_devices.specs.history_model.Minutes.{HistoryMinute}
+use Rattle.run_devices.specs.history_model.Presence.{Start}
+use Rattle.run_devices.specs.note_model.Done.{course_powered}
+use Rattle.run_devices.specs.card_image.Own.{IsOwnValid}
+use Rattle.run_devices.specs.hand_model.Written.{Hands}
+use Rattle.run_devices.specs.safety_model.Unit.{marks_of}
+use Rattle.run_devices.specs.safety_model.Hands.{Session, sessions_in, sessions_found}
+use Rattle.run_devices.specs.run_promise.Found.{Found, found_of}
+use Rattle.run_devices.specs.run_promise.Cards.{FirstKeep}
+use Rattle.run_devices.specs.run_crew.declared.cards.Accepted.{Accepted}
 use Rattle.run_record.specs.HeldHands.{HandsGo, IsKnown, WasKnownLast}
-use Rattle.safety_model.specs.Stops.{told_at, asked_at}
-use Rattle.safety_model.specs.ByHand.{IsStoppedBy}
+use Rattle.run_devices.specs.safety_model.Stops.{told_at, asked_at}
+use Rattle.run_devices.specs.safety_model.ByHand.{IsStoppedBy}
 
 -- the actions of a second up to a moment of it
 abbrev pub actions_to : Phase → List Action → List Action

@@ -2,18 +2,18 @@
 -- (profile).
 use Rattle.std.specs.Prelude.{◌≡◌, ℕ, ◌/◌, ◌<◌, ◌≤◌, true, false, Option, Some, None, List, [], ◌∷◌, ◌++◌, All}
 use Rattle.std.specs.Prelude.{Contains, map, length}
-use Rattle.activity_codec.specs.declared.entries.Manual.{Manual}
-use Rattle.trace_model.specs.declared.Card.{Card}
-use Rattle.minute_model.specs.Activity.{last}
-use Rattle.log_model.specs.declared.lines.Mark.{Mark}
-use Rattle.log_model.specs.ByHand.{Asked}
-use Rattle.history_model.specs.Minutes.{HistoryMinute}
-use Rattle.history_model.specs.Presence.{Start, newest_minute}
-use Rattle.hand_model.specs.Holding.{of_day}
-use Rattle.hand_model.specs.Written.{Hands, IsPartOf}
-use Rattle.safety_model.specs.Hands.{Session, IsFirstOf, hand_of, is_behind, of_session}
-use Rattle.run_promise.specs.Cards.{FirstKeep}
-use Rattle.run_crew.specs.declared.cards.Accepted.{Accepted}
+use Rattle.minute_rules.specs.activity_codec.declared.entries.Manual.{Manual}
+use Rattle.run_devices.specs.trace_model.declared.Card.{Card}
+use Rattle.minute_rules.specs.minute_model.Activity.{last}
+use Rattle.run_devices.specs.log_model.declared.lines.Mark.{Mark}
+use Rattle.run_devices.specs.log_model.ByHand.{Asked}
+use Rattle.run_devices.specs.history_model.Minutes.{HistoryMinute}
+use Rattle.run_devices.specs.history_model.Presence.{Start, newest_minute}
+use Rattle.run_devices.specs.hand_model.Holding.{of_day}
+use Rattle.run_devices.specs.hand_model.Written.{Hands, IsPartOf}
+use Rattle.run_devices.specs.safety_model.Hands.{Session, IsFirstOf, hand_of, is_behind, of_session}
+use Rattle.run_devices.specs.run_promise.Cards.{FirstKeep}
+use Rattle.run_devices.specs.run_crew.declared.cards.Accepted.{Accepted}
 
 -- the last of some sessions
 pub record IsLast (sessions : List Session) (s : Session) : Type 0 where

@@ -3,49 +3,49 @@
 use Rattle.std.specs.Prelude.{◌≡◌, ◌⊎◌, ℕ, ◌/◌, ◌<◌, ◌≤◌, Bool, true, false, Some, None, List, [], ◌++◌, Contains}
 use Rattle.std.specs.Prelude.{is_some, Option}
 use Rattle.std.specs.List.{AllByRecursion}
-use Rattle.activity_codec.specs.declared.values.Slot.{Slot}
-use Rattle.activity_codec.specs.declared.values.Slot.TheVariants.{Driver, CoDriver}
-use Rattle.trace_model.specs.declared.Card.{Card}
-use Rattle.trace_model.specs.Trace.{TraceSecond}
-use Rattle.run_model.specs.declared.Device.TheVariants.{Unit as Recorder}
-use Rattle.log_model.specs.declared.lines.Break.{Break}
-use Rattle.log_model.specs.declared.lines.Find.{Find}
-use Rattle.log_model.specs.declared.lines.Mark.{Mark}
-use Rattle.log_model.specs.Log.{Phase, Keeping, is_accepting, found_in}
-use Rattle.log_model.specs.Slots.{in_slot, same_card}
-use Rattle.log_model.specs.Causes.{RoseBy}
-use Rattle.log_model.specs.Course.{Visit, went}
-use Rattle.device_rule.specs.Rules.{Standing}
-use Rattle.run_unit_course.specs.Legs.{all_travelled}
-use Rattle.unit_model.specs.Image.{odometer_at}
-use Rattle.unit_rule.specs.Odometer.{HasTravelled}
-use Rattle.card_image.specs.Own.{own_view, IsOwnValid}
-use Rattle.safety_model.specs.Recording.{card_image, brought as brought_at}
-use Rattle.safety_model.specs.Safe.{Devices, card_of, breakdowns_of}
-use Rattle.card_slots.specs.Kept.{IsFree, put_in, taken}
-use Rattle.run_crew.specs.declared.cabin.Cabin.{Cabin}
-use Rattle.run_crew.specs.Cards.{session_of}
-use Rattle.run_promise.specs.Found.{found_of}
-use Rattle.run_promise.specs.Cards.{IsUntouched, brought_by as entries_brought}
-use Rattle.run_course.specs.Moments.{and_break, and_find}
-use Rattle.run_course.specs.Presence.{IsNewestAt}
-use Rattle.run_course.specs.Seconds.{kept_all}
-use Rattle.run_promise.specs.Going.{IsTakenAt}
-use Rattle.run_course.specs.Reached.{moved_at, IsTearAt, IsFindAt}
-use Rattle.run_course.specs.Telling.{IsMore, BrokeDown, WaitBut}
+use Rattle.minute_rules.specs.activity_codec.declared.values.Slot.{Slot}
+use Rattle.minute_rules.specs.activity_codec.declared.values.Slot.TheVariants.{Driver, CoDriver}
+use Rattle.run_devices.specs.trace_model.declared.Card.{Card}
+use Rattle.run_devices.specs.trace_model.Trace.{TraceSecond}
+use Rattle.run_devices.specs.run_model.declared.Device.TheVariants.{Unit as Recorder}
+use Rattle.run_devices.specs.log_model.declared.lines.Break.{Break}
+use Rattle.run_devices.specs.log_model.declared.lines.Find.{Find}
+use Rattle.run_devices.specs.log_model.declared.lines.Mark.{Mark}
+use Rattle.run_devices.specs.log_model.Log.{Phase, Keeping, is_accepting, found_in}
+use Rattle.run_devices.specs.log_model.Slots.{in_slot, same_card}
+use Rattle.run_devices.specs.log_model.Causes.{RoseBy}
+use Rattle.run_devices.specs.log_model.Course.{Visit, went}
+use Rattle.run_devices.specs.device_rule.Rules.{Standing}
+use Rattle.run_devices.specs.run_unit_course.Legs.{all_travelled}
+use Rattle.run_devices.specs.unit_model.Image.{odometer_at}
+use Rattle.run_devices.specs.unit_rule.Odometer.{HasTravelled}
+use Rattle.run_devices.specs.card_image.Own.{own_view, IsOwnValid}
+use Rattle.run_devices.specs.safety_model.Recording.{card_image, brought as brought_at}
+use Rattle.run_devices.specs.safety_model.Safe.{Devices, card_of, breakdowns_of}
+use Rattle.run_devices.specs.card_slots.Kept.{IsFree, put_in, taken}
+use Rattle.run_devices.specs.run_crew.declared.cabin.Cabin.{Cabin}
+use Rattle.run_devices.specs.run_crew.Cards.{session_of}
+use Rattle.run_devices.specs.run_promise.Found.{found_of}
+use Rattle.run_devices.specs.run_promise.Cards.{IsUntouched, brought_by as entries_brought}
+use Rattle.run_devices.specs.run_course.Moments.{and_break, and_find}
+use Rattle.run_devices.specs.run_course.Presence.{IsNewestAt}
+use Rattle.run_devices.specs.run_course.Seconds.{kept_all}
+use Rattle.run_devices.specs.run_promise.Going.{IsTakenAt}
+use Rattle.run_devices.specs.run_course.Reached.{moved_at, IsTearAt, IsFindAt}
+use Rattle.run_devices.specs.run_course.Telling.{IsMore, BrokeDown, WaitBut}
 use Rattle.run_devices.specs.Told.{AreFoundCards, DevicesPowered, DevicesUnpowered, card_marks, HasFoundSo}
 use Rattle.run_devices.specs.Presence.{IsSeated}
-use Rattle.run_promise.specs.Origin.{Origin, start_at, first_of}
-use Rattle.run_promise.specs.Beside.{HaveLeftMore}
+use Rattle.run_devices.specs.run_promise.Origin.{Origin, start_at, first_of}
+use Rattle.run_devices.specs.run_promise.Beside.{HaveLeftMore}
 use Rattle.run_record.specs.Recorded.{Values, carried, AreThere}
 use Rattle.run_record.specs.Handed.{StayOrEnd}
 use Rattle.run_record.specs.Within.{course_in, VerdictBy, often, AreOld, RecordInSecond, SecondGoesOn, RecordAtFailure}
-use Rattle.activity_codec.specs.declared.entries.Entry.{Entry}
-use Rattle.log_model.specs.declared.lines.Verdict.{Verdict}
-use Rattle.safety_model.specs.Hands.{brought_by as many_brought}
-use Rattle.hand_model.specs.Holding.{none_held}
-use Rattle.run_crew.specs.declared.cards.Accepted.{Accepted}
-use Rattle.history_model.specs.Presence.{trimmed_by, newest_minute}
+use Rattle.minute_rules.specs.activity_codec.declared.entries.Entry.{Entry}
+use Rattle.run_devices.specs.log_model.declared.lines.Verdict.{Verdict}
+use Rattle.run_devices.specs.safety_model.Hands.{brought_by as many_brought}
+use Rattle.run_devices.specs.hand_model.Holding.{none_held}
+use Rattle.run_devices.specs.run_crew.declared.cards.Accepted.{Accepted}
+use Rattle.run_devices.specs.history_model.Presence.{trimmed_by, newest_minute}
 
 -- A CARD WAITS in a slot at a moment: it sits there and is not accepted, and has entered with this moment; all minutes
 -- before this second's are kept. Behind it these cards wait.

@@ -1,27 +1,27 @@
 -- A card that waits is accepted and torn out in one call (profile): both are told, and it has left its slot.
 use Rattle.std.specs.Prelude.{◌≡◌, ℕ, true, None, List, []}
-use Rattle.trace_model.specs.declared.Card.{Card}
-use Rattle.trace_model.specs.Trace.{TraceSecond}
-use Rattle.run_model.specs.declared.Device.TheVariants.{Unit as Recorder}
-use Rattle.log_model.specs.declared.lines.Break.{Break}
-use Rattle.log_model.specs.declared.lines.Find.{Find}
-use Rattle.log_model.specs.declared.lines.Mark.{Mark}
-use Rattle.log_model.specs.Log.{Phase, Keeping, is_accepting}
-use Rattle.log_model.specs.Causes.{RoseBy}
-use Rattle.log_model.specs.Course.{Visit}
-use Rattle.device_rule.specs.Rules.{Standing}
-use Rattle.safety_model.specs.Safe.{Devices, breakdowns_of}
-use Rattle.card_slots.specs.Kept.{taken}
-use Rattle.run_crew.specs.declared.cabin.Cabin.{Cabin}
-use Rattle.run_course.specs.Seconds.{kept_all}
-use Rattle.run_course.specs.Reached.{IsTearAt}
-use Rattle.run_course.specs.Telling.{BrokeDown}
+use Rattle.run_devices.specs.trace_model.declared.Card.{Card}
+use Rattle.run_devices.specs.trace_model.Trace.{TraceSecond}
+use Rattle.run_devices.specs.run_model.declared.Device.TheVariants.{Unit as Recorder}
+use Rattle.run_devices.specs.log_model.declared.lines.Break.{Break}
+use Rattle.run_devices.specs.log_model.declared.lines.Find.{Find}
+use Rattle.run_devices.specs.log_model.declared.lines.Mark.{Mark}
+use Rattle.run_devices.specs.log_model.Log.{Phase, Keeping, is_accepting}
+use Rattle.run_devices.specs.log_model.Causes.{RoseBy}
+use Rattle.run_devices.specs.log_model.Course.{Visit}
+use Rattle.run_devices.specs.device_rule.Rules.{Standing}
+use Rattle.run_devices.specs.safety_model.Safe.{Devices, breakdowns_of}
+use Rattle.run_devices.specs.card_slots.Kept.{taken}
+use Rattle.run_devices.specs.run_crew.declared.cabin.Cabin.{Cabin}
+use Rattle.run_devices.specs.run_course.Seconds.{kept_all}
+use Rattle.run_devices.specs.run_course.Reached.{IsTearAt}
+use Rattle.run_devices.specs.run_course.Telling.{BrokeDown}
 use Rattle.run_devices.specs.Told.{AreFoundCards, DevicesPowered, DevicesUnpowered}
-use Rattle.run_promise.specs.Origin.{Origin}
+use Rattle.run_devices.specs.run_promise.Origin.{Origin}
 use Rattle.run_record.specs.Recorded.{Values, carried}
 use Rattle.run_record.specs.Handed.{StayOrEnd}
 use Rattle.run_record.specs.Within.{AreOld, RecordInSecond, RecordAtFailure}
-use Rattle.run_crew.specs.Cards.{session_of}
+use Rattle.run_devices.specs.run_crew.Cards.{session_of}
 use Rattle.run_record.specs.Judging.{Behind, judged_values, torn_values, IsJudged}
 
 -- what a run has by value behind find and tear

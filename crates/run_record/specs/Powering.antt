@@ -1,28 +1,28 @@
 -- Power comes back in a run with cards (profile): how a second begins with it, or how it fails.
 use Rattle.std.specs.Prelude.{◌≡◌, ℕ, ◌/◌, true, None, List, [], ◌∷◌, ◌++◌, length}
-use Rattle.trace_model.specs.declared.Card.{Card}
-use Rattle.trace_model.specs.Trace.{TraceSecond}
-use Rattle.run_model.specs.declared.Device.TheVariants.{Unit as Recorder}
+use Rattle.run_devices.specs.trace_model.declared.Card.{Card}
+use Rattle.run_devices.specs.trace_model.Trace.{TraceSecond}
+use Rattle.run_devices.specs.run_model.declared.Device.TheVariants.{Unit as Recorder}
 use Rattle.minute_rules.specs.Kept.{Kept, CountsSpan}
-use Rattle.log_model.specs.Log.{In}
-use Rattle.log_model.specs.Causes.{RoseBy}
-use Rattle.log_model.specs.Course.{fresh}
-use Rattle.history_model.specs.Book.{found}
-use Rattle.run_unit_course.specs.Lines.{found_from}
-use Rattle.run_unit_course.specs.Followed.{UnitPower, Lost, MayPower}
-use Rattle.run_unit_course.specs.Legs.{resumed}
-use Rattle.run_unit_course.specs.Travelled.{MayShow}
-use Rattle.run_unit_course.specs.Turn.{span_at}
-use Rattle.unit_model.specs.Image.{last_kept, odometer_at}
-use Rattle.unit_rule.specs.Odometer.{HasTravelled, odometer_after}
-use Rattle.safety_model.specs.Safe.{Devices, card_of, breakdowns_of}
-use Rattle.run_promise.specs.Found.{found_of}
-use Rattle.run_promise.specs.Cards.{IsUntouched}
-use Rattle.run_course.specs.Telling.{IsMore}
+use Rattle.run_devices.specs.log_model.Log.{In}
+use Rattle.run_devices.specs.log_model.Causes.{RoseBy}
+use Rattle.run_devices.specs.log_model.Course.{fresh}
+use Rattle.run_devices.specs.history_model.Book.{found}
+use Rattle.run_devices.specs.run_unit_course.Lines.{found_from}
+use Rattle.run_devices.specs.run_unit_course.Followed.{UnitPower, Lost, MayPower}
+use Rattle.run_devices.specs.run_unit_course.Legs.{resumed}
+use Rattle.run_devices.specs.run_unit_course.Travelled.{MayShow}
+use Rattle.run_devices.specs.run_unit_course.Turn.{span_at}
+use Rattle.run_devices.specs.unit_model.Image.{last_kept, odometer_at}
+use Rattle.run_devices.specs.unit_rule.Odometer.{HasTravelled, odometer_after}
+use Rattle.run_devices.specs.safety_model.Safe.{Devices, card_of, breakdowns_of}
+use Rattle.run_devices.specs.run_promise.Found.{found_of}
+use Rattle.run_devices.specs.run_promise.Cards.{IsUntouched}
+use Rattle.run_devices.specs.run_course.Telling.{IsMore}
 use Rattle.run_devices.specs.Told.{all_out, DevicesPowered, DevicesUnpowered}
-use Rattle.run_promise.specs.Origin.{Origin, rule_of, first_of}
-use Rattle.run_promise.specs.Beside.{HaveLeftMore}
-use Rattle.run_promise.specs.Seconds.{found_again}
+use Rattle.run_devices.specs.run_promise.Origin.{Origin, rule_of, first_of}
+use Rattle.run_devices.specs.run_promise.Beside.{HaveLeftMore}
+use Rattle.run_devices.specs.run_promise.Seconds.{found_again}
 use Rattle.run_record.specs.Recorded.{Values, progress, carried, slots_of, AreThere, RecordBetweenSeconds}
 use Rattle.run_record.specs.Within.{Beginning, SecondGoesOn, RecordAtFailure, cut_values}
 

@@ -2,41 +2,41 @@
 -- the trace so far.
 use Rattle.std.specs.Prelude.{◌≡◌, ◌⊎◌, ℕ, ◌-◌, ◌/◌, ◌≤◌, ◌<◌, true, false, Option, Some, None, IfSome, is_some, List}
 use Rattle.std.specs.Prelude.{[]}
-use Rattle.activity_codec.specs.declared.values.Slot.{Slot}
-use Rattle.trace_model.specs.declared.Card.{Card}
-use Rattle.trace_model.specs.Trace.{TraceSecond}
-use Rattle.minute_model.specs.Span.{ungiven_of}
+use Rattle.minute_rules.specs.activity_codec.declared.values.Slot.{Slot}
+use Rattle.run_devices.specs.trace_model.declared.Card.{Card}
+use Rattle.run_devices.specs.trace_model.Trace.{TraceSecond}
+use Rattle.minute_rules.specs.minute_model.Span.{ungiven_of}
 use Rattle.minute_rules.specs.Kept.{Kept, CountsSpan}
-use Rattle.log_model.specs.declared.lines.Mark.{Mark}
-use Rattle.log_model.specs.Log.{RunLog}
-use Rattle.log_model.specs.Slots.{Slots, is_accepted}
-use Rattle.log_model.specs.Course.{ToldSecond, fresh, went}
-use Rattle.log_model.specs.declared.lines.Refused.{Refused}
-use Rattle.history_model.specs.Book.{Book}
-use Rattle.device_rule.specs.Rules.{Standing}
-use Rattle.run_unit_course.specs.Followed.{UnitPower, Lit, Due, Lost}
-use Rattle.run_unit_course.specs.Legs.{Travel}
-use Rattle.run_unit_course.specs.Turn.{span_at}
-use Rattle.unit_model.specs.Image.{odometer_at}
-use Rattle.unit_rule.specs.Odometer.{odometer_after}
-use Rattle.card_image.specs.Own.{own_view, IsOwnValid}
-use Rattle.device_calls.specs.Times.{AreTimedSince}
-use Rattle.safety_model.specs.Recording.{card_image}
-use Rattle.safety_model.specs.Safe.{Devices, card_of, breakdowns_of, entered_by}
-use Rattle.card_slots.specs.Calls.{seat_in}
-use Rattle.card_slots.specs.Kept.{Kept as SlotsKept, left_of}
-use Rattle.run_crew.specs.declared.cabin.Cabin.{Cabin}
-use Rattle.run_crew.specs.Cards.{session_of}
-use Rattle.run_promise.specs.Found.{Found, found_of}
-use Rattle.hand_model.specs.Written.{Hands}
-use Rattle.run_promise.specs.Cards.{FirstKeep, IsUntouched}
-use Rattle.run_promise.specs.Between.{RunLedger}
-use Rattle.run_course.specs.Followed.{Progress}
-use Rattle.run_course.specs.Presence.{SlotsTell}
+use Rattle.run_devices.specs.log_model.declared.lines.Mark.{Mark}
+use Rattle.run_devices.specs.log_model.Log.{RunLog}
+use Rattle.run_devices.specs.log_model.Slots.{Slots, is_accepted}
+use Rattle.run_devices.specs.log_model.Course.{ToldSecond, fresh, went}
+use Rattle.run_devices.specs.log_model.declared.lines.Refused.{Refused}
+use Rattle.run_devices.specs.history_model.Book.{Book}
+use Rattle.run_devices.specs.device_rule.Rules.{Standing}
+use Rattle.run_devices.specs.run_unit_course.Followed.{UnitPower, Lit, Due, Lost}
+use Rattle.run_devices.specs.run_unit_course.Legs.{Travel}
+use Rattle.run_devices.specs.run_unit_course.Turn.{span_at}
+use Rattle.run_devices.specs.unit_model.Image.{odometer_at}
+use Rattle.run_devices.specs.unit_rule.Odometer.{odometer_after}
+use Rattle.run_devices.specs.card_image.Own.{own_view, IsOwnValid}
+use Rattle.run_devices.specs.device_calls.Times.{AreTimedSince}
+use Rattle.run_devices.specs.safety_model.Recording.{card_image}
+use Rattle.run_devices.specs.safety_model.Safe.{Devices, card_of, breakdowns_of, entered_by}
+use Rattle.run_devices.specs.card_slots.Calls.{seat_in}
+use Rattle.run_devices.specs.card_slots.Kept.{Kept as SlotsKept, left_of}
+use Rattle.run_devices.specs.run_crew.declared.cabin.Cabin.{Cabin}
+use Rattle.run_devices.specs.run_crew.Cards.{session_of}
+use Rattle.run_devices.specs.run_promise.Found.{Found, found_of}
+use Rattle.run_devices.specs.hand_model.Written.{Hands}
+use Rattle.run_devices.specs.run_promise.Cards.{FirstKeep, IsUntouched}
+use Rattle.run_devices.specs.run_promise.Between.{RunLedger}
+use Rattle.run_devices.specs.run_course.Followed.{Progress}
+use Rattle.run_devices.specs.run_course.Presence.{SlotsTell}
 use Rattle.run_devices.specs.Told.{AreFoundCards, DevicesPowered, DevicesUnpowered, AreEarly}
-use Rattle.run_promise.specs.Origin.{Origin, rule_of, start_at, HistoryIsRecorded}
-use Rattle.run_promise.specs.Beside.{AreFewFound}
-use Rattle.run_promise.specs.Ends.{recording_by, MayBeWritten, IsBeside}
+use Rattle.run_devices.specs.run_promise.Origin.{Origin, rule_of, start_at, HistoryIsRecorded}
+use Rattle.run_devices.specs.run_promise.Beside.{AreFewFound}
+use Rattle.run_devices.specs.run_promise.Ends.{recording_by, MayBeWritten, IsBeside}
 use Rattle.run_devices.specs.Presence.{PresentStand}
 use Rattle.run_record.specs.Handed.{AreHandedBehind}
 

@@ -3,36 +3,36 @@
 use Rattle.std.specs.Prelude.{◌≡◌, ℕ, suc, ◌+◌, ◌/◌, Bool, true, false, Some, None, List, [], ◌∷◌, ◌++◌, length}
 use Rattle.std.specs.Prelude.{is_some}
 use Rattle.std.specs.List.{AllByRecursion}
-use Rattle.activity_codec.specs.declared.values.Slot.{Slot}
-use Rattle.activity_codec.specs.Activity.{same_slot}
-use Rattle.trace_model.specs.declared.Card.{Card}
-use Rattle.trace_model.specs.declared.Action.{Action}
-use Rattle.trace_model.specs.declared.Action.TheVariants.{Insert, Withdraw, Tear as Pull}
-use Rattle.trace_model.specs.Trace.{TraceSecond}
-use Rattle.run_model.specs.declared.Device.TheVariants.{Unit as Recorder}
-use Rattle.minute_model.specs.declared.Minute.{Minute}
-use Rattle.minute_model.specs.Span.{settled, decided_in}
+use Rattle.minute_rules.specs.activity_codec.declared.values.Slot.{Slot}
+use Rattle.minute_rules.specs.activity_codec.Activity.{same_slot}
+use Rattle.run_devices.specs.trace_model.declared.Card.{Card}
+use Rattle.run_devices.specs.trace_model.declared.Action.{Action}
+use Rattle.run_devices.specs.trace_model.declared.Action.TheVariants.{Insert, Withdraw, Tear as Pull}
+use Rattle.run_devices.specs.trace_model.Trace.{TraceSecond}
+use Rattle.run_devices.specs.run_model.declared.Device.TheVariants.{Unit as Recorder}
+use Rattle.minute_rules.specs.minute_model.declared.Minute.{Minute}
+use Rattle.minute_rules.specs.minute_model.Span.{settled, decided_in}
 use Rattle.minute_rules.specs.Kept.{Kept, CountsSpan}
-use Rattle.log_model.specs.declared.lines.Break.{Break}
-use Rattle.log_model.specs.declared.lines.Break.TheVariants.{Tear}
-use Rattle.log_model.specs.Log.{Phase, In, Keeping, found_in}
-use Rattle.log_model.specs.Slots.{refusal}
-use Rattle.log_model.specs.Causes.{RoseBy}
-use Rattle.log_model.specs.Course.{Visit, Moved, went}
-use Rattle.device_rule.specs.Rules.{Standing, Out, In as IsIn, Torn}
-use Rattle.run_unit_course.specs.Legs.{all_travelled}
-use Rattle.unit_model.specs.Image.{odometer_at}
-use Rattle.unit_rule.specs.Odometer.{HasTravelled}
-use Rattle.safety_model.specs.Safe.{Devices, breakdowns_of}
-use Rattle.card_slots.specs.Calls.{seat_in, card_in}
-use Rattle.run_crew.specs.Cards.{session_of}
-use Rattle.run_crew.specs.Cabin.{CabinIsSound, with_card_in, with_slot_left, with_session_of, torn_out}
-use Rattle.run_course.specs.Seconds.{kept_all}
-use Rattle.run_course.specs.Reached.{moved_at, IsTearAt}
-use Rattle.run_course.specs.Moment.{entering_by}
-use Rattle.run_course.specs.Telling.{IsMore, BrokeDown}
+use Rattle.run_devices.specs.log_model.declared.lines.Break.{Break}
+use Rattle.run_devices.specs.log_model.declared.lines.Break.TheVariants.{Tear}
+use Rattle.run_devices.specs.log_model.Log.{Phase, In, Keeping, found_in}
+use Rattle.run_devices.specs.log_model.Slots.{refusal}
+use Rattle.run_devices.specs.log_model.Causes.{RoseBy}
+use Rattle.run_devices.specs.log_model.Course.{Visit, Moved, went}
+use Rattle.run_devices.specs.device_rule.Rules.{Standing, Out, In as IsIn, Torn}
+use Rattle.run_devices.specs.run_unit_course.Legs.{all_travelled}
+use Rattle.run_devices.specs.unit_model.Image.{odometer_at}
+use Rattle.run_devices.specs.unit_rule.Odometer.{HasTravelled}
+use Rattle.run_devices.specs.safety_model.Safe.{Devices, breakdowns_of}
+use Rattle.run_devices.specs.card_slots.Calls.{seat_in, card_in}
+use Rattle.run_devices.specs.run_crew.Cards.{session_of}
+use Rattle.run_devices.specs.run_crew.Cabin.{CabinIsSound, with_card_in, with_slot_left, with_session_of, torn_out}
+use Rattle.run_devices.specs.run_course.Seconds.{kept_all}
+use Rattle.run_devices.specs.run_course.Reached.{moved_at, IsTearAt}
+use Rattle.run_devices.specs.run_course.Moment.{entering_by}
+use Rattle.run_devices.specs.run_course.Telling.{IsMore, BrokeDown}
 use Rattle.run_devices.specs.Told.{DevicesPowered, DevicesUnpowered, with_standing}
-use Rattle.run_promise.specs.Origin.{Origin}
+use Rattle.run_devices.specs.run_promise.Origin.{Origin}
 use Rattle.run_record.specs.Recorded.{Values, carried}
 use Rattle.run_record.specs.Within.{course_in, IsLeaving, GoesOnSo, RecordInSecond, SecondGoesOn, RecordAtFailure}
 use Rattle.run_record.specs.Judging.{IsNext, torn_values}

@@ -2,16 +2,16 @@
 -- decide nothing.
 use Rattle.std.specs.Prelude.{◌≡◌, ℕ, zero, suc, ◌+◌, ◌%◌, ◌<◌, ◌≤◌, true, false, None, Some, List, [], ◌∷◌, ◌++◌}
 use Rattle.std.specs.Prelude.{length}
-use Rattle.trace_model.specs.Trace.{TraceSecond, driven}
-use Rattle.minute_model.specs.declared.Minute.{Minute}
-use Rattle.minute_model.specs.Span.{Span, fed_many, decided_in}
+use Rattle.run_devices.specs.trace_model.Trace.{TraceSecond, driven}
+use Rattle.minute_rules.specs.minute_model.declared.Minute.{Minute}
+use Rattle.minute_rules.specs.minute_model.Span.{Span, fed_many, decided_in}
 use Rattle.minute_rules.specs.Kept.{Kept, CountsSpan}
-use Rattle.log_model.specs.Log.{In, Keeping}
-use Rattle.log_model.specs.Course.{ToldSecond}
-use Rattle.run_unit_course.specs.Followed.{Lit}
-use Rattle.run_unit_course.specs.Turn.{begins_with}
-use Rattle.safety_model.specs.Safe.{Devices}
-use Rattle.run_promise.specs.Origin.{Origin}
+use Rattle.run_devices.specs.log_model.Log.{In, Keeping}
+use Rattle.run_devices.specs.log_model.Course.{ToldSecond}
+use Rattle.run_devices.specs.run_unit_course.Followed.{Lit}
+use Rattle.run_devices.specs.run_unit_course.Turn.{begins_with}
+use Rattle.run_devices.specs.safety_model.Safe.{Devices}
+use Rattle.run_devices.specs.run_promise.Origin.{Origin}
 use Rattle.run_record.specs.Recorded.{Values, RecordBetweenSeconds}
 use Rattle.run_record.specs.Within.{RecordInSecond}
 

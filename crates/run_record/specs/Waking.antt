@@ -1,15 +1,15 @@
 -- A second with power begins in a run with cards (profile): the cards in its slots wait, and are judged one after the
 -- other.
 use Rattle.std.specs.Prelude.{◌≡◌, ℕ, ◌/◌, true, false, None, List, [], ◌∷◌, Contains}
-use Rattle.activity_codec.specs.declared.values.Slot.{Slot}
-use Rattle.activity_codec.specs.declared.values.Slot.TheVariants.{Driver, CoDriver}
-use Rattle.trace_model.specs.Trace.{TraceSecond}
+use Rattle.minute_rules.specs.activity_codec.declared.values.Slot.{Slot}
+use Rattle.minute_rules.specs.activity_codec.declared.values.Slot.TheVariants.{Driver, CoDriver}
+use Rattle.run_devices.specs.trace_model.Trace.{TraceSecond}
 use Rattle.minute_rules.specs.Kept.{Kept}
-use Rattle.log_model.specs.Log.{In, found_in}
-use Rattle.log_model.specs.Course.{Visit, fresh, went}
-use Rattle.run_unit_course.specs.Followed.{UnitPower, MayPower}
-use Rattle.safety_model.specs.Safe.{Devices}
-use Rattle.run_promise.specs.Origin.{Origin}
+use Rattle.run_devices.specs.log_model.Log.{In, found_in}
+use Rattle.run_devices.specs.log_model.Course.{Visit, fresh, went}
+use Rattle.run_devices.specs.run_unit_course.Followed.{UnitPower, MayPower}
+use Rattle.run_devices.specs.safety_model.Safe.{Devices}
+use Rattle.run_devices.specs.run_promise.Origin.{Origin}
 use Rattle.run_record.specs.Recorded.{Values, slots_of, RecordBetweenSeconds}
 use Rattle.run_record.specs.Within.{Beginning, RecordInSecond}
 use Rattle.run_record.specs.Powering.{begun_values, odometer_found, counted_from, IsBack, begun_again}

@@ -4,79 +4,79 @@ use Rattle.std.specs.Prelude.{◌≡◌, ◌⊎◌, ◌&&◌, Bool, ℕ, suc, �
 use Rattle.std.specs.Prelude.{true, false, Option, Some, None}
 use Rattle.std.specs.Prelude.{IfSome, is_some, List, [], ◌∷◌, ◌++◌, Contains, length, filter, option_map}
 use Rattle.std.specs.Prelude.{option_to_list}
-use Rattle.activity_codec.specs.declared.values.Slot.{Slot}
-use Rattle.activity_codec.specs.declared.values.Slot.TheVariants.{Driver, CoDriver}
-use Rattle.activity_codec.specs.declared.values.Pick.{Pick}
-use Rattle.trace_model.specs.declared.Card.{Card}
-use Rattle.trace_model.specs.Trace.{TraceSecond}
-use Rattle.trace_model.specs.declared.Action.{Action}
-use Rattle.trace_model.specs.declared.Action.TheVariants.{Select, Place, Manual}
-use Rattle.run_model.specs.declared.Device.{Device}
-use Rattle.run_model.specs.declared.Device.TheVariants.{Unit as Recorder}
-use Rattle.minute_model.specs.declared.Minute.{Minute}
-use Rattle.minute_model.specs.Span.{Span, fed, picked, decided_in, ungiven_of}
+use Rattle.minute_rules.specs.activity_codec.declared.values.Slot.{Slot}
+use Rattle.minute_rules.specs.activity_codec.declared.values.Slot.TheVariants.{Driver, CoDriver}
+use Rattle.minute_rules.specs.activity_codec.declared.values.Pick.{Pick}
+use Rattle.run_devices.specs.trace_model.declared.Card.{Card}
+use Rattle.run_devices.specs.trace_model.Trace.{TraceSecond}
+use Rattle.run_devices.specs.trace_model.declared.Action.{Action}
+use Rattle.run_devices.specs.trace_model.declared.Action.TheVariants.{Select, Place, Manual}
+use Rattle.run_devices.specs.run_model.declared.Device.{Device}
+use Rattle.run_devices.specs.run_model.declared.Device.TheVariants.{Unit as Recorder}
+use Rattle.minute_rules.specs.minute_model.declared.Minute.{Minute}
+use Rattle.minute_rules.specs.minute_model.Span.{Span, fed, picked, decided_in, ungiven_of}
 use Rattle.minute_rules.specs.Kept.{Kept, CountsSpan}
-use Rattle.log_model.specs.declared.lines.Mark.{Mark}
-use Rattle.log_model.specs.declared.lines.Verdict.{Verdict}
-use Rattle.log_model.specs.declared.lines.Verdict.TheVariants.{Accepted as Takes, NotValid, TimeOverlap}
-use Rattle.log_model.specs.Causes.{RoseBy}
-use Rattle.log_model.specs.Log.{RunLog, Phase, In, Keeping, is_accepting, is_torn_in}
-use Rattle.log_model.specs.declared.lines.SlotFault.{SlotFault}
-use Rattle.log_model.specs.Slots.{same_card, refusal}
-use Rattle.log_model.specs.Course.{ToldSecond, Course, Visit, Before, went}
-use Rattle.log_model.specs.declared.lines.Refused.{Refused}
-use Rattle.history_model.specs.Minutes.{HistoryMinute}
-use Rattle.history_model.specs.Presence.{card_start}
-use Rattle.history_model.specs.History.{seated}
-use Rattle.history_model.specs.Book.{kept}
-use Rattle.device_rule.specs.Rules.{Standing}
-use Rattle.run_unit_course.specs.Followed.{UnitPower, Lit, Lost}
-use Rattle.run_unit_course.specs.Legs.{Travel, stranded_at, all_travelled}
-use Rattle.run_unit_course.specs.Lines.{cut_at}
-use Rattle.run_unit_course.specs.Turn.{span_at}
-use Rattle.unit_model.specs.Image.{odometer_at}
-use Rattle.unit_rule.specs.Odometer.{HasTravelled}
-use Rattle.device_rule.specs.Views.{owed}
-use Rattle.card_image.specs.Own.{own_view, own_bad_file, IsOwnValid}
-use Rattle.safety_model.specs.Recording.{card_image, unit_seen}
-use Rattle.safety_model.specs.Cards.{entered, overlaps, is_overlap}
-use Rattle.safety_model.specs.Safe.{Devices, card_of, breakdowns_of, entered_by}
-use Rattle.run_promise.specs.Found.{found_of}
-use Rattle.hand_model.specs.Written.{Hands}
-use Rattle.run_promise.specs.Cards.{FirstKeep, IsUntouched}
-use Rattle.run_course.specs.Followed.{Progress}
-use Rattle.run_course.specs.Moments.{and_break, and_refused}
-use Rattle.run_course.specs.Seconds.{next_told, kept_all, broken_at}
-use Rattle.run_course.specs.Presence.{SlotsTell}
-use Rattle.run_promise.specs.Going.{IsTakenAt}
-use Rattle.run_course.specs.Reached.{course_at, moved_at}
-use Rattle.run_course.specs.Lines.{times_of}
-use Rattle.run_course.specs.Moment.{Moment}
-use Rattle.run_course.specs.Telling.{IsMore, begun_by, IsLeft}
-use Rattle.run_course.specs.Kept.{HasDecided, AreMarkedSoFar}
+use Rattle.run_devices.specs.log_model.declared.lines.Mark.{Mark}
+use Rattle.run_devices.specs.log_model.declared.lines.Verdict.{Verdict}
+use Rattle.run_devices.specs.log_model.declared.lines.Verdict.TheVariants.{Accepted as Takes, NotValid, TimeOverlap}
+use Rattle.run_devices.specs.log_model.Causes.{RoseBy}
+use Rattle.run_devices.specs.log_model.Log.{RunLog, Phase, In, Keeping, is_accepting, is_torn_in}
+use Rattle.run_devices.specs.log_model.declared.lines.SlotFault.{SlotFault}
+use Rattle.run_devices.specs.log_model.Slots.{same_card, refusal}
+use Rattle.run_devices.specs.log_model.Course.{ToldSecond, Course, Visit, Before, went}
+use Rattle.run_devices.specs.log_model.declared.lines.Refused.{Refused}
+use Rattle.run_devices.specs.history_model.Minutes.{HistoryMinute}
+use Rattle.run_devices.specs.history_model.Presence.{card_start}
+use Rattle.run_devices.specs.history_model.History.{seated}
+use Rattle.run_devices.specs.history_model.Book.{kept}
+use Rattle.run_devices.specs.device_rule.Rules.{Standing}
+use Rattle.run_devices.specs.run_unit_course.Followed.{UnitPower, Lit, Lost}
+use Rattle.run_devices.specs.run_unit_course.Legs.{Travel, stranded_at, all_travelled}
+use Rattle.run_devices.specs.run_unit_course.Lines.{cut_at}
+use Rattle.run_devices.specs.run_unit_course.Turn.{span_at}
+use Rattle.run_devices.specs.unit_model.Image.{odometer_at}
+use Rattle.run_devices.specs.unit_rule.Odometer.{HasTravelled}
+use Rattle.run_devices.specs.device_rule.Views.{owed}
+use Rattle.run_devices.specs.card_image.Own.{own_view, own_bad_file, IsOwnValid}
+use Rattle.run_devices.specs.safety_model.Recording.{card_image, unit_seen}
+use Rattle.run_devices.specs.safety_model.Cards.{entered, overlaps, is_overlap}
+use Rattle.run_devices.specs.safety_model.Safe.{Devices, card_of, breakdowns_of, entered_by}
+use Rattle.run_devices.specs.run_promise.Found.{found_of}
+use Rattle.run_devices.specs.hand_model.Written.{Hands}
+use Rattle.run_devices.specs.run_promise.Cards.{FirstKeep, IsUntouched}
+use Rattle.run_devices.specs.run_course.Followed.{Progress}
+use Rattle.run_devices.specs.run_course.Moments.{and_break, and_refused}
+use Rattle.run_devices.specs.run_course.Seconds.{next_told, kept_all, broken_at}
+use Rattle.run_devices.specs.run_course.Presence.{SlotsTell}
+use Rattle.run_devices.specs.run_promise.Going.{IsTakenAt}
+use Rattle.run_devices.specs.run_course.Reached.{course_at, moved_at}
+use Rattle.run_devices.specs.run_course.Lines.{times_of}
+use Rattle.run_devices.specs.run_course.Moment.{Moment}
+use Rattle.run_devices.specs.run_course.Telling.{IsMore, begun_by, IsLeft}
+use Rattle.run_devices.specs.run_course.Kept.{HasDecided, AreMarkedSoFar}
 use Rattle.run_devices.specs.Told.{AreFoundCards, DevicesPowered, DevicesUnpowered, AreEarly}
-use Rattle.run_promise.specs.Origin.{Origin, rule_of, start_at, first_of, HistoryIsRecorded}
-use Rattle.run_promise.specs.Ends.{recording_by, IsAllOwed, AreVerdicts}
-use Rattle.run_promise.specs.Beside.{HaveLeftMore, AreFewFound}
+use Rattle.run_devices.specs.run_promise.Origin.{Origin, rule_of, start_at, first_of, HistoryIsRecorded}
+use Rattle.run_devices.specs.run_promise.Ends.{recording_by, IsAllOwed, AreVerdicts}
+use Rattle.run_devices.specs.run_promise.Beside.{HaveLeftMore, AreFewFound}
 use Rattle.run_devices.specs.Presence.{PresentStand}
-use Rattle.card_slots.specs.declared.seats.Present.{Present}
-use Rattle.card_slots.specs.Calls.{seat_in, present_in, card_in}
-use Rattle.card_slots.specs.Kept.{Kept as SlotsKept, left_of}
-use Rattle.run_crew.specs.declared.cabin.Cabin.{Cabin}
-use Rattle.run_crew.specs.declared.cards.Cards.{Cards}
-use Rattle.run_crew.specs.Cards.{known_of, session_of}
-use Rattle.run_crew.specs.declared.cards.Accepted.{Accepted}
-use Rattle.run_crew.specs.Cabin.{SitsNowhere, CabinIsSound, with_minute_ended, with_power_lost}
+use Rattle.run_devices.specs.card_slots.declared.seats.Present.{Present}
+use Rattle.run_devices.specs.card_slots.Calls.{seat_in, present_in, card_in}
+use Rattle.run_devices.specs.card_slots.Kept.{Kept as SlotsKept, left_of}
+use Rattle.run_devices.specs.run_crew.declared.cabin.Cabin.{Cabin}
+use Rattle.run_devices.specs.run_crew.declared.cards.Cards.{Cards}
+use Rattle.run_devices.specs.run_crew.Cards.{known_of, session_of}
+use Rattle.run_devices.specs.run_crew.declared.cards.Accepted.{Accepted}
+use Rattle.run_devices.specs.run_crew.Cabin.{SitsNowhere, CabinIsSound, with_minute_ended, with_power_lost}
 use Rattle.run_record.specs.Recorded.{Values, progress, carried, IsWrittenSince, AreThere, IsCountedFrom}
 use Rattle.run_record.specs.Recorded.{RecordBetweenSeconds}
 use Rattle.run_record.specs.Handed.{AreHandedIn}
-use Rattle.activity_codec.specs.declared.entries.Manual.{Manual as Entry}
-use Rattle.activity_codec.specs.Activity.{activity_of}
-use Rattle.hand_model.specs.Holding.{stopped_by}
-use Rattle.log_model.specs.ByHand.{minute_on}
-use Rattle.hand_model.specs.declared.held.EnterFault.{EnterFault}
-use Rattle.hand_model.specs.declared.held.EnterFault.TheVariants as enter
-use Rattle.log_model.specs.declared.lines.SlotFault.TheVariants.{Begun, NotFree, Full}
+use Rattle.minute_rules.specs.activity_codec.declared.entries.Manual.{Manual as Entry}
+use Rattle.minute_rules.specs.activity_codec.Activity.{activity_of}
+use Rattle.run_devices.specs.hand_model.Holding.{stopped_by}
+use Rattle.run_devices.specs.log_model.ByHand.{minute_on}
+use Rattle.run_devices.specs.hand_model.declared.held.EnterFault.{EnterFault}
+use Rattle.run_devices.specs.hand_model.declared.held.EnterFault.TheVariants as enter
+use Rattle.run_devices.specs.log_model.declared.lines.SlotFault.TheVariants.{Begun, NotFree, Full}
 
 -- as the second began, behind its power-on: how far the run had gone, the seconds of the span, what was travelled, the
 -- marks, how often each device had broken down, and what acceptances had brought

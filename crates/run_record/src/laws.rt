@@ -1,4 +1,4 @@
-ghost use Rattle.run_promise.specs.Between.{devices};
+ghost use Rattle.run_devices.specs.run_promise.Between.{devices};
 ghost use Rattle.run_record.specs.Within.{ACutIsRecorded, TheSecondIsOver, ASecondBegins, AMinuteIsOver, ASecondIsFed};
 ghost use Rattle.run_record.specs.Within.{ARefusalIsRecorded, ASelectionIsRecorded, AnEntryByHandIsRecorded};
 ghost use Rattle.run_record.specs.Within.{APlaceIsRecorded, ACallIsRecorded, AFailureIsRecorded};

@@ -1,5 +1,5 @@
 //! Cards are put into their slots and leave them.
-ghost use Rattle.run_promise.specs.Between.{devices};
+ghost use Rattle.run_devices.specs.run_promise.Between.{devices};
 ghost use Rattle.run_record.specs.Taking.{ACardIsPutIn, AnEnteredCardIsNext, ACardLeaves, ASessionIsClosed};
 ghost use Rattle.run_record.specs.Taking.{AClosingFails, ALeavingCardIsTorn, ALeavingTearFails, ACardIsPulledOut};
 ghost use Rattle.run_record.specs.Taking.{ASeatedCardIsTorn, ASeatedTearFails};

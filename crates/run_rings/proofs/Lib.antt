@@ -6,3 +6,4 @@ pub mod Same
 pub mod Notes
 pub mod Actions
 pub mod Spans
+pub use Rattle.log_model.proofs as log_model

@@ -3,13 +3,13 @@ use Rattle.std.proofs.Common.{◌≡◌, ◌∙◌, inl, inr, ℕ, ◌+◌, ◌�
 use Rattle.std.specs.Prelude.{option_to_list}
 use Rattle.std.specs.List.{AllByRecursion}
 use Rattle.tach_media.specs.Medium.{State, IsCoherent, LeavesOnly}
-use Rattle.gated_ring.specs.Change.{IsAdding, IsAdded}
-use Rattle.note_model.specs.Rings.{Stand, unsure_count}
-use Rattle.run_rings.proofs.Few.{few-go, few-unsure}
-use Rattle.run_rings.proofs.Standing.{stand-unsure}
-use Rattle.speed_model.specs.declared.block.Block.{Block}
-use Rattle.speed_model.specs.Blocks.{block_bytes}
-use Rattle.speed_model.specs.Stored.{speed_ring}
+use Rattle.speed_store.specs.gated_ring.Change.{IsAdding, IsAdded}
+use Rattle.speed_store.specs.note_model.Rings.{Stand, unsure_count}
+use Rattle.speed_store.proofs.run_rings.Few.{few-go, few-unsure}
+use Rattle.speed_store.proofs.run_rings.Standing.{stand-unsure}
+use Rattle.speed_store.specs.speed_model.declared.block.Block.{Block}
+use Rattle.speed_store.specs.speed_model.Blocks.{block_bytes}
+use Rattle.speed_store.specs.speed_model.Stored.{speed_ring}
 use Rattle.run_speeds.specs.Speeds.{IsBlock, none_sure, CarriesBlocks, HasSpeeds, LeavesSpeeds, CarriesBlock}
 use Rattle.run_speeds.proofs.Speeds.{speeds-on, speeds-added, speeds-broken}
 

@@ -1,10 +1,10 @@
 -- Calls that leave the ring of detailed speed.
 use Rattle.std.proofs.Common.{◌≡◌, ◌⊎◌, inl, inr, ⊎_elim, ℕ, ◌+◌, ◌≤◌, List, take, drop, refl, sym, ◌∙◌, ap, arith}
 use Rattle.std.proofs.lemmas.List.{drop-drop}
-use Rattle.card_layout.specs.Images.{SameOutside, bytes_at}
+use Rattle.tach_media.specs.card_layout.Images.{SameOutside, bytes_at}
 use Rattle.tach_media.specs.Medium.{State, IsCoherent, LeavesOnly}
-use Rattle.gated_ring.proofs.Elsewhere.{ring_outside}
-use Rattle.speed_model.specs.Stored.{speed_ring}
+use Rattle.speed_store.proofs.gated_ring.Elsewhere.{ring_outside}
+use Rattle.speed_store.specs.speed_model.Stored.{speed_ring}
 use Rattle.run_speeds.specs.Speeds.{HasSameSpeeds, LeavesSpeeds}
 
 pub leaves-none : (unit : State) → LeavesSpeeds unit unit

@@ -4,15 +4,15 @@ use Rattle.std.specs.Prelude.{flat_map, option_to_list}
 use Rattle.std.specs.List.{AllByRecursion}
 use Rattle.std.proofs.lemmas.Grind.{flat_map-append}
 use Rattle.std.proofs.lemmas.List.{map-append}
-use Rattle.trace_model.specs.Trace.{TraceSecond}
-use Rattle.log_model.specs.Log.{RunLog, cut_in}
-use Rattle.log_model.specs.Course.{ToldSecond, Before, Went, has_power, second_told, before_next, went_on, went, not_begun}
-use Rattle.log_model.specs.Spans.{go_on, spans_with, spans_of, AreInOrder}
-use Rattle.log_model.proofs.Growth.{went-more}
-use Rattle.log_model.proofs.Spanning.{spans-more}
-use Rattle.event_model.specs.Spans.{SpeedSecond}
-use Rattle.speed_model.specs.declared.block.Block.{Block}
-use Rattle.speed_model.specs.Blocks.{blocks_of, blocks_in}
+use Rattle.speed_store.specs.trace_model.Trace.{TraceSecond}
+use Rattle.speed_store.specs.log_model.Log.{RunLog, cut_in}
+use Rattle.speed_store.specs.log_model.Course.{ToldSecond, Before, Went, has_power, second_told, before_next, went_on, went, not_begun}
+use Rattle.speed_store.specs.log_model.Spans.{go_on, spans_with, spans_of, AreInOrder}
+use Rattle.speed_store.proofs.log_model.Growth.{went-more}
+use Rattle.speed_store.proofs.log_model.Spanning.{spans-more}
+use Rattle.speed_store.specs.event_model.Spans.{SpeedSecond}
+use Rattle.speed_store.specs.speed_model.declared.block.Block.{Block}
+use Rattle.speed_store.specs.speed_model.Blocks.{blocks_of, blocks_in}
 use Rattle.run_speeds.specs.Spans.{speed_of, speeds_of, speed_spans, blocks_by, last_speeds}
 
 -- ---- SPANS OF SPEEDS with more seconds: a new one, or the last goes on

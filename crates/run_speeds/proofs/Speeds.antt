@@ -3,17 +3,17 @@ use Rattle.std.proofs.Common.{◌≡◌, ◌⊎◌, inl, inr, ⊎_elim, ℕ, suc
 use Rattle.std.specs.List.{AllByRecursion}
 use Rattle.tach_media.specs.Medium.{State, IsCoherent, LeavesOnly}
 use Rattle.tach_media.proofs.Runs.{at_image, told_too}
-use Rattle.gated_ring.specs.Ring.{taken, with_head}
-use Rattle.gated_ring.specs.Change.{IsAdding, IsAdded}
-use Rattle.gated_ring.proofs.Elsewhere.{ring_elsewhere}
-use Rattle.note_model.specs.Rings.{Stand, AreNoFewer, unsure_count}
-use Rattle.run_rings.specs.Carried.{RingKeeps}
-use Rattle.run_rings.proofs.Carried.{carries-none, carries-more, carries-maybe, carries-same}
-use Rattle.run_rings.proofs.Few.{RingStays, RingMayTake, ring-stays, ring-takes, ring-may, few-start, few-go, few-as, few-more, few-unsure}
-use Rattle.run_rings.proofs.Standing.{stand-one, stand-unsure}
-use Rattle.speed_model.specs.declared.block.Block.{Block}
-use Rattle.speed_model.specs.Blocks.{block_bytes}
-use Rattle.speed_model.specs.Stored.{speed_ring, HoldsNewest}
+use Rattle.speed_store.specs.gated_ring.Ring.{taken, with_head}
+use Rattle.speed_store.specs.gated_ring.Change.{IsAdding, IsAdded}
+use Rattle.speed_store.proofs.gated_ring.Elsewhere.{ring_elsewhere}
+use Rattle.speed_store.specs.note_model.Rings.{Stand, AreNoFewer, unsure_count}
+use Rattle.speed_store.specs.run_rings.Carried.{RingKeeps}
+use Rattle.speed_store.proofs.run_rings.Carried.{carries-none, carries-more, carries-maybe, carries-same}
+use Rattle.speed_store.proofs.run_rings.Few.{RingStays, RingMayTake, ring-stays, ring-takes, ring-may, few-start, few-go, few-as, few-more, few-unsure}
+use Rattle.speed_store.proofs.run_rings.Standing.{stand-one, stand-unsure}
+use Rattle.speed_store.specs.speed_model.declared.block.Block.{Block}
+use Rattle.speed_store.specs.speed_model.Blocks.{block_bytes}
+use Rattle.speed_store.specs.speed_model.Stored.{speed_ring, HoldsNewest}
 use Rattle.speed_store.proofs.Held.{ring-shape, whole-head, newest-begins, newest-added}
 use Rattle.run_speeds.specs.Speeds.{IsBlock, HasSpeedRing, none_sure, CarriesBlocks, CarriesSome, AreSure, HasSpeeds, HasSameSpeeds, LeavesSpeeds}
 

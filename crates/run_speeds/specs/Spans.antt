@@ -1,13 +1,13 @@
 -- The blocks of detailed speed of a run, by its seconds and its run log (Annex IB, section III.12; profile).
 use Rattle.std.specs.Prelude.{ℕ, ◌+◌, Bool, not, List, [], ◌∷◌, map, if◌then◌else◌}
-use Rattle.trace_model.specs.Trace.{TraceSecond}
-use Rattle.log_model.specs.Log.{RunLog}
-use Rattle.log_model.specs.Course.{ToldSecond, went}
-use Rattle.log_model.specs.Spans.{spans_of}
-use Rattle.event_model.specs.Spans.{SpeedSecond}
-use Rattle.note_model.specs.Done.{has_failed_in}
-use Rattle.speed_model.specs.declared.block.Block.{Block}
-use Rattle.speed_model.specs.Blocks.{blocks_in}
+use Rattle.speed_store.specs.trace_model.Trace.{TraceSecond}
+use Rattle.speed_store.specs.log_model.Log.{RunLog}
+use Rattle.speed_store.specs.log_model.Course.{ToldSecond, went}
+use Rattle.speed_store.specs.log_model.Spans.{spans_of}
+use Rattle.speed_store.specs.event_model.Spans.{SpeedSecond}
+use Rattle.speed_store.specs.note_model.Done.{has_failed_in}
+use Rattle.speed_store.specs.speed_model.declared.block.Block.{Block}
+use Rattle.speed_store.specs.speed_model.Blocks.{blocks_in}
 
 -- a second by its number and its speed
 abbrev pub speed_of : ToldSecond → SpeedSecond

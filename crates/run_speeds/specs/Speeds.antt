@@ -2,14 +2,14 @@
 -- it.
 use Rattle.std.specs.Prelude.{◌≡◌, ◌⊎◌, ℕ, ◌≤◌, Bool, true, false, Option, IfSome, is_some, option_to_list, List, ◌++◌}
 use Rattle.std.specs.List.{AllByRecursion}
-use Rattle.card_layout.specs.Images.{bytes_at}
+use Rattle.tach_media.specs.card_layout.Images.{bytes_at}
 use Rattle.tach_media.specs.Medium.{State}
-use Rattle.gated_ring.specs.Ring.{PointsInside, IsDense, size_of}
-use Rattle.note_model.specs.Rings.{Stand, AreNoFewer}
-use Rattle.run_rings.specs.Carried.{RingKeeps}
-use Rattle.speed_model.specs.declared.block.Block.{Block}
-use Rattle.speed_model.specs.Blocks.{block_bytes}
-use Rattle.speed_model.specs.Stored.{speed_ring, HoldsNewest}
+use Rattle.speed_store.specs.gated_ring.Ring.{PointsInside, IsDense, size_of}
+use Rattle.speed_store.specs.note_model.Rings.{Stand, AreNoFewer}
+use Rattle.speed_store.specs.run_rings.Carried.{RingKeeps}
+use Rattle.speed_store.specs.speed_model.declared.block.Block.{Block}
+use Rattle.speed_store.specs.speed_model.Blocks.{block_bytes}
+use Rattle.speed_store.specs.speed_model.Stored.{speed_ring, HoldsNewest}
 
 -- an entry is a block
 abbrev pub IsBlock : Block → List ℕ → Type 0

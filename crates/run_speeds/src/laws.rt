@@ -1,12 +1,12 @@
 ghost use Rattle.std.specs.Prelude.{◌≡◌, ℕ, ◌+◌, ◌≤◌, Bool, true, false, List, [], ◌∷◌, ◌++◌, length, drop, is_some};
 ghost use Rattle.std.specs.Prelude.{IfSome};
-ghost use Rattle.card_layout.specs.Images.{SameOutside};
+ghost use Rattle.tach_media.specs.card_layout.Images.{SameOutside};
 ghost use Rattle.tach_media.specs.Medium.{LeavesOnly};
-ghost use Rattle.gated_ring.specs.Change.{IsAdding, IsAdded};
-ghost use Rattle.unit_model.specs.declared.layout.TheConstants.{SPARE_FAULTS, SPEEDS};
-ghost use Rattle.speed_model.specs.declared.block.Block.{Block};
-ghost use Rattle.speed_model.specs.Blocks.{block_bytes};
-ghost use Rattle.speed_model.specs.Stored.{speed_ring};
+ghost use Rattle.speed_store.specs.gated_ring.Change.{IsAdding, IsAdded};
+ghost use Rattle.speed_store.specs.unit_model.declared.layout.TheConstants.{SPARE_FAULTS, SPEEDS};
+ghost use Rattle.speed_store.specs.speed_model.declared.block.Block.{Block};
+ghost use Rattle.speed_store.specs.speed_model.Blocks.{block_bytes};
+ghost use Rattle.speed_store.specs.speed_model.Stored.{speed_ring};
 ghost use Rattle.run_speeds.specs.Speeds.{HasSpeedRing, HasSpeeds, HasSameSpeeds, LeavesSpeeds};
 
 use tach_media::Medium;

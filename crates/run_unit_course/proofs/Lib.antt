@@ -14,3 +14,5 @@ pub mod Offs
 pub mod Rows
 pub mod Legs
 pub mod Travelled
+pub use Rattle.history_model.proofs as history_model
+pub use Rattle.minute_model.proofs as minute_model

@@ -2,25 +2,25 @@
 use Rattle.std.proofs.Common.{◌≡◌, inl, inr, ℕ, ◌<◌, ◌≤◌, All, Option, Some, None, List, [], ◌∷◌, ◌++◌, Contains, refl, ap, subst, ◌∙◌, sym, append_assoc}
 use Rattle.std.specs.Prelude.{option_to_list}
 use Rattle.std.proofs.lemmas.List.Elements.{Contains-append_right}
-use Rattle.activity_codec.specs.declared.entries.Entry.{Entry}
-use Rattle.trace_model.specs.declared.Card.{Card}
-use Rattle.trace_model.specs.declared.Card.TheVariants.{A, B}
+use Rattle.device_rule.specs.activity_codec.declared.entries.Entry.{Entry}
+use Rattle.device_rule.specs.trace_model.declared.Card.{Card}
+use Rattle.device_rule.specs.trace_model.declared.Card.TheVariants.{A, B}
 use Rattle.tach_media.specs.Medium.{State}
-use Rattle.unit_model.specs.Days.{ShownDay}
-use Rattle.unit_model.specs.Image.{recorded}
-use Rattle.history_model.specs.Minutes.{HistoryMinute, card_history, up_to}
-use Rattle.history_model.specs.Presence.{CardStart, card_start}
-use Rattle.history_model.specs.Book.{Book, IsReached, IsNext, Follows}
+use Rattle.device_rule.specs.unit_model.Days.{ShownDay}
+use Rattle.device_rule.specs.unit_model.Image.{recorded}
+use Rattle.device_rule.specs.history_model.Minutes.{HistoryMinute, card_history, up_to}
+use Rattle.device_rule.specs.history_model.Presence.{CardStart, card_start}
+use Rattle.device_rule.specs.history_model.Book.{Book, IsReached, IsNext, Follows}
 use Rattle.device_rule.specs.View.{Held}
 use Rattle.device_rule.specs.Own.{own_sizes, own_view, KeepsFrom, KeepsOf}
 use Rattle.device_rule.specs.Fields.{card_days}
-use Rattle.card_model.specs.Days.{AreDays}
-use Rattle.card_retention.specs.Retains.{Rise}
+use Rattle.device_rule.specs.card_model.Days.{AreDays}
+use Rattle.device_rule.specs.card_retention.Retains.{Rise}
 use Rattle.device_rule.specs.Views.{UnitView, owed, unit_view, next_of}
 use Rattle.device_rule.specs.Device.{Seen, seen, CoherentViews, IsFresh}
 use Rattle.device_rule.specs.Rules.{UnitHolds, Showed, Meets, Had, Standing, CardDark, Acknowledges}
 use Rattle.device_rule.specs.Filling.{FillsDays}
-use Rattle.history_model.proofs.Books.{history-append}
+use Rattle.device_rule.proofs.history_model.Books.{history-append}
 use Rattle.device_rule.proofs.Holding.{agree, unit-holds, card-holds}
 use Rattle.device_rule.proofs.Overwriting.{owed-entries_count}
 use Rattle.safety_model.specs.Recording.{Recording, card_image, brought, start_of, history_of, lost_of, unit_seen, IsPassed, MayCome}

@@ -3,9 +3,9 @@ use Rattle.std.proofs.Common.{◌≡◌, ⊎_elim, ℕ, ◌≤◌, ◌<◌, List
 use Rattle.std.proofs.lemmas.Bool.{cases_lt}
 use Rattle.std.proofs.lemmas.List.{take_at, take_all, drop_all, length-take, append-nil}
 use Rattle.tach_media.specs.Medium.{bytes_at}
-use Rattle.unit_model.specs.declared.layout.TheConstants.{LAST_KEPT, SPARE_COUNTS, SPARE_ROWS, SPARE_FAULTS}
-use Rattle.unit_model.specs.Versions.{rule_of}
-use Rattle.unit_model.proofs.Versions.{front_rule}
+use Rattle.device_rule.specs.unit_model.declared.layout.TheConstants.{LAST_KEPT, SPARE_COUNTS, SPARE_ROWS, SPARE_FAULTS}
+use Rattle.device_rule.specs.unit_model.Versions.{rule_of}
+use Rattle.device_rule.proofs.unit_model.Versions.{front_rule}
 use Rattle.safety_model.specs.Unit.{issued_bytes}
 
 -- the bytes in front of the last-kept minute, in what a unit was issued with

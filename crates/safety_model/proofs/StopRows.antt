@@ -2,16 +2,16 @@
 -- tells another newest minute than 0 (profile).
 use Rattle.std.proofs.Common.{◌≡◌, ℕ, ◌/◌, ◌≤◌, Bool, true, false, cond, Option, Some, None, List, [], ◌∷◌, refl, sym, ◌∙◌, arith}
 use Rattle.std.specs.Prelude.{◌&&◌, nat_lt, nat_le, option_map}
-use Rattle.activity_codec.specs.declared.values.Slot.TheVariants.{Driver}
-use Rattle.activity_codec.specs.declared.values.Pick.TheVariants.{Work}
-use Rattle.trace_model.specs.declared.Card.TheVariants.{A}
-use Rattle.log_model.specs.declared.lines.Mark.{Mark}
-use Rattle.log_model.specs.declared.lines.Refused.{Refused}
-use Rattle.log_model.specs.declared.lines.SlotFault.TheVariants.{NotFree, Full}
-use Rattle.log_model.specs.ByHand.{Asked, stopped_by}
-use Rattle.hand_model.specs.Holding.{last_minute}
-use Rattle.history_model.specs.Minutes.{card_history}
-use Rattle.history_model.specs.Presence.{CardStart, Start, newest_minute}
+use Rattle.device_rule.specs.activity_codec.declared.values.Slot.TheVariants.{Driver}
+use Rattle.device_rule.specs.activity_codec.declared.values.Pick.TheVariants.{Work}
+use Rattle.device_rule.specs.trace_model.declared.Card.TheVariants.{A}
+use Rattle.device_rule.specs.log_model.declared.lines.Mark.{Mark}
+use Rattle.device_rule.specs.log_model.declared.lines.Refused.{Refused}
+use Rattle.device_rule.specs.log_model.declared.lines.SlotFault.TheVariants.{NotFree, Full}
+use Rattle.device_rule.specs.log_model.ByHand.{Asked, stopped_by}
+use Rattle.card_string.specs.hand_model.Holding.{last_minute}
+use Rattle.device_rule.specs.history_model.Minutes.{card_history}
+use Rattle.device_rule.specs.history_model.Presence.{CardStart, Start, newest_minute}
 use Rattle.safety_model.specs.Hands.{Session}
 use Rattle.safety_model.specs.ByHand.{IsStoppedBy}
 

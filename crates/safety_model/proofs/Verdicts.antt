@@ -1,10 +1,10 @@
 -- What is found of a card where its time at the start decides.
 use Rattle.std.proofs.Common.{◌≡◌, ◌⊎◌, inl, inr, ℕ, ◌<◌, ◌≤◌, true, List, refl, arith}
 use Rattle.std.specs.Prelude.{suc, ◌*◌, ◌/◌, None}
-use Rattle.trace_model.specs.declared.Card.{Card}
-use Rattle.log_model.specs.declared.lines.Verdict.{Verdict}
-use Rattle.log_model.specs.declared.lines.Verdict.TheVariants.{Accepted, NotValid, TimeOverlap}
-use Rattle.log_model.specs.Log.{is_accepting}
+use Rattle.device_rule.specs.trace_model.declared.Card.{Card}
+use Rattle.device_rule.specs.log_model.declared.lines.Verdict.{Verdict}
+use Rattle.device_rule.specs.log_model.declared.lines.Verdict.TheVariants.{Accepted, NotValid, TimeOverlap}
+use Rattle.device_rule.specs.log_model.Log.{is_accepting}
 use Rattle.device_rule.specs.Own.{own_view, own_bad_file, IsOwnValid}
 use Rattle.safety_model.specs.Recording.{Recording, card_image}
 use Rattle.safety_model.specs.Safe.{entered_by, IsVerdict}

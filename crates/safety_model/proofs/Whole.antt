@@ -2,27 +2,27 @@
 use Rattle.std.proofs.Common.{◌≡◌, ◌⊎◌, inl, inr, ⊎_elim, ℕ, ◌+◌, ◌/◌, ◌≤◌, Bool, true, false, cond, Option, Some, None, List, [], ◌∷◌, ◌++◌, Contains, length, map, filter, refl, ap, sym, subst, ◌∙◌, arith, length-append}
 use Rattle.std.proofs.lemmas.List.{append-nil}
 use Rattle.std.proofs.lemmas.List.Elements.{Contains-append_left, Contains-append_right, Contains-push, Contains-push_cases, Contains-append_cases}
-use Rattle.trace_model.specs.Trace.{TraceSecond}
-use Rattle.run_model.specs.declared.Device.{Device}
-use Rattle.run_model.specs.declared.Device.TheVariants.{Unit as Recorder, CardA, CardB}
-use Rattle.minute_model.specs.declared.Rule.{Rule}
-use Rattle.minute_model.specs.declared.Minute.{Minute}
+use Rattle.device_rule.specs.trace_model.Trace.{TraceSecond}
+use Rattle.device_rule.specs.run_model.declared.Device.{Device}
+use Rattle.device_rule.specs.run_model.declared.Device.TheVariants.{Unit as Recorder, CardA, CardB}
+use Rattle.device_rule.specs.minute_model.declared.Rule.{Rule}
+use Rattle.device_rule.specs.minute_model.declared.Minute.{Minute}
 use Rattle.tach_media.specs.Medium.{State, IsCoherent}
-use Rattle.unit_model.specs.Days.{ShownDay}
-use Rattle.unit_model.specs.Image.{recorded}
-use Rattle.log_model.specs.declared.lines.Break.{Break}
-use Rattle.log_model.specs.declared.lines.Mark.{Mark}
-use Rattle.log_model.specs.Log.{RunLog}
-use Rattle.log_model.specs.Course.{ToldSecond, went}
-use Rattle.log_model.specs.Spans.{spans_of, AreInOrder}
-use Rattle.log_model.specs.Causes.{second_of, cuts}
-use Rattle.history_model.specs.Minutes.{HistoryMinute}
-use Rattle.history_model.specs.Presence.{Start}
-use Rattle.history_model.specs.History.{decided_of, unit_history, with_lost}
-use Rattle.history_model.specs.Growth.{Rises}
-use Rattle.history_model.specs.Completeness.{IsMarked, FailedCutIn}
-use Rattle.history_model.proofs.Told.{rises}
-use Rattle.history_model.proofs.Decided.{unit-decided, rises-split, nothing-was-lost}
+use Rattle.device_rule.specs.unit_model.Days.{ShownDay}
+use Rattle.device_rule.specs.unit_model.Image.{recorded}
+use Rattle.device_rule.specs.log_model.declared.lines.Break.{Break}
+use Rattle.device_rule.specs.log_model.declared.lines.Mark.{Mark}
+use Rattle.device_rule.specs.log_model.Log.{RunLog}
+use Rattle.device_rule.specs.log_model.Course.{ToldSecond, went}
+use Rattle.device_rule.specs.log_model.Spans.{spans_of, AreInOrder}
+use Rattle.device_rule.specs.log_model.Causes.{second_of, cuts}
+use Rattle.device_rule.specs.history_model.Minutes.{HistoryMinute}
+use Rattle.device_rule.specs.history_model.Presence.{Start}
+use Rattle.device_rule.specs.history_model.History.{decided_of, unit_history, with_lost}
+use Rattle.device_rule.specs.history_model.Growth.{Rises}
+use Rattle.device_rule.specs.history_model.Completeness.{IsMarked, FailedCutIn}
+use Rattle.device_rule.proofs.history_model.Told.{rises}
+use Rattle.device_rule.proofs.history_model.Decided.{unit-decided, rises-split, nothing-was-lost}
 use Rattle.device_rule.specs.Filling.{FillsDays}
 use Rattle.safety_model.specs.Recording.{MayCome}
 use Rattle.safety_model.specs.Unit.{is_of, marks_of, UnitShows, UnitMarkHolds, UnitSafe, HasEachDecided, IsFilled}

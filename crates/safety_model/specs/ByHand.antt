@@ -2,21 +2,21 @@
 -- which a session stops.
 use Rattle.std.specs.Prelude.{◌≡◌, ℕ, ◌/◌, ◌<◌, ◌≤◌, true, Option, Some, None, option_map, List}
 use Rattle.std.specs.Prelude.{◌++◌, Contains, length}
-use Rattle.activity_codec.specs.declared.entries.Manual.{Manual}
-use Rattle.trace_model.specs.declared.Card.{Card}
+use Rattle.device_rule.specs.activity_codec.declared.entries.Manual.{Manual}
+use Rattle.device_rule.specs.trace_model.declared.Card.{Card}
 use Rattle.tach_media.specs.Medium.{State}
-use Rattle.card_layout.specs.declared.files.Application.{Application}
-use Rattle.card_image.specs.Own.{own_sizes, own_view, IsOwnValid}
-use Rattle.hand_model.specs.AtStart.{all_at, hands_at, HasDayOf, StaysTold}
-use Rattle.hand_model.specs.ByHand.{by_hand_in}
-use Rattle.hand_model.specs.Holding.{last_minute}
-use Rattle.hand_model.specs.Written.{IsPartOf}
-use Rattle.history_model.specs.Presence.{newest_minute}
-use Rattle.log_model.specs.declared.lines.Mark.{Mark}
-use Rattle.log_model.specs.declared.lines.Refused.{Refused}
-use Rattle.log_model.specs.Causes.{device_of}
-use Rattle.log_model.specs.declared.lines.SlotFault.{SlotFault}
-use Rattle.log_model.specs.ByHand.{Asked, stopped_by}
+use Rattle.tach_media.specs.card_layout.declared.files.Application.{Application}
+use Rattle.device_rule.specs.card_image.Own.{own_sizes, own_view, IsOwnValid}
+use Rattle.card_string.specs.hand_model.AtStart.{all_at, hands_at, HasDayOf, StaysTold}
+use Rattle.card_string.specs.hand_model.ByHand.{by_hand_in}
+use Rattle.card_string.specs.hand_model.Holding.{last_minute}
+use Rattle.card_string.specs.hand_model.Written.{IsPartOf}
+use Rattle.device_rule.specs.history_model.Presence.{newest_minute}
+use Rattle.device_rule.specs.log_model.declared.lines.Mark.{Mark}
+use Rattle.device_rule.specs.log_model.declared.lines.Refused.{Refused}
+use Rattle.device_rule.specs.log_model.Causes.{device_of}
+use Rattle.device_rule.specs.log_model.declared.lines.SlotFault.{SlotFault}
+use Rattle.device_rule.specs.log_model.ByHand.{Asked, stopped_by}
 use Rattle.safety_model.specs.Recording.{Recording, card_image, start_of, history_of}
 use Rattle.safety_model.specs.Unit.{marks_of}
 use Rattle.safety_model.specs.Hands.{Session, IsSessionOf, IsFirstOf, is_within, of_session}

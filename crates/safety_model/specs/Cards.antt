@@ -2,25 +2,25 @@
 use Rattle.std.specs.Prelude.{◌≡◌, ◌⊎◌, ℕ, ◌+◌, ◌-◌, ◌/◌, ◌<◌, ◌≤◌, Bool, true, false, ◌&&◌, List, [], ◌++◌, All}
 use Rattle.std.specs.Prelude.{Contains, length, filter, map, flat_map, nat_lt, nat_le, not}
 use Rattle.std.specs.List.{list_any}
-use Rattle.activity_codec.specs.declared.entries.Entry.{Entry}
-use Rattle.activity_codec.specs.declared.values.Slot.{Slot}
-use Rattle.activity_codec.specs.declared.values.Slot.TheVariants.{Driver, CoDriver}
-use Rattle.trace_model.specs.declared.Card.{Card}
+use Rattle.device_rule.specs.activity_codec.declared.entries.Entry.{Entry}
+use Rattle.device_rule.specs.activity_codec.declared.values.Slot.{Slot}
+use Rattle.device_rule.specs.activity_codec.declared.values.Slot.TheVariants.{Driver, CoDriver}
+use Rattle.device_rule.specs.trace_model.declared.Card.{Card}
 use Rattle.tach_media.specs.Medium.{State}
-use Rattle.card_model.specs.declared.lengths.TheConstants.{DAYS_MOST}
-use Rattle.view_model.specs.declared.State.{State as SlotState}
-use Rattle.unit_model.specs.Days.{ShownDay, UnitMinute}
-use Rattle.unit_model.specs.Image.{recorded, unit_minutes, last_kept}
-use Rattle.log_model.specs.declared.lines.Break.{Break}
-use Rattle.log_model.specs.declared.lines.Break.TheVariants.{Cut, Tear}
-use Rattle.log_model.specs.declared.lines.Mark.{Mark}
-use Rattle.log_model.specs.declared.lines.Verdict.{Verdict}
-use Rattle.log_model.specs.declared.lines.Verdict.TheVariants.{Accepted, NotValid, TimeOverlap}
-use Rattle.log_model.specs.Log.{is_accepting}
-use Rattle.log_model.specs.Slots.{same_card}
-use Rattle.log_model.specs.Causes.{device_of}
-use Rattle.history_model.specs.Minutes.{card_history, up_to}
-use Rattle.card_layout.specs.declared.files.Application.{Application}
+use Rattle.device_rule.specs.card_model.declared.lengths.TheConstants.{DAYS_MOST}
+use Rattle.device_rule.specs.view_model.declared.State.{State as SlotState}
+use Rattle.device_rule.specs.unit_model.Days.{ShownDay, UnitMinute}
+use Rattle.device_rule.specs.unit_model.Image.{recorded, unit_minutes, last_kept}
+use Rattle.device_rule.specs.log_model.declared.lines.Break.{Break}
+use Rattle.device_rule.specs.log_model.declared.lines.Break.TheVariants.{Cut, Tear}
+use Rattle.device_rule.specs.log_model.declared.lines.Mark.{Mark}
+use Rattle.device_rule.specs.log_model.declared.lines.Verdict.{Verdict}
+use Rattle.device_rule.specs.log_model.declared.lines.Verdict.TheVariants.{Accepted, NotValid, TimeOverlap}
+use Rattle.device_rule.specs.log_model.Log.{is_accepting}
+use Rattle.device_rule.specs.log_model.Slots.{same_card}
+use Rattle.device_rule.specs.log_model.Causes.{device_of}
+use Rattle.device_rule.specs.history_model.Minutes.{card_history, up_to}
+use Rattle.tach_media.specs.card_layout.declared.files.Application.{Application}
 use Rattle.card_string.specs.Deeds.{IsMadeSince}
 use Rattle.device_rule.specs.Own.{own_view, own_sizes, own_number, IsOwnValid, KeepsOf}
 use Rattle.device_rule.specs.Views.{owed}

@@ -2,16 +2,16 @@
 -- which of them (profile).
 use Rattle.std.specs.Prelude.{◌≡◌, ℕ, ◌/◌, ◌<◌, ◌≤◌, Bool, true, not, ◌&&◌, ◌||◌, Option, Some, None, IfSome, List, ◌∷◌}
 use Rattle.std.specs.Prelude.{◌++◌, Contains, length, map, filter, flat_map, nat_eq, nat_le, nat_lt, slice_get, ◌+◌}
-use Rattle.activity_codec.specs.declared.entries.Manual.{Manual}
-use Rattle.activity_codec.specs.Activity.{activity_of}
-use Rattle.trace_model.specs.declared.Card.{Card}
-use Rattle.log_model.specs.declared.lines.Mark.{Mark}
-use Rattle.log_model.specs.declared.lines.Verdict.{Verdict}
-use Rattle.log_model.specs.declared.lines.Verdict.TheVariants.{Accepted, NotValid, TimeOverlap}
-use Rattle.log_model.specs.Log.{Phase, In, Keeping, is_accepting}
-use Rattle.log_model.specs.Course.{ToldSecond, Visit}
-use Rattle.log_model.specs.Slots.{same_card}
-use Rattle.log_model.specs.ByHand.{Asked, asked_of, done_by_hand}
+use Rattle.device_rule.specs.activity_codec.declared.entries.Manual.{Manual}
+use Rattle.device_rule.specs.activity_codec.Activity.{activity_of}
+use Rattle.device_rule.specs.trace_model.declared.Card.{Card}
+use Rattle.device_rule.specs.log_model.declared.lines.Mark.{Mark}
+use Rattle.device_rule.specs.log_model.declared.lines.Verdict.{Verdict}
+use Rattle.device_rule.specs.log_model.declared.lines.Verdict.TheVariants.{Accepted, NotValid, TimeOverlap}
+use Rattle.device_rule.specs.log_model.Log.{Phase, In, Keeping, is_accepting}
+use Rattle.device_rule.specs.log_model.Course.{ToldSecond, Visit}
+use Rattle.device_rule.specs.log_model.Slots.{same_card}
+use Rattle.device_rule.specs.log_model.ByHand.{Asked, asked_of, done_by_hand}
 use Rattle.safety_model.specs.Recording.{Recording, told_of}
 
 -- the entry by hand that was asked

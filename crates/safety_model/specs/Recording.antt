@@ -1,16 +1,16 @@
 -- A run as it is told: the images at its start, its trace, and its log (profile).
 use Rattle.std.specs.Prelude.{◌≡◌, ◌⊎◌, ℕ, Option, Some, None, List, [], ◌∷◌, ◌++◌, Contains}
-use Rattle.activity_codec.specs.declared.entries.Entry.{Entry}
-use Rattle.trace_model.specs.declared.Card.{Card}
-use Rattle.trace_model.specs.declared.Card.TheVariants.{A, B}
-use Rattle.trace_model.specs.Trace.{TraceSecond}
-use Rattle.minute_model.specs.declared.Rule.{Rule}
-use Rattle.log_model.specs.declared.lines.Refused.{Refused}
-use Rattle.log_model.specs.Log.{RunLog}
-use Rattle.log_model.specs.Course.{ToldSecond, went}
-use Rattle.history_model.specs.Minutes.{HistoryMinute}
-use Rattle.history_model.specs.Presence.{Start, CardStart, expected_entries}
-use Rattle.history_model.specs.History.{unit_history, with_lost}
+use Rattle.device_rule.specs.activity_codec.declared.entries.Entry.{Entry}
+use Rattle.device_rule.specs.trace_model.declared.Card.{Card}
+use Rattle.device_rule.specs.trace_model.declared.Card.TheVariants.{A, B}
+use Rattle.device_rule.specs.trace_model.Trace.{TraceSecond}
+use Rattle.device_rule.specs.minute_model.declared.Rule.{Rule}
+use Rattle.device_rule.specs.log_model.declared.lines.Refused.{Refused}
+use Rattle.device_rule.specs.log_model.Log.{RunLog}
+use Rattle.device_rule.specs.log_model.Course.{ToldSecond, went}
+use Rattle.device_rule.specs.history_model.Minutes.{HistoryMinute}
+use Rattle.device_rule.specs.history_model.Presence.{Start, CardStart, expected_entries}
+use Rattle.device_rule.specs.history_model.History.{unit_history, with_lost}
 use Rattle.device_rule.specs.Own.{own_view, own_number}
 use Rattle.device_rule.specs.Views.{UnitView, unit_view, owed, beyond}
 

@@ -1,22 +1,22 @@
 -- The crash-safety theorem (profile): what a run promises of its unit, of each card, and of both together.
 use Rattle.std.specs.Prelude.{◌≡◌, ◌≢◌, ◌⊎◌, ℕ, suc, ◌*◌, ◌/◌, ◌<◌, ◌≤◌, ◌&&◌, Option, Some, None, List, [], ◌∷◌}
 use Rattle.std.specs.Prelude.{Contains, length, filter, flat_map, nat_eq, nat_le, if◌then◌else◌}
-use Rattle.trace_model.specs.declared.Card.{Card}
-use Rattle.trace_model.specs.declared.Card.TheVariants.{A, B}
-use Rattle.trace_model.specs.Trace.{TraceSecond}
-use Rattle.run_model.specs.declared.Device.{Device}
-use Rattle.run_model.specs.declared.Device.TheVariants.{Unit as Recorder, CardA, CardB}
+use Rattle.device_rule.specs.trace_model.declared.Card.{Card}
+use Rattle.device_rule.specs.trace_model.declared.Card.TheVariants.{A, B}
+use Rattle.device_rule.specs.trace_model.Trace.{TraceSecond}
+use Rattle.device_rule.specs.run_model.declared.Device.{Device}
+use Rattle.device_rule.specs.run_model.declared.Device.TheVariants.{Unit as Recorder, CardA, CardB}
 use Rattle.tach_media.specs.Medium.{State}
-use Rattle.unit_model.specs.Image.{recorded, last_kept}
-use Rattle.unit_model.specs.Decoding.{Decodes}
-use Rattle.log_model.specs.declared.lines.Break.{Break}
-use Rattle.log_model.specs.declared.lines.Break.TheVariants.{Cut, Tear}
-use Rattle.log_model.specs.declared.lines.Mark.{Mark}
-use Rattle.log_model.specs.declared.lines.Verdict.{Verdict}
-use Rattle.log_model.specs.declared.lines.Verdict.TheVariants.{Accepted, NotValid, TimeOverlap}
-use Rattle.log_model.specs.Slots.{same_card}
-use Rattle.log_model.specs.Causes.{second_of, HasCauses}
-use Rattle.history_model.specs.Completeness.{IsComplete}
+use Rattle.device_rule.specs.unit_model.Image.{recorded, last_kept}
+use Rattle.device_rule.specs.unit_model.Decoding.{Decodes}
+use Rattle.device_rule.specs.log_model.declared.lines.Break.{Break}
+use Rattle.device_rule.specs.log_model.declared.lines.Break.TheVariants.{Cut, Tear}
+use Rattle.device_rule.specs.log_model.declared.lines.Mark.{Mark}
+use Rattle.device_rule.specs.log_model.declared.lines.Verdict.{Verdict}
+use Rattle.device_rule.specs.log_model.declared.lines.Verdict.TheVariants.{Accepted, NotValid, TimeOverlap}
+use Rattle.device_rule.specs.log_model.Slots.{same_card}
+use Rattle.device_rule.specs.log_model.Causes.{second_of, HasCauses}
+use Rattle.device_rule.specs.history_model.Completeness.{IsComplete}
 use Rattle.device_rule.specs.Own.{own_view, own_number, own_bad_file, IsOwnValid}
 use Rattle.device_rule.specs.Views.{owed}
 use Rattle.safety_model.specs.Recording.{Recording, card_image, told_of, start_of, history_of, lost_of, unit_seen}

@@ -1,19 +1,19 @@
 -- What a run notes beside the minutes (profile): its notes and events, by its log and trace, and what an image of a
 -- card tells of the vehicle before.
 use Rattle.std.specs.Prelude.{◌≡◌, ℕ, Option, Some, None, List, [], ◌∷◌, replicate}
-use Rattle.card_layout.specs.Fields.{field_at}
-use Rattle.trace_model.specs.declared.Card.{Card}
+use Rattle.tach_media.specs.card_layout.Fields.{field_at}
+use Rattle.device_rule.specs.trace_model.declared.Card.{Card}
 use Rattle.tach_media.specs.Medium.{State}
-use Rattle.unit_model.specs.declared.layout.TheConstants.{SPEED_LIMIT}
-use Rattle.unit_model.specs.Image.{number_of}
-use Rattle.card_files.specs.declared.vehicle.Vehicle.{Vehicle}
+use Rattle.device_rule.specs.unit_model.declared.layout.TheConstants.{SPEED_LIMIT}
+use Rattle.device_rule.specs.unit_model.Image.{number_of}
+use Rattle.device_rule.specs.card_files.declared.vehicle.Vehicle.{Vehicle}
 use Rattle.device_rule.specs.Fields.{file_bytes, newest_vehicle}
 use Rattle.device_rule.specs.Own.{own_sizes, own_number}
-use Rattle.log_model.specs.Course.{Visit}
+use Rattle.device_rule.specs.log_model.Course.{Visit}
 use Rattle.note_model.specs.Done.{Done, done_of}
 use Rattle.note_model.specs.Noted.{Note, notes_of}
 use Rattle.note_model.specs.Rings.{Holder}
-use Rattle.event_model.specs.Events.{Event, Tearing, events_of}
+use Rattle.note_model.specs.event_model.Events.{Event, Tearing, events_of}
 use Rattle.safety_model.specs.Recording.{Recording, card_image}
 
 -- Identification (Appendix 2): issuing state, number, authority, issue, begin of validity, expiry, surname, first

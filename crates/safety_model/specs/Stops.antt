@@ -1,7 +1,7 @@
 -- The lines by which sessions stop entries by hand (profile).
 use Rattle.std.specs.Prelude.{◌≡◌, ℕ, map, filter}
-use Rattle.log_model.specs.declared.lines.Refused.{Refused}
-use Rattle.log_model.specs.ByHand.{Asked, asked_of, is_stopped}
+use Rattle.device_rule.specs.log_model.declared.lines.Refused.{Refused}
+use Rattle.device_rule.specs.log_model.ByHand.{Asked, asked_of, is_stopped}
 use Rattle.safety_model.specs.Recording.{Recording}
 
 -- a place in the course of a run: a second, and how many of its actions had begun

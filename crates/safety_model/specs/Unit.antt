@@ -1,20 +1,21 @@
 -- What a run promises of its unit (profile).
 use Rattle.std.specs.Prelude.{◌≡◌, ℕ, ◌-◌, ◌<◌, ◌≤◌, Option, is_some, List, [], ◌∷◌, ◌++◌, Contains, filter, Bool, true}
 use Rattle.std.specs.Prelude.{false}
-use Rattle.minute_model.specs.declared.Rule.{Rule}
-use Rattle.minute_model.specs.declared.Minute.{Minute}
-use Rattle.run_model.specs.declared.Device.{Device}
-use Rattle.run_model.specs.declared.Device.TheVariants.{Unit as Recorder, CardA, CardB}
+use Rattle.device_rule.specs.minute_model.declared.Rule.{Rule}
+use Rattle.device_rule.specs.minute_model.declared.Minute.{Minute}
+use Rattle.device_rule.specs.run_model.declared.Device.{Device}
+use Rattle.device_rule.specs.run_model.declared.Device.TheVariants.{Unit as Recorder, CardA, CardB}
 use Rattle.tach_media.specs.Medium.{State, bytes_at}
-use Rattle.unit_model.specs.declared.layout.TheConstants.{DAY_SLOTS, LAST_KEPT, SPARE_COUNTS, SPARE_ROWS, SPARE_FAULTS}
-use Rattle.unit_model.specs.Days.{ShownDay, newest_days}
-use Rattle.unit_model.specs.Image.{recorded, last_kept}
-use Rattle.unit_model.specs.Decoding.{Decodes}
-use Rattle.log_model.specs.declared.lines.Mark.{Mark}
-use Rattle.log_model.specs.Course.{ToldSecond}
-use Rattle.log_model.specs.Spans.{spans_of}
-use Rattle.history_model.specs.Minutes.{HistoryMinute}
-use Rattle.history_model.specs.History.{decided_of}
+use Rattle.device_rule.specs.unit_model.declared.layout.TheConstants.{DAY_SLOTS, LAST_KEPT, SPARE_COUNTS, SPARE_ROWS}
+use Rattle.device_rule.specs.unit_model.declared.layout.TheConstants.{SPARE_FAULTS}
+use Rattle.device_rule.specs.unit_model.Days.{ShownDay, newest_days}
+use Rattle.device_rule.specs.unit_model.Image.{recorded, last_kept}
+use Rattle.device_rule.specs.unit_model.Decoding.{Decodes}
+use Rattle.device_rule.specs.log_model.declared.lines.Mark.{Mark}
+use Rattle.device_rule.specs.log_model.Course.{ToldSecond}
+use Rattle.device_rule.specs.log_model.Spans.{spans_of}
+use Rattle.device_rule.specs.history_model.Minutes.{HistoryMinute}
+use Rattle.device_rule.specs.history_model.History.{decided_of}
 use Rattle.device_rule.specs.Filling.{FillsDays, filled_with}
 use Rattle.safety_model.specs.Recording.{IsPassed, MayCome}
 

@@ -1,8 +1,8 @@
 ghost use Rattle.std.specs.Prelude.{◌≡◌, ℕ, ◌<◌, ◌≤◌, true};
-ghost use Rattle.trace_model.specs.declared.Card.{Card};
-ghost use Rattle.log_model.specs.declared.lines.Verdict.{Verdict};
-ghost use Rattle.log_model.specs.declared.lines.Verdict.TheVariants.{TimeOverlap};
-ghost use Rattle.log_model.specs.Log.{is_accepting};
+ghost use Rattle.device_rule.specs.trace_model.declared.Card.{Card};
+ghost use Rattle.device_rule.specs.log_model.declared.lines.Verdict.{Verdict};
+ghost use Rattle.device_rule.specs.log_model.declared.lines.Verdict.TheVariants.{TimeOverlap};
+ghost use Rattle.device_rule.specs.log_model.Log.{is_accepting};
 ghost use Rattle.device_rule.specs.Own.{own_view, IsOwnValid};
 ghost use Rattle.safety_model.specs.Recording.{Recording, card_image};
 ghost use Rattle.safety_model.specs.Safe.{entered_by, IsVerdict};

@@ -9,3 +9,4 @@ mod MemoryLaws
 mod Parts
 pub mod Plans
 pub mod Looping
+pub use Rattle.card_layout.proofs as card_layout

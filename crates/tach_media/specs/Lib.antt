@@ -11,3 +11,4 @@ pub mod Streams
 pub mod Untold
 pub mod Plan
 pub mod Held
+pub use Rattle.card_layout.specs as card_layout

@@ -1,7 +1,7 @@
 -- The images while a unit is made new.
 use Rattle.std.proofs.Common.{◌≡◌, inl, inr, ⊎_elim, ℕ, ◌+◌, ◌-◌, ◌/◌, ◌<◌, ◌≤◌, min, true, false, List, [], ◌∷◌, ◌++◌, length, take, drop, refl, sym, ◌∙◌, ap, subst, arith, append_assoc, length-append, lit≤, Option, Some, None, option_map}
 use Rattle.std.specs.Int.{to_be_bytes, w32}
-use Rattle.card_layout.specs.Images.{big_number}
+use Rattle.tach_media.specs.card_layout.Images.{big_number}
 use Rattle.std.proofs.lemmas.List.{append-nil, length-replicate, take-replicate, drop-replicate, drop_all}
 use Rattle.tach_media.specs.Medium.{State, put, SameOutside, IsPartlyWritten, HasCause, most_writes}
 use Rattle.tach_media.proofs.Images.{put_outside, part_before, part_put, outside_wider, outside_then}

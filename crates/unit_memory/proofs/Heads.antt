@@ -4,7 +4,7 @@ use Rattle.std.specs.Prelude.{◌==◌, slice_index}
 use Rattle.std.proofs.lemmas.List.{get_or-take, get_or-drop}
 use Rattle.std.proofs.lemmas.Bool.Decides.{nat_tests}
 use Rattle.tach_media.specs.Medium.{bytes_at}
-use Rattle.gated_ring.specs.Ring.{number_at}
+use Rattle.unit_model.specs.gated_ring.Ring.{number_at}
 use Rattle.unit_model.specs.Image.{slot_place, slot_date, words_at}
 use Rattle.unit_model.specs.Decoding.{first_failing}
 use Rattle.unit_model.proofs.Numbers.{number_in, words_in}

@@ -4,8 +4,8 @@ use Rattle.std.specs.Prelude.{◌==◌, ◌&&◌, ◌||◌, nat_le, nat_lt, flat
 use Rattle.std.specs.List.{list_any, range_with_len}
 use Rattle.std.proofs.lemmas.Bool.Decides.{nat_tests}
 use Rattle.std.proofs.lemmas.List.{append-nil}
-use Rattle.gated_ring.specs.Ring.{pointer, is_there, next, order, indices as ring_indices}
-use Rattle.gated_ring.proofs.Orders.{range_split}
+use Rattle.unit_model.specs.gated_ring.Ring.{pointer, is_there, next, order, indices as ring_indices}
+use Rattle.unit_model.proofs.gated_ring.Orders.{range_split}
 use Rattle.unit_model.specs.declared.layout.TheConstants.{DAYS, DAY_SLOTS}
 use Rattle.unit_model.specs.Image.{last_kept, day_ring, indices}
 use Rattle.unit_model.specs.Decoding.{Check, check, first_failing, front_checks, cell_checks, ring_checks, slot_checks, checks, first_bad_place, has_day, is_pointer_good, is_last_good, are_dense, indices_before}

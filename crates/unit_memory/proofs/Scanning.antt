@@ -1,7 +1,7 @@
 -- Scans of more words.
 use Rattle.std.proofs.Common.{◌≡◌, ℕ, ◌+◌, ◌*◌, List, [], ◌∷◌, ◌++◌, length, Option, Some, None, Result, Ok, Err, refl, sym, ◌∙◌, ap, arith, append_assoc}
 use Rattle.std.proofs.lemmas.List.FromFn.{map-range_with_len_more, length-map-range_with_len}
-use Rattle.gated_ring.specs.Ring.{number_at}
+use Rattle.unit_model.specs.gated_ring.Ring.{number_at}
 use Rattle.unit_model.specs.Image.{words_at}
 use Rattle.unit_memory.specs.Scans.{next_scan, or_place, scan_from}
 use Rattle.unit_memory.specs.declared.words.Scan.{Scan}

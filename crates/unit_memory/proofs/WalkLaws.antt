@@ -4,7 +4,7 @@ use Rattle.std.specs.Prelude.{◌==◌, ◌&&◌, ◌||◌, nat_le, nat_lt, flat
 use Rattle.std.specs.List.{list_all, list_any, range_with_len}
 use Rattle.std.proofs.lemmas.Bool.Decides.{nat_tests}
 use Rattle.std.proofs.lemmas.List.{append-nil}
-use Rattle.gated_ring.specs.Ring.{is_there}
+use Rattle.unit_model.specs.gated_ring.Ring.{is_there}
 use Rattle.unit_model.specs.Image.{last_kept, day_ring, slot_place, slot_date}
 use Rattle.unit_model.specs.Decoding.{are_dense, is_filled_on, is_last_good, is_date_good, slot_day, slot_checks, day_checks, indices_before, Check}
 use Rattle.unit_memory.specs.Walks.{after_day, after_gap, with_gap, with_day, next_walk, walk_from}

@@ -1,7 +1,7 @@
 -- What an upgrade leaves of a unit (profile).
 use Rattle.std.specs.Prelude.{◌≡◌, ◌⊎◌, ℕ, ◌+◌, ◌≤◌, List, ◌==◌, if◌then◌else◌}
 use Rattle.tach_media.specs.Medium.{bytes_at}
-use Rattle.gated_ring.specs.Ring.{Shape, ring_list}
+use Rattle.unit_model.specs.gated_ring.Ring.{Shape, ring_list}
 use Rattle.unit_model.specs.declared.layout.TheConstants.{PLAIN_VERSION, RULED_VERSION, OWED, SPARE}
 use Rattle.unit_model.specs.Image.{recorded, last_kept, odometer_at}
 use Rattle.unit_model.specs.Decoding.{Decodes}

@@ -3,7 +3,7 @@ ghost use Rattle.std.specs.Prelude.{◌≡◌, ◌≤◌, ◌<◌, ◌+◌, ◌*
 ghost use Rattle.unit_model.specs.declared.layout.TheConstants.{DAY_SLOTS, DAY_WORD_LIMIT, IMAGE_SIZE};
 ghost use Rattle.std.specs.List.{range_with_len};
 ghost use Rattle.tach_media.specs.Medium.{Reads};
-ghost use Rattle.gated_ring.specs.Ring.{number_at};
+ghost use Rattle.unit_model.specs.gated_ring.Ring.{number_at};
 ghost use Rattle.unit_model.specs.Image.{slot_date};
 ghost use Rattle.unit_model.specs.Decoding.{first_failing, or_else};
 ghost use Rattle.unit_memory.specs.Walks.{next_walk, walk_from};

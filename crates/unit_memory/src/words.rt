@@ -1,7 +1,7 @@
 ghost use Rattle.std.specs.Prelude.{◌≡◌, ◌≤◌, ◌<◌, ◌+◌, ◌*◌, ◌^◌, IfOk, IfSome, is_err, length, true};
 ghost use Rattle.unit_model.specs.declared.layout.TheConstants.{DAY_SLOTS, DAY_WORD_LIMIT, IMAGE_SIZE};
 ghost use Rattle.tach_media.specs.Medium.{Reads};
-ghost use Rattle.gated_ring.specs.Ring.{number_at};
+ghost use Rattle.unit_model.specs.gated_ring.Ring.{number_at};
 ghost use Rattle.unit_model.specs.Image.{slot_place, slot_words, words_at};
 ghost use Rattle.unit_memory.specs.Scans.{next_scan, driver_next, codriver_next, start, scan_from, is_first_good};
 

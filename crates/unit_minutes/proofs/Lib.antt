@@ -27,3 +27,7 @@ pub mod Retaining
 pub mod MendedOwed
 mod OwedBeside
 pub mod Refused
+pub use Rattle.activity_codec.proofs as activity_codec
+pub use Rattle.gated_ring.proofs as gated_ring
+pub use Rattle.unit_model.proofs as unit_model
+pub use Rattle.unit_owed.proofs as unit_owed

@@ -10,3 +10,8 @@ pub mod DaysWith
 pub mod Plans
 pub mod Beside
 pub mod DayOdometers
+pub use Rattle.activity_codec.specs as activity_codec
+pub use Rattle.gated_ring.specs as gated_ring
+pub use Rattle.tacho_types.specs as tacho_types
+pub use Rattle.unit_model.specs as unit_model
+pub use Rattle.unit_owed.specs as unit_owed

@@ -5,7 +5,7 @@ use Rattle.std.specs.List.{list_all, list_any, range_with_len}
 use Rattle.std.proofs.lemmas.Bool.Decides.{nat_tests}
 use Rattle.std.proofs.lemmas.Bool.{cases_lt, cases_eq}
 use Rattle.std.proofs.lemmas.List.{map-append}
-use Rattle.tach_media.specs.Medium.{SameOutside}
+use Rattle.gated_ring.specs.tach_media.Medium.{SameOutside}
 use Rattle.gated_ring.specs.Ring.{number_at, pointer, is_there, entry_at, next, order, taken}
 use Rattle.gated_ring.specs.Change.{IsShortened, IsExtended}
 use Rattle.gated_ring.proofs.Listing.{staying_there}

@@ -1,10 +1,10 @@
 -- Cells that are emptied, one after the other.
 use Rattle.std.proofs.Common.{◌≡◌, ◌≢◌, ⊎_elim, ℕ, zero, suc, ◌+◌, ◌*◌, ◌/◌, ◌<◌, ◌≤◌, Bool, true, false, cond, List, length, replicate, refl, sym, ◌∙◌, ap, arith, add-one}
 use Rattle.std.specs.Prelude.{nat_lt}
-use Rattle.card_layout.specs.Images.{big_number}
+use Rattle.gated_ring.specs.card_layout.Images.{big_number}
 use Rattle.std.proofs.lemmas.Bool.{cases_lt}
-use Rattle.tach_media.specs.Medium.{put, SameOutside}
-use Rattle.tach_media.proofs.Images.{put_outside, part_before, part_after, part_put, outside_same, outside_wider, outside_then}
+use Rattle.gated_ring.specs.tach_media.Medium.{put, SameOutside}
+use Rattle.gated_ring.proofs.tach_media.Images.{put_outside, part_before, part_after, part_put, outside_same, outside_wider, outside_then}
 use Rattle.unit_model.specs.declared.layout.TheConstants.{IMAGE_SIZE, OWED, OWED_ROW_SIZE, SPARE_ROWS}
 use Rattle.unit_model.specs.Decoding.{cell_place, cell_minute, cell_word}
 use Rattle.unit_model.specs.Cells.{row_head, minute_kept, cells_emptied, cell_emptied}

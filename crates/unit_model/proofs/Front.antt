@@ -1,8 +1,8 @@
 -- The last-kept minute and the odometer under writes.
 use Rattle.std.proofs.Common.{◌≡◌, ℕ, ◌≤◌, List, length, ◌∙◌, arith}
 use Rattle.std.specs.Int.{to_be_bytes, w32}
-use Rattle.tach_media.specs.Medium.{SameOutside}
-use Rattle.tach_media.proofs.Images.{put_outside}
+use Rattle.gated_ring.specs.tach_media.Medium.{SameOutside}
+use Rattle.gated_ring.proofs.tach_media.Images.{put_outside}
 use Rattle.unit_model.specs.declared.layout.TheConstants.{FIRST_OVER, HIGHEST_ODOMETER, IMAGE_SIZE, LAST_KEPT, ODOMETER}
 use Rattle.unit_model.specs.Image.{last_kept, odometer_at}
 use Rattle.unit_model.specs.Writing.{with_odometer}

@@ -5,8 +5,8 @@ use Rattle.std.specs.List.{list_all, list_any, range_with_len}
 use Rattle.std.proofs.lemmas.Bool.Decides.{nat_tests}
 use Rattle.std.proofs.lemmas.Bool.{cases_eq}
 use Rattle.std.specs.Int.{to_be_bytes, w32}
-use Rattle.tach_media.specs.Medium.{SameOutside, IsPartlyWritten}
-use Rattle.tach_media.proofs.Images.{put_outside, outside_wider}
+use Rattle.gated_ring.specs.tach_media.Medium.{SameOutside, IsPartlyWritten}
+use Rattle.gated_ring.proofs.tach_media.Images.{put_outside, outside_wider}
 use Rattle.gated_ring.specs.Ring.{number_at, pointer, is_there, entry_at, next, order}
 use Rattle.unit_model.specs.declared.layout.TheConstants.{DAYS, DAY_COUNT, DAY_SLOTS, DAY_SLOT_SIZE, DAY_WORDS, DAY_WORD_LIMIT, FIRST_OVER, HIGHEST_ODOMETER, IMAGE_SIZE, INSERTIONS, LAST_KEPT, LAST_MINUTE, ODOMETER, OVER_COUNT, PLACES, RULE_BYTE, SPEEDS}
 use Rattle.unit_model.specs.Days.{word_minute, Each}

@@ -26,3 +26,5 @@ pub mod WholeDays
 pub mod Front
 pub mod Recorded
 pub mod Versions
+pub use Rattle.gated_ring.proofs as gated_ring
+pub use Rattle.minute_model.proofs as minute_model

@@ -1,9 +1,9 @@
 -- The image of a new unit decodes, and no day is recorded there.
 use Rattle.std.proofs.Common.{◌≡◌, ℕ, ◌+◌, ◌-◌, ◌<◌, ◌≤◌, Bool, false, not, cond, List, [], ◌∷◌, ◌++◌, length, take, drop, map, filter, refl, sym, ◌∙◌, ap, arith, append_assoc, length-append}
 use Rattle.std.specs.Prelude.{◌==◌}
-use Rattle.card_layout.specs.Images.{big_number}
+use Rattle.gated_ring.specs.card_layout.Images.{big_number}
 use Rattle.std.proofs.lemmas.List.{take-replicate, drop-replicate, drop_at, drop-drop}
-use Rattle.tach_media.specs.Medium.{bytes_at}
+use Rattle.gated_ring.specs.tach_media.Medium.{bytes_at}
 use Rattle.gated_ring.specs.Ring.{number_at, pointer, is_there, entry_at, next, order, indices as ring_indices}
 use Rattle.gated_ring.proofs.Orders as orders
 use Rattle.gated_ring.proofs.Orders.{order_each}

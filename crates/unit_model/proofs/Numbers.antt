@@ -1,11 +1,11 @@
 -- Numbers in images that are written.
 use Rattle.std.proofs.Common.{◌≡◌, ℕ, suc, ◌+◌, ◌-◌, ◌*◌, ◌<◌, ◌≤◌, List, [], ◌∷◌, length, refl, ◌∙◌, ap, arith}
 use Rattle.std.specs.Int.{to_be_bytes, w16, w32}
-use Rattle.card_layout.proofs.Spelled.{number_put}
-pub use Rattle.card_layout.proofs.Spelled.{number_same, number_before, number_after, number_within as number_in}
-pub use Rattle.card_layout.proofs.Images.{part_in}
-use Rattle.tach_media.specs.Medium.{put, bytes_at, SameOutside}
-use Rattle.tach_media.proofs.Images.{put_outside, outside_same, outside_wider, outside_then}
+use Rattle.gated_ring.proofs.card_layout.Spelled.{number_put}
+pub use Rattle.gated_ring.proofs.card_layout.Spelled.{number_same, number_before, number_after, number_within as number_in}
+pub use Rattle.gated_ring.proofs.card_layout.Images.{part_in}
+use Rattle.gated_ring.specs.tach_media.Medium.{put, bytes_at, SameOutside}
+use Rattle.gated_ring.proofs.tach_media.Images.{put_outside, outside_same, outside_wider, outside_then}
 use Rattle.gated_ring.specs.Ring.{number_at}
 use Rattle.unit_model.specs.Image.{words_at}
 use Rattle.unit_model.specs.Writing.{written}

@@ -1,6 +1,6 @@
 -- Worked rows, computed.
 use Rattle.std.proofs.Common.{◌≡◌, inl, inr, ℕ, ◌+◌, ◌*◌, List, [], ◌∷◌, map, drop, replicate, refl, true, false, Some, None}
-use Rattle.activity_codec.specs.declared.values.Activity.{Activity}
+use Rattle.view_model.specs.activity_codec.declared.values.Activity.{Activity}
 use Rattle.unit_model.specs.declared.layout.TheConstants.{IMAGE_SIZE, DAY_SLOT_SIZE, OWED_ROW_SIZE, CELL_SIZE}
 use Rattle.unit_model.specs.Layout.{image_fields, slot_fields, row_fields, cell_fields, are_adjacent}
 use Rattle.std.specs.List.{range_with_len}

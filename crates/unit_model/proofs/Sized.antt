@@ -1,6 +1,6 @@
 -- The image of a unit has the unit's size.
 use Rattle.std.proofs.Common.{◌≡◌, List, ℕ, length, Some, arith}
-use Rattle.tach_media.specs.Medium.{State, IsCoherent}
+use Rattle.gated_ring.specs.tach_media.Medium.{State, IsCoherent}
 use Rattle.unit_model.specs.declared.layout.TheConstants.{IMAGE_SIZE}
 use Rattle.unit_model.specs.Image.{IsUnit}
 

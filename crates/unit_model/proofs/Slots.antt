@@ -2,11 +2,11 @@
 use Rattle.std.proofs.Common.{◌≡◌, ◌≢◌, ⊎_elim, ℕ, ◌+◌, ◌-◌, ◌*◌, ◌<◌, ◌≤◌, not, cond, List, [], ◌∷◌, ◌++◌, length, map, filter, refl, ◌∙◌, ap, arith}
 use Rattle.std.specs.Prelude.{◌==◌}
 use Rattle.std.specs.Int.{to_be_bytes, w16}
-use Rattle.card_layout.specs.Images.{big_number}
+use Rattle.gated_ring.specs.card_layout.Images.{big_number}
 use Rattle.std.proofs.lemmas.List.{map-append}
 use Rattle.std.proofs.lemmas.Bool.{cases_lt}
-use Rattle.tach_media.specs.Medium.{bytes_at, SameOutside}
-use Rattle.tach_media.proofs.Images.{put_outside, part_before, part_after}
+use Rattle.gated_ring.specs.tach_media.Medium.{bytes_at, SameOutside}
+use Rattle.gated_ring.proofs.tach_media.Images.{put_outside, part_before, part_after}
 use Rattle.gated_ring.specs.Ring.{indices as ring_indices, number_at, pointer, is_there, entry_at, next, order, taken}
 use Rattle.unit_model.specs.declared.layout.TheConstants.{DAYS, DAY_COUNT, DAY_SLOTS, DAY_SLOT_SIZE, DAY_WORDS, DAY_WORD_LIMIT, IMAGE_SIZE, LAST_KEPT}
 use Rattle.unit_model.specs.Days.{StoredDay, Each}

@@ -6,8 +6,8 @@ use Rattle.std.proofs.lemmas.Bool.Decides.{nat_tests}
 use Rattle.std.proofs.lemmas.Bool.{cases_lt, cases_eq}
 use Rattle.std.proofs.lemmas.List.{length-map}
 use Rattle.std.proofs.lemmas.List.FromFn.{length-map-range_with_len}
-use Rattle.tach_media.specs.Medium.{SameOutside}
-use Rattle.tach_media.proofs.Images.{outside_wider}
+use Rattle.gated_ring.specs.tach_media.Medium.{SameOutside}
+use Rattle.gated_ring.proofs.tach_media.Images.{outside_wider}
 use Rattle.gated_ring.specs.Ring.{number_at, pointer, is_there, next, order}
 use Rattle.gated_ring.proofs.Orders as orders
 use Rattle.gated_ring.proofs.Orders.{rest, rest_others, order_last, each_append, each_weaker, each_filter, range_each, filter_same, map_same}

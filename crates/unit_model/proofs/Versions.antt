@@ -2,9 +2,9 @@
 use Rattle.std.proofs.Common.{◌≡◌, inl, inr, ℕ, ◌+◌, ◌/◌, ◌≤◌, true, List, [], ◌∷◌, map, length, take, filter, not, refl, sym, ◌∙◌, ap, arith}
 use Rattle.std.specs.Prelude.{◌==◌, ◌||◌, nat_lt}
 use Rattle.std.specs.List.{list_all}
-use Rattle.card_layout.specs.Images.{big_number}
-use Rattle.tach_media.specs.Medium.{SameOutside, bytes_at}
-use Rattle.tach_media.proofs.Images.{part_before, part_after, part_put, put_outside, outside_wider, outside_then}
+use Rattle.gated_ring.specs.card_layout.Images.{big_number}
+use Rattle.gated_ring.specs.tach_media.Medium.{SameOutside, bytes_at}
+use Rattle.gated_ring.proofs.tach_media.Images.{part_before, part_after, part_put, put_outside, outside_wider, outside_then}
 use Rattle.gated_ring.specs.Ring.{Shape, number_at, pointer, is_there, place_of, gate_of, entry_at, next, order, ring_list, indices as ring_indices}
 use Rattle.minute_model.specs.declared.Rule.TheVariants.{Original, Amended}
 use Rattle.unit_model.specs.declared.layout.TheConstants.{DAY_SLOT_SIZE, IMAGE_SIZE, INSERTIONS, LAST_KEPT, ODOMETER, OVER_COUNT, OWED, PLACES, RULE_BYTE, SPARE, SPEEDS, VERSION, VIN}

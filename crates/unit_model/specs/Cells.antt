@@ -1,6 +1,6 @@
 -- The cells of the owed rows, and those that are later than the last-kept minute (profile).
 use Rattle.std.specs.Prelude.{◌≡◌, ℕ, zero, suc, ◌+◌, ◌*◌, ◌≤◌, nat_lt, List, replicate, if◌then◌else◌}
-use Rattle.tach_media.specs.Medium.{put, bytes_at}
+use Rattle.gated_ring.specs.tach_media.Medium.{put, bytes_at}
 use Rattle.unit_model.specs.declared.layout.TheConstants.{OWED, OWED_ROW_SIZE, ROW_CELLS}
 use Rattle.unit_model.specs.Decoding.{cell_place, cell_minute}
 

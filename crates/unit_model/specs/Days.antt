@@ -2,8 +2,8 @@
 use Rattle.std.specs.Prelude.{ℕ, ◌+◌, ◌-◌, ◌*◌, ◌/◌, ◌%◌, Bool, ◌&&◌, List, [], ◌∷◌, ◌++◌, length, drop, map, filter}
 use Rattle.std.specs.Prelude.{nat_le, ◌==◌, if◌then◌else◌, fold, flat_map}
 use Rattle.std.specs.List.{range_with_len}
-use Rattle.activity_codec.specs.Words.{activity_numbered}
-pub use Rattle.activity_codec.specs.Words.{word_minute}
+use Rattle.view_model.specs.activity_codec.Words.{activity_numbered}
+pub use Rattle.view_model.specs.activity_codec.Words.{word_minute}
 use Rattle.view_model.specs.declared.State.{State}
 
 -- a word's slot, and the bits of its state (CREW, no card, activity) (Appendix 1, ActivityChangeInfo)

@@ -2,7 +2,7 @@
 use Rattle.std.specs.Prelude.{◌≡◌, ℕ, ◌+◌, ◌*◌, ◌/◌, ◌%◌, min, Option, Some, None, List, [], ◌∷◌, map, filter, nat_le}
 use Rattle.std.specs.Prelude.{◌==◌, if◌then◌else◌}
 use Rattle.std.specs.List.{range_with_len}
-use Rattle.tach_media.specs.Medium.{State, LiesInside, bytes_at}
+use Rattle.gated_ring.specs.tach_media.Medium.{State, LiesInside, bytes_at}
 use Rattle.gated_ring.specs.Ring.{Shape, number_at, ring_list, indices as ring_indices}
 use Rattle.unit_model.specs.declared.layout.Field.{Field}
 use Rattle.unit_model.specs.declared.layout.TheConstants.{IMAGE_SIZE, DAYS, DAY_SLOTS, DAY_SLOT_SIZE, DAY_DATE}

@@ -9,3 +9,5 @@ pub mod Writing
 pub mod Cells
 pub use Rattle.gated_ring.specs.Ring
 pub mod Versions
+pub use Rattle.gated_ring.specs as gated_ring
+pub use Rattle.minute_model.specs as minute_model

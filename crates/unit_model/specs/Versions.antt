@@ -1,6 +1,6 @@
 -- The version of a unit's image, its rule byte, and the rule of minutes by which a run of the unit goes (profile).
 use Rattle.std.specs.Prelude.{◌≡◌, ◌⊎◌, ℕ, ◌+◌, ◌-◌, List, [], ◌∷◌, ◌==◌, if◌then◌else◌}
-use Rattle.tach_media.specs.Medium.{bytes_at, put, SameOutside}
+use Rattle.gated_ring.specs.tach_media.Medium.{bytes_at, put, SameOutside}
 use Rattle.minute_model.specs.declared.Rule.{Rule}
 use Rattle.minute_model.specs.declared.Rule.TheVariants.{Original, Amended}
 use Rattle.unit_model.specs.declared.layout.TheConstants.{VERSION, VIN, RULE_BYTE, RULED_VERSION}

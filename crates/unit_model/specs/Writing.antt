@@ -2,7 +2,7 @@
 use Rattle.std.specs.Prelude.{ℕ, ◌+◌, ◌-◌, ◌*◌, List, [], ◌∷◌, ◌++◌, length}
 use Rattle.std.specs.List.{range_with_len}
 use Rattle.std.specs.Int.{to_be_bytes, w16, w32}
-use Rattle.tach_media.specs.Medium.{put, SameOutside}
+use Rattle.gated_ring.specs.tach_media.Medium.{put, SameOutside}
 use Rattle.unit_model.specs.declared.layout.TheConstants.{DAY_SLOTS, DAY_COUNT, DAY_WORDS, LAST_KEPT, ODOMETER}
 use Rattle.unit_model.specs.Image.{slot_place}
 

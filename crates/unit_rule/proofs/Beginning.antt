@@ -1,19 +1,19 @@
 -- A moment of the beginning of a row, as the image says it, is one of the rule's beginning.
 use Rattle.std.proofs.Common.{◌≡◌, ◌≢◌, inl, ℕ, List, Some, map, refl, sym, ◌∙◌, ap, arith}
 use Rattle.tach_media.specs.Medium.{SameOutside}
-use Rattle.gated_ring.specs.Ring.{IsShape, PointsInside}
-use Rattle.gated_ring.proofs.Elsewhere.{ring_outside, list_elsewhere}
-use Rattle.card_layout.proofs.Spelled.{number_before}
-use Rattle.unit_model.specs.declared.layout.TheConstants.{LAST_KEPT, OWED}
-use Rattle.unit_model.specs.Days.{days_shown}
-use Rattle.unit_model.specs.Image.{day_ring, last_kept, unit_day, unit_days, recorded}
-use Rattle.unit_owed.specs.Rows.{IsRowBeginning, IsRowBegun}
-use Rattle.unit_owed.proofs.Laws.{view_by_row, begun_view}
-use Rattle.unit_owed.proofs.Taking.{begun_is}
-use Rattle.unit_owed.specs.Owed.{rows_in}
-use Rattle.trace_model.specs.declared.Card.TheVariants.{A, B}
-use Rattle.device_rule.specs.Views.{unit_view}
-use Rattle.device_rule.specs.Steps.{IsBeginning, IsBegun}
+use Rattle.unit_minutes.specs.gated_ring.Ring.{IsShape, PointsInside}
+use Rattle.unit_minutes.proofs.gated_ring.Elsewhere.{ring_outside, list_elsewhere}
+use Rattle.tach_media.proofs.card_layout.Spelled.{number_before}
+use Rattle.unit_minutes.specs.unit_model.declared.layout.TheConstants.{LAST_KEPT, OWED}
+use Rattle.unit_minutes.specs.unit_model.Days.{days_shown}
+use Rattle.unit_minutes.specs.unit_model.Image.{day_ring, last_kept, unit_day, unit_days, recorded}
+use Rattle.unit_minutes.specs.unit_owed.Rows.{IsRowBeginning, IsRowBegun}
+use Rattle.unit_minutes.proofs.unit_owed.Laws.{view_by_row, begun_view}
+use Rattle.unit_minutes.proofs.unit_owed.Taking.{begun_is}
+use Rattle.unit_minutes.specs.unit_owed.Owed.{rows_in}
+use Rattle.run_unit_course.specs.trace_model.declared.Card.TheVariants.{A, B}
+use Rattle.safety_model.specs.device_rule.Views.{unit_view}
+use Rattle.safety_model.specs.device_rule.Steps.{IsBeginning, IsBegun}
 
 day_shape : IsShape day_ring
 day_shape = record { some = omega arith; gate = omega arith; pointer = omega arith; holds = λ _. omega arith; short = omega arith }

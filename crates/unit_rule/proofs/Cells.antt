@@ -3,9 +3,9 @@ use Rattle.std.proofs.Common.{◌≡◌, ⊎_elim, ℕ, zero, suc, ◌+◌, ◌%
 use Rattle.std.specs.Prelude.{◌==◌, nat_eq, nat_le, slice_set}
 use Rattle.std.proofs.lemmas.Bool.{cases_lt}
 use Rattle.std.proofs.lemmas.Bool.Decides.{nat_tests}
-use Rattle.activity_codec.specs.declared.entries.Entry.{Entry}
-use Rattle.unit_owed.specs.Owed.{Cell, entry_of, holds, cell_entries, placed}
-use Rattle.device_rule.proofs.OwedView.{placed-more, placed-here, placed-front}
+use Rattle.unit_minutes.specs.activity_codec.declared.entries.Entry.{Entry}
+use Rattle.unit_minutes.specs.unit_owed.Owed.{Cell, entry_of, holds, cell_entries, placed}
+use Rattle.safety_model.proofs.device_rule.OwedView.{placed-more, placed-here, placed-front}
 
 -- an entry is not of this place
 abbrev pub elsewhere : ℕ → Entry → Bool

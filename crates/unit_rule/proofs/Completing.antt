@@ -1,17 +1,17 @@
 -- Where each sure minute is marked the marks are those of a front of the history, and what is left where nothing was lost.
 use Rattle.std.proofs.Common.{◌≡◌, inl, inr, ⊎_elim, ℕ, ◌+◌, true, false, Option, Some, None, List, [], ◌∷◌, ◌++◌, refl, ap, sym, subst, ◌∙◌, arith, map, length, length-append}
 use Rattle.std.proofs.lemmas.List.{map-append}
-use Rattle.run_model.specs.declared.Device.TheVariants.{Unit as Recorder}
+use Rattle.run_unit_course.specs.run_model.declared.Device.TheVariants.{Unit as Recorder}
 use Rattle.tach_media.specs.Medium.{State}
-use Rattle.unit_model.specs.Days.{newest_days}
-use Rattle.unit_model.specs.Image.{recorded}
-use Rattle.log_model.specs.declared.lines.Mark.{Mark}
-use Rattle.history_model.specs.Minutes.{HistoryMinute, up_to}
-use Rattle.history_model.specs.Book.{Book, all, IsNext, Follows, AreLost}
-use Rattle.history_model.proofs.Books.{all-none, up_to-whole}
-use Rattle.device_rule.specs.Views.{unit_view}
-use Rattle.device_rule.specs.Filling.{FillsDays, filled_with}
-use Rattle.device_rule.specs.Rules.{Shows}
+use Rattle.unit_minutes.specs.unit_model.Days.{newest_days}
+use Rattle.unit_minutes.specs.unit_model.Image.{recorded}
+use Rattle.run_unit_course.specs.log_model.declared.lines.Mark.{Mark}
+use Rattle.run_unit_course.specs.history_model.Minutes.{HistoryMinute, up_to}
+use Rattle.run_unit_course.specs.history_model.Book.{Book, all, IsNext, Follows, AreLost}
+use Rattle.run_unit_course.proofs.history_model.Books.{all-none, up_to-whole}
+use Rattle.safety_model.specs.device_rule.Views.{unit_view}
+use Rattle.safety_model.specs.device_rule.Filling.{FillsDays, filled_with}
+use Rattle.safety_model.specs.device_rule.Rules.{Shows}
 use Rattle.safety_model.specs.Unit.{marks_of}
 use Rattle.unit_rule.specs.Rule.{Started}
 use Rattle.unit_rule.specs.Marks.{UnitFollowsBook}

@@ -2,15 +2,15 @@
 use Rattle.std.proofs.Common.{◌≡◌, inl, inr, ⊎_elim, ℕ, ◌<◌, List, sym, subst, arith}
 use Rattle.tach_media.specs.Medium.{State, IsCoherent, LeavesOnly, SameOutside}
 use Rattle.tach_media.proofs.Images.{part_before, part_after}
-use Rattle.unit_model.specs.declared.layout.TheConstants.{DAY_SLOTS}
-use Rattle.unit_model.specs.Days.{days_kept}
-use Rattle.unit_model.specs.Decoding.{Decodes}
-use Rattle.unit_model.proofs.WholeDays.{decoded_of}
+use Rattle.unit_minutes.specs.unit_model.declared.layout.TheConstants.{DAY_SLOTS}
+use Rattle.unit_minutes.specs.unit_model.Days.{days_kept}
+use Rattle.unit_minutes.specs.unit_model.Decoding.{Decodes}
+use Rattle.unit_minutes.proofs.unit_model.WholeDays.{decoded_of}
 use Rattle.unit_minutes.specs.Beside.{SameJournal}
 use Rattle.unit_minutes.proofs.Beside.{beside, last_beside, odometer_beside, pointer_beside, days_beside, recorded_beside}
 use Rattle.unit_minutes.proofs.DayOdometers.{records-same}
-use Rattle.log_model.specs.declared.lines.Mark.{Mark}
-use Rattle.history_model.specs.Book.{Book}
+use Rattle.run_unit_course.specs.log_model.declared.lines.Mark.{Mark}
+use Rattle.run_unit_course.specs.history_model.Book.{Book}
 use Rattle.safety_model.specs.Unit.{issued_bytes}
 use Rattle.unit_rule.specs.Rule.{Started}
 use Rattle.unit_rule.specs.Marks.{UnitFollowsBook}

@@ -1,12 +1,12 @@
 -- Power is back: what the power-on finds.
 use Rattle.std.proofs.Common.{◌≡◌, ℕ, ◌<◌, true, Some, List, [], refl, sym, ◌∙◌, arith}
 use Rattle.tach_media.specs.Medium.{State, IsCoherent}
-use Rattle.unit_model.specs.Image.{last_kept}
-use Rattle.unit_model.specs.Decoding.{Decodes}
-use Rattle.log_model.specs.declared.lines.Mark.{Mark}
-use Rattle.history_model.specs.Book.{Book}
-use Rattle.history_model.proofs.Books.{mark-earlier}
-use Rattle.device_rule.specs.Views.{unit_view}
+use Rattle.unit_minutes.specs.unit_model.Image.{last_kept}
+use Rattle.unit_minutes.specs.unit_model.Decoding.{Decodes}
+use Rattle.run_unit_course.specs.log_model.declared.lines.Mark.{Mark}
+use Rattle.run_unit_course.specs.history_model.Book.{Book}
+use Rattle.run_unit_course.proofs.history_model.Books.{mark-earlier}
+use Rattle.safety_model.specs.device_rule.Views.{unit_view}
 use Rattle.unit_rule.specs.Rule.{Started}
 use Rattle.unit_rule.specs.Marks.{UnitFollowsBook}
 use Rattle.unit_rule.proofs.Moves.{shown-last}

@@ -1,17 +1,17 @@
 -- A moment of a keep, as the image says it, is one of the rule's keeping.
 use Rattle.std.proofs.Common.{◌≡◌, ◌⊎◌, inl, inr, ℕ, ◌-◌, List, sym, ◌∙◌, ap, arith}
-use Rattle.card_layout.proofs.Images.{part_in}
+use Rattle.tach_media.proofs.card_layout.Images.{part_in}
 use Rattle.tach_media.specs.Medium.{bytes_at}
-use Rattle.unit_model.proofs.Retention.{begins_one}
-use Rattle.unit_model.specs.declared.layout.TheConstants.{DAYS, FIRST_OVER, OWED}
-use Rattle.unit_model.specs.Image.{recorded}
-use Rattle.unit_owed.specs.Owed.{rows_in}
-use Rattle.unit_owed.proofs.Laws.{view_by_rows}
+use Rattle.unit_minutes.proofs.unit_model.Retention.{begins_one}
+use Rattle.unit_minutes.specs.unit_model.declared.layout.TheConstants.{DAYS, FIRST_OVER, OWED}
+use Rattle.unit_minutes.specs.unit_model.Image.{recorded}
+use Rattle.unit_minutes.specs.unit_owed.Owed.{rows_in}
+use Rattle.unit_minutes.proofs.unit_owed.Laws.{view_by_rows}
 use Rattle.unit_minutes.specs.Image.{SameBesides, IsGivenUp, IsBeforeLastKept, IsBehindLastKept, IsKeeping as IsKeepingImage, IsKept as IsKeptImage}
-use Rattle.history_model.specs.Minutes.{HistoryMinute}
-use Rattle.device_rule.specs.Views.{unit_view}
-use Rattle.device_rule.specs.Steps.{SameRows, IsKeeping, IsKept}
-use Rattle.device_rule.specs.Filling.{seen_by_unit, KeepsMinute, GivesUpDay}
+use Rattle.run_unit_course.specs.history_model.Minutes.{HistoryMinute}
+use Rattle.safety_model.specs.device_rule.Views.{unit_view}
+use Rattle.safety_model.specs.device_rule.Steps.{SameRows, IsKeeping, IsKept}
+use Rattle.safety_model.specs.device_rule.Filling.{seen_by_unit, KeepsMinute, GivesUpDay}
 
 -- the owed rows lie between the odometer and the days
 rows_same : (x c : List ℕ) → SameBesides x c → rows_in c ≡ rows_in x

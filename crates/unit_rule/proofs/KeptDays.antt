@@ -5,17 +5,17 @@ use Rattle.std.proofs.lemmas.Bool.{cases_lt}
 use Rattle.std.proofs.lemmas.Bool.Decides.{nat_tests}
 use Rattle.std.proofs.lemmas.List.{map-append}
 use Rattle.std.proofs.lemmas.List.Elements.{All-nil, All-cons, All-head, All-tail, All-weaker, All-drop, All-push, All-contains}
-use Rattle.activity_codec.specs.declared.values.Activity.{Activity}
-use Rattle.activity_codec.specs.declared.values.Activity.TheVariants.{Rest, Available, Work, Driving}
-use Rattle.activity_codec.specs.Words.{bit, activity_number}
+use Rattle.unit_minutes.specs.activity_codec.declared.values.Activity.{Activity}
+use Rattle.unit_minutes.specs.activity_codec.declared.values.Activity.TheVariants.{Rest, Available, Work, Driving}
+use Rattle.unit_minutes.specs.activity_codec.Words.{bit, activity_number}
 use Rattle.tach_media.specs.Medium.{State, LeavesOnly}
 use Rattle.tach_media.proofs.Runs.{weaken, at_image}
-use Rattle.gated_ring.specs.Ring.{newest_of}
-use Rattle.unit_model.specs.declared.layout.TheConstants.{DAY_SLOTS}
-use Rattle.unit_model.specs.Days.{StoredDay, Each, day_of}
-use Rattle.unit_model.specs.Image.{last_kept, unit_days}
-use Rattle.unit_model.proofs.Recorded.{date_in}
-use Rattle.unit_model.proofs.Slots.{day_at, all_days}
+use Rattle.unit_minutes.specs.gated_ring.Ring.{newest_of}
+use Rattle.unit_minutes.specs.unit_model.declared.layout.TheConstants.{DAY_SLOTS}
+use Rattle.unit_minutes.specs.unit_model.Days.{StoredDay, Each, day_of}
+use Rattle.unit_minutes.specs.unit_model.Image.{last_kept, unit_days}
+use Rattle.unit_minutes.proofs.unit_model.Recorded.{date_in}
+use Rattle.unit_minutes.proofs.unit_model.Slots.{day_at, all_days}
 use Rattle.unit_minutes.specs.DaysWith.{day_with, closed_day, begun_day, days_with, last_day_closed, opened_day, AreTurning, AreBetween}
 use Rattle.unit_minutes.specs.DayOdometers.{HasSlot}
 use Rattle.unit_minutes.specs.declared.notes.Notes.{Notes}

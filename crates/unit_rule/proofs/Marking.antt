@@ -3,30 +3,30 @@ use Rattle.std.proofs.Common.{◌≡◌, inl, ⊎_elim, ℕ, suc, ◌+◌, ◌-�
 use Rattle.std.specs.Prelude.{option_to_list}
 use Rattle.std.proofs.lemmas.List.{append-nil}
 use Rattle.std.proofs.lemmas.List.Elements.{filter-append, All-weaker, All-append, All-nil, All-tail, All-head, All-contains, Contains-push, Contains-append_left}
-use Rattle.run_model.specs.declared.Device.{Device}
-use Rattle.run_model.specs.declared.Device.TheVariants.{Unit as Recorder}
+use Rattle.run_unit_course.specs.run_model.declared.Device.{Device}
+use Rattle.run_unit_course.specs.run_model.declared.Device.TheVariants.{Unit as Recorder}
 use Rattle.tach_media.specs.Medium.{State, IsCoherent, IsSettled, LeavesOnly, Unchanged}
-use Rattle.unit_model.specs.Days.{ShownDay, newest_days}
-use Rattle.unit_model.specs.Decoding.{Decodes}
-use Rattle.unit_model.proofs.WholeDays.{decoded_of}
+use Rattle.unit_minutes.specs.unit_model.Days.{ShownDay, newest_days}
+use Rattle.unit_minutes.specs.unit_model.Decoding.{Decodes}
+use Rattle.unit_minutes.proofs.unit_model.WholeDays.{decoded_of}
 use Rattle.unit_minutes.proofs.Besides.{few_days}
-use Rattle.unit_model.specs.Image.{last_kept, recorded}
+use Rattle.unit_minutes.specs.unit_model.Image.{last_kept, recorded}
 use Rattle.unit_minutes.specs.Image as journal
-use Rattle.log_model.specs.declared.lines.Mark.{Mark}
-use Rattle.history_model.specs.Minutes.{HistoryMinute}
-use Rattle.history_model.specs.Book.{Book, all, not_begun, kept, broken, found}
-use Rattle.history_model.proofs.Filters.{all-one}
-use Rattle.history_model.proofs.Books.{contains-up_to}
-use Rattle.device_rule.specs.Views.{UnitView, unit_view}
-use Rattle.device_rule.specs.Device.{Seen, LeavesViews, Nothing}
-use Rattle.device_rule.specs.Rules.{UnitHolds, UnitRule}
-use Rattle.device_rule.specs.Filling.{FillsDays, KeepsMinute, GivesUpDay, seen_by_unit}
-use Rattle.device_rule.specs.Steps.{IsKeeping, IsKept}
-use Rattle.device_rule.proofs.Simple.{days-go-on}
-use Rattle.device_rule.proofs.UnitLaws.{unit-aside, keep-unit, keep-unit_dark, last-earlier, found-unit}
-use Rattle.device_rule.proofs.Opening.{opened-unit}
-use Rattle.device_rule.proofs.Holding.{acknowledges-on}
-use Rattle.device_rule.proofs.Viewed.{seen-coherent, seen-run}
+use Rattle.run_unit_course.specs.log_model.declared.lines.Mark.{Mark}
+use Rattle.run_unit_course.specs.history_model.Minutes.{HistoryMinute}
+use Rattle.run_unit_course.specs.history_model.Book.{Book, all, not_begun, kept, broken, found}
+use Rattle.run_unit_course.proofs.history_model.Filters.{all-one}
+use Rattle.run_unit_course.proofs.history_model.Books.{contains-up_to}
+use Rattle.safety_model.specs.device_rule.Views.{UnitView, unit_view}
+use Rattle.safety_model.specs.device_rule.Device.{Seen, LeavesViews, Nothing}
+use Rattle.safety_model.specs.device_rule.Rules.{UnitHolds, UnitRule}
+use Rattle.safety_model.specs.device_rule.Filling.{FillsDays, KeepsMinute, GivesUpDay, seen_by_unit}
+use Rattle.safety_model.specs.device_rule.Steps.{IsKeeping, IsKept}
+use Rattle.safety_model.proofs.device_rule.Simple.{days-go-on}
+use Rattle.safety_model.proofs.device_rule.UnitLaws.{unit-aside, keep-unit, keep-unit_dark, last-earlier, found-unit}
+use Rattle.safety_model.proofs.device_rule.Opening.{opened-unit}
+use Rattle.safety_model.proofs.device_rule.Holding.{acknowledges-on}
+use Rattle.safety_model.proofs.device_rule.Viewed.{seen-coherent, seen-run}
 use Rattle.safety_model.specs.Unit.{marks_of, is_of, IsPrompt, Increase, issued_bytes}
 use Rattle.unit_rule.specs.Rule.{Started, started, once_mended, seen_unit, IsRuled, HasRowsOn, HasRowsMended}
 use Rattle.unit_rule.specs.Marks.{MarkIsKept, UnitFollowsBook}

@@ -2,23 +2,23 @@
 use Rattle.std.proofs.Common.{◌≡◌, ℕ, ◌+◌, ◌*◌, ◌<◌, ◌≤◌, Bool, true, false, cond, List, [], ◌∷◌, Option, Some, None, option_map, take, drop, filter, refl, sym, ◌∙◌, ap, arith}
 use Rattle.std.specs.Prelude.{nat_le}
 use Rattle.std.proofs.lemmas.Bool.Decides.{nat_tests}
-use Rattle.activity_codec.specs.declared.entries.Entry.{Entry}
-use Rattle.trace_model.specs.declared.Card.{Card}
-use Rattle.trace_model.specs.declared.Card.TheVariants.{A, B}
+use Rattle.unit_minutes.specs.activity_codec.declared.entries.Entry.{Entry}
+use Rattle.run_unit_course.specs.trace_model.declared.Card.{Card}
+use Rattle.run_unit_course.specs.trace_model.declared.Card.TheVariants.{A, B}
 use Rattle.tach_media.specs.Medium.{bytes_at}
-use Rattle.unit_model.specs.declared.layout.TheConstants.{LAST_KEPT, OWED}
-use Rattle.unit_model.specs.Image.{last_kept, recorded}
-use Rattle.unit_model.specs.Decoding.{cell_minute}
-use Rattle.unit_model.proofs.Numbers.{number_same, part_in}
-use Rattle.unit_owed.specs.Owed.{Cell, Row, rows_in, row_in, cell_in, is_row_of, row_index, entry_of, holds, cell_entries, in_order, seen_row, row_view}
-use Rattle.unit_owed.proofs.Putting.{found_below}
-use Rattle.unit_owed.proofs.Mending.{HasRowsKept, kept_low, minute_is, session_same, index_same, cells_same}
+use Rattle.unit_minutes.specs.unit_model.declared.layout.TheConstants.{LAST_KEPT, OWED}
+use Rattle.unit_minutes.specs.unit_model.Image.{last_kept, recorded}
+use Rattle.unit_minutes.specs.unit_model.Decoding.{cell_minute}
+use Rattle.unit_minutes.proofs.unit_model.Numbers.{number_same, part_in}
+use Rattle.unit_minutes.specs.unit_owed.Owed.{Cell, Row, rows_in, row_in, cell_in, is_row_of, row_index, entry_of, holds, cell_entries, in_order, seen_row, row_view}
+use Rattle.unit_minutes.proofs.unit_owed.Putting.{found_below}
+use Rattle.unit_minutes.proofs.unit_owed.Mending.{HasRowsKept, kept_low, minute_is, session_same, index_same, cells_same}
 use Rattle.unit_minutes.specs.declared.notes.Notes.{Notes}
 use Rattle.unit_minutes.specs.Mends.{SameButRowsAndSlots, IsMending as IsMendingImage, IsMended as IsMendedImage}
 use Rattle.unit_minutes.proofs.MendedOwed.{rows_mending, rows_mended}
-use Rattle.device_rule.specs.Views.{row, unit_view}
-use Rattle.device_rule.specs.Steps.{IsMending, IsMended, settled_cells}
-use Rattle.device_rule.proofs.OwedView.{filter-fold}
+use Rattle.safety_model.specs.device_rule.Views.{row, unit_view}
+use Rattle.safety_model.specs.device_rule.Steps.{IsMending, IsMended, settled_cells}
+use Rattle.safety_model.proofs.device_rule.OwedView.{filter-fold}
 use Rattle.unit_rule.proofs.Putting.{seen_at}
 
 le_false : (a b : ℕ) → b < a → nat_le a b ≡ false

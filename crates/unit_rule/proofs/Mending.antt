@@ -1,11 +1,11 @@
 -- A mend at power-on is a step beside the minutes.
 use Rattle.std.proofs.Common.{◌≡◌, inl, inr, ℕ, ◌+◌, ◌<◌, ◌≤◌, List, take, drop, ap, sym, ◌∙◌, arith}
 use Rattle.std.proofs.lemmas.List.{take-take, drop-take}
-use Rattle.gated_ring.specs.Ring.{number_at, pointer}
-use Rattle.unit_model.specs.declared.layout.TheConstants.{DAY_SLOTS}
-use Rattle.unit_model.specs.Image.{day_ring, last_kept, odometer_at, recorded}
-use Rattle.unit_model.specs.Decoding.{Decodes}
-use Rattle.unit_model.proofs.Numbers.{number_same}
+use Rattle.unit_minutes.specs.gated_ring.Ring.{number_at, pointer}
+use Rattle.unit_minutes.specs.unit_model.declared.layout.TheConstants.{DAY_SLOTS}
+use Rattle.unit_minutes.specs.unit_model.Image.{day_ring, last_kept, odometer_at, recorded}
+use Rattle.unit_minutes.specs.unit_model.Decoding.{Decodes}
+use Rattle.unit_minutes.proofs.unit_model.Numbers.{number_same}
 use Rattle.unit_minutes.specs.declared.notes.Notes.{Notes}
 use Rattle.unit_minutes.specs.Mends.{SameButRowsAndSlots, IsMendable, IsMending}
 use Rattle.safety_model.specs.Unit.{issued_bytes}

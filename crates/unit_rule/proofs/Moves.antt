@@ -2,11 +2,11 @@
 use Rattle.std.proofs.Common.{◌≡◌, ◌⊎◌, inl, inr, ℕ, ◌+◌, ◌≤◌, true, Option, Some, None, List, ◌++◌, IfSome, is_some, take, drop, refl, ap, sym, subst, ◌∙◌, arith}
 use Rattle.std.proofs.lemmas.List.{take-take, drop-take, drop-drop}
 use Rattle.tach_media.specs.Medium.{State, IsCoherent, LeavesOnly, bytes_at}
-use Rattle.unit_model.specs.declared.layout.TheConstants.{LAST_KEPT, SPARE_COUNTS, SPARE_ROWS, SPARE_FAULTS}
-use Rattle.unit_model.specs.Image.{last_kept, recorded}
-use Rattle.unit_model.proofs.Numbers.{part_in}
+use Rattle.unit_minutes.specs.unit_model.declared.layout.TheConstants.{LAST_KEPT, SPARE_COUNTS, SPARE_ROWS, SPARE_FAULTS}
+use Rattle.unit_minutes.specs.unit_model.Image.{last_kept, recorded}
+use Rattle.unit_minutes.proofs.unit_model.Numbers.{part_in}
 use Rattle.unit_minutes.specs.Keeping.{SameBesides}
-use Rattle.device_rule.specs.Views.{unit_view}
+use Rattle.safety_model.specs.device_rule.Views.{unit_view}
 use Rattle.safety_model.specs.Unit.{issued_bytes}
 
 -- after a run that ended well a stop leaves the image alone, and what is said of it holds

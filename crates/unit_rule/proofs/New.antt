@@ -1,11 +1,11 @@
 -- A new unit is seen with no day, no minute and no row, and owes nothing.
 use Rattle.std.proofs.Common.{◌≡◌, ℕ, None, List, [], option_map, length, refl, ◌∙◌, ap, arith}
-use Rattle.unit_model.specs.declared.layout.TheConstants.{OWED}
-use Rattle.unit_model.specs.Image.{last_kept}
-use Rattle.unit_model.specs.NewImage.{zeros, new_image}
-use Rattle.unit_model.proofs.New.{new_zeros, new_kept, new_recorded}
-use Rattle.unit_owed.specs.Owed.{rows_in, row_in, row_index, row_of, owed_of, owed_to, row_view, seen_row}
-use Rattle.device_rule.specs.Views.{unit_view}
+use Rattle.unit_minutes.specs.unit_model.declared.layout.TheConstants.{OWED}
+use Rattle.unit_minutes.specs.unit_model.Image.{last_kept}
+use Rattle.unit_minutes.specs.unit_model.NewImage.{zeros, new_image}
+use Rattle.unit_minutes.proofs.unit_model.New.{new_zeros, new_kept, new_recorded}
+use Rattle.unit_minutes.specs.unit_owed.Owed.{rows_in, row_in, row_index, row_of, owed_of, owed_to, row_view, seen_row}
+use Rattle.safety_model.specs.device_rule.Views.{unit_view}
 
 -- in rows of zeros no row has a session
 no_row : (number : List ℕ) → row_index number (zeros OWED.size) ≡ None

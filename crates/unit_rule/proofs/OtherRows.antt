@@ -1,11 +1,11 @@
 -- The owed rows that go on for the numbers of two cards keep what they owe to others.
 use Rattle.std.proofs.Common.{◌≡◌, ◌⊎◌, inl, inr, ⊎_elim, ℕ, Option, Some, None, List, refl, ap, ◌∙◌}
-use Rattle.card_layout.specs.declared.files.Fid.{Fid}
-use Rattle.unit_model.specs.Image.{last_kept}
-use Rattle.unit_owed.specs.Owed.{rows_in}
-use Rattle.unit_owed.specs.Standing.{IsOneOf, RowsGoOn}
-use Rattle.unit_owed.proofs.Standing.{goes-for, goes-owed, all-owed}
-use Rattle.device_rule.specs.Own.{own_bad_file, own_number, IsOwnValid}
+use Rattle.tach_media.specs.card_layout.declared.files.Fid.{Fid}
+use Rattle.unit_minutes.specs.unit_model.Image.{last_kept}
+use Rattle.unit_minutes.specs.unit_owed.Owed.{rows_in}
+use Rattle.unit_minutes.specs.unit_owed.Standing.{IsOneOf, RowsGoOn}
+use Rattle.unit_minutes.proofs.unit_owed.Standing.{goes-for, goes-owed, all-owed}
+use Rattle.safety_model.specs.device_rule.Own.{own_bad_file, own_number, IsOwnValid}
 use Rattle.unit_rule.specs.OtherRows.{number_by, valid_number, IsOfCards, OwesStill, KeepsRows}
 
 no-number : (n : List ℕ) → None ≡ Some n → ⊥

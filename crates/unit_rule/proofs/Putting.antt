@@ -1,20 +1,20 @@
 -- A moment of the putting of an entry, as the image says it, is one of the rule's putting.
 use Rattle.std.proofs.Common.{◌≡◌, ◌≢◌, ◌⊎◌, inl, inr, ℕ, ◌%◌, ◌<◌, ◌≤◌, false, List, [], ◌∷◌, ◌++◌, Option, Some, None, option_map, filter, fold, All, refl, ap, sym, subst, ◌∙◌, arith}
 use Rattle.std.specs.Prelude.{slice_set}
-use Rattle.activity_codec.specs.declared.entries.Entry.{Entry}
-use Rattle.activity_codec.specs.declared.words.Change.{Change}
-use Rattle.activity_codec.proofs.WordLemmas.{change_of-word_of}
-use Rattle.trace_model.specs.declared.Card.TheVariants.{A, B}
+use Rattle.unit_minutes.specs.activity_codec.declared.entries.Entry.{Entry}
+use Rattle.unit_minutes.specs.activity_codec.declared.words.Change.{Change}
+use Rattle.unit_minutes.proofs.activity_codec.WordLemmas.{change_of-word_of}
+use Rattle.run_unit_course.specs.trace_model.declared.Card.TheVariants.{A, B}
 use Rattle.tach_media.specs.Medium.{SameOutside}
-use Rattle.gated_ring.specs.Ring.{PointsInside}
-use Rattle.unit_model.specs.declared.layout.TheConstants.{OWED}
-use Rattle.unit_model.specs.Image.{day_ring}
-use Rattle.unit_owed.specs.Owed.{Cell, OwedRow, Row, rows_in, row_in, row_index, entry_of, cell_entries, placed, in_order, seen_row, row_view}
-use Rattle.unit_owed.specs.Rows.{entry_word, with_cell, IsPuttingCell, IsPutting as IsPuttingRow, OwedRowHas as IsPutRow, HasRow}
-use Rattle.unit_owed.proofs.Laws.{view_by_row}
-use Rattle.device_rule.specs.Views.{unit_view}
-use Rattle.device_rule.specs.Steps.{IsPutting, UnitOwes, cleared, owing}
-use Rattle.device_rule.proofs.OwedView.{filter-fold}
+use Rattle.unit_minutes.specs.gated_ring.Ring.{PointsInside}
+use Rattle.unit_minutes.specs.unit_model.declared.layout.TheConstants.{OWED}
+use Rattle.unit_minutes.specs.unit_model.Image.{day_ring}
+use Rattle.unit_minutes.specs.unit_owed.Owed.{Cell, OwedRow, Row, rows_in, row_in, row_index, entry_of, cell_entries, placed, in_order, seen_row, row_view}
+use Rattle.unit_minutes.specs.unit_owed.Rows.{entry_word, with_cell, IsPuttingCell, IsPutting as IsPuttingRow, OwedRowHas as IsPutRow, HasRow}
+use Rattle.unit_minutes.proofs.unit_owed.Laws.{view_by_row}
+use Rattle.safety_model.specs.device_rule.Views.{unit_view}
+use Rattle.safety_model.specs.device_rule.Steps.{IsPutting, UnitOwes, cleared, owing}
+use Rattle.safety_model.proofs.device_rule.OwedView.{filter-fold}
 use Rattle.unit_rule.proofs.Cells.{elsewhere, cleared_cells, put_cells, before_all, ordered_back, ordered_last}
 use Rattle.unit_rule.proofs.Beginning.{last_same, recorded_same}
 

@@ -1,14 +1,14 @@
 -- The owed rows go on from the start's, over each step of a unit.
 use Rattle.std.proofs.Common.{◌≡◌, ℕ, ◌+◌, ◌-◌, ◌≤◌, List, Option, Some, ap, subst, sym, ◌∙◌, arith}
-use Rattle.activity_codec.specs.declared.entries.Entry.{Entry}
+use Rattle.unit_minutes.specs.activity_codec.declared.entries.Entry.{Entry}
 use Rattle.tach_media.specs.Medium.{bytes_at}
-use Rattle.unit_model.specs.declared.layout.TheConstants.{FIRST_OVER, OWED, DAYS}
-use Rattle.unit_model.specs.Image.{last_kept}
-use Rattle.unit_model.proofs.Numbers.{part_in}
-use Rattle.unit_owed.specs.Owed.{rows_in}
-use Rattle.unit_owed.specs.Rows.{IsPutting, IsRowBeginning}
-use Rattle.unit_owed.specs.Standing.{IsOneOf, RowsGoOn, AreMended}
-use Rattle.unit_owed.proofs.Standing.{goes-start, goes-kept, goes-mending, mended-mending, goes-mended, goes-put, mended-put, goes-begun, mended-begun}
+use Rattle.unit_minutes.specs.unit_model.declared.layout.TheConstants.{FIRST_OVER, OWED, DAYS}
+use Rattle.unit_minutes.specs.unit_model.Image.{last_kept}
+use Rattle.unit_minutes.proofs.unit_model.Numbers.{part_in}
+use Rattle.unit_minutes.specs.unit_owed.Owed.{rows_in}
+use Rattle.unit_minutes.specs.unit_owed.Rows.{IsPutting, IsRowBeginning}
+use Rattle.unit_minutes.specs.unit_owed.Standing.{IsOneOf, RowsGoOn, AreMended}
+use Rattle.unit_minutes.proofs.unit_owed.Standing.{goes-start, goes-kept, goes-mending, mended-mending, goes-mended, goes-put, mended-put, goes-begun, mended-begun}
 use Rattle.unit_minutes.specs.declared.notes.Notes.{Notes}
 use Rattle.unit_minutes.specs.Keeping.{SameBesides}
 use Rattle.unit_minutes.specs.Mends.{IsMending, IsMended}

@@ -2,14 +2,14 @@
 use Rattle.std.proofs.Common.{ℕ, List, [], Contains, sym, subst}
 use Rattle.std.specs.Prelude.{option_to_list}
 use Rattle.std.proofs.lemmas.List.Elements.{All-contains, Contains-append_left}
-use Rattle.run_model.specs.declared.Device.TheVariants.{Unit as Recorder}
+use Rattle.run_unit_course.specs.run_model.declared.Device.TheVariants.{Unit as Recorder}
 use Rattle.tach_media.specs.Medium.{State, IsCoherent}
-use Rattle.log_model.specs.declared.lines.Mark.{Mark}
-use Rattle.history_model.specs.Minutes.{HistoryMinute}
-use Rattle.history_model.specs.Book.{Book, all, Follows}
-use Rattle.device_rule.specs.Views.{UnitView, unit_view}
-use Rattle.device_rule.specs.Rules.{Acknowledges}
-use Rattle.device_rule.proofs.Viewed.{seen-coherent}
+use Rattle.run_unit_course.specs.log_model.declared.lines.Mark.{Mark}
+use Rattle.run_unit_course.specs.history_model.Minutes.{HistoryMinute}
+use Rattle.run_unit_course.specs.history_model.Book.{Book, all, Follows}
+use Rattle.safety_model.specs.device_rule.Views.{UnitView, unit_view}
+use Rattle.safety_model.specs.device_rule.Rules.{Acknowledges}
+use Rattle.safety_model.proofs.device_rule.Viewed.{seen-coherent}
 use Rattle.safety_model.specs.Unit.{marks_of, UnitMarkHolds, UnitSafe}
 use Rattle.safety_model.proofs.Giving.{unit-minutes, unit-marked}
 use Rattle.unit_rule.specs.Rule.{Started, seen_unit}

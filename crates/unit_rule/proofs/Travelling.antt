@@ -3,23 +3,23 @@ use Rattle.std.proofs.Common.{◌≡◌, ◌⊎◌, inl, inr, ⊎_elim, ℕ, ◌
 use Rattle.std.proofs.lemmas.List.Sums.{fold-append, sum_by-cons}
 use Rattle.std.proofs.lemmas.List.Elements.{All-weaker, All-append, All-filter, Contains-append_left, Contains-push}
 use Rattle.tach_media.specs.Medium.{State, IsCoherent, LeavesOnly, Unchanged}
-use Rattle.gated_ring.specs.Ring.{pointer}
-use Rattle.unit_model.specs.declared.layout.TheConstants.{DAY_SLOTS, HIGHEST_ODOMETER}
-use Rattle.unit_model.specs.Image.{day_ring, last_kept, odometer_at}
-use Rattle.unit_model.proofs.WholeDays.{decoded_of}
+use Rattle.unit_minutes.specs.gated_ring.Ring.{pointer}
+use Rattle.unit_minutes.specs.unit_model.declared.layout.TheConstants.{DAY_SLOTS, HIGHEST_ODOMETER}
+use Rattle.unit_minutes.specs.unit_model.Image.{day_ring, last_kept, odometer_at}
+use Rattle.unit_minutes.proofs.unit_model.WholeDays.{decoded_of}
 use Rattle.unit_minutes.specs.DayOdometers.{RecordsDay}
-use Rattle.minute_model.specs.declared.Rule.{Rule}
-use Rattle.log_model.specs.Log.{RunLog}
-use Rattle.log_model.specs.Course.{ToldSecond}
-use Rattle.log_model.specs.Spans.{spans_of}
-use Rattle.log_model.specs.declared.lines.Mark.{Mark}
-use Rattle.history_model.specs.History.{limit_of}
-use Rattle.history_model.specs.Minutes.{HistoryMinute, up_to}
-use Rattle.history_model.specs.Book.{Book, all, not_begun, kept, broken, found}
-use Rattle.history_model.proofs.Books.{all-none, all-found, contains-up_to, up_to-whole, up_to-twice, up_to-before}
-use Rattle.history_model.proofs.Filters.{all-one}
-use Rattle.device_rule.specs.Views.{unit_view}
-use Rattle.device_rule.specs.Filling.{seen_by_unit}
+use Rattle.run_unit_course.specs.minute_model.declared.Rule.{Rule}
+use Rattle.run_unit_course.specs.log_model.Log.{RunLog}
+use Rattle.run_unit_course.specs.log_model.Course.{ToldSecond}
+use Rattle.run_unit_course.specs.log_model.Spans.{spans_of}
+use Rattle.run_unit_course.specs.log_model.declared.lines.Mark.{Mark}
+use Rattle.run_unit_course.specs.history_model.History.{limit_of}
+use Rattle.run_unit_course.specs.history_model.Minutes.{HistoryMinute, up_to}
+use Rattle.run_unit_course.specs.history_model.Book.{Book, all, not_begun, kept, broken, found}
+use Rattle.run_unit_course.proofs.history_model.Books.{all-none, all-found, contains-up_to, up_to-whole, up_to-twice, up_to-before}
+use Rattle.run_unit_course.proofs.history_model.Filters.{all-one}
+use Rattle.safety_model.specs.device_rule.Views.{unit_view}
+use Rattle.safety_model.specs.device_rule.Filling.{seen_by_unit}
 use Rattle.unit_rule.specs.Rule.{Started}
 use Rattle.unit_rule.specs.Marks.{UnitFollowsBook}
 use Rattle.run_unit_course.specs.Legs.{Reckoned, Travel, reckoned, not_travelled, travelled, stranded, resumed, kilometres_of, AreLegs}

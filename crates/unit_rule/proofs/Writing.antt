@@ -3,15 +3,15 @@ use Rattle.std.proofs.Common.{◌≡◌, ◌⊎◌, inl, inr, ⊎_elim, ℕ, ◌
 use Rattle.std.specs.Prelude.{◌==◌}
 use Rattle.std.proofs.lemmas.Bool.{cases_lt}
 use Rattle.std.proofs.lemmas.List.{map-append}
-use Rattle.gated_ring.specs.Ring.{newest_of}
-use Rattle.unit_model.specs.declared.layout.TheConstants.{DAY_SLOTS}
-use Rattle.unit_model.specs.Days.{StoredDay, UnitMinute, day_of}
-use Rattle.unit_model.specs.Image.{last_kept}
+use Rattle.unit_minutes.specs.gated_ring.Ring.{newest_of}
+use Rattle.unit_minutes.specs.unit_model.declared.layout.TheConstants.{DAY_SLOTS}
+use Rattle.unit_minutes.specs.unit_model.Days.{StoredDay, UnitMinute, day_of}
+use Rattle.unit_minutes.specs.unit_model.Image.{last_kept}
 use Rattle.unit_minutes.specs.Kept.{written_at}
 use Rattle.unit_minutes.specs.DaysWith.{day_with, closed_day, begun_day, days_with, written_days}
 use Rattle.unit_minutes.proofs.DaysWith.{newest_all}
-use Rattle.history_model.specs.Minutes.{HistoryMinute}
-use Rattle.device_rule.specs.Filling.{seen_by_unit}
+use Rattle.run_unit_course.specs.history_model.Minutes.{HistoryMinute}
+use Rattle.safety_model.specs.device_rule.Filling.{seen_by_unit}
 use Rattle.unit_rule.specs.Written.{MinuteWritten, days_behind, last_behind, AreNewest, ShowsWritten}
 
 -- ONE MINUTE MORE

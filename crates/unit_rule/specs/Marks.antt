@@ -1,12 +1,12 @@
 -- The unit and the minutes that it has acknowledged, between two calls (profile).
 use Rattle.std.specs.Prelude.{◌≡◌, ℕ, ◌<◌, ◌≤◌, true, List, All, Contains}
-use Rattle.run_model.specs.declared.Device.TheVariants.{Unit as Recorder}
+use Rattle.run_unit_course.specs.run_model.declared.Device.TheVariants.{Unit as Recorder}
 use Rattle.tach_media.specs.Medium.{State}
-use Rattle.unit_model.specs.Decoding.{Decodes}
-use Rattle.log_model.specs.declared.lines.Mark.{Mark}
-use Rattle.history_model.specs.Minutes.{HistoryMinute}
-use Rattle.history_model.specs.Book.{Book}
-use Rattle.device_rule.specs.Rules.{Acknowledges}
+use Rattle.unit_minutes.specs.unit_model.Decoding.{Decodes}
+use Rattle.run_unit_course.specs.log_model.declared.lines.Mark.{Mark}
+use Rattle.run_unit_course.specs.history_model.Minutes.{HistoryMinute}
+use Rattle.run_unit_course.specs.history_model.Book.{Book}
+use Rattle.safety_model.specs.device_rule.Rules.{Acknowledges}
 use Rattle.safety_model.specs.Unit.{marks_of, IsPrompt, Increase, issued_bytes}
 use Rattle.unit_rule.specs.Rule.{Started, seen_unit, IsRuled, HasRowsOn, HasRowsMended}
 

@@ -2,22 +2,22 @@
 use Rattle.std.specs.Prelude.{◌≡◌, ◌⊎◌, ℕ, ◌+◌, ◌/◌, ◌<◌, ◌≤◌, min, Some, None, List, [], ◌∷◌, ◌++◌, All, Contains}
 use Rattle.std.specs.Prelude.{fold}
 use Rattle.tach_media.specs.Medium.{State}
-use Rattle.gated_ring.specs.Ring.{pointer}
-use Rattle.unit_model.specs.declared.layout.TheConstants.{DAY_SLOTS, HIGHEST_ODOMETER}
-use Rattle.unit_model.specs.Days.{UnitMinute}
-use Rattle.unit_model.specs.Image.{day_ring, last_kept, odometer_at}
+use Rattle.unit_minutes.specs.gated_ring.Ring.{pointer}
+use Rattle.unit_minutes.specs.unit_model.declared.layout.TheConstants.{DAY_SLOTS, HIGHEST_ODOMETER}
+use Rattle.unit_minutes.specs.unit_model.Days.{UnitMinute}
+use Rattle.unit_minutes.specs.unit_model.Image.{day_ring, last_kept, odometer_at}
 use Rattle.unit_minutes.specs.DayOdometers.{HasSlot, RecordsDay}
 use Rattle.unit_minutes.specs.Keeping.{IsKeeping}
 use Rattle.unit_minutes.specs.DaysWith.{written_days, IsKeepingWritten}
 use Rattle.unit_minutes.specs.Kept.{written_at}
 use Rattle.unit_rule.specs.Written.{ShowsWritten}
-use Rattle.history_model.specs.Minutes.{HistoryMinute, up_to}
-use Rattle.minute_model.specs.declared.Rule.{Rule}
-use Rattle.log_model.specs.Log.{RunLog}
-use Rattle.log_model.specs.Course.{ToldSecond}
-use Rattle.log_model.specs.Spans.{spans_of}
-use Rattle.history_model.specs.Book.{Book, all}
-use Rattle.history_model.specs.History.{limit_of}
+use Rattle.run_unit_course.specs.history_model.Minutes.{HistoryMinute, up_to}
+use Rattle.run_unit_course.specs.minute_model.declared.Rule.{Rule}
+use Rattle.run_unit_course.specs.log_model.Log.{RunLog}
+use Rattle.run_unit_course.specs.log_model.Course.{ToldSecond}
+use Rattle.run_unit_course.specs.log_model.Spans.{spans_of}
+use Rattle.run_unit_course.specs.history_model.Book.{Book, all}
+use Rattle.run_unit_course.specs.history_model.History.{limit_of}
 use Rattle.run_unit_course.specs.Legs.{Reckoned, Travel, kilometres_of, AreLegs}
 
 -- the odometer in kilometres, where it stood so when power came, and this is the sum of the speeds, in km/h, of the

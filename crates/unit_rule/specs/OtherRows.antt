@@ -1,10 +1,10 @@
 -- What a run with two cards leaves of the owed rows of its unit (profile), those of other cards among them.
 use Rattle.std.specs.Prelude.{◌≡◌, ◌⊎◌, ℕ, Option, Some, None, List}
-use Rattle.card_layout.specs.declared.files.Fid.{Fid}
-use Rattle.unit_model.specs.Image.{last_kept}
-use Rattle.unit_owed.specs.Owed.{rows_in}
-use Rattle.unit_owed.specs.Standing.{RowsGoOn, IsOwedStill, HasLostRow}
-use Rattle.device_rule.specs.Own.{own_bad_file, own_number, IsOwnValid}
+use Rattle.tach_media.specs.card_layout.declared.files.Fid.{Fid}
+use Rattle.unit_minutes.specs.unit_model.Image.{last_kept}
+use Rattle.unit_minutes.specs.unit_owed.Owed.{rows_in}
+use Rattle.unit_minutes.specs.unit_owed.Standing.{RowsGoOn, IsOwedStill, HasLostRow}
+use Rattle.safety_model.specs.device_rule.Own.{own_bad_file, own_number, IsOwnValid}
 
 -- the number of a card that is valid: one of which no file fails
 abbrev pub number_by : (bad : Option (Fid × ℕ)) → (number : List ℕ) → Option (List ℕ)

@@ -1,15 +1,15 @@
 -- What a run that begins finds of its unit, and how the unit stands between two calls (profile).
 use Rattle.std.specs.Prelude.{ℕ, Bool, true, false, Option, List}
 use Rattle.tach_media.specs.Medium.{State}
-use Rattle.unit_model.specs.Days.{ShownDay}
-use Rattle.unit_model.specs.Image.{recorded, last_kept}
-use Rattle.unit_owed.specs.Owed.{rows_in}
-use Rattle.unit_owed.specs.Standing.{IsOneOf, RowsGoOn, AreMended}
-use Rattle.history_model.specs.Book.{Book}
-use Rattle.device_rule.specs.Views.{UnitView, unit_view}
-use Rattle.device_rule.specs.Device.{Seen, seen}
-use Rattle.device_rule.specs.Filling.{FillsDays}
-use Rattle.device_rule.specs.Rules.{UnitHolds}
+use Rattle.unit_minutes.specs.unit_model.Days.{ShownDay}
+use Rattle.unit_minutes.specs.unit_model.Image.{recorded, last_kept}
+use Rattle.unit_minutes.specs.unit_owed.Owed.{rows_in}
+use Rattle.unit_minutes.specs.unit_owed.Standing.{IsOneOf, RowsGoOn, AreMended}
+use Rattle.run_unit_course.specs.history_model.Book.{Book}
+use Rattle.safety_model.specs.device_rule.Views.{UnitView, unit_view}
+use Rattle.safety_model.specs.device_rule.Device.{Seen, seen}
+use Rattle.safety_model.specs.device_rule.Filling.{FillsDays}
+use Rattle.safety_model.specs.device_rule.Rules.{UnitHolds}
 use Rattle.safety_model.specs.Unit.{issued_bytes}
 
 -- what the opening found: the recorded days, the last-kept minute, what the unit was issued with, the clock, the image,

@@ -1,13 +1,13 @@
 -- THE DAYS OF A UNIT AS THEY ARE WRITTEN, by the minutes since the start: the words of the start, and the new words of
 -- each minute, no others (profile).
 use Rattle.std.specs.Prelude.{◌≡◌, ◌⊎◌, ℕ, ◌-◌, ◌≤◌, List, [], ◌∷◌, ◌++◌, length, map}
-use Rattle.unit_model.specs.declared.layout.TheConstants.{DAY_SLOTS}
-use Rattle.unit_model.specs.Days.{StoredDay}
-use Rattle.unit_model.specs.Image.{last_kept}
+use Rattle.unit_minutes.specs.unit_model.declared.layout.TheConstants.{DAY_SLOTS}
+use Rattle.unit_minutes.specs.unit_model.Days.{StoredDay}
+use Rattle.unit_minutes.specs.unit_model.Image.{last_kept}
 use Rattle.unit_minutes.specs.Kept.{written_at}
 use Rattle.unit_minutes.specs.DaysWith.{days_with, written_days}
-use Rattle.history_model.specs.Minutes.{HistoryMinute}
-use Rattle.device_rule.specs.Filling.{seen_by_unit}
+use Rattle.run_unit_course.specs.history_model.Minutes.{HistoryMinute}
+use Rattle.safety_model.specs.device_rule.Filling.{seen_by_unit}
 
 -- a minute of the history, and the odometer value with which it was written
 pub record MinuteWritten : Type 0 where

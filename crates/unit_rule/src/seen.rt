@@ -1,20 +1,22 @@
 ghost use Rattle.std.specs.Prelude.{◌≡◌, ◌≢◌, ◌<◌, ◌≤◌, ℕ, List, [], Some, All, length};
-ghost use Rattle.activity_codec.specs.declared.entries.Entry.{Entry};
-ghost use Rattle.trace_model.specs.declared.Card.TheVariants.{A, B};
-ghost use Rattle.unit_model.specs.Image.{day_ring};
-ghost use Rattle.unit_model.specs.NewImage.{new_image};
-ghost use Rattle.gated_ring.specs.Ring.{PointsInside};
-ghost use Rattle.history_model.specs.Minutes.{HistoryMinute};
-ghost use Rattle.unit_owed.specs.Owed.{owed_to, row_view};
-ghost use Rattle.unit_owed.specs.Rows.{IsPutting as IsPuttingRow, OwedRowHas as IsPutRow, IsRowBeginning, IsRowBegun};
-ghost use Rattle.unit_owed.specs.Rows.{HasRow};
+ghost use Rattle.unit_minutes.specs.activity_codec.declared.entries.Entry.{Entry};
+ghost use Rattle.run_unit_course.specs.trace_model.declared.Card.TheVariants.{A, B};
+ghost use Rattle.unit_minutes.specs.unit_model.Image.{day_ring};
+ghost use Rattle.unit_minutes.specs.unit_model.NewImage.{new_image};
+ghost use Rattle.unit_minutes.specs.gated_ring.Ring.{PointsInside};
+ghost use Rattle.run_unit_course.specs.history_model.Minutes.{HistoryMinute};
+ghost use Rattle.unit_minutes.specs.unit_owed.Owed.{owed_to, row_view};
+ghost use Rattle.unit_minutes.specs.unit_owed.Rows.{IsPutting as IsPuttingRow, OwedRowHas as IsPutRow, IsRowBeginning};
+ghost use Rattle.unit_minutes.specs.unit_owed.Rows.{IsRowBegun};
+ghost use Rattle.unit_minutes.specs.unit_owed.Rows.{HasRow};
 ghost use Rattle.unit_minutes.specs.declared.notes.Notes.{Notes};
 ghost use Rattle.unit_minutes.specs.Image.{IsKeeping as IsKeepingImage, IsKept as IsKeptImage};
 ghost use Rattle.unit_minutes.specs.Mends.{IsMending as IsMendingImage, IsMended as IsMendedImage};
-ghost use Rattle.device_rule.specs.Views.{unit_view};
-ghost use Rattle.device_rule.specs.Steps.{IsKeeping, IsKept, IsPutting, UnitOwes, IsBeginning, IsBegun, IsMending};
-ghost use Rattle.device_rule.specs.Steps.{IsMended, cleared};
-ghost use Rattle.device_rule.specs.Filling.{seen_by_unit, KeepsMinute, GivesUpDay};
+ghost use Rattle.safety_model.specs.device_rule.Views.{unit_view};
+ghost use Rattle.safety_model.specs.device_rule.Steps.{IsKeeping, IsKept, IsPutting, UnitOwes, IsBeginning, IsBegun};
+ghost use Rattle.safety_model.specs.device_rule.Steps.{IsMending};
+ghost use Rattle.safety_model.specs.device_rule.Steps.{IsMended, cleared};
+ghost use Rattle.safety_model.specs.device_rule.Filling.{seen_by_unit, KeepsMinute, GivesUpDay};
 
 /// A moment of the keeping of a minute of the history is one of the rule's keeping: the minute kept, or not yet, with
 /// the oldest day given up for it or not. At its end it is kept.

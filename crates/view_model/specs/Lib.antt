@@ -1,1 +1,2 @@
 pub mod Lines
+pub use Rattle.activity_codec.specs as activity_codec

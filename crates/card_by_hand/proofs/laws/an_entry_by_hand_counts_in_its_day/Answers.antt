@@ -1,5 +1,5 @@
 use Rattle.std.proofs.Common.{inl, ◌<◌, suc, arith}
-use Rattle.card_image.specs.Fields.{end_mark}
+use Rattle.hand_model.specs.card_image.Fields.{end_mark}
 use Rattle.card_session.proofs.Marks.{mark_told}
 use Rattle.card_session.proofs.Stopping.{days_there}
 use Rattle.card_by_hand.proofs.Staying.{late_of}

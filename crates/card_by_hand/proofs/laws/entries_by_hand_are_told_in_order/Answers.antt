@@ -1,10 +1,10 @@
 use Rattle.std.proofs.Common.{◌≡◌, List, refl, sym, ◌∙◌, ap, subst}
-use Rattle.card_model.specs.Days.{Day, AreDays}
+use Rattle.card_session.specs.card_model.Days.{Day, AreDays}
 use Rattle.card_session.specs.Cards.{grown}
 use Rattle.card_session.specs.ByHand.{with_word_at}
 use Rattle.card_session.specs.Sessions.{book_of}
 use Rattle.card_session.proofs.Stopping.{book_days, days_there}
-use Rattle.card_image.specs.Fields.{card_days}
+use Rattle.hand_model.specs.card_image.Fields.{card_days}
 use Rattle.hand_model.specs.Manual.{manual_word}
 use Rattle.hand_model.specs.ByHand.{by_hand_in, by_hand_up_to}
 use Rattle.card_by_hand.specs.Listed.{AreLeft}

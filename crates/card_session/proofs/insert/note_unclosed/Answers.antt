@@ -2,7 +2,7 @@ use Rattle.std.proofs.Common.{ℕ, List, sym, subst, arith}
 use Rattle.tach_media.specs.Medium.{LiesInside}
 use Rattle.tach_media.proofs.Runs.{ok_gives, on_ok, from_reads, cause_after}
 use Rattle.card_layout.specs.Files.{place_of, size_of}
-use Rattle.card_image.specs.Fields.{file}
+use Rattle.card_validity.specs.card_image.Fields.{file}
 use Rattle.card_session.proofs.InsertingUse.{none_noted, noting, noted}
 use Rattle.card_session.proofs.insert.note_unclosed.Goals as goal
 

@@ -1,7 +1,7 @@
 use Rattle.std.proofs.Common.{◌≡◌, ◌∙◌, ℕ, max, true, false, ap, arith}
 use Rattle.std.specs.Prelude.{nat_eq}
 use Rattle.std.proofs.lemmas.Grind.{common_steps}
-use Rattle.card_image.specs.Fields.{card_days}
+use Rattle.card_validity.specs.card_image.Fields.{card_days}
 use Rattle.card_session.proofs.Stored.{stored_open, stored_closed}
 use Rattle.card_session.proofs.insert.stored.Goals as goal
 

@@ -1,5 +1,5 @@
 use Rattle.std.proofs.Common.{⊎_elim, arith}
-use Rattle.card_image.specs.Fields.{session_time}
+use Rattle.card_validity.specs.card_image.Fields.{session_time}
 use Rattle.card_session.proofs.Valid.{above_zero}
 use Rattle.card_session.proofs.Revalid.{again_valid}
 use Rattle.card_session.proofs.Unclosed.{none_valid}

@@ -1,5 +1,5 @@
 use Rattle.std.proofs.Common.{◌∙◌, ⊎_elim, ℕ, ap, arith}
-use Rattle.card_image.specs.Fields.{session_time, end_mark}
+use Rattle.card_validity.specs.card_image.Fields.{session_time, end_mark}
 use Rattle.card_session.specs.Inserting.{lacked}
 use Rattle.card_session.proofs.Valid.{above_zero}
 use Rattle.card_session.proofs.Repairing.{lacked_again, leaves_owed, closed_moments, unclosed_moments}

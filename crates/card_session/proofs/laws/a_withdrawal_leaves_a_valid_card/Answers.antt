@@ -1,5 +1,5 @@
 use Rattle.std.proofs.Common.{⊎_elim}
-use Rattle.card_image.specs.Fields.{session_time}
+use Rattle.card_validity.specs.card_image.Fields.{session_time}
 use Rattle.card_session.proofs.Stopping.{days_there}
 use Rattle.card_session.proofs.Valid.{above_zero, close_valid}
 use Rattle.card_session.proofs.Ended.{closed_ends}

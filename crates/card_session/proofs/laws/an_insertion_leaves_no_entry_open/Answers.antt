@@ -1,5 +1,5 @@
 use Rattle.std.proofs.Common.{⊎_elim, arith}
-use Rattle.card_image.specs.Fields.{session_time}
+use Rattle.card_validity.specs.card_image.Fields.{session_time}
 use Rattle.card_session.proofs.Valid.{above_zero}
 use Rattle.card_session.proofs.Renewing.{ends_shut, closed_shut}
 use Rattle.card_session.proofs.laws.an_insertion_leaves_no_entry_open.Goals as goal

@@ -1,6 +1,6 @@
 use Rattle.std.proofs.Common.{◌∙◌, ⊎_elim, ap, arith}
 use Rattle.card_layout.specs.declared.files.Application.{Application}
-use Rattle.card_image.specs.Fields.{session_time}
+use Rattle.card_validity.specs.card_image.Fields.{session_time}
 use Rattle.card_session.specs.Sessions.{newest_in, book_of}
 use Rattle.card_session.proofs.Valid.{above_zero}
 use Rattle.card_session.proofs.Renewing.{newest_first, newest_again, newest_end, ends_answered, closed_renews, closed_answered}

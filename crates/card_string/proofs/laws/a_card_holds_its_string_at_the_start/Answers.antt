@@ -1,6 +1,6 @@
-use Rattle.card_image.specs.Fields.{card_days, end_mark}
-use Rattle.card_image.specs.Own.{own_sizes}
-use Rattle.card_model.specs.Changes.{trimmed}
+use Rattle.card_by_hand.specs.card_image.Fields.{card_days, end_mark}
+use Rattle.card_by_hand.specs.card_image.Own.{own_sizes}
+use Rattle.card_by_hand.specs.card_model.Changes.{trimmed}
 use Rattle.card_string.proofs.Small.{card_small, trimmed_small, last_of_small}
 use Rattle.card_string.proofs.Start.{starts_open, starts_shut}
 use Rattle.card_string.proofs.laws.a_card_holds_its_string_at_the_start.Goals as goal

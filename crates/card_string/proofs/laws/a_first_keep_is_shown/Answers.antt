@@ -1,6 +1,6 @@
 use Rattle.std.proofs.Common.{◌≡◌, ⊎_elim, arith}
-use Rattle.card_session.proofs.Stopping.{asked_at}
-use Rattle.card_session.proofs.Marks.{mark_told}
+use Rattle.card_by_hand.proofs.card_session.Stopping.{asked_at}
+use Rattle.card_by_hand.proofs.card_session.Marks.{mark_told}
 use Rattle.card_string.proofs.FirstShown.{first_shown, first_of_keep, keep_of_first}
 use Rattle.card_string.proofs.OfCards.{kept_keeping_of}
 use Rattle.card_string.proofs.laws.a_first_keep_is_shown.Goals as goal

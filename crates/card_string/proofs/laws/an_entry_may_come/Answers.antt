@@ -1,6 +1,6 @@
 use Rattle.std.proofs.Common.{List, ◌⊎◌, ap, subst}
-use Rattle.activity_codec.specs.declared.entries.Entry.{Entry}
-use Rattle.card_session.specs.Overwriting.{BeginsBehind}
+use Rattle.card_by_hand.specs.activity_codec.declared.entries.Entry.{Entry}
+use Rattle.card_by_hand.specs.card_session.Overwriting.{BeginsBehind}
 use Rattle.card_string.specs.Carried.{IsFresh}
 use Rattle.card_string.specs.Since.{counted_since, all_since}
 use Rattle.card_string.proofs.Since.{may_come}

@@ -1,8 +1,8 @@
 use Rattle.std.proofs.Common.{◌∙◌, ⊎_elim, ℕ, ap, arith}
-use Rattle.card_image.specs.Fields.{session_time, end_mark}
-use Rattle.card_session.specs.Inserting.{lacked}
-use Rattle.card_session.proofs.Valid.{above_zero}
-use Rattle.card_session.proofs.Repairing.{lacked_again}
+use Rattle.card_by_hand.specs.card_image.Fields.{session_time, end_mark}
+use Rattle.card_by_hand.specs.card_session.Inserting.{lacked}
+use Rattle.card_by_hand.proofs.card_session.Valid.{above_zero}
+use Rattle.card_by_hand.proofs.card_session.Repairing.{lacked_again}
 use Rattle.card_string.proofs.Unclosed.{unclosed_shown}
 use Rattle.card_string.proofs.Inserted.{shows_moments, shows_all, closed_shown}
 use Rattle.card_string.proofs.laws.an_insertion_is_shown.Goals as goal

@@ -1,6 +1,6 @@
 use Rattle.std.proofs.Common.{◌≡◌, ◌∙◌, ◌/◌, ℕ, Some, None, sym, ap, subst}
 use Rattle.card_files.specs.declared.current_use.CurrentUse.{CurrentUse}
-use Rattle.card_model.specs.Image.{StringShape, oldest_pointer}
+use Rattle.card_image.specs.card_model.Image.{StringShape, oldest_pointer}
 use Rattle.card_image.specs.Fields.{last_use_of, end_mark, session_time, card_days}
 use Rattle.card_validity.specs.Walks.{IsInMemory}
 use Rattle.card_validity.proofs.Verdicts.{in_memory, words_told, words_decide}

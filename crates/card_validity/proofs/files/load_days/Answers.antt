@@ -1,6 +1,6 @@
 use Rattle.std.proofs.Common.{◌∙◌, sym, ap, length, arith}
-use Rattle.card_model.specs.Image.{StringShape}
-use Rattle.card_model.specs.Checks.{first_bad}
+use Rattle.card_image.specs.card_model.Image.{StringShape}
+use Rattle.card_image.specs.card_model.Checks.{first_bad}
 use Rattle.card_days.specs.Loading.{shape_of}
 use Rattle.card_validity.proofs.Places.{day_file, shape_is, knows_at}
 use Rattle.card_validity.proofs.files.load_days.Goals as goal

@@ -1,8 +1,8 @@
 use Rattle.std.proofs.Common.{◌≡◌, ◌<◌, ℕ, List, Option, IfSome, subst}
 use Rattle.std.specs.Prelude.{slice_get}
-use Rattle.card_model.specs.Days.{Day}
-use Rattle.card_model.specs.Image.{HoldsDays}
-use Rattle.card_model.specs.Walk.{days_of}
+use Rattle.card_image.specs.card_model.Days.{Day}
+use Rattle.card_image.specs.card_model.Image.{HoldsDays}
+use Rattle.card_image.specs.card_model.Walk.{days_of}
 use Rattle.card_days.specs.declared.head.DayHead.{DayHead}
 use Rattle.card_days.specs.Heads.{heads_of}
 use Rattle.card_validity.proofs.Slices.{never_fails, ok_told}

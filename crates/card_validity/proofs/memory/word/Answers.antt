@@ -1,7 +1,7 @@
 use Rattle.std.proofs.Common.{◌≡◌, ◌<◌, ℕ, List, length, subst}
 use Rattle.std.specs.Prelude.{slice_index}
-use Rattle.card_model.specs.Days.{Day}
-use Rattle.card_model.specs.Image.{IsAt}
+use Rattle.card_image.specs.card_model.Days.{Day}
+use Rattle.card_image.specs.card_model.Image.{IsAt}
 use Rattle.card_validity.proofs.Slices.{never_fails, ok_told}
 use Rattle.card_validity.proofs.memory.word.Goals as goal
 

@@ -1,6 +1,6 @@
 use Rattle.std.proofs.Common.{◌≡◌, ◌<◌, ◌+◌, ℕ, List, ◌++◌, length, get_or, take, sym, subst, arith, rules}
 use Rattle.std.proofs.lemmas.List.{append-nil, take_all}
-use Rattle.card_model.specs.Image.{oldest_pointer}
+use Rattle.card_image.specs.card_model.Image.{oldest_pointer}
 use Rattle.card_image.specs.Judging.{PlacedWord, words_placed}
 use Rattle.card_validity.specs.Words.{IsBehind}
 use Rattle.card_validity.proofs.Behinds.{words_more}

@@ -1,6 +1,6 @@
 use Rattle.std.proofs.Common.{◌+◌, List, ◌++◌, take}
-use Rattle.card_model.specs.Days.{Day}
-use Rattle.card_model.specs.Image.{oldest_pointer}
+use Rattle.card_image.specs.card_model.Days.{Day}
+use Rattle.card_image.specs.card_model.Image.{oldest_pointer}
 use Rattle.card_image.specs.Judging.{PlacedWord, words_placed}
 use Rattle.card_validity.specs.Walks.{IsMet}
 use Rattle.card_validity.specs.Words.{IsBehind}

@@ -1,5 +1,5 @@
 use Rattle.std.proofs.Common.{◌≡◌, ◌+◌, ◌-◌, false, None, [], ◌∷◌, ◌++◌, refl, sym, subst, arith, rules}
-use Rattle.card_model.specs.Walk.{days_of}
+use Rattle.card_image.specs.card_model.Walk.{days_of}
 use Rattle.card_validity.specs.declared.behind.Behind.{Behind}
 use Rattle.card_validity.specs.declared.walk.Met.{Met}
 use Rattle.card_validity.specs.Words.{HasMet}

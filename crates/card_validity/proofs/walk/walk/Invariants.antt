@@ -1,7 +1,7 @@
 use Rattle.std.proofs.Common.{◌≡◌, ◌<◌, ◌-◌, List, ◌++◌}
 use Rattle.std.specs.Prelude.{slice_get, IfSome}
-use Rattle.card_model.specs.Days.{Day, total}
-use Rattle.card_model.specs.Walk.{days_of}
+use Rattle.card_image.specs.card_model.Days.{Day, total}
+use Rattle.card_image.specs.card_model.Walk.{days_of}
 use Rattle.card_days.specs.Heads.{heads_from}
 use Rattle.card_validity.specs.Words.{HasMet}
 use Rattle.card_validity.proofs.walk.walk.Given as goal

@@ -1,10 +1,10 @@
 use Rattle.std.proofs.Common.{◌≡◌, ◌∙◌, ℕ, true, false, Option, sym, ap, arith}
 use Rattle.std.specs.Prelude.{nat_eq}
 use Rattle.std.proofs.lemmas.Grind.{common_steps}
-use Rattle.card_model.specs.Image.{oldest_pointer}
-use Rattle.card_model.specs.Walk.{days_of}
-use Rattle.card_model.specs.Changes.{trimmed}
-use Rattle.card_model.specs.Checks.{first_failing}
+use Rattle.card_image.specs.card_model.Image.{oldest_pointer}
+use Rattle.card_image.specs.card_model.Walk.{days_of}
+use Rattle.card_image.specs.card_model.Changes.{trimmed}
+use Rattle.card_image.specs.card_model.Checks.{first_failing}
 use Rattle.card_image.specs.Judging.{newest_rises, words_behind_mark, days_placed}
 use Rattle.card_validity.specs.Words.{first_of}
 use Rattle.card_validity.proofs.Behinds.{behind_answer}

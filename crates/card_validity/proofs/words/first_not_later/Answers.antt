@@ -1,6 +1,6 @@
 use Rattle.std.proofs.Common.{◌≡◌, ◌<◌, ◌≤◌, ◌+◌, ◌*◌, ◌%◌, ℕ, true, false, Some, None, length, get_or, sym, ◌∙◌, ap, arith}
-use Rattle.card_model.specs.Image.{oldest_pointer}
-use Rattle.card_model.specs.Checks.{file_place}
+use Rattle.card_image.specs.card_model.Image.{oldest_pointer}
+use Rattle.card_image.specs.card_model.Checks.{file_place}
 use Rattle.card_validity.specs.Words.{passes_after}
 use Rattle.card_validity.proofs.Rising.{rising_after, rising_is, rising_goes, rising_fails, rising_past, rising_done}
 use Rattle.card_validity.proofs.words.first_not_later.Goals as goal

@@ -1,6 +1,6 @@
 use Rattle.std.proofs.Common.{◌≡◌, ◌+◌, ◌*◌, None, List, drop}
-use Rattle.card_model.specs.Days.{Day}
-use Rattle.card_model.specs.Image.{oldest_pointer}
+use Rattle.card_image.specs.card_model.Days.{Day}
+use Rattle.card_image.specs.card_model.Image.{oldest_pointer}
 use Rattle.card_validity.specs.Walks.{IsMet}
 use Rattle.card_validity.proofs.Rising.{rising_after}
 use Rattle.card_validity.proofs.words.first_not_later.Given as goal

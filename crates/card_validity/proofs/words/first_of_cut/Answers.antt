@@ -1,8 +1,8 @@
 use Rattle.std.proofs.Common.{◌≡◌, ◌∙◌, ◌+◌, ℕ, [], Option, sym, ap, subst}
-use Rattle.card_model.specs.Image.{oldest_pointer}
-use Rattle.card_model.specs.Walk.{days_of}
-use Rattle.card_model.specs.Changes.{date_of, until, early}
-use Rattle.card_model.specs.Checks.{first_failing}
+use Rattle.card_image.specs.card_model.Image.{oldest_pointer}
+use Rattle.card_image.specs.card_model.Walk.{days_of}
+use Rattle.card_image.specs.card_model.Changes.{date_of, until, early}
+use Rattle.card_image.specs.card_model.Checks.{first_failing}
 use Rattle.card_image.specs.Judging.{words_placed, rising_checks}
 use Rattle.card_validity.specs.declared.walk.Met.{Met}
 use Rattle.card_validity.specs.Walks.{IsLastOf, IsLastMet}

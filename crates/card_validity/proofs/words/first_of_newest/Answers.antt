@@ -1,8 +1,8 @@
 use Rattle.std.proofs.Common.{◌≡◌, ◌∙◌, List, [], Option, sym, ap, subst}
-use Rattle.card_model.specs.Days.{Day}
-use Rattle.card_model.specs.Image.{oldest_pointer}
-use Rattle.card_model.specs.Walk.{days_of}
-use Rattle.card_model.specs.Checks.{first_failing}
+use Rattle.card_image.specs.card_model.Days.{Day}
+use Rattle.card_image.specs.card_model.Image.{oldest_pointer}
+use Rattle.card_image.specs.card_model.Walk.{days_of}
+use Rattle.card_image.specs.card_model.Checks.{first_failing}
 use Rattle.card_image.specs.Judging.{newest_rises}
 use Rattle.card_validity.specs.declared.walk.Met.{Met}
 use Rattle.card_validity.specs.Walks.{IsLastOf, IsLastMet}

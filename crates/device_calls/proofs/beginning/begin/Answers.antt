@@ -1,7 +1,7 @@
 use Rattle.std.proofs.Common.{◌≡◌, ℕ, List, length, option_map, refl, arith}
 use Rattle.tacho_types.specs.CardNumber.{card_number_bytes}
 use Rattle.tach_media.proofs.Runs.{ok_gives}
-use Rattle.unit_owed.specs.Rows.{row_pieces}
+use Rattle.unit_minutes.specs.unit_owed.Rows.{row_pieces}
 use Rattle.device_calls.proofs.EntryOwed.{worked}
 use Rattle.device_calls.proofs.RowBegun.{begun-holds, row-spared, begins, taken-other}
 use Rattle.device_calls.proofs.RowAlone.{ends-alone, taken-alone}

@@ -6,8 +6,8 @@ use Rattle.std.specs.Prelude.{OnOk, IfSome, Result}
 use Rattle.tach_media.specs.Medium.{State, LeavesOnly, LiesInside, IsSettled, last_count, lent}
 use Rattle.tach_media.proofs.Runs.{at_image, ok_gives, on_ok}
 use Rattle.card_commands.specs.Ports.{port_state, writable_of}
-use Rattle.card_image.specs.Fields.{file}
-use Rattle.gated_ring.specs.Ring.{PointsInside}
+use Rattle.card_validity.specs.card_image.Fields.{file}
+use Rattle.card_session.specs.gated_ring.Ring.{PointsInside}
 use Rattle.card_files.specs.Rings.{place_ring}
 use Rattle.card_files.specs.Noting.{IsNotingPlace}
 use Rattle.card_session.specs.Sessions.{MayKeep}

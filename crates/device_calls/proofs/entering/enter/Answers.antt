@@ -1,7 +1,7 @@
 use Rattle.std.proofs.lemmas.Grind.{common_steps}
 use Rattle.std.proofs.Common.{rules, ◌≡◌, subst, arith}
 use Rattle.card_layout.proofs.Sizes.{largest_image}
-use Rattle.device_rule.specs.Views.{other}
+use Rattle.unit_rule.specs.device_rule.Views.{other}
 use Rattle.unit_rule.proofs.Marking.{holds-read}
 use Rattle.device_calls.specs.OnCard.{Anything}
 use Rattle.device_calls.proofs.Enters.{unit-read, unit-still, agrees-still, entering-rule, entered-answer}

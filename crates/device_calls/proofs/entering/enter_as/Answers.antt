@@ -2,7 +2,7 @@ use Rattle.std.proofs.lemmas.Grind.{common_steps}
 use Rattle.std.proofs.Common.{◌≡◌, ℕ, List, Option, IfSome, inl, option_map, subst, rules, arith}
 use Rattle.tacho_types.specs.CardNumber.{card_number_bytes}
 use Rattle.tacho_types.specs.declared.card_number.FullCardNumber.{FullCardNumber}
-use Rattle.unit_owed.specs.Rows.{IsRowFor}
+use Rattle.unit_minutes.specs.unit_owed.Rows.{IsRowFor}
 use Rattle.device_calls.proofs.PutIn.{owed_fit, enters_inserted, enters_cut, row-entered, row-low}
 use Rattle.tach_media.specs.Medium.{Unchanged}
 use Rattle.tach_media.proofs.Runs.{starts}

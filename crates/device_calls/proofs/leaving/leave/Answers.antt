@@ -4,7 +4,7 @@ use Rattle.activity_codec.specs.Activity.{activity_of}
 use Rattle.card_layout.specs.Application.{IsApplication}
 use Rattle.card_layout.specs.Files.{image_size_of}
 use Rattle.card_layout.proofs.Sizes.{largest_image}
-use Rattle.card_image.specs.Own.{own_sizes}
+use Rattle.card_validity.specs.card_image.Own.{own_sizes}
 use Rattle.card_layout.specs.declared.files.Application.{Application}
 use Rattle.tach_media.specs.Medium.{lent}
 use Rattle.card_commands.specs.Ports.{port_state}

@@ -5,8 +5,8 @@ use Rattle.tach_media.specs.Medium.{State, LeavesOnly, lent}
 use Rattle.card_commands.specs.Ports.{port_state}
 use Rattle.card_by_hand.specs.First.{IsFirstKeeping}
 use Rattle.card_session.specs.Sessions.{MayKeep, IsSession}
-use Rattle.card_string.specs.Shows.{IsFirstShown}
-use Rattle.device_rule.specs.Rules.{In}
+use Rattle.unit_rule.specs.card_string.Shows.{IsFirstShown}
+use Rattle.unit_rule.specs.device_rule.Rules.{In}
 use Rattle.device_calls.specs.OnCard.{CardMayTake, hands_for}
 use Rattle.device_calls.specs.Rule.{CardHolds}
 use Rattle.device_calls.proofs.Ported.{may_keep_port, port_same, port_leaves, port_on}

@@ -5,9 +5,9 @@ use Rattle.tach_media.proofs.Runs.{on_ok}
 use Rattle.tacho_types.specs.CardNumber.{card_number_bytes}
 use Rattle.unit_minutes.specs.declared.notes.Notes.{Notes}
 use Rattle.unit_minutes.specs.Image.{Agrees}
-use Rattle.history_model.specs.Book.{kept}
+use Rattle.unit_rule.specs.history_model.Book.{kept}
 use Rattle.card_session.proofs.Composing.{called_then}
-use Rattle.device_rule.specs.Views.{other}
+use Rattle.unit_rule.specs.device_rule.Views.{other}
 use Rattle.unit_rule.specs.Rule.{once_mended}
 use Rattle.unit_rule.proofs.Marking.{holds-dark}
 use Rattle.device_calls.specs.Rule.{opened, CardHolds}

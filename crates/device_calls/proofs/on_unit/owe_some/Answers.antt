@@ -3,10 +3,10 @@ use Rattle.std.proofs.Common.{◌<◌, ◌≤◌, inl, inr, false, [], Option, I
 use Rattle.std.specs.Prelude.{option_to_list}
 use Rattle.activity_codec.specs.declared.entries.Entry.{Entry}
 use Rattle.tacho_types.specs.CardNumber.{card_number_bytes}
-use Rattle.unit_owed.specs.Rows.{IsRowAt}
+use Rattle.unit_minutes.specs.unit_owed.Rows.{IsRowAt}
 use Rattle.card_session.proofs.Composing.{idle}
-use Rattle.device_rule.specs.Rules.{IsPresent}
-use Rattle.device_rule.specs.Views.{other}
+use Rattle.unit_rule.specs.device_rule.Rules.{IsPresent}
+use Rattle.unit_rule.specs.device_rule.Views.{other}
 use Rattle.device_calls.specs.Rule.{opened, IsKeptUp}
 use Rattle.device_calls.proofs.MinuteSaid.{held_up}
 use Rattle.device_calls.proofs.on_unit.owe_some.Goals as goal

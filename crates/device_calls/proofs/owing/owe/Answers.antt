@@ -1,7 +1,7 @@
 use Rattle.std.proofs.Common.{◌≡◌, ℕ, length, refl, arith}
 use Rattle.tach_media.proofs.Runs.{ok_gives}
 use Rattle.tacho_types.specs.CardNumber.{card_number_bytes}
-use Rattle.unit_owed.specs.Rows.{cell_pieces, entry_word}
+use Rattle.unit_minutes.specs.unit_owed.Rows.{cell_pieces, entry_word}
 use Rattle.device_calls.proofs.EntryOwed.{owed-holds, puts, owed-mine, owed-other, put, worked, row-there, row-still}
 use Rattle.device_calls.proofs.Travel.{put-travelled}
 use Rattle.device_calls.proofs.Enters.{unit-still}

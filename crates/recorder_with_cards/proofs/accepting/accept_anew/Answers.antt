@@ -2,22 +2,22 @@ use Rattle.std.proofs.lemmas.Grind.{common_steps}
 use Rattle.std.proofs.Common.{rules, ◌≡◌, ◌∙◌, ℕ, false, Option, Some, None, sym, subst, arith, ◌*◌, ◌+◌, length, ◌≤◌, refl}
 use Rattle.std.specs.Prelude.{is_err}
 use Rattle.trace_model.specs.declared.Card.{Card}
-use Rattle.safety_model.specs.Safe.{Devices}
-use Rattle.run_promise.specs.Between.{devices}
-use Rattle.card_slots.specs.Calls.{seat_in, card_in}
+use Rattle.device_calls.specs.safety_model.Safe.{Devices}
+use Rattle.run_minutes.specs.run_promise.Between.{devices}
+use Rattle.run_minutes.specs.card_slots.Calls.{seat_in, card_in}
 use Rattle.run_acts.specs.Room.{Takes, bare_count}
 use Rattle.recorder_with_cards.specs.Judged.{JudgesAnew, EventsAnew}
 use Rattle.recorder_with_cards.specs.Noting.{NotesAnew}
 use Rattle.recorder_with_cards.proofs.Judged.{none-noting}
 use Rattle.recorder_with_cards.proofs.Goes.{bare-one}
-use Rattle.run_rings.proofs.Same.{rings-left}
+use Rattle.run_acts.proofs.run_rings.Same.{rings-left}
 use Rattle.recorder_with_cards.specs.EnteredRings.{RingsAnew}
 use Rattle.recorder_with_cards.specs.JudgedRings.{RingsJudgedAnew}
 use Rattle.run_minutes.proofs.Later.{later-same}
 use Rattle.recorder_with_cards.specs.JudgedCards.{CardsAnew}
 use Rattle.run_minutes.proofs.Calm.{calm-same}
 use Rattle.run_outcome.specs.declared.outcome.TheConstants.{MOST_OWED}
-use Rattle.card_slots.specs.declared.seats.Seat.{Seat}
+use Rattle.run_minutes.specs.card_slots.declared.seats.Seat.{Seat}
 use Rattle.recorder_with_cards.specs.Accepting.{IsAnew}
 use Rattle.tach_media.proofs.Runs.{no_reads}
 use Rattle.recorder_with_cards.proofs.accepting.accept_anew.Given.{Over}

@@ -2,18 +2,18 @@ use Rattle.std.proofs.lemmas.Grind.{common_steps}
 use Rattle.std.proofs.Common.{rules, ◌≡◌, ◌∙◌, ⊎_elim, ℕ, ◌+◌, ◌/◌, ◌^◌, ◌<◌, ◌≤◌, Bool, true, Option, Some, None, IfSome, is_some, List, [], ◌∷◌, ◌++◌, Contains, length, refl, ap, sym, subst, arith, length-append, false}
 use Rattle.tach_media.proofs.Runs.{on_ok, ok_gives}
 use Rattle.trace_model.specs.declared.Card.{Card}
-use Rattle.device_rule.specs.Views.{other}
-use Rattle.minute_model.specs.Span.{ungiven_of}
-use Rattle.card_slots.specs.Calls.{present_in, is_card, seat_in}
-use Rattle.card_slots.specs.declared.seats.Ended.{Ended}
-use Rattle.run_crew.specs.declared.cards.Known.{Known}
-use Rattle.run_crew.specs.declared.cards.Accepted.{Accepted}
-use Rattle.run_crew.specs.Cards.{known_of, session_of}
+use Rattle.device_calls.specs.device_rule.Views.{other}
+use Rattle.minute_rules.specs.minute_model.Span.{ungiven_of}
+use Rattle.run_minutes.specs.card_slots.Calls.{present_in, is_card, seat_in}
+use Rattle.run_minutes.specs.card_slots.declared.seats.Ended.{Ended}
+use Rattle.run_acts.specs.run_crew.declared.cards.Known.{Known}
+use Rattle.run_acts.specs.run_crew.declared.cards.Accepted.{Accepted}
+use Rattle.run_acts.specs.run_crew.Cards.{known_of, session_of}
 use Rattle.run_minutes.specs.declared.keeper.Keeper.{Keeper}
 use Rattle.run_minutes.specs.Keeping.{CardMayBeCalled, HasItsRow, HaveRows}
 use Rattle.run_minutes.proofs.Units.{unit-stays}
 use Rattle.run_outcome.specs.declared.outcome.Outcome.{Outcome}
-use Rattle.run_events.proofs.Newest.{knows-left}
+use Rattle.run_acts.proofs.run_events.Newest.{knows-left}
 use Rattle.run_insertion.specs.Entering.{ending_of, measured, breaks_by, finds_by, Way}
 use Rattle.run_acts.specs.Going.{CardAt}
 use Rattle.run_acts.proofs.Kept.{owing-sum}
@@ -24,7 +24,7 @@ use Rattle.std.specs.Prelude.{is_err}
 use Rattle.tach_media.specs.Medium.{State}
 use Rattle.log_model.specs.Log.{In}
 use Rattle.run_acts.specs.Recording.{log_of, values_of}
-use Rattle.run_devices.specs.Told.{arranged}
+use Rattle.run_minutes.specs.run_devices.Told.{arranged}
 use Rattle.run_acts.specs.Entered.{MayJudge, HasGone, AreSound}
 use Rattle.run_acts.proofs.EnteredWhole.{entered-recorded, found-in}
 use Rattle.run_acts.specs.declared.run.Run.{Run}
@@ -37,10 +37,10 @@ use Rattle.recorder_with_cards.proofs.EnteredSpeeds.{entered-leaves}
 use Rattle.recorder_with_cards.proofs.EnteredRings.{accept-writes}
 use Rattle.recorder_with_cards.proofs.EnteredRinged.{judged-ringed}
 use Rattle.run_acts.proofs.EnteredFacts.{known, unit-told, mine-back}
-use Rattle.run_promise.specs.Found.{found_of}
+use Rattle.run_minutes.specs.run_promise.Found.{found_of}
 use Rattle.recorder_with_cards.proofs.EnteredBefore.{way-tells}
-use Rattle.unit_model.specs.Image.{odometer_at}
-use Rattle.run_promise.specs.Origin.{rule_of, Origin}
+use Rattle.unit_minutes.specs.unit_model.Image.{odometer_at}
+use Rattle.run_minutes.specs.run_promise.Origin.{rule_of, Origin}
 use Rattle.run_acts.specs.Closings.{notes_within}
 use Rattle.run_acts.specs.Truths.{past_of, IsOdometerBefore, truths_within, marked}
 use Rattle.run_acts.proofs.WholeLegs.{accepted-now}
@@ -53,7 +53,7 @@ use Rattle.run_acts.proofs.AllStay.{all-true}
 use Rattle.run_acts.proofs.Truths.{grow-self, marked-grow}
 use Rattle.run_insertion.proofs.CardBrought.{sits-works}
 use Rattle.recorder_with_cards.proofs.EnteredCards.{judged-cards}
-use Rattle.card_image.specs.Own.{IsOwnValid}
+use Rattle.device_calls.specs.card_image.Own.{IsOwnValid}
 use Rattle.run_acts.proofs.EnteredNewest.{was-valid}
 use Rattle.run_acts.proofs.OwedNow.{owed-told}
 use Rattle.run_minutes.specs.Books.{HaveTime}
@@ -62,10 +62,10 @@ use Rattle.recorder_with_cards.specs.Judged.{RunNext, moment_in}
 use Rattle.trace_model.specs.Trace.{TraceSecond}
 use Rattle.log_model.specs.Course.{Visit}
 use Rattle.log_model.specs.Slots.{other_slot}
-use Rattle.run_speeds.specs.Speeds.{LeavesSpeeds}
+use Rattle.run_acts.specs.run_speeds.Speeds.{LeavesSpeeds}
 use Rattle.recorder_with_cards.proofs.accepting.accept_here.Given.{Over}
 use Rattle.recorder_with_cards.proofs.accepting.accept_here.Goals.{After-len-most}
-use Rattle.card_model.specs.declared.lengths.TheConstants.{DAYS_MOST}
+use Rattle.device_calls.specs.card_model.declared.lengths.TheConstants.{DAYS_MOST}
 use Rattle.recorder_with_cards.proofs.accepting.accept_here.Goals as goal
 
 -- ---- WHAT THE CALL LEAVES

@@ -2,9 +2,9 @@ use Rattle.std.proofs.lemmas.Grind.{common_steps}
 use Rattle.std.proofs.Common.{◌∙◌, ℕ, sym, subst, refl, arith, rules}
 use Rattle.std.specs.Prelude.{is_err}
 use Rattle.trace_model.specs.declared.Card.{Card}
-use Rattle.safety_model.specs.Safe.{Devices}
-use Rattle.run_promise.specs.Between.{devices}
-use Rattle.run_note_record.specs.OnCards.{IsReading}
+use Rattle.device_calls.specs.safety_model.Safe.{Devices}
+use Rattle.run_minutes.specs.run_promise.Between.{devices}
+use Rattle.run_acts.specs.run_note_record.OnCards.{IsReading}
 use Rattle.recorder_with_cards.specs.Judged.{JudgesSo, EventsJudged}
 use Rattle.recorder_with_cards.specs.JudgedRings.{RingsJudged}
 use Rattle.run_minutes.proofs.Later.{state-by, later-of-a, later-of-b}

@@ -1,7 +1,7 @@
 use Rattle.std.proofs.Common.{◌≡◌, ◌∙◌, ℕ, ◌+◌, ◌-◌, ◌<◌, ◌≤◌, true, false, List, length, drop, refl, ap, sym, subst, arith, length-drop}
 use Rattle.trace_model.specs.declared.Action.{Action}
-use Rattle.safety_model.specs.Safe.{Devices}
-use Rattle.run_promise.specs.Between.{devices}
+use Rattle.device_calls.specs.safety_model.Safe.{Devices}
+use Rattle.run_minutes.specs.run_promise.Between.{devices}
 use Rattle.run_acts.specs.Going.{largest_number}
 use Rattle.run_acts.specs.RunRinged.{InSecondRinged}
 use Rattle.recorder_with_cards.specs.Recorded.{action_of, actions_in, RingsActions, ActsBy, Inside}

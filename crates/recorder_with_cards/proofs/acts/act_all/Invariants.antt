@@ -1,5 +1,5 @@
 use Rattle.std.proofs.Common.{◌≡◌, ℕ, ◌+◌, ◌-◌, ◌≤◌, true, false, length}
-use Rattle.run_promise.specs.Between.{devices}
+use Rattle.run_minutes.specs.run_promise.Between.{devices}
 use Rattle.run_minutes.specs.Later.{AreLater, AreCalm}
 use Rattle.run_acts.specs.Going.{largest_number, IsInsideSecond}
 use Rattle.recorder_with_cards.specs.Recorded.{actions_in, RingsActions}

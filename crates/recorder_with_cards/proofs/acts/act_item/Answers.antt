@@ -5,8 +5,8 @@ use Rattle.trace_model.specs.declared.Action.{Action}
 use Rattle.trace_model.specs.declared.Item.{Item}
 use Rattle.run_acts.specs.Power.{is_lit}
 use Rattle.recorder_with_cards.specs.Acting.{IsItemActed}
-use Rattle.run_promise.specs.Between.{devices}
-use Rattle.safety_model.specs.Safe.{Devices}
+use Rattle.run_minutes.specs.run_promise.Between.{devices}
+use Rattle.device_calls.specs.safety_model.Safe.{Devices}
 use Rattle.recorder_with_cards.specs.Recorded.{action_of, RingsActions}
 use Rattle.run_acts.specs.RunRinged.{InSecondRinged}
 use Rattle.recorder_with_cards.proofs.ActsRecorded.{no-action}

@@ -8,12 +8,12 @@ use Rattle.log_model.specs.declared.lines.Break.{Break}
 use Rattle.log_model.specs.declared.lines.Refused.{Refused}
 use Rattle.log_model.specs.declared.lines.SlotFault.{SlotFault}
 use Rattle.log_model.specs.Slots.{refusal}
-use Rattle.card_slots.specs.Calls.{logged}
+use Rattle.run_minutes.specs.card_slots.Calls.{logged}
 use Rattle.run_outcome.specs.declared.outcome.Outcome.{Outcome}
 use Rattle.run_outcome.specs.Lines.{Listed, cut_at}
 use Rattle.run_minutes.proofs.Counts.{lines-length}
-use Rattle.run_promise.specs.Between.{devices}
-use Rattle.safety_model.specs.Safe.{Devices}
+use Rattle.run_minutes.specs.run_promise.Between.{devices}
+use Rattle.device_calls.specs.safety_model.Safe.{Devices}
 use Rattle.run_acts.specs.declared.run.Run.{Run}
 use Rattle.run_acts.specs.Power.{is_lit, cut_run}
 use Rattle.run_acts.specs.Recording.{GoesOnOrFails, log_of, IsNow, RunFails, RunWithin}
@@ -25,7 +25,7 @@ use Rattle.recorder_with_cards.specs.Acting.{put_count, moment_of, IsDone, IsAct
 use Rattle.recorder_with_cards.proofs.ActsRecorded.{cut, left, refused}
 use Rattle.recorder_with_cards.proofs.Allowed.{fine-selected, refused-selected}
 use Rattle.recorder_with_cards.proofs.Rooms.{few-wait, room-cut}
-use Rattle.run_note_record.specs.Noting.{Acting}
+use Rattle.run_acts.specs.run_note_record.Noting.{Acting}
 use Rattle.run_acts.specs.Evented.{EventsGoOn, WithinEvented}
 use Rattle.run_acts.specs.RunRinged.{WithinRinged, RingsGoOn, with_cut, InSecondRinged, RingsCut}
 use Rattle.recorder_with_cards.proofs.ActsEvented.{evented-cuts}
@@ -37,7 +37,7 @@ use Rattle.run_minutes.proofs.Later.{later-same}
 use Rattle.run_outcome.proofs.Broken.{broke-none}
 use Rattle.run_acts.proofs.Uncut.{uncut-broke, cut-broke}
 use Rattle.recorder_with_cards.proofs.Uncut.{done-uncut}
-use Rattle.run_course.specs.Moments.{and_break}
+use Rattle.run_acts.specs.run_course.Moments.{and_break}
 use Rattle.run_acts.specs.RunCards.{CardsBehind, CardsIn, CardsGoOn}
 use Rattle.run_acts.specs.ByHand.{stopped_in}
 use Rattle.recorder_with_cards.proofs.HereDone.{TellsMoreOf, done-of}
@@ -46,7 +46,7 @@ use Rattle.recorder_with_cards.proofs.ActsCards.{refused-cards, cards-on, cards-
 use Rattle.run_minutes.proofs.Calm.{calm-more, calm-same}
 use Rattle.run_minutes.specs.Books.{HaveTime}
 use Rattle.recorder_with_cards.specs.Carded.{InSecondCarded, WithinCarded}
-use Rattle.run_promise.specs.Origin.{Origin}
+use Rattle.run_minutes.specs.run_promise.Origin.{Origin}
 use Rattle.trace_model.specs.Trace.{TraceSecond}
 use Rattle.std.proofs.lemmas.List.{append-nil}
 use Rattle.recorder_with_cards.proofs.acts.act_lit.Given.{Over}

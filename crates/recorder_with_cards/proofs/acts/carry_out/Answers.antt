@@ -5,8 +5,8 @@ use Rattle.trace_model.specs.declared.Action.{Action}
 use Rattle.trace_model.specs.declared.Action.TheVariants.{Insert, Withdraw, Tear, Place, Manual}
 use Rattle.log_model.specs.Slots.{refusal}
 use Rattle.log_model.specs.declared.lines.Break.{Break}
-use Rattle.card_slots.specs.Calls.{logged, seat_in, card_in}
-use Rattle.run_crew.specs.Cabin.{CabinIsSound}
+use Rattle.run_minutes.specs.card_slots.Calls.{logged, seat_in, card_in}
+use Rattle.run_acts.specs.run_crew.Cabin.{CabinIsSound}
 use Rattle.run_outcome.specs.Lines.{Listed}
 use Rattle.run_outcome.specs.declared.outcome.Outcome.{Outcome}
 use Rattle.run_minutes.specs.declared.keeper.Moment.{Moment}
@@ -21,8 +21,8 @@ use Rattle.recorder_with_cards.proofs.Rooms.{few-wait, put-room}
 use Rattle.run_acts.proofs.Pulled.{pulled-recorded}
 use Rattle.run_acts.specs.Recording.{RunGoesOn, RecordsAction}
 use Rattle.run_minutes.specs.Keeping.{with_lines}
-use Rattle.run_promise.specs.Between.{devices}
-use Rattle.safety_model.specs.Safe.{Devices}
+use Rattle.run_minutes.specs.run_promise.Between.{devices}
+use Rattle.device_calls.specs.safety_model.Safe.{Devices}
 use Rattle.log_model.specs.Log.{In}
 use Rattle.log_model.specs.ByHand.{minute_on}
 use Rattle.recorder_with_cards.proofs.Allowed.{insert-elsewhere}
@@ -34,7 +34,7 @@ use Rattle.recorder_with_cards.proofs.ActsEvented.{pulled-evented}
 use Rattle.run_acts.specs.RunRinged.{RingsAction}
 use Rattle.recorder_with_cards.proofs.ActsRinged.{selected-ringed, hand-ringed, pulled-ringed}
 use Rattle.run_minutes.proofs.Later.{later-same}
-use Rattle.run_rings.proofs.Same.{rings-left}
+use Rattle.run_acts.proofs.run_rings.Same.{rings-left}
 use Rattle.recorder_with_cards.specs.EnteredRings.{IsPlaceNow, RingsDone}
 use Rattle.run_acts.proofs.NotedEvents.{same-noted}
 use Rattle.recorder_with_cards.specs.Noting.{NotesDone}

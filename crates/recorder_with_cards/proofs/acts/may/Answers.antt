@@ -3,7 +3,7 @@ use Rattle.trace_model.specs.declared.Action.{Action}
 use Rattle.trace_model.specs.declared.Action.TheVariants.{Insert, Tear, Place, Withdraw, Manual}
 use Rattle.log_model.specs.declared.lines.SlotFault.{SlotFault}
 use Rattle.log_model.specs.Slots.{refusal}
-use Rattle.card_slots.specs.Calls.{logged}
+use Rattle.run_minutes.specs.card_slots.Calls.{logged}
 use Rattle.run_acts.specs.declared.run.Run.{Run}
 use Rattle.run_acts.specs.ByHand.{or_else, stop_of, stopped_in}
 use Rattle.recorder_with_cards.proofs.SlotLines.{slots-alone}

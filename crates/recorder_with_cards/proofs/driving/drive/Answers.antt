@@ -2,8 +2,8 @@ use Rattle.std.proofs.Common.{rules, ◌≡◌, ◌∙◌, ℕ, ◌+◌, ◌-◌
 use Rattle.std.proofs.lemmas.List.{append-nil}
 use Rattle.trace_model.specs.declared.Action.{Action}
 use Rattle.trace_model.specs.Trace.{TraceSecond, driven}
-use Rattle.safety_model.specs.Safe.{Devices}
-use Rattle.run_promise.specs.Between.{devices}
+use Rattle.device_calls.specs.safety_model.Safe.{Devices}
+use Rattle.run_minutes.specs.run_promise.Between.{devices}
 use Rattle.run_outcome.specs.declared.outcome.Outcome.{Outcome}
 use Rattle.run_acts.specs.Recording.{IsNow}
 use Rattle.std.proofs.lemmas.Grind.{common_steps}
@@ -26,13 +26,13 @@ use Rattle.run_minutes.proofs.Later.{after-of, after-then}
 use Rattle.run_outcome.proofs.Broken.{broke-then}
 use Rattle.recorder_with_cards.specs.Carded.{RunCarded, InSecondCarded}
 use Rattle.recorder_with_cards.proofs.SecondsCards.{turned-carded, dark-carded}
-use Rattle.run_speeds.specs.Speeds.{LeavesSpeeds}
-use Rattle.run_speeds.proofs.Leaving.{leaves-then}
+use Rattle.run_acts.specs.run_speeds.Speeds.{LeavesSpeeds}
+use Rattle.run_acts.proofs.run_speeds.Leaving.{leaves-then}
 use Rattle.recorder_with_cards.proofs.SpeedsSoFar.{CameSo, came-begun, came-acted, in-second, carded-in}
 use Rattle.run_minutes.proofs.Calm.{calm-then}
 use Rattle.run_minutes.specs.Books.{HaveTime}
 use Rattle.std.specs.Prelude.{Ok}
-use Rattle.run_promise.specs.Origin.{Origin}
+use Rattle.run_minutes.specs.run_promise.Origin.{Origin}
 use Rattle.run_acts.specs.Going.{largest_number}
 use Rattle.recorder_with_cards.proofs.Resumed.{same-devices}
 use Rattle.recorder_with_cards.proofs.Time.{later-time, after-time}

@@ -1,7 +1,7 @@
 use Rattle.std.proofs.Common.{◌≡◌, ℕ, ◌+◌, ◌-◌, ◌≤◌, List, [], ◌++◌, length}
 use Rattle.trace_model.specs.Trace.{TraceSecond, driven}
-use Rattle.run_promise.specs.Between.{devices}
-use Rattle.run_promise.specs.Origin.{Origin}
+use Rattle.run_minutes.specs.run_promise.Between.{devices}
+use Rattle.run_minutes.specs.run_promise.Origin.{Origin}
 use Rattle.run_minutes.specs.Books.{HaveTime}
 use Rattle.run_minutes.specs.Later.{AreAfter, AreCalm}
 use Rattle.run_acts.specs.Going.{IsBetweenSeconds}

@@ -1,7 +1,7 @@
 use Rattle.std.proofs.Common.{rules, ◌≡◌, ◌∙◌, ℕ, ◌+◌, ◌-◌, ◌<◌, true, false, List, [], ◌∷◌, ◌++◌, refl, ap, sym, subst, arith}
 use Rattle.trace_model.specs.Trace.{TraceSecond, driven}
-use Rattle.safety_model.specs.Safe.{Devices}
-use Rattle.run_promise.specs.Between.{devices}
+use Rattle.device_calls.specs.safety_model.Safe.{Devices}
+use Rattle.run_minutes.specs.run_promise.Between.{devices}
 use Rattle.run_minutes.specs.Keeping.{with_lines}
 use Rattle.run_acts.specs.declared.run.Run.{Run}
 use Rattle.run_acts.specs.Power.{is_lit, has_power, passed}
@@ -23,7 +23,7 @@ use Rattle.recorder_with_cards.specs.Recorded.{Between, HasBegunBy, Inside}
 use Rattle.run_minutes.specs.Books.{HaveTime}
 use Rattle.run_acts.specs.Recording.{IsNow}
 use Rattle.std.specs.Prelude.{Ok}
-use Rattle.run_promise.specs.Origin.{Origin}
+use Rattle.run_minutes.specs.run_promise.Origin.{Origin}
 use Rattle.recorder_with_cards.proofs.Resumed.{same-devices}
 use Rattle.recorder_with_cards.proofs.Time.{after-time}
 use Rattle.recorder_with_cards.proofs.driving.step.Given.{Over}

@@ -1,19 +1,19 @@
 use Rattle.std.proofs.lemmas.Grind.{common_steps}
 use Rattle.std.proofs.Common.{rules, ◌≡◌, ◌∙◌, ℕ, inl, inr, ◌+◌, ◌/◌, ◌≤◌, Bool, true, false, Some, None, List, [], ◌∷◌, ◌++◌, length, refl, ap, sym, subst, arith, ◌*◌}
 use Rattle.tach_media.proofs.Runs.{cause_after, on_ok}
-use Rattle.minute_model.specs.Span.{ungiven_of}
-use Rattle.run_crew.specs.declared.cabin.Cabin.{Cabin}
-use Rattle.run_crew.specs.Cabin.{CabinIsSound, with_card_in}
+use Rattle.minute_rules.specs.minute_model.Span.{ungiven_of}
+use Rattle.run_acts.specs.run_crew.declared.cabin.Cabin.{Cabin}
+use Rattle.run_acts.specs.run_crew.Cabin.{CabinIsSound, with_card_in}
 use Rattle.run_acts.specs.Power.{with_cabin}
 use Rattle.run_acts.specs.Going.{CanBeCut, RunHasPowerAllSeated}
 use Rattle.run_acts.specs.Room.{Takes, waiting}
-use Rattle.card_slots.specs.Calls.{seat_in}
+use Rattle.run_minutes.specs.card_slots.Calls.{seat_in}
 use Rattle.run_acts.specs.Acting.{IsSettled, IsBareIn, told_of}
 use Rattle.recorder_with_cards.proofs.Puts.{put-held, put-going, put-takes, put-then, put-bare, put-falls, seat-put}
 use Rattle.std.specs.Prelude.{is_err}
 use Rattle.log_model.specs.Log.{In, RunLog}
-use Rattle.safety_model.specs.Safe.{Devices}
-use Rattle.run_promise.specs.Between.{devices}
+use Rattle.device_calls.specs.safety_model.Safe.{Devices}
+use Rattle.run_minutes.specs.run_promise.Between.{devices}
 use Rattle.run_outcome.specs.declared.outcome.Outcome.{Outcome}
 use Rattle.run_minutes.proofs.DecidedBooked.{time-before}
 use Rattle.minute_rules.specs.Kept.{Kept as Minutes}
@@ -21,13 +21,13 @@ use Rattle.run_acts.specs.declared.run.Run.{Run}
 use Rattle.run_acts.specs.declared.run.Power.{Power}
 use Rattle.run_acts.specs.Recording.{log_of, GoesOnOrFails}
 use Rattle.run_acts.specs.Settling.{RecordsSettling}
-use Rattle.run_note_record.specs.Noting.{Acting}
+use Rattle.run_acts.specs.run_note_record.Noting.{Acting}
 use Rattle.run_acts.specs.Evented.{EventsGoOn, EventsSettling}
 use Rattle.log_model.specs.declared.lines.Break.{Break}
 use Rattle.trace_model.specs.declared.Action.TheVariants.{Insert}
 use Rattle.run_minutes.specs.declared.keeper.Moment.{Moment}
-use Rattle.run_course.specs.Moment.{entering_by}
-use Rattle.run_rings.specs.Spans.{with_second}
+use Rattle.run_acts.specs.run_course.Moment.{entering_by}
+use Rattle.run_acts.specs.run_rings.Spans.{with_second}
 use Rattle.run_acts.specs.RunRinged.{RingsGoOn}
 use Rattle.run_acts.proofs.GoesOn.{settled-left, settled-later, settled-noted}
 use Rattle.run_acts.proofs.RingedLines.{AreTears, up-to-tells}

@@ -1,6 +1,6 @@
 use Rattle.std.proofs.lemmas.Grind.{common_steps}
 use Rattle.std.proofs.Common.{rules, ◌≡◌, ◌∙◌, ℕ, ◌+◌, ◌/◌, ◌%◌, ◌==◌, Bool, true, false, refl, ap, sym, subst, arith}
-use Rattle.run_crew.specs.Cabin.{KnowsEnded}
+use Rattle.run_acts.specs.run_crew.Cabin.{KnowsEnded}
 use Rattle.run_acts.specs.declared.run.Run.{Run}
 use Rattle.run_acts.specs.declared.run.Power.{Power}
 use Rattle.run_acts.specs.declared.run.Power.TheVariants.{Lit, Due, Lost}
@@ -10,13 +10,13 @@ use Rattle.run_acts.specs.Room.{HasRoomWithin}
 use Rattle.run_acts.proofs.Standing.{lit-is, begun-at, still-dark}
 use Rattle.recorder_with_cards.proofs.AwakeRooms.{room-over, room-away, room-awake}
 use Rattle.tach_media.specs.Medium.{State}
-use Rattle.run_promise.specs.Between.{devices}
+use Rattle.run_minutes.specs.run_promise.Between.{devices}
 use Rattle.recorder_with_cards.proofs.GoingOn.{marks-due}
 use Rattle.run_minutes.proofs.Later.{later-same}
 use Rattle.run_outcome.proofs.Broken.{broke-none}
 use Rattle.run_acts.specs.RunRinged.{InSecondRingedBy, InSecondRinged}
 use Rattle.recorder_with_cards.proofs.BegunRinged.{lit-ringed}
-use Rattle.safety_model.specs.Safe.{Devices}
+use Rattle.device_calls.specs.safety_model.Safe.{Devices}
 use Rattle.recorder_with_cards.proofs.RingsHeld.{ringed-lit}
 use Rattle.recorder_with_cards.proofs.CardsHeld.{in-carded_lit}
 use Rattle.recorder_with_cards.proofs.SecondsCards.{over-lit, over-vehicle, begins-cards}

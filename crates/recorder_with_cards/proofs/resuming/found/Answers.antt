@@ -11,13 +11,13 @@ use Rattle.run_acts.specs.Going.{IsAt, IsFoundLater}
 use Rattle.run_acts.proofs.Standing.{cut-at}
 use Rattle.recorder_with_cards.proofs.Taken.{up-room, up-awake, up-lost}
 use Rattle.log_model.specs.Log.{RunLog, In}
-use Rattle.run_course.proofs.Logs.{found_log}
-use Rattle.run_note_record.specs.RingsSoFar.{RingedBehind}
-use Rattle.run_note_record.specs.Stored.{StoresOff, Stores}
+use Rattle.run_acts.proofs.run_course.Logs.{found_log}
+use Rattle.run_acts.specs.run_note_record.RingsSoFar.{RingedBehind}
+use Rattle.run_acts.specs.run_note_record.Stored.{StoresOff, Stores}
 use Rattle.unit_minutes.specs.Image.{IsFoundBy}
-use Rattle.safety_model.specs.Safe.{Devices}
-use Rattle.run_promise.specs.Between.{devices}
-use Rattle.run_record.specs.Powering.{read_values}
+use Rattle.device_calls.specs.safety_model.Safe.{Devices}
+use Rattle.run_minutes.specs.run_promise.Between.{devices}
+use Rattle.run_acts.specs.run_record.Powering.{read_values}
 use Rattle.run_acts.specs.declared.run.Power.TheVariants.{Lit}
 use Rattle.run_acts.specs.Power.{is_lit, has_power}
 use Rattle.run_acts.specs.Room.{bare_seats}
@@ -36,10 +36,10 @@ use Rattle.recorder_with_cards.proofs.WakeNoted.{as-read}
 use Rattle.run_minutes.proofs.Later.{later-same}
 use Rattle.run_outcome.proofs.Broken.{broke-found, broke-then}
 use Rattle.run_acts.proofs.Uncut.{uncut-broke, cut-broke}
-use Rattle.run_note_record.specs.Ringed.{notes_in}
+use Rattle.run_acts.specs.run_note_record.Ringed.{notes_in}
 use Rattle.run_acts.specs.Truths.{truths_of, marked}
 use Rattle.run_acts.proofs.AllStay.{all-of}
-use Rattle.run_course.specs.Moments.{and_break}
+use Rattle.run_acts.specs.run_course.Moments.{and_break}
 use Rattle.run_outcome.specs.declared.outcome.Outcome.{Outcome}
 use Rattle.recorder_with_cards.specs.CardsWoken.{CardsWoken}
 use Rattle.recorder_with_cards.proofs.RingsHeld.{ringed-cut, ringed-lit}
@@ -53,11 +53,11 @@ use Rattle.run_outcome.specs.Broken.{BreaksDown}
 use Rattle.run_acts.specs.Evented.{CutEvented, RunEvented}
 use Rattle.run_minutes.specs.Books.{HaveTime}
 use Rattle.run_outcome.specs.declared.outcome.TheConstants.{MOST_OWED}
-use Rattle.run_unit_course.specs.Followed.{MayPower}
-use Rattle.run_promise.specs.Origin.{Origin}
+use Rattle.device_calls.specs.run_unit_course.Followed.{MayPower}
+use Rattle.run_minutes.specs.run_promise.Origin.{Origin}
 use Rattle.recorder_with_cards.specs.Carded.{RunCarded}
 use Rattle.trace_model.specs.Trace.{TraceSecond}
-use Rattle.run_note_record.specs.Evented.{limit_in}
+use Rattle.run_acts.specs.run_note_record.Evented.{limit_in}
 use Rattle.run_minutes.specs.Keeping.{with_lines}
 use Rattle.recorder_with_cards.proofs.resuming.found.Given.{Over}
 use Rattle.recorder_with_cards.proofs.resuming.found.Goals.{After-cut, After-from_residual, After-resume}

@@ -2,32 +2,32 @@ use Rattle.std.proofs.lemmas.Grind.{common_steps}
 use Rattle.std.proofs.Common.{rules, ◌≡◌, ◌∙◌, inl, inr, ℕ, ◌/◌, ◌<◌, Bool, true, false, Some, List, [], ◌∷◌, ◌++◌, refl, ap, sym, subst, arith, IfSome}
 use Rattle.tach_media.specs.Medium.{State, IsCoherent}
 use Rattle.log_model.specs.declared.lines.Break.{Break}
-use Rattle.unit_model.specs.Decoding.{first_bad_place}
-use Rattle.safety_model.specs.Safe.{Devices, breakdowns_of}
-use Rattle.run_promise.specs.Between.{devices}
+use Rattle.unit_minutes.specs.unit_model.Decoding.{first_bad_place}
+use Rattle.device_calls.specs.safety_model.Safe.{Devices, breakdowns_of}
+use Rattle.run_minutes.specs.run_promise.Between.{devices}
 use Rattle.run_outcome.specs.Lines.{Listed, cut_at}
 use Rattle.run_outcome.specs.declared.outcome.Outcome.{Outcome}
 use Rattle.log_model.specs.Log.{RunLog}
-use Rattle.run_course.specs.Moments.{and_break}
-use Rattle.run_record.specs.Powering.{IsNotRead}
-use Rattle.run_record.proofs.Calls.{not-read}
-use Rattle.run_record.proofs.Reading.{reading-fails}
+use Rattle.run_acts.specs.run_course.Moments.{and_break}
+use Rattle.run_acts.specs.run_record.Powering.{IsNotRead}
+use Rattle.run_acts.proofs.run_record.Calls.{not-read}
+use Rattle.run_acts.proofs.run_record.Reading.{reading-fails}
 use Rattle.run_acts.specs.Power.{is_lit, cut_run, has_power}
 use Rattle.run_acts.specs.Recording.{log_of, values_of, RunCut, IsNow, RunRecorded}
-use Rattle.run_record.specs.Recorded.{progress, RecordBetweenSeconds}
-use Rattle.run_note_record.proofs.Dark.{power-on_broken}
-use Rattle.run_note_record.proofs.Seconds.{events-stay}
+use Rattle.run_acts.specs.run_record.Recorded.{progress, RecordBetweenSeconds}
+use Rattle.run_acts.proofs.run_note_record.Dark.{power-on_broken}
+use Rattle.run_acts.proofs.run_note_record.Seconds.{events-stay}
 use Rattle.recorder_with_cards.proofs.ActsEvented.{in-evented_cut}
 use Rattle.recorder_with_cards.proofs.WokenEvented.{cut-woken}
 use Rattle.log_model.specs.Course.{went}
-use Rattle.unit_model.specs.Image.{odometer_at}
-use Rattle.run_note_record.specs.RingsSoFar.{RingedBehind}
-use Rattle.run_note_record.specs.Stored.{Stores, StoresOff}
-use Rattle.run_note_record.proofs.Bases.{stays-stored}
+use Rattle.unit_minutes.specs.unit_model.Image.{odometer_at}
+use Rattle.run_acts.specs.run_note_record.RingsSoFar.{RingedBehind}
+use Rattle.run_acts.specs.run_note_record.Stored.{Stores, StoresOff}
+use Rattle.run_acts.proofs.run_note_record.Bases.{stays-stored}
 use Rattle.recorder_with_cards.proofs.StoredCalls.{read-stays}
 use Rattle.recorder_with_cards.proofs.WokenStored.{unread-stored}
-use Rattle.run_note_record.specs.Steps.{spans_cut}
-use Rattle.run_note_record.proofs.RingsWaking.{behind-stays}
+use Rattle.run_acts.specs.run_note_record.Steps.{spans_cut}
+use Rattle.run_acts.proofs.run_note_record.RingsWaking.{behind-stays}
 use Rattle.run_acts.specs.RunRinged.{seats_of, with_cut, InSecondRinged, RunRinged}
 use Rattle.run_acts.specs.RunCards.{CardsBehind}
 use Rattle.run_acts.specs.Speeds.{SpeedsBehind}
@@ -42,7 +42,7 @@ use Rattle.run_acts.proofs.Standing.{cut-at}
 use Rattle.tach_media.proofs.Runs.{on_ok, ok_gives}
 use Rattle.recorder_with_cards.proofs.WakeNoted.{read-says, read-noted, read-then}
 use Rattle.run_minutes.proofs.Later.{state-revived, later-then, later-of-unit}
-use Rattle.run_note_record.specs.Ringed.{notes_in}
+use Rattle.run_acts.specs.run_note_record.Ringed.{notes_in}
 use Rattle.run_acts.proofs.Comings.{leaves-more}
 use Rattle.run_acts.specs.Truths.{truths_of, marked}
 use Rattle.run_acts.proofs.AllStay.{all-unit}
@@ -52,13 +52,13 @@ use Rattle.recorder_with_cards.proofs.CardsHeld.{in-carded_cut}
 use Rattle.recorder_with_cards.proofs.WakesCards.{unit-alone, unpowered-cards}
 use Rattle.run_minutes.proofs.Calm.{calm-of-unit, calm-then, calm-more}
 use Rattle.run_minutes.specs.Later.{AreCalm, AreLater}
-use Rattle.run_course.specs.Followed.{Comes}
+use Rattle.run_acts.specs.run_course.Followed.{Comes}
 use Rattle.run_acts.specs.Evented.{CutEvented, RunEvented}
-use Rattle.run_promise.specs.Beside.{HaveLeftMore}
+use Rattle.run_minutes.specs.run_promise.Beside.{HaveLeftMore}
 use Rattle.run_acts.specs.declared.run.Power.TheVariants.{Lit}
-use Rattle.run_unit_course.specs.Followed.{MayPower}
-use Rattle.run_promise.specs.Origin.{Origin}
-use Rattle.note_model.specs.Odometer.{SpanFrom}
+use Rattle.device_calls.specs.run_unit_course.Followed.{MayPower}
+use Rattle.run_minutes.specs.run_promise.Origin.{Origin}
+use Rattle.device_calls.specs.note_model.Odometer.{SpanFrom}
 use Rattle.trace_model.specs.Trace.{TraceSecond}
 use Rattle.recorder_with_cards.proofs.ActsRecorded.{cut-in}
 use Rattle.run_minutes.specs.Keeping.{with_lines}

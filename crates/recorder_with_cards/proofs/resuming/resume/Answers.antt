@@ -3,14 +3,14 @@ use Rattle.std.proofs.Common.{rules, ◌≡◌, ◌∙◌, ℕ, ◌+◌, ◌/◌
 use Rattle.std.specs.Prelude.{is_err, IfSome}
 use Rattle.tach_media.specs.Medium.{HasCause, State}
 use Rattle.tach_media.proofs.Runs.{on_ok, ok_gives, cause_after, from_told}
-use Rattle.gated_ring.specs.Ring.{PointsInside}
-use Rattle.message_model.specs.Records.{speed_ring}
-use Rattle.unit_model.specs.Decoding.{Decodes}
+use Rattle.unit_minutes.specs.gated_ring.Ring.{PointsInside}
+use Rattle.run_acts.specs.message_model.Records.{speed_ring}
+use Rattle.unit_minutes.specs.unit_model.Decoding.{Decodes}
 use Rattle.activity_codec.specs.declared.values.Slot.TheVariants.{Driver, CoDriver}
 use Rattle.unit_minutes.specs.Image.{Agrees}
 use Rattle.unit_minutes.specs.declared.notes.Notes.{Notes}
-use Rattle.run_crew.specs.declared.cabin.Cabin.{Cabin}
-use Rattle.run_crew.specs.Cards.{session_of}
+use Rattle.run_acts.specs.run_crew.declared.cabin.Cabin.{Cabin}
+use Rattle.run_acts.specs.run_crew.Cards.{session_of}
 use Rattle.run_minutes.specs.declared.keeper.Keeper.{Keeper}
 use Rattle.run_minutes.specs.Keeping.{UnitMayBeCalled}
 use Rattle.run_acts.specs.declared.run.Run.{Run}
@@ -19,17 +19,17 @@ use Rattle.run_acts.specs.Room.{falls_of, bare_count, waiting, Takes, bare_seats
 use Rattle.run_acts.proofs.Standing.{span-lit, span-held}
 use Rattle.recorder_with_cards.specs.Accepting.{IsBare}
 use Rattle.recorder_with_cards.proofs.SideShown.{speeds-inside}
-use Rattle.run_events.specs.Blocks.{KnowsNewest}
-use Rattle.run_events.proofs.Newest.{knows-left}
+use Rattle.run_acts.specs.run_events.Blocks.{KnowsNewest}
+use Rattle.run_acts.proofs.run_events.Newest.{knows-left}
 use Rattle.recorder_with_cards.proofs.Begun.{begun-none, dark-bare}
 use Rattle.run_outcome.specs.declared.outcome.Outcome.{Outcome}
 use Rattle.recorder_with_cards.proofs.Taken.{takes-then, takes-breaks, awake-takes, takes-nothing, anew-more}
-use Rattle.card_slots.specs.Calls.{card_in}
+use Rattle.run_minutes.specs.card_slots.Calls.{card_in}
 use Rattle.log_model.specs.Log.{In, RunLog}
-use Rattle.card_slots.specs.declared.seats.Seat.{Seat}
-use Rattle.run_promise.specs.Between.{devices}
+use Rattle.run_minutes.specs.card_slots.declared.seats.Seat.{Seat}
+use Rattle.run_minutes.specs.run_promise.Between.{devices}
 use Rattle.run_minutes.proofs.DecidedBooked.{time-before}
-use Rattle.run_record.specs.Recorded.{Values, progress, RecordBetweenSeconds}
+use Rattle.run_acts.specs.run_record.Recorded.{Values, progress, RecordBetweenSeconds}
 use Rattle.run_acts.specs.declared.run.Power.{Power}
 use Rattle.run_acts.specs.Recording.{GoesOnOrCut, GoesOnOrFails, log_of, IsOrigin, values_of, ComesPower, RunWithin, RunFails}
 use Rattle.run_acts.proofs.NoteRecorded.{goes-plain}
@@ -37,16 +37,16 @@ use Rattle.recorder_with_cards.specs.Judged.{moment_in}
 use Rattle.recorder_with_cards.proofs.Resumed.{RunWaking, waiting_in, at-once, wholes-of, kept-of, same-devices, awake, awake-is, awake-stands, unmended, unmended-read, unmended-stands, within-of, driver-judged, codriver-judged, codriver-on, comes-waking, IsReadAgain}
 use Rattle.recorder_with_cards.specs.Woken.{EventsWoken, RingsWoken}
 use Rattle.log_model.specs.Course.{ToldSecond, went, second_told, Visit}
-use Rattle.run_record.specs.Waking.{both_slots}
-use Rattle.run_note_record.specs.RingsSoFar.{RingedBehind}
-use Rattle.run_note_record.specs.Stored.{StandsOn, StoresOff}
-use Rattle.run_note_record.proofs.Bases.{stays-stored}
-use Rattle.note_model.specs.Odometer.{SpanFrom}
-use Rattle.run_course.proofs.Logs.{found_log}
-use Rattle.unit_model.specs.Image.{odometer_at}
-use Rattle.unit_rule.specs.Odometer.{odometer_after}
-use Rattle.run_note_record.specs.Steps.{nobody, spans_cut}
-use Rattle.run_note_record.proofs.RingsWaking.{behind-stays}
+use Rattle.run_acts.specs.run_record.Waking.{both_slots}
+use Rattle.run_acts.specs.run_note_record.RingsSoFar.{RingedBehind}
+use Rattle.run_acts.specs.run_note_record.Stored.{StandsOn, StoresOff}
+use Rattle.run_acts.proofs.run_note_record.Bases.{stays-stored}
+use Rattle.device_calls.specs.note_model.Odometer.{SpanFrom}
+use Rattle.run_acts.proofs.run_course.Logs.{found_log}
+use Rattle.unit_minutes.specs.unit_model.Image.{odometer_at}
+use Rattle.device_calls.specs.unit_rule.Odometer.{odometer_after}
+use Rattle.run_acts.specs.run_note_record.Steps.{nobody, spans_cut}
+use Rattle.run_acts.proofs.run_note_record.RingsWaking.{behind-stays}
 use Rattle.run_acts.specs.Ringing.{seating_of}
 use Rattle.run_acts.specs.RunRinged.{RingsWithin, RingsGoOn, with_cut}
 use Rattle.recorder_with_cards.proofs.EnteredSpeeds.{mending-leaves}
@@ -54,18 +54,18 @@ use Rattle.recorder_with_cards.proofs.WokenRinged.{WakesRinged, in-both, cards-b
 use Rattle.recorder_with_cards.proofs.WokenStored.{unmended-stored}
 use Rattle.recorder_with_cards.proofs.StoredCalls.{mend-stays}
 use Rattle.recorder_with_cards.proofs.WokenEvented.{WakesEvented, unmended-evented, wakes-evented, driver-evented, codriver-evented, anew-limit, woken-fails, woken-on, woken-ends, none-woken, gap-woken, here-empty, begun-watched, gap-memory, none-told, some-told}
-use Rattle.run_unit_course.specs.Lines.{cut_at}
-use Rattle.run_unit_course.specs.Followed.{Lost, UnitPower, MayPower}
-use Rattle.run_course.specs.Moments.{and_break}
-use Rattle.run_course.specs.Followed.{Progress, BookFollowsRun}
-use Rattle.unit_memory.specs.declared.memory.UnitFacts.{UnitFacts}
-use Rattle.run_promise.specs.Seconds.{found_again}
-use Rattle.run_record.specs.Within.{Beginning}
-use Rattle.minute_model.specs.Span.{ungiven_of}
-use Rattle.run_note_record.specs.Evented.{limit_in, Evented, NotesNothing}
-use Rattle.run_note_record.specs.Noting.{Waking}
+use Rattle.device_calls.specs.run_unit_course.Lines.{cut_at}
+use Rattle.device_calls.specs.run_unit_course.Followed.{Lost, UnitPower, MayPower}
+use Rattle.run_acts.specs.run_course.Moments.{and_break}
+use Rattle.run_acts.specs.run_course.Followed.{Progress, BookFollowsRun}
+use Rattle.run_minutes.specs.unit_memory.declared.memory.UnitFacts.{UnitFacts}
+use Rattle.run_minutes.specs.run_promise.Seconds.{found_again}
+use Rattle.run_acts.specs.run_record.Within.{Beginning}
+use Rattle.minute_rules.specs.minute_model.Span.{ungiven_of}
+use Rattle.run_acts.specs.run_note_record.Evented.{limit_in, Evented, NotesNothing}
+use Rattle.run_acts.specs.run_note_record.Noting.{Waking}
 use Rattle.run_acts.specs.Evented.{EventsGoOn}
-use Rattle.event_model.specs.Spans.{gap_of}
+use Rattle.device_calls.specs.event_model.Spans.{gap_of}
 use Rattle.run_acts.specs.NotedEvents.{NotesEvents}
 use Rattle.run_acts.proofs.NotedEvents.{same-noted, then-noted}
 use Rattle.run_acts.specs.Acting.{now_moment}
@@ -74,9 +74,9 @@ use Rattle.recorder_with_cards.proofs.WakeNoted.{says, mended-noted, driver-thes
 use Rattle.run_minutes.proofs.Later.{state-by, later-then, later-of-unit}
 use Rattle.run_acts.proofs.Uncut.{gap-uncut}
 use Rattle.recorder_with_cards.proofs.Uncut.{anew-uncut}
-use Rattle.event_model.specs.declared.entries.Span.{Span}
-use Rattle.run_note_record.specs.EventsSoFar.{AreBare, EventedNow, ComesInTurn}
-use Rattle.run_note_record.proofs.SoFar.{left-itself}
+use Rattle.device_calls.specs.event_model.declared.entries.Span.{Span}
+use Rattle.run_acts.specs.run_note_record.EventsSoFar.{AreBare, EventedNow, ComesInTurn}
+use Rattle.run_acts.proofs.run_note_record.SoFar.{left-itself}
 use Rattle.run_acts.specs.Noting.{NoGap, AreGapEvents}
 use Rattle.run_acts.specs.RunCards.{vehicle_in, CardsBehind, CardsWaking}
 use Rattle.recorder_with_cards.specs.CardsWoken.{CardsWoken}
@@ -86,19 +86,19 @@ use Rattle.recorder_with_cards.proofs.WakesCards.{WakesOn, unit-alone, unpowered
 use Rattle.run_minutes.proofs.Calm.{calm-of-unit, calm-then}
 use Rattle.trace_model.specs.declared.Card.{Card}
 use Rattle.trace_model.specs.Trace.{TraceSecond}
-use Rattle.safety_model.specs.Safe.{Devices}
+use Rattle.device_calls.specs.safety_model.Safe.{Devices}
 use Rattle.run_minutes.specs.Books.{HaveTime}
 use Rattle.run_minutes.specs.Later.{AreLater, AreCalm}
 use Rattle.run_outcome.specs.Broken.{failed_cuts}
 use Rattle.run_outcome.specs.declared.outcome.TheConstants.{MOST_OWED}
-use Rattle.run_promise.specs.Origin.{Origin, rule_of, start_at, first_of as first_second_of}
-use Rattle.run_promise.specs.Beside.{HaveLeftMore}
-use Rattle.run_record.specs.Powering.{read_values}
+use Rattle.run_minutes.specs.run_promise.Origin.{Origin, rule_of, start_at, first_of as first_second_of}
+use Rattle.run_minutes.specs.run_promise.Beside.{HaveLeftMore}
+use Rattle.run_acts.specs.run_record.Powering.{read_values}
 use Rattle.run_acts.specs.Stays.{AllStay}
 use Rattle.run_acts.specs.Truths.{truths_of, marked}
-use Rattle.run_note_record.specs.Ringed.{Seating, notes_in}
+use Rattle.run_acts.specs.run_note_record.Ringed.{Seating, notes_in}
 use Rattle.run_acts.specs.declared.run.Power.TheVariants.{Lit}
-use Rattle.unit_notes.specs.declared.unit_event.UnitEvent.{UnitEvent}
+use Rattle.run_acts.specs.unit_notes.declared.unit_event.UnitEvent.{UnitEvent}
 use Rattle.recorder_with_cards.specs.Waking.{TakesUp}
 use Rattle.recorder_with_cards.proofs.resuming.resume.Given.{Over}
 use Rattle.recorder_with_cards.proofs.resuming.resume.Goals.{After-moment-at, After-accept_anew, After-accept_anew-2, After-note_gap, After-from_residual, After-from_residual-in_err-accept_anew, After-from_residual-in_err-accept_anew-2, Then-is_first}

@@ -3,9 +3,9 @@ use Rattle.std.proofs.Common.{◌≡◌, ◌∙◌, ℕ, ◌+◌, ◌-◌, true,
 use Rattle.std.proofs.lemmas.List.{append-nil}
 use Rattle.trace_model.specs.declared.Action.{Action}
 use Rattle.trace_model.specs.Trace.{TraceSecond, seconds_at, item_seconds}
-use Rattle.minute_model.specs.Span.{ungiven_of}
-use Rattle.safety_model.specs.Safe.{Devices}
-use Rattle.run_promise.specs.Between.{devices}
+use Rattle.minute_rules.specs.minute_model.Span.{ungiven_of}
+use Rattle.device_calls.specs.safety_model.Safe.{Devices}
+use Rattle.run_minutes.specs.run_promise.Between.{devices}
 use Rattle.run_outcome.specs.declared.outcome.Outcome.{Outcome}
 use Rattle.run_acts.specs.RunRinged.{RunRinged}
 use Rattle.recorder_with_cards.specs.Recorded.{actions_in, HasRunBy}

@@ -10,9 +10,9 @@ use Rattle.log_model.specs.declared.lines.Break.{Break}
 use Rattle.log_model.specs.declared.lines.Find.{Find}
 use Rattle.log_model.specs.declared.lines.Refused.{Refused}
 use Rattle.run_outcome.specs.Lines.{Listed}
-use Rattle.safety_model.specs.Safe.{Devices, card_of}
-use Rattle.safety_model.specs.Recording.{Recording, card_image}
-use Rattle.run_crew.specs.Cards.{known_of as known_in}
+use Rattle.device_calls.specs.safety_model.Safe.{Devices, card_of}
+use Rattle.device_calls.specs.safety_model.Recording.{Recording, card_image}
+use Rattle.run_acts.specs.run_crew.Cards.{known_of as known_in}
 use Rattle.run_opening.specs.Begun.{known_of, RunIsOpened, IsRefusedBy as IsRefusedAs}
 use Rattle.run_opening.specs.Cards.{IsFoundOn}
 use Rattle.recorder_with_cards.specs.Carded.{RunCarded}
@@ -26,12 +26,12 @@ use Rattle.recorder_with_cards.proofs.Promised.{both, more-devices, chip_of, beg
 use Rattle.std.specs.Prelude.{IfErr, is_err}
 use Rattle.std.proofs.lemmas.Grind.{common_steps}
 use Rattle.run_opening.specs.Opening.{IsRefused}
-use Rattle.run_promise.specs.Between.{devices}
+use Rattle.run_minutes.specs.run_promise.Between.{devices}
 use Rattle.run_minutes.specs.declared.keeper.Keeper.{Keeper}
 use Rattle.run_outcome.specs.Room.{offs, off_count, insertions}
 use Rattle.run_outcome.proofs.Items.{seconds-here, offs-here}
 use Rattle.run_acts.specs.Power.{is_lit}
-use Rattle.minute_model.specs.Span.{ungiven_of}
+use Rattle.minute_rules.specs.minute_model.Span.{ungiven_of}
 use Rattle.run_acts.specs.Room.{cuts_from, HasRoom}
 use Rattle.recorder_with_cards.proofs.Rooms.{room-less}
 use Rattle.recorder_with_cards.proofs.Items.{each-at, insertions-left, waiting-most, room-behind}

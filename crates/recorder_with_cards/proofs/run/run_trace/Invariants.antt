@@ -1,6 +1,6 @@
 use Rattle.std.proofs.Common.{◌≡◌, ℕ, ◌+◌, ◌-◌, ◌≤◌, List, length, take, drop}
 use Rattle.trace_model.specs.Trace.{total_seconds, seconds_of}
-use Rattle.run_promise.specs.Between.{IsFound, devices}
+use Rattle.run_minutes.specs.run_promise.Between.{IsFound, devices}
 use Rattle.run_minutes.specs.Books.{HaveTime}
 use Rattle.run_opening.specs.Begun.{found_in}
 use Rattle.run_acts.specs.Going.{largest_number, IsBetweenSeconds}

@@ -1,7 +1,7 @@
 use Rattle.std.proofs.Common.{◌≡◌, ◌∙◌, ℕ, Option, Some, None, ap, sym}
 use Rattle.trace_model.specs.declared.Card.{Card}
 use Rattle.log_model.specs.ByHand.{minute_on}
-use Rattle.card_slots.specs.Calls.{seat_in, card_in}
+use Rattle.run_crew.specs.card_slots.Calls.{seat_in, card_in}
 use Rattle.run_crew.specs.Cards.{session_of}
 use Rattle.run_acts.specs.ByHand.{stop_in, session_at}
 use Rattle.run_acts.proofs.OneCard.{none-there}

@@ -3,17 +3,17 @@ use Rattle.std.proofs.Common.{rules, ◌≡◌, ◌∙◌, ℕ, ◌+◌, ◌*◌
 use Rattle.std.specs.Prelude.{is_err, List, [], ◌∷◌, ◌++◌, IfSome, not}
 use Rattle.tach_media.specs.Medium.{HasCause, State, IsCoherent, LeavesOnly}
 use Rattle.tach_media.proofs.Runs.{cause_after, no_reads, on_ok}
-use Rattle.event_model.specs.declared.entries.Span.{Span}
-use Rattle.event_model.specs.Spans.{gap_of}
+use Rattle.unit_notes.specs.event_model.declared.entries.Span.{Span}
+use Rattle.unit_notes.specs.event_model.Spans.{gap_of}
 use Rattle.unit_notes.specs.declared.unit_event.UnitEvent.{UnitEvent}
 use Rattle.run_minutes.proofs.Seats.{sessions-none}
 use Rattle.activity_codec.specs.declared.values.Slot.TheVariants.{Driver, CoDriver}
-use Rattle.card_slots.specs.Calls.{seat_in, card_in}
+use Rattle.run_crew.specs.card_slots.Calls.{seat_in, card_in}
 use Rattle.run_minutes.specs.declared.keeper.Moment.{Moment}
 use Rattle.run_acts.specs.declared.run.Run.{Run}
 use Rattle.run_acts.specs.Acting.{IsNotedIn, now_moment}
 use Rattle.run_acts.specs.Noting.{NoGap, UnitFailed, DriverFell, BothSlots, IsGapNoted, AreGapEvents, gap_event, fall_events}
-use Rattle.event_model.specs.declared.kinds.TheConstants.{POWER_INTERRUPTION}
+use Rattle.unit_notes.specs.event_model.declared.kinds.TheConstants.{POWER_INTERRUPTION}
 use Rattle.unit_model.specs.Image.{IsUnit}
 use Rattle.unit_notes.specs.Entries.{fault_bytes}
 use Rattle.unit_notes.specs.Noting.{IsEventNoted, IsNotingEvent}
@@ -22,31 +22,31 @@ use Rattle.run_events.specs.Entries.{entry_of, card_entry}
 use Rattle.run_acts.specs.NotedEvents.{NotesEvents}
 use Rattle.run_acts.proofs.NotedEvents.{one-noted, same-noted, then-noted}
 use Rattle.log_model.specs.Log.{In}
-use Rattle.run_promise.specs.Between.{devices}
+use Rattle.run_minutes.specs.run_promise.Between.{devices}
 use Rattle.run_record.specs.Within.{Beginning}
 use Rattle.run_acts.specs.Recording.{GoesOnOrFails, log_of}
 use Rattle.run_acts.proofs.Comings.{leaves-more}
 use Rattle.run_acts.proofs.NoteRecorded.{unit-recorded, power-noted, unit-leaves, left-then}
-use Rattle.safety_model.specs.Safe.{breakdowns_of, Devices, card_of}
+use Rattle.device_calls.specs.safety_model.Safe.{breakdowns_of, Devices, card_of}
 use Rattle.run_acts.specs.ActsEvented.{IsFailing}
 use Rattle.run_acts.proofs.Kept.{moved-going}
 use Rattle.run_minutes.proofs.Units.{unit-stays}
 use Rattle.run_insertion.proofs.Noted.{noted-ready, noted-row}
-use Rattle.run_rings.specs.Same.{LeavesRings}
-use Rattle.run_rings.proofs.Same.{rings-left, rings-moments, rings-then, table-outside}
+use Rattle.run_events.specs.run_rings.Same.{LeavesRings}
+use Rattle.run_events.proofs.run_rings.Same.{rings-left, rings-moments, rings-then, table-outside}
 use Rattle.run_events.proofs.NoteSpeeds.{event-leaves-speeds}
 use Rattle.run_events.proofs.Newest.{knows-left}
 use Rattle.run_minutes.proofs.Later.{state-by, later-same, later-then, later-of-unit}
 use Rattle.run_acts.proofs.RingedGap.{note-ringed}
 use Rattle.card_files.specs.declared.card_event.CardEvent.{CardEvent}
-use Rattle.minute_model.specs.Span.{ungiven_of}
+use Rattle.unit_model.specs.minute_model.Span.{ungiven_of}
 use Rattle.run_crew.specs.Cards.{session_of}
 use Rattle.trace_model.specs.declared.Card.{Card}
 use Rattle.trace_model.specs.declared.Card.TheVariants.{A, B}
 use Rattle.activity_codec.specs.declared.values.Slot.{Slot}
 use Rattle.log_model.specs.declared.lines.Break.{Break}
 use Rattle.run_outcome.specs.Lines.{Listed}
-use Rattle.unit_memory.specs.declared.memory.UnitFacts.{UnitFacts}
+use Rattle.run_minutes.specs.unit_memory.declared.memory.UnitFacts.{UnitFacts}
 use Rattle.run_acts.specs.CardNotes.{NotesOn, NotesOnCards, LeavesPlaces, on_seat, gap_on}
 use Rattle.run_acts.proofs.CardNotes.{both-cards, on-none, on-unbegun, session-noted, both-noted, first-noted}
 use Rattle.run_acts.proofs.CardPlaces.{places-self, leaves-then}

@@ -4,7 +4,7 @@ use Rattle.activity_codec.specs.declared.values.Slot.{Slot}
 use Rattle.trace_model.specs.declared.Card.{Card}
 use Rattle.trace_model.specs.declared.Card.TheVariants.{A, B}
 use Rattle.tach_media.proofs.Runs.{on_ok, ok_gives, no_reads}
-use Rattle.card_slots.specs.Calls.{seat_in, card_in}
+use Rattle.run_crew.specs.card_slots.Calls.{seat_in, card_in}
 use Rattle.run_crew.specs.declared.cards.Known.{Known}
 use Rattle.run_crew.specs.Cards.{session_of, known_of}
 use Rattle.run_crew.specs.Cabin.{number_of_seat}
@@ -18,14 +18,14 @@ use Rattle.run_acts.proofs.Cabins.{numbered-session}
 use Rattle.std.specs.Prelude.{is_err}
 use Rattle.run_acts.proofs.Comings.{leaves-more}
 use Rattle.run_acts.proofs.NoteRecorded.{noted-some, some-leaves}
-use Rattle.run_promise.specs.Between.{devices}
+use Rattle.run_minutes.specs.run_promise.Between.{devices}
 use Rattle.run_acts.specs.Noting.{fall_events, IsNoteRecorded, NotesFall}
 use Rattle.run_acts.proofs.NotedEvents.{same-noted, noted-any}
-use Rattle.run_rings.proofs.Same.{rings-left}
+use Rattle.run_events.proofs.run_rings.Same.{rings-left}
 use Rattle.run_events.proofs.Newest.{knows-left}
 use Rattle.run_minutes.proofs.Later.{state-by, later-same}
 use Rattle.card_files.specs.declared.card_event.CardEvent.{CardEvent}
-use Rattle.safety_model.specs.Safe.{card_of, Devices}
+use Rattle.device_calls.specs.safety_model.Safe.{card_of, Devices}
 use Rattle.run_events.specs.Entries.{card_entry}
 use Rattle.run_acts.specs.CardNotes.{NotesOn, LeavesPlaces, on_seat, LeavePlaces, NotesOnCards}
 use Rattle.run_acts.proofs.CardNotes.{both-cards, seat-is, seat-other, seat-none, on-seat, on-as, on-other, bare-seat}
@@ -38,9 +38,9 @@ use Rattle.tach_media.specs.Medium.{State}
 use Rattle.log_model.specs.Log.{In}
 use Rattle.run_acts.specs.ActsEvented.{NoteLeaves}
 use Rattle.run_acts.specs.NotedEvents.{NotesEvents}
-use Rattle.card_slots.specs.declared.seats.Seat.{Seat}
-use Rattle.run_devices.specs.Told.{arranged}
-use Rattle.device_rule.specs.Views.{other}
+use Rattle.run_crew.specs.card_slots.declared.seats.Seat.{Seat}
+use Rattle.run_minutes.specs.run_devices.Told.{arranged}
+use Rattle.device_calls.specs.device_rule.Views.{other}
 use Rattle.run_acts.specs.Acts.{NotesGapOn}
 use Rattle.run_acts.proofs.gap.note_in.Given.{Over}
 use Rattle.run_acts.proofs.gap.note_in.Goals.{In-Some-number_in, After-note_on, After-note_on-in-B}

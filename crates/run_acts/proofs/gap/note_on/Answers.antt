@@ -16,14 +16,14 @@ use Rattle.run_minutes.proofs.Units.{has-row}
 use Rattle.run_minutes.proofs.CardBooked.{no-session, none-there, session-set}
 use Rattle.run_minutes.proofs.Fates.{no-lines}
 use Rattle.run_acts.proofs.Apart.{not-both, session-back, torn-apart, noted-sizes, ready-again, session-works, fell-broken, well-broken}
-use Rattle.event_model.specs.declared.kinds.TheConstants.{CARD_FAULT}
-use Rattle.unit_memory.specs.declared.format.Identity.{Identity}
+use Rattle.unit_notes.specs.event_model.declared.kinds.TheConstants.{CARD_FAULT}
+use Rattle.run_minutes.specs.unit_memory.declared.format.Identity.{Identity}
 use Rattle.unit_notes.specs.Noting.{IsEventNoted, IsNotingEvent}
 use Rattle.run_events.specs.Entries.{entry_of, card_entry}
-use Rattle.run_promise.specs.Between.{devices}
+use Rattle.run_minutes.specs.run_promise.Between.{devices}
 use Rattle.run_acts.proofs.NotedEvents.{one-noted, same-noted, noted-any}
-use Rattle.run_rings.proofs.Same.{rings-left, rings-moments, table-outside}
-use Rattle.run_speeds.proofs.Leaving.{leaves-none}
+use Rattle.run_events.proofs.run_rings.Same.{rings-left, rings-moments, table-outside}
+use Rattle.run_events.proofs.run_speeds.Leaving.{leaves-none}
 use Rattle.run_events.proofs.NoteSpeeds.{event-leaves-speeds}
 use Rattle.card_files.specs.declared.card_event.CardEvent.{CardEvent}
 use Rattle.card_files.specs.Noting as on

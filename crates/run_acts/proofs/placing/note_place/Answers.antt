@@ -2,8 +2,8 @@ use Rattle.std.proofs.lemmas.Grind.{common_steps}
 use Rattle.std.proofs.Common.{rules, ◌≡◌, ◌∙◌, ℕ, Bool, true, false, Option, Some, None, is_some, length, refl, ap, sym, subst, arith, inl, inr, ◌^◌, ◌<◌, ◌+◌}
 use Rattle.trace_model.specs.declared.Card.TheVariants.{A, B}
 use Rattle.tach_media.proofs.Runs.{on_ok, ok_gives, cause_after, no_reads}
-use Rattle.minute_model.specs.Span.{ungiven_of}
-use Rattle.card_slots.specs.Calls.{seat_in, card_in, logged}
+use Rattle.unit_model.specs.minute_model.Span.{ungiven_of}
+use Rattle.run_crew.specs.card_slots.Calls.{seat_in, card_in, logged}
 use Rattle.run_crew.specs.Cards.{session_of}
 use Rattle.run_crew.specs.Cabin.{number_of_seat}
 use Rattle.log_model.specs.declared.lines.Break.{Break}
@@ -21,17 +21,17 @@ use Rattle.trace_model.specs.declared.Action.TheVariants.{Place}
 use Rattle.trace_model.specs.Trace.{TraceSecond}
 use Rattle.log_model.specs.Log.{In}
 use Rattle.log_model.specs.Slots.{refusal, other_slot}
-use Rattle.safety_model.specs.Safe.{Devices, card_of}
-use Rattle.run_promise.specs.Between.{devices}
+use Rattle.device_calls.specs.safety_model.Safe.{Devices, card_of}
+use Rattle.run_minutes.specs.run_promise.Between.{devices}
 use Rattle.run_outcome.specs.declared.outcome.Outcome.{Outcome}
-use Rattle.run_promise.specs.Origin.{Origin}
+use Rattle.run_minutes.specs.run_promise.Origin.{Origin}
 use Rattle.run_record.specs.Within.{Beginning}
 use Rattle.run_acts.specs.Recording.{RunWithin, RunGoesOn, GoesOnOrFails, IsNow, log_of, values_of, ComesPower}
 use Rattle.run_acts.proofs.Comings.{leaves-more, place-more}
 use Rattle.run_acts.proofs.NoteRecorded.{noted-some, place-told, unit-recorded, unit-evented, some-evented}
 use Rattle.trace_model.specs.declared.Card.{Card}
-use Rattle.gated_ring.specs.Change.{IsAdding}
-use Rattle.message_model.specs.Records.{unit_place_ring}
+use Rattle.run_events.specs.gated_ring.Change.{IsAdding}
+use Rattle.run_events.specs.message_model.Records.{unit_place_ring}
 use Rattle.run_acts.specs.NotedEvents.{NotesEvents}
 use Rattle.run_acts.specs.Noting.{NotesPlace, fall_events, IsNoteRecorded}
 use Rattle.run_acts.proofs.NotedEvents.{same-noted, noted-any, then-noted}
@@ -40,9 +40,9 @@ use Rattle.run_minutes.proofs.Units.{unit-stays}
 use Rattle.tacho_types.specs.declared.card_number.FullCardNumber.{FullCardNumber}
 use Rattle.tach_media.specs.Medium.{State, LeavesOnly, HasCause}
 use Rattle.unit_notes.specs.Entries.{unit_place_bytes}
-use Rattle.card_slots.specs.declared.seats.Seat.{Seat}
+use Rattle.run_crew.specs.card_slots.declared.seats.Seat.{Seat}
 use Rattle.run_crew.specs.declared.cards.Cards.{Cards}
-use Rattle.run_rings.proofs.Same.{rings-left}
+use Rattle.run_events.proofs.run_rings.Same.{rings-left}
 use Rattle.run_acts.specs.Ringing.{WritesPlace}
 use Rattle.run_acts.proofs.Ringing.{place-broken, place-then}
 use Rattle.run_events.proofs.Newest.{knows-left}
@@ -70,7 +70,7 @@ use Rattle.run_minutes.specs.Later.{AreCalm, AreLater}
 use Rattle.run_acts.specs.Devices.{AreLeftMore}
 use Rattle.run_acts.specs.RunCards.{CardsPlace}
 use Rattle.run_acts.specs.RunRinged.{RingsPlace}
-use Rattle.run_devices.specs.Told.{arranged}
+use Rattle.run_minutes.specs.run_devices.Told.{arranged}
 use Rattle.run_acts.specs.Acts.{NotesPlaceOn}
 use Rattle.run_acts.proofs.placing.note_place.Given.{Over}
 use Rattle.run_acts.proofs.placing.note_place.Goals.{In_ok-note_place, After-note_place_in, After-note_place_in-in-B}

@@ -1,4 +1,4 @@
-use Rattle.run_promise.specs.Between.{devices}
+use Rattle.run_minutes.specs.run_promise.Between.{devices}
 use Rattle.run_acts.proofs.RoundCut.{keeping-fails}
 use Rattle.run_acts.proofs.rounds.the_keeping_fails.Goals as goal
 

@@ -1,4 +1,4 @@
-use Rattle.run_promise.specs.Between.{devices}
+use Rattle.run_minutes.specs.run_promise.Between.{devices}
 use Rattle.run_acts.proofs.RoundKept.{keeping-recorded}
 use Rattle.run_acts.proofs.rounds.the_keeping_is_recorded.Goals as goal
 

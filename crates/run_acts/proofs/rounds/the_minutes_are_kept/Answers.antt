@@ -1,4 +1,4 @@
-use Rattle.run_promise.specs.Between.{devices}
+use Rattle.run_minutes.specs.run_promise.Between.{devices}
 use Rattle.run_acts.proofs.RoundWhole.{minutes-kept_so}
 use Rattle.run_acts.proofs.rounds.the_minutes_are_kept.Goals as goal
 

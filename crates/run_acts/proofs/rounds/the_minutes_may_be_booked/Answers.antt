@@ -1,4 +1,4 @@
-use Rattle.run_promise.specs.Between.{devices}
+use Rattle.run_minutes.specs.run_promise.Between.{devices}
 use Rattle.run_acts.proofs.RoundBegun.{may-book}
 use Rattle.run_acts.proofs.rounds.the_minutes_may_be_booked.Goals as goal
 

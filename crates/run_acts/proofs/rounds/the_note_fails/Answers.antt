@@ -1,4 +1,4 @@
-use Rattle.run_promise.specs.Between.{devices}
+use Rattle.run_minutes.specs.run_promise.Between.{devices}
 use Rattle.run_acts.proofs.RoundKept.{note-fails}
 use Rattle.run_acts.proofs.rounds.the_note_fails.Goals as goal
 

@@ -1,4 +1,4 @@
-use Rattle.run_promise.specs.Between.{devices}
+use Rattle.run_minutes.specs.run_promise.Between.{devices}
 use Rattle.run_acts.proofs.RoundWhole.{leave-still}
 use Rattle.run_acts.proofs.rounds.they_leave_still.Goals as goal
 

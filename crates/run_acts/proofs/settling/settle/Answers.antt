@@ -1,10 +1,10 @@
 use Rattle.std.proofs.Common.{suc, ◌≡◌, ℕ, ◌*◌, ◌/◌, ◌≤◌, None, length, refl, ap, arith, subst, sym}
 use Rattle.std.specs.Prelude.{is_err}
 use Rattle.tach_media.proofs.Runs.{on_ok}
-use Rattle.minute_model.specs.Span.{ungiven_of, settled}
+use Rattle.unit_model.specs.minute_model.Span.{ungiven_of, settled}
 use Rattle.minute_rules.proofs.GoingOn.{owing-few}
 use Rattle.log_model.specs.Log.{In}
-use Rattle.run_rings.specs.Spans.{with_second}
+use Rattle.run_events.specs.run_rings.Spans.{with_second}
 use Rattle.run_minutes.specs.Minutes.{AreKept, KeepingState}
 use Rattle.run_minutes.specs.Decided.{odometers_of}
 use Rattle.run_acts.specs.Recording.{values_of}
@@ -23,8 +23,8 @@ use Rattle.run_acts.proofs.Ringing.{settling-leaves}
 use Rattle.run_acts.proofs.Comings.{leaves-more}
 use Rattle.run_acts.proofs.SettledRecorded.{settling-so, booked}
 use Rattle.run_acts.proofs.SettledEvented.{settling-events}
-use Rattle.safety_model.specs.Safe.{Devices}
-use Rattle.run_promise.specs.Between.{devices}
+use Rattle.device_calls.specs.safety_model.Safe.{Devices}
+use Rattle.run_minutes.specs.run_promise.Between.{devices}
 use Rattle.run_acts.proofs.CardStays.{timed-still}
 use Rattle.run_acts.proofs.CardPlaces.{timed-stays}
 use Rattle.run_acts.proofs.Readings.{values-read}

@@ -7,7 +7,7 @@ use Rattle.run_events.specs.Blocks.{IsWatchedOn}
 use Rattle.run_events.proofs.Newest.{knows-left}
 use Rattle.run_outcome.specs.declared.outcome.Outcome.{Outcome}
 use Rattle.run_insertion.proofs.Noted.{noted-ready, noted-row}
-use Rattle.run_promise.specs.Between.{devices}
+use Rattle.run_minutes.specs.run_promise.Between.{devices}
 use Rattle.run_minutes.proofs.Goes.{keeping_then, goes_on_unit, stands_by}
 use Rattle.run_minutes.proofs.Later.{state-by}
 use Rattle.run_acts.specs.declared.run.Run.{Run}

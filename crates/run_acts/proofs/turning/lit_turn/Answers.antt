@@ -1,6 +1,6 @@
 use Rattle.std.proofs.Common.{◌≡◌, ◌∙◌, ℕ, ◌+◌, ◌-◌, ◌*◌, ◌/◌, true, false, length, refl, ap, sym, subst, arith, ◌∷◌, [], ◌<◌, All, Bool, Option, ◌≤◌}
 use Rattle.std.specs.Prelude.{is_err, None}
-use Rattle.minute_model.specs.Span.{ungiven_of, fed_many}
+use Rattle.unit_model.specs.minute_model.Span.{ungiven_of, fed_many}
 use Rattle.minute_rules.proofs.GoingOn.{owing-few}
 use Rattle.log_model.specs.declared.lines.Break.{Break}
 use Rattle.run_outcome.specs.Lines.{Listed, cut_at}
@@ -22,12 +22,12 @@ use Rattle.run_acts.proofs.Torn.{cut-falls}
 use Rattle.run_acts.proofs.Turned.{turn-end, turn-most, turn-decides, turned-held, turned-cut, turned-lit}
 use Rattle.run_acts.proofs.Room.{Spends, room-lit, room-lost}
 use Rattle.run_acts.proofs.Uncut.{turn-uncut, uncut-broke, cut-broke}
-use Rattle.run_promise.specs.Between.{devices}
+use Rattle.run_minutes.specs.run_promise.Between.{devices}
 use Rattle.run_acts.proofs.TurnMany.{turn-events}
 use Rattle.run_minutes.proofs.Calm.{calm-more}
 use Rattle.trace_model.specs.declared.Card.{Card}
 use Rattle.run_acts.proofs.Due.{Decides}
-use Rattle.safety_model.specs.Safe.{Devices}
+use Rattle.device_calls.specs.safety_model.Safe.{Devices}
 use Rattle.run_acts.specs.Evented.{EventsLitTurn}
 use Rattle.run_acts.specs.Booked.{IsBookedTurn}
 use Rattle.run_acts.specs.Turning.{IsLitTurn, cut_breaks, cut_where, late_moment}
@@ -38,7 +38,7 @@ use Rattle.run_acts.specs.Faults.{NotesTurn}
 use Rattle.run_acts.specs.Speeds.{BringsBlock}
 use Rattle.run_acts.proofs.Speeds.{brings-cut, brings-on}
 use Rattle.run_minutes.specs.declared.keeper.Keeper.{Keeper}
-use Rattle.minute_model.specs.declared.Minute.{Minute}
+use Rattle.unit_model.specs.minute_model.declared.Minute.{Minute}
 use Rattle.run_acts.proofs.turning.lit_turn.Given.{Over}
 use Rattle.run_acts.proofs.turning.lit_turn.Goals.{After-as_slice, After-is_err, After-cut}
 use Rattle.run_minutes.proofs.Writes.{wrote-more}

@@ -1,7 +1,7 @@
 use Rattle.std.proofs.Common.{◌≡◌, ◌∙◌, ℕ, ◌+◌, ◌-◌, ◌<◌, Bool, true, false, List, [], ◌∷◌, ◌++◌, length, refl, ap, sym, subst, arith, append-nil, length-append}
 use Rattle.trace_model.specs.Trace.{TraceSecond, driven}
 use Rattle.log_model.specs.Log.{In}
-use Rattle.run_promise.specs.Between.{devices}
+use Rattle.run_minutes.specs.run_promise.Between.{devices}
 use Rattle.run_outcome.specs.declared.outcome.Outcome.{Outcome}
 use Rattle.run_acts.specs.declared.run.Run.{Run}
 use Rattle.run_acts.specs.Power.{is_lit, passed}
@@ -14,15 +14,15 @@ use Rattle.run_acts.proofs.TurnRecorded.{turn-lit, turn-dark}
 use Rattle.run_acts.proofs.Room.{room-dark}
 use Rattle.run_minutes.proofs.Later.{after-same}
 use Rattle.run_outcome.proofs.Broken.{broke-none}
-use Rattle.run_unit_course.specs.Followed.{Lost as IsLost}
+use Rattle.device_calls.specs.run_unit_course.Followed.{Lost as IsLost}
 use Rattle.run_note_record.specs.Noting.{Acting}
 use Rattle.run_acts.specs.declared.run.Power.{Power}
 use Rattle.run_acts.specs.declared.run.Power.TheVariants.{Lit, Lost}
 use Rattle.run_acts.specs.Evented.{CutEvented, WithinEvented, InSecondEventedBy, RunEvented}
 use Rattle.run_acts.proofs.TurnMany.{at-supply, dark-events}
 use Rattle.trace_model.specs.declared.Action.{Action}
-use Rattle.safety_model.specs.Safe.{Devices}
-use Rattle.run_promise.specs.Origin.{Origin}
+use Rattle.device_calls.specs.safety_model.Safe.{Devices}
+use Rattle.run_minutes.specs.run_promise.Origin.{Origin}
 use Rattle.run_acts.specs.RunRinged.{RunRinged, RingsWithin, WithinRinged, CutRinged, InSecondRingedBy, TurnedRings}
 use Rattle.run_acts.proofs.Comings.{leaves-more}
 use Rattle.run_acts.proofs.Ringing.{turn-leaves}

@@ -1,12 +1,12 @@
 use Rattle.std.proofs.lemmas.Grind.{common_steps}
 use Rattle.std.proofs.Common.{rules, ◌≡◌, ◌∙◌, ◌+◌, ◌≤◌, true, false, Option, Some, None, Ok, refl, ap, sym, subst, arith}
 use Rattle.std.specs.Prelude.{not, is_err, IfSome}
-use Rattle.card_layout.specs.declared.files.Application.{Application}
-use Rattle.card_commands.specs.Ports.{IsPort}
+use Rattle.card_files.specs.card_layout.declared.files.Application.{Application}
+use Rattle.device_calls.specs.card_commands.Ports.{IsPort}
 use Rattle.activity_codec.specs.declared.values.Activity.{Activity}
-use Rattle.card_session.specs.Sessions.{IsSession}
+use Rattle.device_calls.specs.card_session.Sessions.{IsSession}
 use Rattle.activity_codec.specs.Activity.{activity_of}
-use Rattle.card_session.specs.Cards.{IsCardClosing}
+use Rattle.device_calls.specs.card_session.Cards.{IsCardClosing}
 use Rattle.tach_media.specs.Medium.{LeavesOnly, broken_by}
 use Rattle.tach_media.proofs.Runs.{on_ok, ok_gives}
 use Rattle.tach_media.proofs.Breakdowns.{none_broken, call_broken, fewer_broken}
@@ -25,14 +25,14 @@ use Rattle.run_minutes.proofs.CardDeeds.{closed-alone}
 use Rattle.run_acts.specs.Stays.{ClosesOnCard}
 use Rattle.run_acts.specs.Acting.{Fell, IsClosingOf, Bare, Closed, IsClosed}
 use Rattle.run_acts.proofs.Cabins.{session-known, twice-ready}
-use Rattle.event_model.specs.declared.kinds.TheConstants.{CARD_FAULT}
+use Rattle.unit_notes.specs.event_model.declared.kinds.TheConstants.{CARD_FAULT}
 use Rattle.run_events.specs.Entries.{entry_of}
 use Rattle.run_minutes.proofs.CardBooked.{none-there, no-session}
 use Rattle.run_minutes.proofs.Fates.{no-lines}
 use Rattle.run_acts.proofs.NotedEvents.{one-noted, same-noted}
 use Rattle.run_acts.proofs.ActsNoted.{quiet-any}
 use Rattle.unit_notes.specs.Noting.{IsNotingEvent}
-use Rattle.run_rings.proofs.Same.{rings-left, rings-moments, table-outside}
+use Rattle.run_events.proofs.run_rings.Same.{rings-left, rings-moments, table-outside}
 use Rattle.run_acts.specs.Ringing.{ClosesRings}
 use Rattle.run_minutes.proofs.Later.{state-same, state-by}
 use Rattle.run_acts.specs.CardWrites.{ClosesCard}
@@ -41,7 +41,7 @@ use Rattle.run_outcome.specs.Lines.{Listed}
 use Rattle.log_model.specs.declared.lines.Break.{Break}
 use Rattle.run_minutes.proofs.Calm.{card-beside, card-fell, card-rests}
 use Rattle.run_acts.specs.Power.{with_cabin}
-use Rattle.run_speeds.proofs.Leaving.{leaves-none}
+use Rattle.run_events.proofs.run_speeds.Leaving.{leaves-none}
 use Rattle.run_events.proofs.NoteSpeeds.{event-leaves-speeds}
 use Rattle.run_acts.proofs.withdrawing.close.Given.{Over}
 use Rattle.run_acts.proofs.withdrawing.close.Goals.{In_default, In_default-sizes, After-note_withdrawal, After-tear}

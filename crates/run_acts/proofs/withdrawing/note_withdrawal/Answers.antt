@@ -5,11 +5,11 @@ use Rattle.run_acts.proofs.ActsNoted.{says-of, says-still, withdrawing-nothing}
 use Rattle.std.specs.Prelude.{is_err}
 use Rattle.tach_media.proofs.Runs.{ok_gives}
 use Rattle.tacho_types.specs.declared.numbers.Odometer.{Odometer}
-use Rattle.message_model.specs.Records.{insertion_ring}
+use Rattle.run_events.specs.message_model.Records.{insertion_ring}
 use Rattle.run_note_record.specs.Ringed.{Seating}
 use Rattle.run_acts.specs.Ringing.{odometer_of, Withdraws}
 use Rattle.run_acts.proofs.Ringing.{withdrawal-gone, withdrawal-noted}
-use Rattle.run_speeds.proofs.Leaving.{leaves-none}
+use Rattle.run_events.proofs.run_speeds.Leaving.{leaves-none}
 use Rattle.run_events.proofs.NoteSpeeds.{withdrawal-leaves}
 use Rattle.run_acts.proofs.withdrawing.note_withdrawal.Goals as goal
 

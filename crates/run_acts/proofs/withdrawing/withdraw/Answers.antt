@@ -5,13 +5,13 @@ use Rattle.trace_model.specs.declared.Card.{Card}
 use Rattle.trace_model.specs.declared.Card.TheVariants.{A, B}
 use Rattle.tach_media.proofs.Runs.{on_ok, ok_gives, cause_after, no_reads}
 use Rattle.activity_codec.specs.declared.values.Slot.{Slot}
-use Rattle.minute_model.specs.declared.Minute.{Minute}
-use Rattle.minute_model.specs.Span.{Span, settled, decided_in, ungiven_of}
+use Rattle.unit_model.specs.minute_model.declared.Minute.{Minute}
+use Rattle.unit_model.specs.minute_model.Span.{Span, settled, decided_in, ungiven_of}
 use Rattle.minute_rules.specs.Kept.{CountsSpan}
-use Rattle.safety_model.specs.Safe.{Devices}
-use Rattle.run_promise.specs.Between.{devices}
+use Rattle.device_calls.specs.safety_model.Safe.{Devices}
+use Rattle.run_minutes.specs.run_promise.Between.{devices}
 use Rattle.log_model.specs.declared.lines.Break.{Break}
-use Rattle.card_slots.specs.Calls.{seat_in, card_in, logged}
+use Rattle.run_crew.specs.card_slots.Calls.{seat_in, card_in, logged}
 use Rattle.run_crew.specs.declared.cabin.Cabin.{Cabin}
 use Rattle.run_crew.specs.Cards.{session_of}
 use Rattle.run_crew.specs.Cabin.{CabinIsSound, with_slot_left}
@@ -37,7 +37,7 @@ use Rattle.run_acts.specs.Recording.{RunFails, GoesOnOrFails, log_of, IsNow, Run
 use Rattle.run_acts.specs.Settling.{RecordsSettling}
 use Rattle.run_acts.proofs.Asked.{withdraws-one}
 use Rattle.run_acts.proofs.WithdrawnRecorded.{acting_at, moment-is, settling-cut, closing-recorded, settled-evented, closing-evented, untorn-then, sat-there, settled-still, settled-places, closed-places, closed-still, closed-shuts}
-use Rattle.run_rings.specs.Spans.{with_second}
+use Rattle.run_events.specs.run_rings.Spans.{with_second}
 use Rattle.run_note_record.specs.OnCards.{CardsStay}
 use Rattle.run_acts.proofs.CardPlaces.{stays-then}
 use Rattle.run_acts.proofs.SessionsClosed.{closes-alike}
@@ -46,7 +46,7 @@ use Rattle.run_acts.specs.Faults.{NotesSettling}
 use Rattle.run_acts.specs.Noting.{NotesWithdrawing, closed_events}
 use Rattle.run_acts.proofs.NotedEvents.{same-noted, noted-any}
 use Rattle.run_acts.proofs.ActsNoted.{settles-these, withdrawal-cut, withdrawal-noted, closing-any, same-closing}
-use Rattle.run_rings.proofs.Same.{rings-left}
+use Rattle.run_events.proofs.run_rings.Same.{rings-left}
 use Rattle.run_acts.specs.Ringing.{WithdrawsSo, ClosesRings}
 use Rattle.run_acts.proofs.Comings.{closes-more}
 use Rattle.run_acts.proofs.Ringing.{settling-leaves, closes-behind}
@@ -58,9 +58,9 @@ use Rattle.run_acts.specs.NotedEvents.{NotesEvents}
 use Rattle.run_acts.specs.Evented.{EventsGoOn, EventsSettling}
 use Rattle.activity_codec.specs.declared.values.Activity.{Activity}
 use Rattle.trace_model.specs.declared.Action.TheVariants.{Withdraw}
-use Rattle.card_session.specs.Sessions.{IsSession}
-use Rattle.card_session.specs.Cards.{IsCardClosing}
-use Rattle.message_model.specs.Records.{insertion_ring}
+use Rattle.device_calls.specs.card_session.Sessions.{IsSession}
+use Rattle.device_calls.specs.card_session.Cards.{IsCardClosing}
+use Rattle.run_events.specs.message_model.Records.{insertion_ring}
 use Rattle.run_crew.specs.declared.cards.Accepted.{Accepted}
 use Rattle.run_acts.specs.RunRinged.{RingsGoOn, RingsWithin}
 use Rattle.run_acts.proofs.Settled.{settled-decides}
@@ -77,17 +77,17 @@ use Rattle.trace_model.specs.declared.Action.{Action}
 use Rattle.run_minutes.specs.Later.{AreCalm, AreLater}
 use Rattle.run_acts.specs.Devices.{AreLeftMore}
 use Rattle.run_minutes.specs.Decided.{BooksAll}
-use Rattle.card_layout.specs.declared.command.CardState.{CardState}
+use Rattle.card_files.specs.card_layout.declared.command.CardState.{CardState}
 use Rattle.run_note_record.specs.EventsSoFar.{EventedNow}
-use Rattle.run_promise.specs.Beside.{HaveLeftMore}
+use Rattle.run_minutes.specs.run_promise.Beside.{HaveLeftMore}
 use Rattle.run_minutes.specs.Books.{HaveTime}
 use Rattle.run_acts.proofs.OneCard.{OneCard, calm-by, keeps-by, later-by, unit-is, card-is, none-there, on_a, on_b, held-closed, going-closed}
-use Rattle.run_promise.specs.Origin.{Origin}
-use Rattle.note_model.specs.Odometer.{SpanFrom}
+use Rattle.run_minutes.specs.run_promise.Origin.{Origin}
+use Rattle.unit_notes.specs.note_model.Odometer.{SpanFrom}
 use Rattle.trace_model.specs.Trace.{TraceSecond}
-use Rattle.run_devices.specs.Told.{arranged}
+use Rattle.run_minutes.specs.run_devices.Told.{arranged}
 use Rattle.log_model.specs.Slots.{refusal}
-use Rattle.run_rings.specs.Same.{LeavesRings}
+use Rattle.run_events.specs.run_rings.Same.{LeavesRings}
 use Rattle.run_acts.specs.Acts.{ClosesSession}
 use Rattle.run_acts.proofs.withdrawing.withdraw.Given.{Over}
 use Rattle.run_acts.proofs.withdrawing.withdraw.Goals.{In_ok-settle, In_default, After-from_residual, After-close, After-close-in-B}

@@ -1,7 +1,7 @@
-use Rattle.trace_model.specs.declared.Card.{Card}
-use Rattle.trace_model.specs.declared.Card.TheVariants.{A, B}
+use Rattle.device_calls.specs.trace_model.declared.Card.{Card}
+use Rattle.device_calls.specs.trace_model.declared.Card.TheVariants.{A, B}
 use Rattle.tach_media.specs.Medium.{State, IsCoherent}
-use Rattle.unit_rule.specs.Safe.{card_of}
+use Rattle.device_calls.specs.unit_rule.Safe.{card_of}
 use Rattle.run_promise.specs.Between.{devices}
 use Rattle.run_devices.proofs.Parts.{power-lost}
 use Rattle.run_devices.proofs.Power.{found-powerless}

@@ -4,8 +4,8 @@ use Rattle.std.specs.Prelude.{is_err, Result, Err}
 use Rattle.card_layout.specs.declared.files.Application.{Application}
 use Rattle.card_layout.specs.Application.{place_of_field}
 use Rattle.card_layout.proofs.Sizes.{largest_image}
-use Rattle.card_image.specs.Own.{own_sizes}
-use Rattle.run_promise.specs.Found.{found_of}
+use Rattle.card_validity.specs.card_image.Own.{own_sizes}
+use Rattle.run_minutes.specs.run_promise.Found.{found_of}
 use Rattle.run_crew.specs.declared.cabin.Cabin.{Cabin}
 use Rattle.run_crew.specs.Cards.{known_of}
 use Rattle.run_crew.specs.Cabin.{with_sizes_of, torn_out}
@@ -14,9 +14,9 @@ use Rattle.run_minutes.proofs.Units.{row-measured}
 use Rattle.run_insertion.specs.Entering.{Unread, Unsized, Judged, Unfit, APPLICATION_FILE, outcome_by}
 use Rattle.run_insertion.specs.Noted.{HasNoted, IsOnUnit, IsComing, fault_of, notes_by}
 use Rattle.run_insertion.specs.Entered.{IsMeasured, IsJudgedSo, HasEntered}
-use Rattle.device_rule.specs.Rules.{Out}
-use Rattle.run_devices.specs.Told.{with_standing}
-use Rattle.run_devices.proofs.Putting.{out-now}
+use Rattle.device_calls.specs.device_rule.Rules.{Out}
+use Rattle.run_minutes.specs.run_devices.Told.{with_standing}
+use Rattle.run_minutes.proofs.run_devices.Putting.{out-now}
 use Rattle.run_insertion.specs.declared.waking.TheConstants.{UNTOLD}
 use Rattle.run_insertion.specs.Told.{BooksJudged, BooksEntered}
 use Rattle.run_insertion.proofs.Carried.{noted-carried, found-fallen}

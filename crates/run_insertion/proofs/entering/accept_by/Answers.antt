@@ -2,11 +2,11 @@ use Rattle.std.proofs.lemmas.Grind.{common_steps}
 use Rattle.std.proofs.Common.{◌≡◌, ◌<◌, ◌^◌, ℕ, rules, arith, length, Option, None, Ok, List, IfSome, option_map, refl, sym, subst, ap, [], ◌≤◌}
 use Rattle.tacho_types.specs.CardNumber.{card_number_bytes}
 use Rattle.tacho_types.specs.declared.card_number.FullCardNumber.{FullCardNumber}
-use Rattle.unit_owed.specs.Rows.{IsRowFor}
-use Rattle.device_rule.specs.Views.{other}
+use Rattle.device_calls.specs.unit_owed.Rows.{IsRowFor}
+use Rattle.device_calls.specs.device_rule.Views.{other}
 use Rattle.run_crew.specs.Cards.{known_of}
 use Rattle.std.specs.Prelude.{is_err, Err, Result}
-use Rattle.unit_memory.specs.declared.format.Identity.{Identity}
+use Rattle.run_minutes.specs.unit_memory.declared.format.Identity.{Identity}
 use Rattle.device_calls.specs.declared.entering.Entered.{Entered}
 use Rattle.device_calls.specs.declared.entering.NotEntered.{NotEntered}
 use Rattle.device_calls.specs.declared.entering.NotEntered.TheVariants.{UnitFailed, CardFailed, NotValid, TimeOverlap}

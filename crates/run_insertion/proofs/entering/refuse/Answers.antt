@@ -1,5 +1,5 @@
 use Rattle.tach_media.proofs.Runs.{ok_gives}
-use Rattle.event_model.specs.declared.kinds.TheConstants.{CARD_NOT_VALID}
+use Rattle.unit_notes.specs.event_model.declared.kinds.TheConstants.{CARD_NOT_VALID}
 use Rattle.run_insertion.specs.Noted.{IsOnUnit, IsComing, event_of}
 use Rattle.run_insertion.proofs.Notes.{one-note}
 use Rattle.run_insertion.proofs.entering.refuse.Goals as goal

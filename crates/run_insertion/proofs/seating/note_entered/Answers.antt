@@ -1,7 +1,7 @@
 use Rattle.std.proofs.lemmas.Grind.{common_steps}
 use Rattle.std.proofs.Common.{◌≡◌, arith, Bool, true, false, refl, rules, subst}
 use Rattle.std.specs.Prelude.{is_err}
-use Rattle.run_devices.specs.Told.{arranged}
+use Rattle.run_minutes.specs.run_devices.Told.{arranged}
 use Rattle.run_insertion.specs.Told.{BooksNotes}
 use Rattle.run_insertion.proofs.Opening.{beside-none}
 use Rattle.run_insertion.proofs.Carried.{noted-carried, unclosed-carried}

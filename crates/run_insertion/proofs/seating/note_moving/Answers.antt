@@ -1,13 +1,13 @@
 use Rattle.std.proofs.lemmas.Grind.{common_steps}
 use Rattle.std.proofs.Common.{◌≡◌, Bool, true, false, rules, refl, subst, arith, ap}
 use Rattle.std.specs.Prelude.{None, is_err}
-use Rattle.event_model.specs.declared.kinds.TheConstants.{INSERTION_WHILE_DRIVING}
+use Rattle.unit_notes.specs.event_model.declared.kinds.TheConstants.{INSERTION_WHILE_DRIVING}
 use Rattle.run_insertion.specs.Noted.{IsOnUnit, IsComing, event_of}
 use Rattle.run_insertion.specs.Entered.{IsMoved}
 use Rattle.run_insertion.proofs.Opening.{beside-none}
 use Rattle.run_insertion.proofs.Notes.{not_cut, one-note, fault-noted}
 use Rattle.card_layout.proofs.Sizes.{largest_image}
-use Rattle.run_devices.specs.Told.{arranged}
+use Rattle.run_minutes.specs.run_devices.Told.{arranged}
 use Rattle.run_insertion.specs.Told.{BooksNotes}
 use Rattle.run_insertion.proofs.Carried as booked
 use Rattle.run_insertion.proofs.Accepted.{event-is, moved-cut, moved-kept, moved-torn}

@@ -2,15 +2,15 @@ use Rattle.std.proofs.lemmas.Grind.{common_steps}
 use Rattle.std.proofs.Common.{◌≡◌, ℕ, Bool, true, rules, inl, arith, Option, Some, None, List, IfSome, option_map, refl, sym, subst}
 use Rattle.std.specs.Prelude.{is_err}
 use Rattle.tacho_types.specs.declared.card_number.FullCardNumber.{FullCardNumber}
-use Rattle.unit_owed.specs.Rows.{IsRowFor}
-use Rattle.device_rule.specs.Views.{other}
+use Rattle.device_calls.specs.unit_owed.Rows.{IsRowFor}
+use Rattle.device_calls.specs.device_rule.Views.{other}
 use Rattle.run_crew.specs.Cards.{known_of}
 use Rattle.tacho_types.specs.CardNumber.{card_number_bytes}
 use Rattle.tach_media.proofs.Runs.{on_ok, ok_gives}
 use Rattle.run_crew.specs.declared.cabin.Cabin.{Cabin}
 use Rattle.run_minutes.specs.Keeping.{HasItsRow}
 use Rattle.run_minutes.proofs.Units.{unit-stays, agrees-noted, has-row, row-noted, row-for-noted}
-use Rattle.run_devices.specs.Told.{arranged}
+use Rattle.run_minutes.specs.run_devices.Told.{arranged}
 use Rattle.run_insertion.specs.Entering.{insertion_of, seated}
 use Rattle.run_insertion.specs.Told.{IsCarriedOn, with_brought, carried_row}
 use Rattle.run_insertion.proofs.Carried.{brought-powered, seat-carried, noted-carried}

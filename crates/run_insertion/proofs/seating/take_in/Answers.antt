@@ -4,7 +4,7 @@ use Rattle.std.specs.Prelude.{is_err}
 use Rattle.log_model.specs.Causes.{device_of}
 use Rattle.run_insertion.specs.Entering.{and_marks, last_of, taken_as}
 use Rattle.run_insertion.specs.Entered.{IsEntry, IsTaken}
-use Rattle.run_devices.specs.Told.{arranged}
+use Rattle.run_minutes.specs.run_devices.Told.{arranged}
 use Rattle.run_insertion.specs.Told.{BooksTaken}
 use Rattle.run_insertion.proofs.Opening.{beside-none}
 use Rattle.run_insertion.proofs.Carried.{taken-row, seat-found, taken-notes}

@@ -1,4 +1,4 @@
-use Rattle.run_promise.specs.Between.{devices}
+use Rattle.run_devices.specs.run_promise.Between.{devices}
 use Rattle.run_note_record.proofs.Dark.{dark-brings}
 use Rattle.run_note_record.proofs.event_laws.a_dark_second_brings_nothing.Goals as goal
 

@@ -1,4 +1,4 @@
-use Rattle.run_promise.specs.Between.{devices}
+use Rattle.run_devices.specs.run_promise.Between.{devices}
 use Rattle.run_note_record.proofs.Dark.{power-on_broken}
 use Rattle.run_note_record.proofs.event_laws.a_power_on_is_broken.Goals as goal
 

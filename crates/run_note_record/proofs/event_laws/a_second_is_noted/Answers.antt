@@ -1,4 +1,4 @@
-use Rattle.run_promise.specs.Between.{devices}
+use Rattle.run_devices.specs.run_promise.Between.{devices}
 use Rattle.run_note_record.proofs.Seconds.{second-noted}
 use Rattle.run_note_record.proofs.event_laws.a_second_is_noted.Goals as goal
 

@@ -1,4 +1,4 @@
-use Rattle.run_promise.specs.Between.{devices}
+use Rattle.run_devices.specs.run_promise.Between.{devices}
 use Rattle.run_note_record.proofs.Seconds.{events-found}
 use Rattle.run_note_record.proofs.event_laws.events_are_found.Goals as goal
 

@@ -1,4 +1,4 @@
-use Rattle.run_promise.specs.Between.{devices}
+use Rattle.run_devices.specs.run_promise.Between.{devices}
 use Rattle.run_note_record.proofs.Ends.{events-shown}
 use Rattle.run_note_record.proofs.event_laws.events_are_shown.Goals as goal
 

@@ -1,4 +1,4 @@
-use Rattle.run_promise.specs.Between.{devices}
+use Rattle.run_devices.specs.run_promise.Between.{devices}
 use Rattle.run_note_record.proofs.Noting.{second-is_cut}
 use Rattle.run_note_record.proofs.event_laws.the_second_is_cut.Goals as goal
 

@@ -1,4 +1,4 @@
-use Rattle.run_promise.specs.Between.{devices}
+use Rattle.run_devices.specs.run_promise.Between.{devices}
 use Rattle.run_note_record.proofs.Unlit.{off-line}
 use Rattle.run_note_record.proofs.going.an_off_line_brings_nothing.Goals as goal
 

@@ -1,4 +1,4 @@
-use Rattle.run_promise.specs.Between.{devices}
+use Rattle.run_devices.specs.run_promise.Between.{devices}
 use Rattle.run_note_record.proofs.Unlit.{dark-seconds}
 use Rattle.run_note_record.proofs.going.dark_seconds_bring_nothing.Goals as goal
 

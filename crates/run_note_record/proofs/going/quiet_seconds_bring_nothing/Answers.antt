@@ -1,4 +1,4 @@
-use Rattle.run_promise.specs.Between.{devices}
+use Rattle.run_devices.specs.run_promise.Between.{devices}
 use Rattle.run_note_record.proofs.Quiet.{quiet-brings_nothing}
 use Rattle.run_note_record.proofs.going.quiet_seconds_bring_nothing.Goals as goal
 

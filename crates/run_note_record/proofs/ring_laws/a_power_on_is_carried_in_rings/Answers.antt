@@ -1,4 +1,4 @@
-use Rattle.run_promise.specs.Between.{devices}
+use Rattle.run_devices.specs.run_promise.Between.{devices}
 use Rattle.run_note_record.proofs.RingsWaking.{power-begins, passed-anew, accepted-anew, cut-anew}
 use Rattle.run_note_record.proofs.ring_laws.a_power_on_is_carried_in_rings.Goals as goal
 

@@ -1,4 +1,4 @@
-use Rattle.run_promise.specs.Between.{devices}
+use Rattle.run_devices.specs.run_promise.Between.{devices}
 use Rattle.run_note_record.proofs.SoFar.{second-begins, notes-nothing, second-ends, cut-ends, dark-ends}
 use Rattle.run_note_record.proofs.ring_laws.a_second_is_carried_in_rings.Goals as goal
 

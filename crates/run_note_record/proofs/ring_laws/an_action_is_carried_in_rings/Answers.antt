@@ -1,4 +1,4 @@
-use Rattle.run_promise.specs.Between.{devices}
+use Rattle.run_devices.specs.run_promise.Between.{devices}
 use Rattle.run_note_record.proofs.RingSteps.{passes, action-cut, place-entered, place-is-cut, card-withdrawn, withdrawal-is-cut, card-accepted, acceptance-is-cut}
 use Rattle.run_note_record.proofs.ring_laws.an_action_is_carried_in_rings.Goals as goal
 

@@ -1,4 +1,4 @@
-use Rattle.run_promise.specs.Between.{devices}
+use Rattle.run_devices.specs.run_promise.Between.{devices}
 use Rattle.run_note_record.proofs.Around.{insertion-around}
 use Rattle.run_note_record.proofs.ring_laws.an_insertion_is_noted.Goals as goal
 

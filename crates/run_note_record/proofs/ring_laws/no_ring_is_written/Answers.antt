@@ -1,4 +1,4 @@
-use Rattle.run_promise.specs.Between.{devices}
+use Rattle.run_devices.specs.run_promise.Between.{devices}
 use Rattle.run_note_record.proofs.Rings.{none-noted}
 use Rattle.run_note_record.proofs.ring_laws.no_ring_is_written.Goals as goal
 

@@ -1,4 +1,4 @@
-use Rattle.run_promise.specs.Between.{devices}
+use Rattle.run_devices.specs.run_promise.Between.{devices}
 use Rattle.run_note_record.proofs.Shown.{rings-shown, places-shown}
 use Rattle.run_note_record.proofs.ring_laws.rings_are_shown.Goals as goal
 

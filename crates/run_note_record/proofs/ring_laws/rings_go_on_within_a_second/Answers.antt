@@ -1,4 +1,4 @@
-use Rattle.run_promise.specs.Between.{devices}
+use Rattle.run_devices.specs.run_promise.Between.{devices}
 use Rattle.run_note_record.proofs.SoFar.{go-on-in, action-noted}
 use Rattle.run_note_record.proofs.ring_laws.rings_go_on_within_a_second.Goals as goal
 

@@ -1,4 +1,4 @@
-use Rattle.run_promise.specs.Between.{devices}
+use Rattle.run_devices.specs.run_promise.Between.{devices}
 use Rattle.run_note_record.proofs.Finding.{find-adds}
 use Rattle.run_note_record.proofs.steps.a_find_adds.Goals as goal
 

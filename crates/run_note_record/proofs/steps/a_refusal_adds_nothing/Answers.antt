@@ -1,4 +1,4 @@
-use Rattle.run_promise.specs.Between.{devices}
+use Rattle.run_devices.specs.run_promise.Between.{devices}
 use Rattle.run_note_record.proofs.Passing.{refusal-adds}
 use Rattle.run_note_record.proofs.steps.a_refusal_adds_nothing.Goals as goal
 

@@ -1,4 +1,4 @@
-use Rattle.run_promise.specs.Between.{devices}
+use Rattle.run_devices.specs.run_promise.Between.{devices}
 use Rattle.run_note_record.proofs.Falling.{tear-adds}
 use Rattle.run_note_record.proofs.steps.a_tear_adds.Goals as goal
 

@@ -1,4 +1,4 @@
-use Rattle.run_promise.specs.Between.{devices}
+use Rattle.run_devices.specs.run_promise.Between.{devices}
 use Rattle.run_note_record.proofs.Adding.{steps-follow}
 use Rattle.run_note_record.proofs.steps.steps_follow.Goals as goal
 

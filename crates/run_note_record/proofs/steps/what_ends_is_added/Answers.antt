@@ -1,4 +1,4 @@
-use Rattle.run_promise.specs.Between.{devices}
+use Rattle.run_devices.specs.run_promise.Between.{devices}
 use Rattle.run_note_record.proofs.Ending.{ends-added}
 use Rattle.run_note_record.proofs.steps.what_ends_is_added.Goals as goal
 

@@ -1,8 +1,8 @@
-use Rattle.trace_model.specs.declared.Card.{Card}
-use Rattle.trace_model.specs.declared.Card.TheVariants.{A, B}
-use Rattle.unit_model.specs.Image.{last_kept}
+use Rattle.run_course.specs.trace_model.declared.Card.{Card}
+use Rattle.run_course.specs.trace_model.declared.Card.TheVariants.{A, B}
+use Rattle.unit_rule.specs.unit_model.Image.{last_kept}
 use Rattle.tach_media.specs.Medium.{State, IsCoherent}
-use Rattle.safety_model.specs.Safe.{card_of}
+use Rattle.unit_rule.specs.safety_model.Safe.{card_of}
 use Rattle.run_promise.specs.Between.{devices}
 use Rattle.run_promise.proofs.End.{safe-followed}
 use Rattle.run_promise.proofs.AccountsEnd.{ends-follow, ends-brought}

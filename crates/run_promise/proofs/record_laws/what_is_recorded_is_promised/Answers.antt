@@ -1,7 +1,7 @@
-use Rattle.trace_model.specs.declared.Card.{Card}
-use Rattle.trace_model.specs.declared.Card.TheVariants.{A, B}
+use Rattle.run_course.specs.trace_model.declared.Card.{Card}
+use Rattle.run_course.specs.trace_model.declared.Card.TheVariants.{A, B}
 use Rattle.tach_media.specs.Medium.{State, IsCoherent}
-use Rattle.safety_model.specs.Safe.{card_of}
+use Rattle.unit_rule.specs.safety_model.Safe.{card_of}
 use Rattle.run_promise.specs.Between.{devices}
 use Rattle.run_promise.proofs.RecordEnds.{ends-run}
 use Rattle.run_promise.proofs.record_laws.what_is_recorded_is_promised.Goals as goal

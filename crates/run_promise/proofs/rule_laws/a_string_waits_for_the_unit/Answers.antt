@@ -1,8 +1,8 @@
-use Rattle.device_rule.specs.Views.{other}
-use Rattle.device_rule.specs.Steps.{IsPutting, IsBeginning}
-use Rattle.device_rule.specs.Marked.{IsBeside}
-use Rattle.device_rule.proofs.Owing.{row-same}
-use Rattle.device_rule.proofs.KeepLaws.{putting-beside}
+use Rattle.unit_rule.specs.device_rule.Views.{other}
+use Rattle.unit_rule.specs.device_rule.Steps.{IsPutting, IsBeginning}
+use Rattle.unit_rule.specs.device_rule.Marked.{IsBeside}
+use Rattle.unit_rule.proofs.device_rule.Owing.{row-same}
+use Rattle.unit_rule.proofs.device_rule.KeepLaws.{putting-beside}
 use Rattle.run_promise.proofs.Waiting.{strung-found, comes-mended, comes-put, comes-beside, comes-begun}
 use Rattle.run_promise.proofs.rule_laws.a_string_waits_for_the_unit.Goals as goal
 

@@ -1,5 +1,5 @@
-use Rattle.trace_model.specs.declared.Card.{Card}
-use Rattle.trace_model.specs.declared.Card.TheVariants.{A, B}
+use Rattle.run_course.specs.trace_model.declared.Card.{Card}
+use Rattle.run_course.specs.trace_model.declared.Card.TheVariants.{A, B}
 use Rattle.tach_media.specs.Medium.{State, IsCoherent}
 use Rattle.unit_rule.specs.Safe.{card_of}
 use Rattle.run_promise.specs.Between.{devices}

@@ -1,8 +1,8 @@
 use Rattle.std.proofs.Common.{◌≡◌, ℕ, List}
-use Rattle.trace_model.specs.declared.Card.{Card}
-use Rattle.trace_model.specs.declared.Card.TheVariants.{A, B}
+use Rattle.run_course.specs.trace_model.declared.Card.{Card}
+use Rattle.run_course.specs.trace_model.declared.Card.TheVariants.{A, B}
 use Rattle.tach_media.specs.Medium.{State, IsCoherent}
-use Rattle.device_rule.specs.Own.{IsOwnValid}
+use Rattle.unit_rule.specs.device_rule.Own.{IsOwnValid}
 use Rattle.unit_rule.specs.Safe.{card_of}
 use Rattle.run_promise.specs.Found.{Found, found_of}
 use Rattle.run_promise.specs.Between.{devices}

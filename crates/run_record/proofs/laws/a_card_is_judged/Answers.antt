@@ -1,4 +1,4 @@
-use Rattle.run_promise.specs.Between.{devices}
+use Rattle.run_devices.specs.run_promise.Between.{devices}
 use Rattle.run_record.proofs.Judging.{judged-so}
 use Rattle.run_record.proofs.laws.a_card_is_judged.Goals as goal
 

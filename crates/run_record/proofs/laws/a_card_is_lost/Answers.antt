@@ -1,4 +1,4 @@
-use Rattle.run_promise.specs.Between.{devices}
+use Rattle.run_devices.specs.run_promise.Between.{devices}
 use Rattle.run_record.proofs.Losing.{card-lost}
 use Rattle.run_record.proofs.laws.a_card_is_lost.Goals as goal
 

@@ -1,4 +1,4 @@
-use Rattle.run_promise.specs.Between.{devices}
+use Rattle.run_devices.specs.run_promise.Between.{devices}
 use Rattle.run_record.proofs.Judging.{judging-fails}
 use Rattle.run_record.proofs.laws.a_judging_fails.Goals as goal
 

@@ -1,4 +1,4 @@
-use Rattle.run_promise.specs.Between.{devices}
+use Rattle.run_devices.specs.run_promise.Between.{devices}
 use Rattle.run_record.proofs.Powering.{mending-fails}
 use Rattle.run_record.proofs.laws.a_mending_fails.Goals as goal
 

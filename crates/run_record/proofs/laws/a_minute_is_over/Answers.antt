@@ -1,4 +1,4 @@
-use Rattle.run_promise.specs.Between.{devices}
+use Rattle.run_devices.specs.run_promise.Between.{devices}
 use Rattle.run_record.proofs.Beginning.{minute-over}
 use Rattle.run_record.proofs.laws.a_minute_is_over.Goals as goal
 

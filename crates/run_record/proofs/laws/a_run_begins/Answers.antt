@@ -1,4 +1,4 @@
-use Rattle.run_promise.specs.Between.{devices}
+use Rattle.run_devices.specs.run_promise.Between.{devices}
 use Rattle.run_record.proofs.Going.{begun-recorded}
 use Rattle.run_record.proofs.laws.a_run_begins.Goals as goal
 

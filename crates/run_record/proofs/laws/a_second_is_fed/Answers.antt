@@ -1,4 +1,4 @@
-use Rattle.run_promise.specs.Between.{devices}
+use Rattle.run_devices.specs.run_promise.Between.{devices}
 use Rattle.run_record.proofs.Feeding.{second-is_fed}
 use Rattle.run_record.proofs.laws.a_second_is_fed.Goals as goal
 

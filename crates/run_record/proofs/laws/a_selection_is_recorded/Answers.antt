@@ -1,4 +1,4 @@
-use Rattle.run_promise.specs.Between.{devices}
+use Rattle.run_devices.specs.run_promise.Between.{devices}
 use Rattle.run_record.proofs.Acting.{selection-recorded}
 use Rattle.run_record.proofs.laws.a_selection_is_recorded.Goals as goal
 

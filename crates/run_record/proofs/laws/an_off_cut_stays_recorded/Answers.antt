@@ -1,4 +1,4 @@
-use Rattle.run_promise.specs.Between.{devices}
+use Rattle.run_devices.specs.run_promise.Between.{devices}
 use Rattle.run_record.proofs.Going.{off-cut-recorded}
 use Rattle.run_record.proofs.laws.an_off_cut_stays_recorded.Goals as goal
 

@@ -1,4 +1,4 @@
-use Rattle.run_promise.specs.Between.{devices}
+use Rattle.run_devices.specs.run_promise.Between.{devices}
 use Rattle.run_record.proofs.Going.{dark-recorded}
 use Rattle.run_record.proofs.laws.dark_seconds_stay_recorded.Goals as goal
 

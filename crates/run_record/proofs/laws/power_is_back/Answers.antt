@@ -1,4 +1,4 @@
-use Rattle.run_promise.specs.Between.{devices}
+use Rattle.run_devices.specs.run_promise.Between.{devices}
 use Rattle.run_record.proofs.Powering.{power-back}
 use Rattle.run_record.proofs.laws.power_is_back.Goals as goal
 

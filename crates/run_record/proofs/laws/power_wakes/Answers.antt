@@ -1,4 +1,4 @@
-use Rattle.run_promise.specs.Between.{devices}
+use Rattle.run_devices.specs.run_promise.Between.{devices}
 use Rattle.run_record.proofs.Powering.{power-wakes}
 use Rattle.run_record.proofs.laws.power_wakes.Goals as goal
 

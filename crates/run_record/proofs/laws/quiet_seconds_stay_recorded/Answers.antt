@@ -1,4 +1,4 @@
-use Rattle.run_promise.specs.Between.{devices}
+use Rattle.run_devices.specs.run_promise.Between.{devices}
 use Rattle.run_record.proofs.Going.{quiet-recorded}
 use Rattle.run_record.proofs.laws.quiet_seconds_stay_recorded.Goals as goal
 

@@ -1,4 +1,4 @@
-use Rattle.run_promise.specs.Between.{devices}
+use Rattle.run_devices.specs.run_promise.Between.{devices}
 use Rattle.run_record.proofs.Ending.{second-over}
 use Rattle.run_record.proofs.laws.the_second_is_over.Goals as goal
 

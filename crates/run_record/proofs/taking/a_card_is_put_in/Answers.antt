@@ -1,4 +1,4 @@
-use Rattle.run_promise.specs.Between.{devices}
+use Rattle.run_devices.specs.run_promise.Between.{devices}
 use Rattle.run_record.proofs.Putting.{card-put}
 use Rattle.run_record.proofs.taking.a_card_is_put_in.Goals as goal
 

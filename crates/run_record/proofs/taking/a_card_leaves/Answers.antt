@@ -1,4 +1,4 @@
-use Rattle.run_promise.specs.Between.{devices}
+use Rattle.run_devices.specs.run_promise.Between.{devices}
 use Rattle.run_record.proofs.Leaving.{card-leaves}
 use Rattle.run_record.proofs.taking.a_card_leaves.Goals as goal
 

@@ -1,4 +1,4 @@
-use Rattle.run_promise.specs.Between.{devices}
+use Rattle.run_devices.specs.run_promise.Between.{devices}
 use Rattle.run_record.proofs.Closing.{closing-fails}
 use Rattle.run_record.proofs.taking.a_closing_fails.Goals as goal
 

@@ -1,4 +1,4 @@
-use Rattle.run_promise.specs.Between.{devices}
+use Rattle.run_devices.specs.run_promise.Between.{devices}
 use Rattle.run_record.proofs.Closing.{leaving-torn}
 use Rattle.run_record.proofs.taking.a_leaving_card_is_torn.Goals as goal
 

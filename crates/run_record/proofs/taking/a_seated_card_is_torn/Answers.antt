@@ -1,4 +1,4 @@
-use Rattle.run_promise.specs.Between.{devices}
+use Rattle.run_devices.specs.run_promise.Between.{devices}
 use Rattle.run_record.proofs.Seated.{seated-torn}
 use Rattle.run_record.proofs.taking.a_seated_card_is_torn.Goals as goal
 

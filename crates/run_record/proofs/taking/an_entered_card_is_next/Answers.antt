@@ -1,4 +1,4 @@
-use Rattle.run_promise.specs.Between.{devices}
+use Rattle.run_devices.specs.run_promise.Between.{devices}
 use Rattle.run_record.proofs.Putting.{entered-next}
 use Rattle.run_record.proofs.taking.an_entered_card_is_next.Goals as goal
 

@@ -2,7 +2,7 @@ use Rattle.std.proofs.Common.{◌≡◌, ℕ, ◌+◌, map, refl, sym, ◌∙◌
 use Rattle.std.specs.Prelude.{◌==◌, ◌||◌, nat_lt}
 use Rattle.std.specs.List.{range_with_len}
 use Rattle.std.proofs.lemmas.List.FromFn.{map-range_with_len_more}
-use Rattle.gated_ring.specs.Ring.{number_at}
+use Rattle.unit_model.specs.gated_ring.Ring.{number_at}
 use Rattle.tach_media.proofs.Runs.{reads_then}
 use Rattle.unit_model.specs.Days.{word_minute}
 use Rattle.unit_model.specs.Decoding.{first_failing, cell_check, cell_place, or_failing}

@@ -1,5 +1,5 @@
 use Rattle.std.proofs.Common.{◌≡◌, refl, ◌∙◌, IfSome}
-use Rattle.gated_ring.specs.Ring.{number_at}
+use Rattle.unit_model.specs.gated_ring.Ring.{number_at}
 use Rattle.unit_model.specs.declared.layout.TheConstants.{ODOMETER, OVER_COUNT, RULE_BYTE}
 use Rattle.unit_model.specs.Image.{odometer_at}
 use Rattle.unit_model.specs.Decoding.{first_failing}

@@ -1,6 +1,6 @@
 use Rattle.std.proofs.Common.{◌≡◌, ◌-◌, ◌/◌, None, is_some, refl, ◌∙◌, ap, arith}
 use Rattle.std.specs.List.{range_with_len}
-use Rattle.gated_ring.specs.Ring.{number_at, pointer}
+use Rattle.unit_model.specs.gated_ring.Ring.{number_at, pointer}
 use Rattle.tach_media.proofs.Runs.{reads_then, at_image}
 use Rattle.unit_model.specs.declared.layout.TheConstants.{DAYS, DAY_SLOTS, LAST_KEPT}
 use Rattle.unit_model.specs.Image.{last_kept, day_ring}

@@ -1,5 +1,5 @@
 use Rattle.std.proofs.Common.{◌≡◌, ℕ, ◌+◌, ◌-◌, ◌*◌, List, ◌++◌, arith, sym, ap, ◌∙◌}
-use Rattle.gated_ring.specs.Ring.{number_at}
+use Rattle.unit_model.specs.gated_ring.Ring.{number_at}
 use Rattle.unit_model.specs.Image.{words_at}
 use Rattle.unit_model.proofs.Words.{words_split}
 use Rattle.unit_memory.specs.Scans.{scan_from}

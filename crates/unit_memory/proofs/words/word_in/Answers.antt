@@ -1,5 +1,5 @@
 use Rattle.std.proofs.Common.{◌∙◌, sym}
-use Rattle.card_layout.proofs.Spelled.{number_two_bytes}
+use Rattle.tach_media.proofs.card_layout.Spelled.{number_two_bytes}
 use Rattle.unit_memory.proofs.words.word_in.Goals as goal
 
 pub returns : goal.returns

@@ -1,8 +1,8 @@
 use Rattle.std.proofs.Common.{ℕ, ◌+◌, List, min, ap, ◌∙◌}
-use Rattle.unit_model.specs.declared.layout.TheConstants.{HIGHEST_ODOMETER}
-use Rattle.unit_model.specs.Image.{last_kept}
-use Rattle.log_model.specs.Spans.{spans_of}
-use Rattle.history_model.specs.History.{limit_of}
+use Rattle.unit_minutes.specs.unit_model.declared.layout.TheConstants.{HIGHEST_ODOMETER}
+use Rattle.unit_minutes.specs.unit_model.Image.{last_kept}
+use Rattle.run_unit_course.specs.log_model.Spans.{spans_of}
+use Rattle.run_unit_course.specs.history_model.History.{limit_of}
 use Rattle.run_unit_course.specs.Legs.{kilometres_of}
 use Rattle.run_unit_course.proofs.Legs.{legs-whole}
 use Rattle.unit_rule.proofs.laws.a_whole_odometer.Goals as goal

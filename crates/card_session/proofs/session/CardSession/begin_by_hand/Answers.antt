@@ -3,7 +3,7 @@ use Rattle.std.specs.Prelude.{is_err}
 use Rattle.tach_media.proofs.Runs.{ok_gives}
 use Rattle.card_layout.specs.declared.files.Application.{Application}
 use Rattle.std.proofs.lemmas.Result.{on_ok_weaker}
-use Rattle.card_model.specs.Changes.{date_of}
+use Rattle.card_days.specs.card_model.Changes.{date_of}
 use Rattle.hand_model.specs.Manual.{manual_word}
 use Rattle.card_session.proofs.FewWrites.{ends_as}
 use Rattle.hand_model.proofs.Words.{minute_is}

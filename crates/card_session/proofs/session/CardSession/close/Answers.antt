@@ -5,7 +5,7 @@ use Rattle.activity_codec.specs.declared.values.Activity.{Activity}
 use Rattle.tach_media.specs.Medium.{LeavesOnly, LiesInside}
 use Rattle.card_layout.specs.declared.files.Application.{Application}
 use Rattle.card_layout.specs.Files.{place_of}
-use Rattle.card_image.specs.Fields.{file}
+use Rattle.card_validity.specs.card_image.Fields.{file}
 use Rattle.card_session.specs.Sessions.{Session, IsOpenBook}
 use Rattle.card_session.specs.Moments.{IsCloseMoment}
 use Rattle.card_session.specs.Parts.{IsPartMoment}

@@ -1,6 +1,6 @@
 use Rattle.std.proofs.Common.{rules, inl, ◌≡◌, ◌+◌, ◌*◌, ℕ, true, List, sym, ◌∙◌, ap, subst, arith}
 use Rattle.std.specs.Prelude.{is_err}
-use Rattle.card_model.specs.Days.{Day}
+use Rattle.card_days.specs.card_model.Days.{Day}
 use Rattle.card_days.specs.Held.{Held, Knows, tail_in}
 use Rattle.card_session.specs.Sessions.{Session, IsValue}
 use Rattle.card_session.specs.Parts.{used_session}

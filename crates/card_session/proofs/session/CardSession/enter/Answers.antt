@@ -1,8 +1,8 @@
 use Rattle.std.proofs.Common.{rules, ◌≡◌, ◌+◌, ◌*◌, true, sym, ◌∙◌, ap, subst, arith}
 use Rattle.std.specs.Prelude.{is_err, ◌≤◌}
-use Rattle.card_model.specs.Image.{StringShape}
+use Rattle.card_days.specs.card_model.Image.{StringShape}
 use Rattle.card_days.specs.Plans.{most_drops}
-use Rattle.card_image.specs.Fields.{day_string}
+use Rattle.card_validity.specs.card_image.Fields.{day_string}
 use Rattle.card_session.specs.Sessions.{Session}
 use Rattle.card_session.specs.ByHand.{EndsByHand}
 use Rattle.card_session.specs.Parts.{with_gap_closed, with_entry_words, with_more}

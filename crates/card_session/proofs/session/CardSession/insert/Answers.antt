@@ -5,7 +5,7 @@ use Rattle.tach_media.proofs.Runs.{from_reads, if_told, at_image, cause_after}
 use Rattle.activity_codec.specs.declared.entries.Entry.{Entry}
 use Rattle.card_files.specs.declared.vehicle.Vehicle.{Vehicle}
 use Rattle.card_files.specs.declared.current_use.CurrentUse.{CurrentUse}
-use Rattle.card_image.specs.Fields.{last_use_of, session_time, end_mark}
+use Rattle.card_validity.specs.card_image.Fields.{last_use_of, session_time, end_mark}
 use Rattle.card_days.specs.Held.{tail_of}
 use Rattle.card_validity.specs.Judged.{IsJudged}
 use Rattle.card_validity.proofs.Faults.{failed_ok, failed_valid, failed_in_time, failed_is, passed, passed_ok}

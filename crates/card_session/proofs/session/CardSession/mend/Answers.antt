@@ -1,7 +1,7 @@
 use Rattle.std.proofs.Common.{rules, inl, ◌≡◌, ◌/◌, ◌<◌, ◌≤◌, true, false, Option, length, ◌∙◌, ap, subst, arith}
 use Rattle.std.specs.Prelude.{is_err}
 use Rattle.card_layout.specs.declared.files.Application.{Application}
-use Rattle.card_image.specs.Fields.{last_use_of, current_use}
+use Rattle.card_validity.specs.card_image.Fields.{last_use_of, current_use}
 use Rattle.card_files.specs.declared.vehicle.Vehicle.{Vehicle}
 use Rattle.card_session.specs.declared.words.TheConstants.{LATEST_MINUTE}
 use Rattle.card_session.specs.Sessions.{Session, IsValue}

@@ -1,7 +1,7 @@
 use Rattle.std.proofs.Common.{rules, ◌≡◌, ◌/◌, ◌≤◌, ℕ, true, List, length, refl, sym, ◌∙◌, ap, subst, arith}
 use Rattle.std.specs.Prelude.{is_err, All}
 use Rattle.activity_codec.specs.declared.entries.Entry.{Entry}
-use Rattle.card_image.specs.Fields.{last_use_of}
+use Rattle.card_validity.specs.card_image.Fields.{last_use_of}
 use Rattle.card_session.specs.declared.words.TheConstants.{LATEST_MINUTE}
 use Rattle.card_session.specs.Inserting.{lacked}
 use Rattle.card_session.proofs.Composing.{part_failed}

@@ -5,7 +5,7 @@ use Rattle.card_files.specs.declared.vehicle.Vehicle.{Vehicle}
 use Rattle.card_files.specs.Vehicles.{vehicle_of}
 use Rattle.tach_media.specs.Medium.{put}
 use Rattle.gated_ring.specs.Ring.{Shape}
-use Rattle.card_image.specs.Fields.{vehicle_ring}
+use Rattle.card_validity.specs.card_image.Fields.{vehicle_ring}
 use Rattle.card_session.specs.Sessions.{Session, IsValue, MayKeep}
 use Rattle.card_session.specs.Books.{used}
 use Rattle.card_session.specs.Parts.{AnyBook, with_last_use, IsSettingUse}

@@ -3,7 +3,7 @@ use Rattle.tach_media.proofs.Runs.{ok_gives, on_ok}
 use Rattle.tach_media.specs.Medium.{most_writes}
 use Rattle.card_layout.specs.Files.{place_of}
 use Rattle.card_layout.proofs.Sizes.{largest_image}
-use Rattle.card_image.specs.Fields.{file}
+use Rattle.card_validity.specs.card_image.Fields.{file}
 use Rattle.card_session.specs.Sessions.{Session}
 use Rattle.card_session.proofs.InsertingUse.{use_inside, in_use, registration_written, registration_moments}
 use Rattle.card_session.proofs.session.CardSession.set_registration.Goals as goal

@@ -2,7 +2,7 @@ use Rattle.std.proofs.Common.{rules, ◌≡◌, ◌+◌, ◌≤◌, ℕ, length,
 use Rattle.tach_media.proofs.Runs.{ok_gives, on_ok}
 use Rattle.tach_media.specs.Medium.{most_writes}
 use Rattle.card_layout.specs.Files.{place_of}
-use Rattle.card_image.specs.Fields.{file}
+use Rattle.card_validity.specs.card_image.Fields.{file}
 use Rattle.card_session.specs.Sessions.{Session}
 use Rattle.card_session.proofs.InsertingUse.{in_use, time_written, time_moments}
 use Rattle.card_session.proofs.session.CardSession.set_session.Goals as goal

@@ -2,7 +2,7 @@ use Rattle.std.proofs.Common.{rules, inl, inr, ⊎_elim, ◌≡◌, ◌+◌, ◌
 use Rattle.std.specs.Prelude.{is_err, IfNone, ◌⊎◌}
 use Rattle.card_files.specs.declared.vehicle.Vehicle.{Vehicle}
 use Rattle.activity_codec.specs.declared.values.Activity.TheVariants.{Rest}
-use Rattle.card_model.specs.Days.{Day}
+use Rattle.card_days.specs.card_model.Days.{Day}
 use Rattle.card_days.specs.Held.{Held, Knows, tail_in}
 use Rattle.card_session.specs.Books.{closed}
 use Rattle.card_session.specs.Sessions.{Session, IsValue}

@@ -2,7 +2,7 @@ use Rattle.std.proofs.Common.{rules, ⊎_elim, ◌≡◌, ◌/◌, Bool, true, f
 use Rattle.std.specs.Prelude.{is_err, nat_eq}
 use Rattle.std.proofs.lemmas.Grind.{common_steps}
 use Rattle.tach_media.specs.Medium.{HasCause}
-use Rattle.card_image.specs.Fields.{last_use_of}
+use Rattle.card_validity.specs.card_image.Fields.{last_use_of}
 use Rattle.card_session.specs.Inserting.{lacked}
 use Rattle.card_session.proofs.Composing.{called_then}
 use Rattle.card_session.proofs.InsertingBooks.{lacked_few}

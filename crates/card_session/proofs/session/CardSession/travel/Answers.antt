@@ -2,12 +2,12 @@ use Rattle.std.proofs.Common.{◌≡◌, ℕ, List, refl, sym, ap, subst}
 use Rattle.std.specs.Prelude.{is_err, ◌⊎◌}
 use Rattle.tach_media.proofs.Runs.{ok_gives}
 use Rattle.card_layout.specs.declared.files.Application.{Application}
-use Rattle.card_model.specs.Days.{Day}
+use Rattle.card_days.specs.card_model.Days.{Day}
 use Rattle.card_days.specs.Held.{Held, Knows, tail_in}
 use Rattle.card_session.specs.Sessions.{Session, IsValue, MayKeep}
 use Rattle.card_session.proofs.OnCard.{string_in}
 use Rattle.card_session.proofs.OnDays.{distance_part}
-use Rattle.card_model.specs.Changes.{with_newest, with_km}
+use Rattle.card_days.specs.card_model.Changes.{with_newest, with_km}
 use Rattle.card_session.specs.Books.{Book}
 use Rattle.card_session.specs.Parts.{DoesPart, IsPartDone, IsPartMoment, HasDay}
 use Rattle.card_session.proofs.Told.{session, days_else, km_part}

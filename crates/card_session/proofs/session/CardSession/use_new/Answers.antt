@@ -2,7 +2,7 @@ use Rattle.std.proofs.Common.{rules, ◌≡◌, ◌*◌, ℕ, true, false, List,
 use Rattle.std.specs.Prelude.{is_err}
 use Rattle.card_layout.specs.declared.files.Application.{Application}
 use Rattle.gated_ring.specs.Ring.{Shape}
-use Rattle.card_image.specs.Fields.{vehicle_ring}
+use Rattle.card_validity.specs.card_image.Fields.{vehicle_ring}
 use Rattle.card_session.specs.Sessions.{Session, IsValue, MayKeep}
 use Rattle.card_session.specs.Parts.{AnyBook, with_new_use, IsAddingUse}
 use Rattle.card_files.specs.declared.vehicle.Vehicle.{Vehicle}

@@ -1,5 +1,5 @@
 use Rattle.std.proofs.Common.{◌≡◌, ℕ, true, false, List, sym, ◌∙◌, ap, subst}
-use Rattle.card_model.specs.Days.{Day}
+use Rattle.card_days.specs.card_model.Days.{Day}
 use Rattle.card_days.specs.Held.{Held, Knows, tail_in, tail_of}
 use Rattle.card_session.specs.Sessions.{Session, IsValue}
 use Rattle.card_session.proofs.FewWrites.{elsewhere}

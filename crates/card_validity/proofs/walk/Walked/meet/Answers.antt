@@ -1,8 +1,8 @@
 use Rattle.std.proofs.Common.{◌≡◌, ◌∙◌, ◌+◌, ℕ, Bool, true, false, cond, [], ◌∷◌, ◌++◌, Option, Some, sym, ap, subst}
 use Rattle.std.specs.Prelude.{nat_le}
-use Rattle.card_model.specs.Days.{total}
-use Rattle.card_model.specs.Image.{oldest_pointer}
-use Rattle.card_model.specs.Changes.{date_of}
+use Rattle.card_image.specs.card_model.Days.{total}
+use Rattle.card_image.specs.card_model.Image.{oldest_pointer}
+use Rattle.card_image.specs.card_model.Changes.{date_of}
 use Rattle.card_image.specs.Judging.{days_placed, words_placed}
 use Rattle.card_validity.specs.declared.walk.Met.{Met}
 use Rattle.card_validity.specs.Words.{IsBehind, HasMet}

@@ -5,7 +5,7 @@ use Rattle.trace_model.specs.declared.Card.TheVariants.{A, B}
 use Rattle.tach_media.specs.Medium.{State, LeavesOnly}
 use Rattle.run_crew.specs.Cabin.{crew_of}
 use Rattle.run_crew.specs.Cards.{session_of}
-use Rattle.run_promise.specs.Between.{devices}
+use Rattle.run_devices.specs.run_promise.Between.{devices}
 use Rattle.run_minutes.specs.declared.keeper.Keeper.{Keeper}
 use Rattle.run_minutes.specs.Keeping.{Fate, Still, IsBrought, IsNotingFault, is_this, state_at}
 use Rattle.run_minutes.specs.Owing.{BooksBrought}
@@ -16,7 +16,7 @@ use Rattle.run_minutes.proofs.Units.{unit-stays}
 use Rattle.tach_media.proofs.Runs.{ok_gives, starts}
 use Rattle.run_minutes.proofs.Fates.{nobody-brought}
 use Rattle.run_minutes.proofs.Brought.{brought-booked, nobody-booked}
-use Rattle.run_speeds.proofs.Leaving.{leaves-none}
+use Rattle.run_events.proofs.run_speeds.Leaving.{leaves-none}
 use Rattle.run_minutes.proofs.Speeds.{fault-leaves}
 use Rattle.run_minutes.proofs.Later.{state-by, after-of-a, after-of-b}
 use Rattle.run_minutes.proofs.Calm.{brought-calm, calm-of-a, calm-of-b}

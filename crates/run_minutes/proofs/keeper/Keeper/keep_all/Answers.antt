@@ -1,7 +1,7 @@
 use Rattle.std.proofs.Common.{rules, ◌≡◌, ◌+◌, true, length, refl, arith, ◌∙◌, ap}
 use Rattle.std.specs.Prelude.{is_err}
-use Rattle.run_promise.specs.Between.{devices}
-use Rattle.run_speeds.proofs.Leaving.{leaves-none, leaves-then}
+use Rattle.run_devices.specs.run_promise.Between.{devices}
+use Rattle.run_events.proofs.run_speeds.Leaving.{leaves-none, leaves-then}
 use Rattle.run_minutes.proofs.Goes.{bare-none, bare-then, keeping_then, stands_then, stands_by}
 use Rattle.run_minutes.proofs.SoFar.{so-none, so-all, so-more, so-cut, may-next, stands-next, ended-next}
 use Rattle.run_minutes.proofs.Writes.{wrote-none, wrote-minute, wrote-minutes}

@@ -1,6 +1,6 @@
 use Rattle.std.specs.Prelude.{◌*◌, ◌≡◌}
-use Rattle.run_speeds.specs.Speeds.{LeavesSpeeds}
-use Rattle.run_promise.specs.Between.{devices}
+use Rattle.run_events.specs.run_speeds.Speeds.{LeavesSpeeds}
+use Rattle.run_devices.specs.run_promise.Between.{devices}
 use Rattle.run_minutes.specs.Stand.{AreBare, standing}
 use Rattle.run_minutes.specs.Writes.{WroteAtMost, minute_most}
 use Rattle.run_minutes.proofs.SoFar.{SoFar}

@@ -8,9 +8,9 @@ use Rattle.run_outcome.specs.Lines.{Listed}
 use Rattle.tach_media.proofs.Runs.{cause_after}
 use Rattle.run_crew.specs.Cabin.{CabinIsSound, IsReadyFor}
 use Rattle.run_minutes.specs.declared.keeper.Keeper.{Keeper}
-use Rattle.safety_model.specs.Safe.{card_of}
-use Rattle.run_promise.specs.Found.{found_of}
-use Rattle.run_promise.specs.Between.{devices}
+use Rattle.run_devices.specs.safety_model.Safe.{card_of}
+use Rattle.run_devices.specs.run_promise.Found.{found_of}
+use Rattle.run_devices.specs.run_promise.Between.{devices}
 use Rattle.unit_minutes.specs.declared.notes.Notes.{Notes}
 use Rattle.run_minutes.specs.Keeping.{CardMayBeCalled, Still, IsBrought, cabin_by, kept_in, session_at, held_in, state_at, most_tears}
 use Rattle.run_minutes.specs.Minutes.{unit_mark}
@@ -22,7 +22,7 @@ use Rattle.run_minutes.proofs.Counts.{tears-one, lines-length, first-stays, seco
 use Rattle.run_minutes.proofs.Rounds.{told-of, told-same, round-of, brought-minute, brought-tears, brought-tear-room, brought-marks, brought-mark-room, cut-is, cut-told, whole-driver, whole-codriver, whole-is, whole-told}
 use Rattle.run_minutes.proofs.Units.{unit-stays}
 use Rattle.run_minutes.proofs.Seats.{stays-none, other-ready}
-use Rattle.run_speeds.proofs.Leaving.{leaves-then}
+use Rattle.run_events.proofs.run_speeds.Leaving.{leaves-then}
 use Rattle.run_crew.specs.declared.cards.Cards.{Cards}
 use Rattle.run_minutes.specs.Kept.{Keeps}
 use Rattle.run_minutes.specs.Stand.{StandsAfter, KeepingGoes, standing}

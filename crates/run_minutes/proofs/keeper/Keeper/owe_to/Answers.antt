@@ -1,7 +1,7 @@
 use Rattle.std.proofs.Common.{◌∙◌, Option, IfSome, ap, sym, subst, arith}
 use Rattle.std.specs.Prelude.{is_err}
 use Rattle.tach_media.proofs.Runs.{ok_gives}
-use Rattle.unit_owed.specs.Rows.{IsPutting}
+use Rattle.unit_minutes.specs.unit_owed.Rows.{IsPutting}
 use Rattle.tacho_types.specs.CardNumber.{card_number_bytes}
 use Rattle.tacho_types.specs.declared.card_number.FullCardNumber.{FullCardNumber}
 use Rattle.run_events.specs.Entries.{number_or_no_card}
