@@ -11,9 +11,9 @@ use crate::band::{write_band_head, write_lane};
 use crate::frame::frame_head;
 use crate::mark::{Mark, write_marks};
 use activity_codec::Slot;
+use calendar_days::day_text;
 use slot_bars::{Gap, card_bars, day_number, first_day, unit_bars};
 use std::alloc::{AllocError, Global};
-use calendar_days::day_text;
 use view_model::{CardShown, Line, UnitShown};
 
 /// The picture of a unit, by the lines of its view, with these marks; its text are the totals.

@@ -10,9 +10,9 @@ ghost use Rattle.day_totals.specs.Text.{IsUnitTotals, IsCardTotals, unit_day_tex
 use crate::figures::{Distance, distance_on};
 use crate::line::write_totals;
 use activity_codec::Slot;
+use calendar_days::day_text;
 use slot_bars::{Gap, card_bars, day_number, first_day, unit_bars};
 use std::alloc::{AllocError, Global};
-use calendar_days::day_text;
 use view_model::{CardShown, Line, UnitShown};
 
 /// The totals of a unit, by the lines of its view: two lines a day.

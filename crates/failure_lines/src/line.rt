@@ -7,9 +7,9 @@ ghost use Rattle.failure_lines.specs.Failures.{two_digits};
 
 use activity_codec::Slot;
 use arrayvec::ArrayVec;
+use calendar_days::day_text;
 use itoa::Buffer;
 use log_model::Break;
-use calendar_days::day_text;
 
 /// The most bytes of a line.
 pub const MOST: usize = 60;

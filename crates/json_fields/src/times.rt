@@ -2,8 +2,8 @@
 ghost use Rattle.std.specs.Prelude.{◌≡◌, ◌++◌, ◌<◌, ◌/◌, ◌%◌, IfOk, length};
 ghost use Rattle.json_fields.specs.Dates.{clock_text, date_of, date_text, time_text};
 
-use std::alloc::{AllocError, Global};
 use calendar_days::day_text;
+use std::alloc::{AllocError, Global};
 
 /// Seconds of a day.
 const DAY_SECONDS: u32 = 86400;

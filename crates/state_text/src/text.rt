@@ -8,9 +8,9 @@ ghost use Rattle.state_text.specs.Text.{value_text, AddsLine, AreLinesText};
 
 use crate::line::{Line, OwedTo, Value, day_of, device_name, name_text, rule_name};
 use crate::shown::{write_shown, write_two_hex};
+use calendar_days::day_text;
 use itoa::Buffer;
 use std::alloc::{AllocError, Global};
-use calendar_days::day_text;
 use tacho_types::{FullCardNumber, Name36, Registration};
 
 /// The text of lines, one after the other.

@@ -8,11 +8,11 @@ ghost use Rattle.unit_speeds.specs.Text.{AddsDate, AddsSpeedLine, AreSpeedLines,
 
 use crate::blocks::lines_in;
 use crate::line::SpeedLine;
+use calendar_days::day_text;
 use day_totals::write_duration;
 use file_view::ViewFault;
 use itoa::Buffer;
 use std::alloc::{AllocError, Global};
-use calendar_days::day_text;
 use unit_marks::messages_at;
 
 /// The detailed speed of a unit file, a line a minute: of all its blocks, or of the last so many.

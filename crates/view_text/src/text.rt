@@ -8,8 +8,8 @@ ghost use Rattle.view_text.specs.Adding.{AddsDay, AddsLine};
 
 use crate::shown::Shown;
 use arrayvec::ArrayVec;
-use std::alloc::{AllocError, Global};
 use calendar_days::day_text;
+use std::alloc::{AllocError, Global};
 use tacho_types::DAYS;
 use view_model::Line;
 

@@ -1,6 +1,9 @@
-use std::test::*;
 use calendar_days::day_text;
-use tacho_types::{BadValue, Bcd2, Nation, Odometer, TimeReal, read_bcd2, read_place, write_bcd2, write_odometer, write_time};
+use std::test::*;
+use tacho_types::{
+    BadValue, Bcd2, Nation, Odometer, TimeReal, read_bcd2, read_place, write_bcd2, write_odometer,
+    write_time,
+};
 
 #[test]
 fn dates_of_days(rt: HostRuntime) {

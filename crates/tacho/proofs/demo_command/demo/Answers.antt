@@ -17,8 +17,8 @@ returns-in-Err-clause-ends g c =
     rw c.refusal_anew.ensures
     (demo-refused c.args.seed _ _ c.run_anew.new.outcome c.in-Err.fault refl
     (λ b starts.
-        let kept = e.nothing b starts.may starts.clocks (rw c.in-Ok.ensures.items (items-few c.args.seed)) in
-        (subst IsEmpty (sym kept.0) (reserved-empty c.in-Ok.trace.items c.in-Ok-reserve.reserved c.in-Ok-reserve.ensures), kept.1))
+    let kept = e.nothing b starts.may starts.clocks (rw c.in-Ok.ensures.items (items-few c.args.seed)) in
+    (subst IsEmpty (sym kept.0) (reserved-empty c.in-Ok.trace.items c.in-Ok-reserve.reserved c.in-Ok-reserve.ensures), kept.1))
     e.failed
     (λ b starts may. e.kept b starts.may starts.clocks (rw c.in-Ok.ensures.items (items-few c.args.seed)) (rw (c.as_slice.ensures.value ∙ c.in-Ok-blank_card.ensures.image, c.in-Ok.ensures.start) may))
     (writes-demo c.args.seed c.in-Ok.trace.items _ _ c.in-Ok.ensures.items e.most))
