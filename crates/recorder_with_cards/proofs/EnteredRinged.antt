@@ -1,5 +1,5 @@
 -- A card is judged: its insertion in the rings of a run with cards.
-use Rattle.std.proofs.Common.{◌≡◌, ◌∙◌, ◌⊎◌, inl, inr, ℕ, suc, ◌+◌, ◌-◌, ◌^◌, ◌<◌, ◌≤◌, Result, Bool, true, false, Option, Some, None, IfSome, is_some, option_map, List, [], ◌∷◌, ◌++◌, length, refl, ap, sym, subst, arith, length-append, ⊎_elim, ◌/◌}
+use Rattle.std.proofs.Common.{◌≡◌, ◌∙◌, ◌⊎◌, inl, inr, ℕ, suc, ◌+◌, ◌-◌, ◌^◌, ◌<◌, ◌≤◌, Result, Bool, true, false, Option, Some, None, IfSome, is_some, option_map, List, [], ◌∷◌, ◌++◌, length, refl, ap, sym, subst, arith, length-append, ⊎_elim, ◌/◌, ◌≢◌, cond, filter}
 use Rattle.activity_codec.specs.declared.values.Slot.{Slot}
 use Rattle.trace_model.specs.declared.Card.{Card}
 use Rattle.trace_model.specs.declared.Card.TheVariants.{A, B}
@@ -17,7 +17,7 @@ use Rattle.device_calls.specs.device_rule.Rules.{Out}
 use Rattle.log_model.specs.declared.lines.Find.{Find}
 use Rattle.log_model.specs.declared.lines.Verdict.{Verdict}
 use Rattle.log_model.specs.declared.lines.Verdict.TheVariants as verdict
-use Rattle.log_model.specs.Log.{RunLog, In, cut_in, found_in}
+use Rattle.log_model.specs.Log.{RunLog, In, cut_in, found_in, is_accepting}
 use Rattle.log_model.specs.Slots.{other_slot}
 use Rattle.log_model.specs.Course.{Visit, went}
 use Rattle.run_acts.specs.unit_notes.Entries.{insertion_bytes}
@@ -43,6 +43,7 @@ use Rattle.run_minutes.specs.run_promise.Origin.{Origin}
 use Rattle.run_minutes.specs.run_promise.Beside.{HaveLeftMore}
 use Rattle.run_acts.specs.run_note_record.Ringed.{Seating, one_behind, Since, since_in}
 use Rattle.run_acts.specs.run_note_record.OnCards.{has_call_failed_in, CardsGo}
+use Rattle.run_acts.specs.run_note_record.Sessions.{Opens}
 use Rattle.run_acts.specs.run_note_record.RingsSoFar.{AreFewer}
 use Rattle.run_minutes.specs.declared.keeper.Keeper.{Keeper}
 use Rattle.run_minutes.specs.declared.keeper.Moment.{Moment as KeepingAt}
@@ -50,6 +51,8 @@ use Rattle.run_insertion.specs.declared.lines.Entering.{Entering}
 use Rattle.run_insertion.specs.Entering.{Ending, Unfit, Ahead, Fell, Unasked, Unnoted, Seated, Lost, Way, Unread, Unsized, Judged, ending_of, sizes_by, measured, cabin_by, noted_by, and_one, insertion_of, find_of, finds_by}
 use Rattle.run_insertion.specs.Entered.{FitsInsertion, IsFoundIn, IsWay}
 use Rattle.run_insertion.specs.Told.{IsToldOf}
+use Rattle.run_insertion.proofs.CardBrought.{IsSitting}
+use Rattle.run_minutes.specs.Keeping.{tear_of}
 use Rattle.run_acts.specs.run_record.Within.{RecordInSecond}
 use Rattle.run_acts.specs.Entered.{values_with, MayJudge, HasGone, AreSound}
 use Rattle.run_acts.specs.Recording.{IsOrigin, log_of}
@@ -62,7 +65,7 @@ use Rattle.recorder_with_cards.proofs.EnteredAdds.{log_with}
 use Rattle.recorder_with_cards.proofs.EnteredHolder.{insertion-now}
 use Rattle.recorder_with_cards.proofs.EnteredLines.{TellsOf, verdicts_of, ending-tells, ending-here, tells-same}
 use Rattle.run_acts.proofs.CardPlaces.{tear-failed}
-use Rattle.recorder_with_cards.proofs.EnteredPlaces.{IsToldOpen, judged-places}
+use Rattle.recorder_with_cards.proofs.EnteredPlaces.{IsToldOpen, IsToldSure, judged-places, judged-opens}
 use Rattle.recorder_with_cards.proofs.EnteredRings.{accept-writes}
 
 -- ---- where the insertions of the accepted cards stand
@@ -199,12 +202,13 @@ pub record IsRinged (o : Since) (s : TraceSecond) (n : ℕ) (e : Entering) (span
   pub cut : cut_in (log_of out') s.number ≡ cut_in (log_of out) s.number
   pub same : (x : ℕ) → n ≡ suc x → TellSameTo (log_of out) (log_of out') s.number x
   pub left : HaveLeftMore o.origin d later
-  pub places : CardsGo o.origin spans (JudgesIn (log_of out') (record { second = s.number; slot = e.slot; card = e.which }) (found_in (log_of out') s.number (In n) e.slot)) d later
+  pub places : CardsGo o.origin spans (JudgesIn failed (log_of out') (record { second = s.number; slot = e.slot; card = e.which }) (found_in (log_of out') s.number (In n) e.slot)) d later
+  pub opens : failed ≡ false → (v : Verdict) → found_in (log_of out') s.number (In n) e.slot ≡ v ∷ [] → is_accepting v ≡ true → Opens o.origin (log_of out') (record { second = s.number; slot = e.slot; card = e.which }) later
   pub counted : noted' ≤ length (log_of out').finds
 
 module _ (o : Origin) (done : List TraceSecond) (s : TraceSecond) (n : ℕ) (waits fewer : List Visit) (e : Entering) (k : Keeper) (out : Outcome) (unfound next_ begun : ℕ) (minutes : Kept) (U X Z : State) (w : RecordInSecond o done s (In n) waits None [] (values_with k out unfound next_ begun minutes) (arranged e.which U X Z)) (m : MayJudge o done s n waits fewer e k out unfound next_ begun minutes U X Z w)
     (origin : IsOrigin o) (small : s.number < 2 ^ 32) (few : e.odometer.0 < 2 ^ 24) (spans : List SpanFrom) (odometer : IsOdometerOf spans s.number e.odometer.0) (noted : ℕ) (counted : noted ≤ length (log_of out).finds) (others : (c : Card) → IfSome (session_of k.cabin.cards c) (λ b. b.noted ≤ noted))
-    (failed : Bool) (k' : Keeper) (noted' : ℕ) (out' : Outcome) (W Y : State) (way : Way) (g : HasGone e failed k k' noted noted' out out' U W X Y Z way) (sound : AreSound U W X Y) (told_few : length (log_of out').finds < 2 ^ 64) (sized : LARGEST_IMAGE ≤ X.size) where
+    (failed : Bool) (k' : Keeper) (noted' : ℕ) (out' : Outcome) (W Y : State) (way : Way) (g : HasGone e failed k k' noted noted' out out' U W X Y Z way) (sound : AreSound U W X Y) (told_few : length (log_of out').finds < 2 ^ 64) (sized : LARGEST_IMAGE ≤ X.size) (works : IsSitting (ending_of way) → Y.works ≡ true) where
   second : e.at.second ≡ s.number
   second = now-is o done s n waits fewer e k out unfound next_ begun minutes U X Z w m
 
@@ -308,21 +312,71 @@ module _ (o : Origin) (done : List TraceSecond) (s : TraceSecond) (n : ℕ) (wai
       (ending-rings (since_in o w.b.run.log done s) d later e s.number spans noted k.cabin (sizes_by way) others failed (ending_of way) (way-told way g.entered.is y.2 told len) writes)))
 
   -- in which it was called: it is accepted, or a call failed
-  open-told : IsToldOpen (log_of out') s.number (found_in (log_of out') s.number (In n) e.slot) (ending_of way)
-  open-told =
-      subst (λ (vs : List Verdict). IsToldOpen (log_of out') s.number vs (ending_of way)) (sym (tells.own ∙ ap (λ (vs : List Verdict). vs ++ verdicts_of (ending_of way) e) m.none)) (by (ending_of way) refl)
+  abbrev FailsWhere : Ending → Type 0
+  FailsWhere (Unfit fid place) = Unit {0}
+  FailsWhere (Ahead stored) = Unit {0}
+  FailsWhere Fell = Unit {0}
+  FailsWhere Unasked = Unit {0}
+  FailsWhere (Unnoted entered clock) = failed ≡ true
+  FailsWhere (Seated entered clock entry) = Unit {0}
+  FailsWhere (Lost entered clock entry) = Unit {0}
+
+  way-fails : (v : Way) → IsWay v k.memory.registration e failed U.image X Y → FailsWhere (ending_of v)
+  way-fails Unread is = tt
+  way-fails (Unsized field) is = tt
+  way-fails (Judged app (Unfit fid place)) is = tt
+  way-fails (Judged app (Ahead stored)) is = tt
+  way-fails (Judged app Fell) is = tt
+  way-fails (Judged app Unasked) is = tt
+  way-fails (Judged app (Unnoted entered clock)) is = is.0
+  way-fails (Judged app (Seated entered clock entry)) is = tt
+  way-fails (Judged app (Lost entered clock entry)) is = tt
+
+  found-are : found_in (log_of out') s.number (In n) e.slot ≡ verdicts_of (ending_of way) e
+  found-are = tells.own ∙ ap (λ (vs : List Verdict). vs ++ verdicts_of (ending_of way) e) m.none
+
+  -- a card that is torn out has failed
+  fell-failed : (front : RunLog) → has_call_failed_in (record front { breaks = front.breaks ++ tear_of e.slot e.at ∷ [] }) s.number ≡ true
+  fell-failed front = subst (λ (u : ℕ). has_call_failed_in (record front { breaks = front.breaks ++ tear_of e.slot e.at ∷ [] }) u ≡ true) second (tear-failed front e.slot e.at)
+
+  fell-told : (q : Ending) → ending_of way ≡ q → has_call_failed_in (log_with q e (log_of out)) s.number ≡ true → has_call_failed_in (log_of out') s.number ≡ true
+  fell-told q is told = ap (λ (l : RunLog). has_call_failed_in l s.number) (log-is ∙ ap (λ (q : Ending). log_with q e (log_of out)) is) ∙ told
+
+  open-told : IsToldOpen (log_of out') s.number failed (found_in (log_of out') s.number (In n) e.slot) (ending_of way)
+  open-told = subst (λ (vs : List Verdict). IsToldOpen (log_of out') s.number failed vs (ending_of way)) (sym found-are) (by (ending_of way) refl (way-fails way g.entered.is))
     where
-      by : (q : Ending) → ending_of way ≡ q → IsToldOpen (log_of out') s.number (verdicts_of q e) q
-      by (Unfit fid place) is = tt
-      by (Ahead stored) is = tt
-      by Fell is =
-          ap (λ (l : RunLog). has_call_failed_in l s.number) (log-is ∙ ap (λ (q : Ending). log_with q e (log_of out)) is)
-          ∙ subst (λ (u : ℕ). has_call_failed_in (log_with Fell e (log_of out)) u ≡ true) second (tear-failed (log_of out) e.slot e.at)
-      by Unasked is = tt
-      by (Unnoted entered clock) is = λ none. let wrong : verdict.Accepted entered.replayed ∷ [] ≡ [] = none in cc
-      by (Seated entered clock entry) is = λ none. let wrong : verdict.Accepted entered.replayed ∷ [] ≡ [] = none in cc
-      by (Lost entered clock entry) is = λ none. let wrong : verdict.Accepted entered.replayed ∷ [] ≡ [] = none in cc
+      by : (q : Ending) → ending_of way ≡ q → FailsWhere q → IsToldOpen (log_of out') s.number failed (verdicts_of q e) q
+      by (Unfit fid place) is fails = tt
+      by (Ahead stored) is fails = tt
+      by Fell is fails = fell-told Fell is (fell-failed (record (log_of out) { finds = (log_of out).finds ++ finds_by Fell e }))
+      by Unasked is fails = tt
+      by (Unnoted entered clock) is fails = ((λ none. let wrong : verdict.Accepted entered.replayed ∷ [] ≡ [] = none in cc), fails)
+      by (Seated entered clock entry) is fails = λ none. let wrong : verdict.Accepted entered.replayed ∷ [] ≡ [] = none in cc
+      by (Lost entered clock entry) is fails = (
+        (λ none. let wrong : verdict.Accepted entered.replayed ∷ [] ≡ [] = none in cc),
+        fell-told (Lost entered clock entry) is (fell-failed (record (log_of out) { finds = (log_of out).finds ++ finds_by (Lost entered clock entry) e })),
+      )
+
+  -- where it is accepted
+  sure-told : filter is_accepting (found_in (log_of out') s.number (In n) e.slot) ≢ [] → IsToldSure (log_of out') s.number failed (ending_of way)
+  sure-told some = by (ending_of way) refl (subst (λ (vs : List Verdict). filter is_accepting vs ≢ []) found-are some) (way-fails way g.entered.is)
+    where
+      by : (q : Ending) → ending_of way ≡ q → filter is_accepting (verdicts_of q e) ≢ [] → FailsWhere q → IsToldSure (log_of out') s.number failed q
+      by (Unfit fid place) is any fails = any refl
+      by (Ahead stored) is any fails = any refl
+      by Fell is any fails = any refl
+      by Unasked is any fails = any refl
+      by (Unnoted entered clock) is any fails = fails
+      by (Seated entered clock entry) is any fails = tt
+      by (Lost entered clock entry) is any fails = fell-told (Lost entered clock entry) is (fell-failed (record (log_of out) { finds = (log_of out).finds ++ finds_by (Lost entered clock entry) e }))
+
+  opens-so : failed ≡ false → (v : Verdict) → found_in (log_of out') s.number (In n) e.slot ≡ v ∷ [] → is_accepting v ≡ true → Opens o (log_of out') (record { second = s.number; slot = e.slot; card = e.which }) (arranged e.which W Y Z)
+  opens-so well v found accepting =
+      judged-opens o done s n waits fewer e k out unfound next_ begun minutes U X Z w m origin failed k' noted noted' out' W Y way g sound sized spans odometer.reads second small open-told works well (sure-told some)
+    where
+      some : filter is_accepting (found_in (log_of out') s.number (In n) e.slot) ≢ []
+      some none = let wrong : v ∷ [] ≡ [] = sym (ap (λ (b : Bool). cond b (v ∷ []) []) accepting) ∙ sym (ap (filter is_accepting) found) ∙ none in cc
 
   -- all of it
   pub judged-ringed : IsRinged (since_in o w.b.run.log done s) s n e spans noted noted' k k' out out' failed (arranged e.which U X Z) (arranged e.which W Y Z)
-  judged-ringed = record { rings = judged-rings; others = others-found; here = tells-here; cut = tells.cut; same = same-before; left = more; places = judged-places o done s n waits fewer e k out unfound next_ begun minutes U X Z w m origin failed k' noted noted' out' W Y way g sound sized spans odometer.reads second small open-told; counted = counted-then }
+  judged-ringed = record { rings = judged-rings; others = others-found; here = tells-here; cut = tells.cut; same = same-before; left = more; places = judged-places o done s n waits fewer e k out unfound next_ begun minutes U X Z w m origin failed k' noted noted' out' W Y way g sound sized spans odometer.reads second small open-told works; opens = opens-so; counted = counted-then }

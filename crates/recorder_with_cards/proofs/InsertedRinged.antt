@@ -24,7 +24,8 @@ use Rattle.run_acts.specs.run_rings.Notes.{TellSameTo, NotesMore, accepts_by, co
 use Rattle.run_acts.specs.run_rings.Spans.{with_second}
 use Rattle.run_acts.proofs.run_rings.Actions.{insertions}
 use Rattle.run_acts.specs.run_note_record.Ringed.{StaysInRings, since_in}
-use Rattle.run_acts.specs.run_note_record.OnCards.{CardsStay}
+use Rattle.run_acts.specs.run_note_record.OnCards.{has_call_failed_in, CardsStay}
+use Rattle.run_acts.proofs.run_note_record.OnCards.{call-failed}
 use Rattle.run_acts.specs.run_note_record.Sessions.{FailsIn}
 use Rattle.run_acts.proofs.run_note_record.Sessions.{stay-may}
 use Rattle.run_acts.specs.run_note_record.RingsSoFar.{RingedBehind, RingedIn, AreFewer, HasMoreBreaks}
@@ -176,18 +177,25 @@ module _ (o : Origin) (done : List TraceSecond) (s : TraceSecond) (front rest : 
     none-more : HasMoreBreaks (log_of after) (log_of after)
     none-more = ([], sym (append-nil (log_of after).breaks))
 
-    by : (b : Bool) → JudgedInRings b (since_in o w.within.b.run.log done s) (record { second = s.number; slot = slot; card = card }) (found_in (log_of after) s.number (In (suc (length front))) slot) (with_second spans old.keeper.odometer t) (seats_of mid) (seats_of new) e f →
+    -- the unit did not fail, or did as the cut tells
+    not-failed : failed ≡ false → failed ≡ true → has_call_failed_in (log_of after) s.number ≡ true
+    not-failed well is = absurd (let wrong : false ≡ true = sym well ∙ is in cc)
+
+    cut-fails : failed ≡ true → has_call_failed_in (with_cut (log_of after) s (front ++ Insert slot card ∷ [])) s.number ≡ true
+    cut-fails is = call-failed (with_cut (log_of after) s (front ++ Insert slot card ∷ [])) s.number cuts.failed
+
+    by : (b : Bool) → failed ≡ b → JudgedInRings b (since_in o w.within.b.run.log done s) (record { second = s.number; slot = slot; card = card }) (found_in (log_of after) s.number (In (suc (length front))) slot) (with_second spans old.keeper.odometer t) (seats_of mid) (seats_of new) e f →
         RingsGoOn b o done s w.within.b (front ++ Insert slot card ∷ []) new (log_of after) spans t f
-    by false h = record {
+    by false well h = record {
       base = subst (λ (b : ℕ). IsLastFrom b (with_second spans b t)) (sym (j.odometer ∙ same_odometer)) rings.base;
       counted = j.counted;
       ringed = subst (λ (b : ℕ). RingedIn o done s w.within.b.run.log (front ++ Insert slot card ∷ []) (log_of after) spans b t (seats_of new) f) (sym (j.odometer ∙ same_odometer)) (⊎_elim
-          (λ p. passes e f o done s w.within.b.run.log (log_of told) (log_of after) front (Insert slot card) spans old.keeper.odometer t (seats_of mid) (seats_of new) settled-in goes (notes-none (log_of after) goes.begun fine-after p.none) p.stays j.left (cards-fail o (with_second spans old.keeper.odometer t) e f (log_of after) (log_of after) none-more acceptance verdicts j.places p.none) p.fewer_sit)
+          (λ p. passes e f o done s w.within.b.run.log (log_of told) (log_of after) front (Insert slot card) spans old.keeper.odometer t (seats_of mid) (seats_of new) settled-in goes (notes-none (log_of after) goes.begun fine-after p.none) p.stays j.left (cards-fail o (with_second spans old.keeper.odometer t) e f failed (log_of after) (log_of after) none-more acceptance verdicts j.places (not-failed well) p.none) p.fewer_sit)
           (λ i. card-accepted e f o done s w.within.b.run.log (log_of told) (log_of after) front spans old.keeper.odometer t (seats_of mid) i.now (seats_of new) settled-in goes slot card fine-after i.verdict
-          (ap (λ (k : ℕ). found_in (log_of after) s.number (In k) slot) longer ∙ i.found) i.accepting i.head i.index i.writes i.inserts.long (i.inserts.is (log_of after)) i.seated j.left (cards-open o (with_second spans old.keeper.odometer t) e f (log_of after) (log_of after) none-more acceptance verdicts j.places) i.fewer_sit)
+          (ap (λ (k : ℕ). found_in (log_of after) s.number (In k) slot) longer ∙ i.found) i.accepting i.head i.index i.writes i.inserts.long (i.inserts.is (log_of after)) i.seated j.left (cards-open o (with_second spans old.keeper.odometer t) e f failed (log_of after) (log_of after) none-more acceptance verdicts j.places (not-failed well)) (j.opens well i.verdict i.found i.accepting) i.fewer_sit)
           h);
     }
-    by true h =
+    by true ill h =
         let cut : RunLog = with_cut (log_of after) s (front ++ Insert slot card ∷ []) in
         record {
           counted = j.counted;
@@ -195,12 +203,12 @@ module _ (o : Origin) (done : List TraceSecond) (s : TraceSecond) (front rest : 
           behind = cuts.behind;
           odometer = j.odometer ∙ same_odometer ∙ w.odometer;
           ringed = subst (λ (b : ℕ). RingedBehind o (done ++ s ∷ []) cut (suc s.number) (spans_cut spans b cut done s) nobody f) (sym (j.odometer ∙ same_odometer)) (⊎_elim
-              (λ p. action-cut e f o done s w.within.b.run.log (log_of told) cut front (Insert slot card) rest spans old.keeper.odometer t (seats_of mid) settled-in cuts (notes-none cut cuts.goes.begun fine-cut (ap (filter is_accepting) found-cut ∙ p.0)) p.1 j.left (cards-fail o (with_second spans old.keeper.odometer t) e f (log_of after) cut cut-more acceptance verdicts j.places p.0))
+              (λ p. action-cut e f o done s w.within.b.run.log (log_of told) cut front (Insert slot card) rest spans old.keeper.odometer t (seats_of mid) settled-in cuts (notes-none cut cuts.goes.begun fine-cut (ap (filter is_accepting) found-cut ∙ p.0)) p.1 j.left (cards-fail o (with_second spans old.keeper.odometer t) e f failed (log_of after) cut cut-more acceptance verdicts j.places cut-fails p.0))
               (λ i. acceptance-is-cut e f o done s w.within.b.run.log (log_of told) cut front rest spans old.keeper.odometer t (seats_of mid) settled-in slot card cuts fine-cut i.verdict
-              (ap (λ (k : ℕ). found_in cut s.number (In k) slot) longer ∙ found-cut ∙ i.found) i.accepting i.head i.writes i.inserts.long (i.inserts.is cut) j.left (cards-open o (with_second spans old.keeper.odometer t) e f (log_of after) cut cut-more acceptance verdicts j.places))
+              (ap (λ (k : ℕ). found_in cut s.number (In k) slot) longer ∙ found-cut ∙ i.found) i.accepting i.head i.writes i.inserts.long (i.inserts.is cut) j.left (cards-open o (with_second spans old.keeper.odometer t) e f failed (log_of after) cut cut-more acceptance verdicts j.places cut-fails))
               h);
         }
 
     -- SO THE RINGS GO ON
     pub inserted-ringed : RingsGoOn failed o done s w.within.b (front ++ Insert slot card ∷ []) new (log_of after) spans t f
-    inserted-ringed = by failed j.rings
+    inserted-ringed = by failed refl j.rings

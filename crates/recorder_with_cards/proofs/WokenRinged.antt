@@ -48,8 +48,8 @@ use Rattle.run_minutes.specs.run_promise.Origin.{Origin, rule_of, start_at, firs
 use Rattle.run_acts.specs.run_rings.Spans.{with_second}
 use Rattle.run_acts.specs.run_rings.Same.{LeavesRings}
 use Rattle.run_acts.proofs.run_rings.Same.{behind-same, rings-left, rings-moments}
-use Rattle.run_acts.specs.run_note_record.OnCards.{PlacesStay, IsReading, VehiclesGo, SessionsGo, NoOtherComes, CardsGo, CardsStay}
-use Rattle.run_acts.specs.run_note_record.Sessions.{FailsIn, OpensIn}
+use Rattle.run_acts.specs.run_note_record.OnCards.{has_call_failed_in, PlacesStay, IsReading, VehiclesGo, SessionsGo, NoOtherComes, CardsGo, CardsStay}
+use Rattle.run_acts.specs.run_note_record.Sessions.{FailsIn, OpensIn, Opens}
 use Rattle.run_acts.proofs.run_note_record.Sessions.{stay-may}
 use Rattle.run_acts.specs.run_note_record.Ringed.{Seating, IsInsertionIn, since_in}
 use Rattle.run_acts.specs.run_note_record.RingsSoFar.{RingedBehind, IsSecond, RingedIn, HasMoreBreaks, GoesBehind}
@@ -57,7 +57,7 @@ use Rattle.run_acts.specs.run_note_record.Steps.{nobody, spans_cut}
 use Rattle.run_acts.specs.run_note_record.Waking.{NoneFound, IsFoundAnew}
 use Rattle.run_acts.specs.run_note_record.Stored.{StandsOn, StoresOn, StoresOff}
 use Rattle.run_acts.proofs.run_note_record.Bases.{stored-first}
-use Rattle.run_acts.proofs.run_note_record.OnCards.{stay-itself}
+use Rattle.run_acts.proofs.run_note_record.OnCards.{call-failed, stay-itself}
 use Rattle.run_acts.proofs.run_note_record.SoFar.{left-itself, go-on-in, cut-ends}
 use Rattle.run_acts.proofs.run_note_record.RingsWaking.{behind-alike, still-failed, still-call-failed, power-begins, passed-anew, accepted-anew, cut-anew}
 use Rattle.run_acts.specs.run_record.Recorded.{Values, RecordBetweenSeconds}
@@ -335,20 +335,30 @@ module _ (o : Origin) (done : List TraceSecond) (s : TraceSecond) (waits fewer :
   sitter-opens : (log : RunLog) → CardsGo o (with_second spans old.keeper.odometer t) (OpensIn log (record { second = s.number; slot = slot; card = card })) d e → CardsGo o (with_second spans old.keeper.odometer t) (OpensIn log (record { second = s.number; slot = slot; card = sat.0.card })) d e
   sitter-opens log cards = subst (λ (c : Card). CardsGo o (with_second spans old.keeper.odometer t) (OpensIn log (record { second = s.number; slot = slot; card = c })) d e) (sym sat.2) cards
 
-  by : (b : Bool) → JudgedInRings b (since_in o next.goes.within.b.run.log done s) (record { second = s.number; slot = slot; card = card }) (found_in (log_of after) s.number (In 0) slot) (with_second spans old.keeper.odometer t) (seats_of old) (seats_of new) d e →
+  sitter-told : (log : RunLog) → Opens o log (record { second = s.number; slot = slot; card = card }) e → Opens o log (record { second = s.number; slot = slot; card = sat.0.card }) e
+  sitter-told log opens = subst (λ (c : Card). Opens o log (record { second = s.number; slot = slot; card = c }) e) (sym sat.2) opens
+
+  -- the unit did not fail, or did as the cut tells
+  not-failed : failed ≡ false → failed ≡ true → has_call_failed_in (log_of after) s.number ≡ true
+  not-failed well is = absurd (let wrong : false ≡ true = sym well ∙ is in cc)
+
+  cut-fails : failed ≡ true → has_call_failed_in (with_cut (log_of after) s []) s.number ≡ true
+  cut-fails is = call-failed (with_cut (log_of after) s []) s.number (cut-failed (log_of after) s.number 0 uncut)
+
+  by : (b : Bool) → failed ≡ b → JudgedInRings b (since_in o next.goes.within.b.run.log done s) (record { second = s.number; slot = slot; card = card }) (found_in (log_of after) s.number (In 0) slot) (with_second spans old.keeper.odometer t) (seats_of old) (seats_of new) d e →
       RingsGoOn b o done s next.goes.within.b [] new (log_of after) spans t e
-  by false h = record {
+  by false well h = record {
     base = subst (λ (n : ℕ). IsLastFrom n (with_second spans n t)) (sym j.odometer) rings.base;
     counted = j.counted;
     ringed = subst (λ (n : ℕ). RingedIn o done s next.goes.within.b.run.log [] (log_of after) spans n t (seats_of new) e) (sym j.odometer) (⊎_elim
         (λ p. passed-anew d e o done s next.goes.within.b.run.log (log_of before) (log_of after) spans old.keeper.odometer t (seats_of old) (seats_of new) rings.ringed off (here-more (log_of before) (log_of after) s.number j.here) slot (found_in (log_of after) s.number (In 0) slot)
-        (anew-by (log_of before) (log_of after) slot (found_in (log_of after) s.number (In 0) slot) first next.none j.others refl) (inr p.none) p.stays j.left (cards-fail o (with_second spans old.keeper.odometer t) d e (log_of after) (log_of after) none-more acceptance verdicts j.places p.none) p.fewer_sit)
+        (anew-by (log_of before) (log_of after) slot (found_in (log_of after) s.number (In 0) slot) first next.none j.others refl) (inr p.none) p.stays j.left (cards-fail o (with_second spans old.keeper.odometer t) d e failed (log_of after) (log_of after) none-more acceptance verdicts j.places (not-failed well) p.none) p.fewer_sit)
         (λ i. accepted-anew d e o done s next.goes.within.b.run.log (log_of before) (log_of after) spans old.keeper.odometer t (seats_of old) i.now (seats_of new) rings.ringed off (here-more (log_of before) (log_of after) s.number j.here) slot sat.0 sat.1 i.verdict
         (anew-by (log_of before) (log_of after) slot (i.verdict ∷ []) first next.none j.others i.found) i.accepting i.head i.index i.writes i.inserts.long (of-sitter (log_of after) i.head (i.inserts.is (log_of after)))
-        (subst (λ (c : Card). AreSeatedWith c i.index (seats_of old) i.now) (sym sat.2) i.seated) j.left (sitter-opens (log_of after) (cards-open o (with_second spans old.keeper.odometer t) d e (log_of after) (log_of after) none-more acceptance verdicts j.places)) i.fewer_sit)
+        (subst (λ (c : Card). AreSeatedWith c i.index (seats_of old) i.now) (sym sat.2) i.seated) j.left (sitter-opens (log_of after) (cards-open o (with_second spans old.keeper.odometer t) d e failed (log_of after) (log_of after) none-more acceptance verdicts j.places (not-failed well))) (sitter-told (log_of after) (j.opens well i.verdict i.found i.accepting)) i.fewer_sit)
         h);
   }
-  by true h =
+  by true ill h =
       let cut : RunLog = with_cut (log_of after) s [] in
       record {
         counted = j.counted;
@@ -359,16 +369,16 @@ module _ (o : Origin) (done : List TraceSecond) (s : TraceSecond) (waits fewer :
             (λ p.
             let passed : RingedIn o done s next.goes.within.b.run.log [] cut spans old.keeper.odometer t nobody e =
             passed-anew d e o done s next.goes.within.b.run.log (log_of before) cut spans old.keeper.odometer t (seats_of old) nobody rings.ringed off cut-more slot (found_in (log_of after) s.number (In 0) slot)
-            (anew-by (log_of before) cut slot (found_in (log_of after) s.number (In 0) slot) first next.none (cut-found_ (other_slot slot) ∙ j.others) (cut-found_ slot)) (inr p.0) p.1 j.left (cards-fail o (with_second spans old.keeper.odometer t) d e (log_of after) cut after-more acceptance verdicts j.places p.0) (λ c. inr refl) in
+            (anew-by (log_of before) cut slot (found_in (log_of after) s.number (In 0) slot) first next.none (cut-found_ (other_slot slot) ∙ j.others) (cut-found_ slot)) (inr p.0) p.1 j.left (cards-fail o (with_second spans old.keeper.odometer t) d e failed (log_of after) cut after-more acceptance verdicts j.places cut-fails p.0) (λ c. inr refl) in
             cut-ends e o done s next.goes.within.b.run.log cut [] s.actions spans old.keeper.odometer t nobody nobody passed behind-cut power-then refl (cut-is (log_of after) s.number 0 uncut) (λ c. inl refl))
             (λ i. cut-anew d e o done s next.goes.within.b.run.log (log_of before) cut spans old.keeper.odometer t (seats_of old) rings.ringed off cut-more slot sat.0 sat.1 i.verdict
             (anew-by (log_of before) cut slot (i.verdict ∷ []) first next.none (cut-found_ (other_slot slot) ∙ j.others) (cut-found_ slot ∙ i.found)) i.accepting behind-cut power-then (cut-is (log_of after) s.number 0 uncut) (cut-failed (log_of after) s.number 0 uncut)
-            i.head i.writes i.inserts.long (of-sitter cut i.head (i.inserts.is cut)) j.left (sitter-opens cut (cards-open o (with_second spans old.keeper.odometer t) d e (log_of after) cut after-more acceptance verdicts j.places)))
+            i.head i.writes i.inserts.long (of-sitter cut i.head (i.inserts.is cut)) j.left (sitter-opens cut (cards-open o (with_second spans old.keeper.odometer t) d e failed (log_of after) cut after-more acceptance verdicts j.places cut-fails)))
             h);
       }
 
   slot-ringed : RingsGoOn failed o done s next.goes.within.b [] new (log_of after) spans t e
-  slot-ringed = by failed j.rings
+  slot-ringed = by failed refl j.rings
 
 -- by the call
 card-ringed : (o : Origin) (done : List TraceSecond) (s : TraceSecond) (b : Beginning) (waits fewer : List Visit) (slot : Slot) (card : Card) (old new : Run) (before after : Outcome) (d e : Devices) (next : RunNext o done s 0 waits fewer old before d slot card) → next.goes.within.b ≡ b → (went b.run.log done).before.running ≡ false →

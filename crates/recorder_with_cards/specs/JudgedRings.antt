@@ -26,7 +26,7 @@ use Rattle.run_acts.specs.run_note_record.Ringed.{Seating, one_behind, StaysInRi
 use Rattle.run_acts.specs.run_note_record.Ringed.{IsAddedAt}
 use Rattle.run_acts.specs.run_note_record.Ringed.{MayBeAdded, Since, since_in}
 use Rattle.run_acts.specs.run_note_record.OnCards.{IsReading, CardsGo}
-use Rattle.run_acts.specs.run_note_record.Sessions.{FailsIn}
+use Rattle.run_acts.specs.run_note_record.Sessions.{FailsIn, Opens}
 use Rattle.run_acts.specs.run_note_record.RingsSoFar.{AreFewer}
 use Rattle.run_minutes.specs.declared.keeper.Moment.{Moment}
 use Rattle.run_minutes.specs.Minutes.{odometer_by}
@@ -48,10 +48,12 @@ AreSeatedWith card index seats now = (c : Card)
     → ((same_card card c ≡ false) × (now c ≡ option_map one_behind (seats c)))
     ⊎ ((same_card card c ≡ true) × (now c ≡ Some (record { index = index; behind = 0 })))
 
--- WHICH SESSION A CARD THAT IS JUDGED MAY TELL: one of this second, where it is accepted, or where a call failed in it
-abbrev pub JudgesIn : RunLog → Acceptance → (verdicts : List Verdict) → Card → ℕ → Type 0
-JudgesIn log a verdicts c t =
-    ((same_card a.card c ≡ true) × (filter is_accepting verdicts ≢ []) × (t ≡ a.second)) ⊎ FailsIn log a.second c t
+-- WHICH SESSION A CARD THAT IS JUDGED MAY TELL: one of this second, where it is accepted; none, where the unit failed;
+-- and either, where a call failed in it
+abbrev pub JudgesIn : (failed : Bool) → RunLog → Acceptance → (verdicts : List Verdict) → Card → ℕ → Type 0
+JudgesIn failed log a verdicts c t =
+    ((same_card a.card c ≡ true) × (filter is_accepting verdicts ≢ []) × (t ≡ a.second))
+    ⊎ (((failed ≡ true) × (t ≡ 0)) ⊎ FailsIn log a.second c t)
 
 -- NOTHING WAS FOUND, or it is turned away, and no ring is written;
 pub record PassesInRings (verdicts : List Verdict) (seats fewer : Card → Option Seating) (d e : Devices) : Type 0 where
@@ -109,11 +111,13 @@ pub record IsJudgedInRings (failed : Bool) (o : Since) (s : TraceSecond) (n : �
   pub cut : cut_in (log_of after) s.number ≡ cut_in (log_of before) s.number
   pub same : (m : ℕ) → n ≡ suc m → TellSameTo (log_of before) (log_of after) s.number m
   pub left : HaveLeftMore o.origin d e
-  pub places : CardsGo o.origin spans (JudgesIn (log_of after) (record {
+  pub places : CardsGo o.origin spans (JudgesIn failed (log_of after) (record {
     second = s.number;
     slot = slot;
     card = card;
   }) (found_in (log_of after) s.number (In n) slot)) d e
+  pub opens : failed ≡ false → (v : Verdict) → found_in (log_of after) s.number (In n) slot ≡ v ∷ []
+      → is_accepting v ≡ true → Opens o.origin (log_of after) (record { second = s.number; slot = slot; card = card }) e
   pub odometer : new.keeper.odometer ≡ old.keeper.odometer
   pub counted : new.noted ≤ length (log_of after).finds
 

@@ -48,16 +48,17 @@ use Rattle.run_minutes.specs.run_promise.Found.{found_of}
 use Rattle.run_minutes.specs.run_promise.Between.{RunLedger}
 use Rattle.run_minutes.specs.run_devices.Told.{AreFoundCards, DevicesPowered, SessionIsOnCard, arranged}
 use Rattle.run_minutes.specs.run_devices.Measured.{GoesMeasured}
-use Rattle.run_minutes.specs.run_devices.Sessions.{SessionGoes}
+use Rattle.run_minutes.specs.run_devices.Sessions.{SessionGoes, IsNone}
 use Rattle.run_minutes.proofs.run_devices.CardUse.{note-use}
-use Rattle.run_minutes.proofs.run_devices.Sessions.{session-itself, session-then, session-same, file-session, close-session}
+use Rattle.run_minutes.proofs.run_devices.Sessions.{session-itself, session-then, session-same, session-more, file-session, close-session}
 use Rattle.run_minutes.proofs.run_devices.Holders.{event-places, closing-places}
 use Rattle.run_minutes.proofs.run_devices.Measured.{goes-itself, goes-then, goes-more, bytes-go, close-goes, event-vehicles, place-vehicles}
 use Rattle.run_minutes.proofs.run_devices.Parts.{CardLit, parts-of}
 use Rattle.run_record.proofs.Seats.{this-or}
 use Rattle.run_outcome.specs.declared.outcome.Outcome.{Outcome}
 use Rattle.run_minutes.specs.run_promise.Origin.{Origin}
-use Rattle.run_note_record.specs.OnCards.{has_call_failed_in, places_in, place_width, PlacesStay, IsReading, GoesByReadings, VehiclesGo, SessionsGo, NoOtherComes, CardsStay, TakesPlace, PlaceIsTaken, LeavesPlaces as LeavesRing}
+use Rattle.run_note_record.specs.OnCards.{has_call_failed_in, places_in, place_width, PlacesStay, IsReading, GoesByReadings, VehiclesGo, SessionsGo, NoOtherComes, CardsGo, CardsStay, TakesPlace, PlaceIsTaken, LeavesPlaces as LeavesRing}
+use Rattle.run_note_record.specs.Sessions.{EndsIf}
 use Rattle.run_minutes.specs.declared.keeper.Moment.{Moment}
 use Rattle.run_minutes.specs.Books.{AreTimedOn}
 use Rattle.run_minutes.specs.Keeping.{CardMayBeCalled, tear_of}
@@ -87,8 +88,9 @@ ring-file app = omega arith
 pub file-ring : (app : Application) (x y : List ℕ) → file_bytes app 0x0506 y ≡ file_bytes app 0x0506 x → bytes_at y (place_ring app).base (ring_size (place_ring app)) ≡ bytes_at x (place_ring app).base (ring_size (place_ring app))
 file-ring app x y same = subst (λ (n : ℕ). bytes_at y (place_of app (file 0x0506)) n ≡ bytes_at x (place_of app (file 0x0506)) n) (ring-file app) same
 
-pub stays-then : (o : Origin) (spans : List SpanFrom) (d e f : Devices) → CardsStay o spans d e → CardsStay o spans e f → CardsStay o spans d f
-stays-then o spans d e f first next = record { places = stay-then o d e f first.places next.places; vehicles = vehicles; sessions = sessions }
+-- and then a card may be closed
+pub ends-then : (o : Origin) (spans : List SpanFrom) (had : Bool) (card : Card) (d e f : Devices) → CardsStay o spans d e → CardsGo o spans (EndsIf had card) e f → CardsGo o spans (EndsIf had card) d f
+ends-then o spans had card d e f first next = record { places = stay-then o d e f first.places next.places; vehicles = vehicles; sessions = sessions }
   where
     vehicles : VehiclesGo o spans d f
     vehicles c valid z left =
@@ -96,11 +98,11 @@ stays-then o spans d e f first next = record { places = stay-then o d e f first.
         let was = first.vehicles c valid behind.0 behind.1 in
         (was.0, was.1, goes-then (sizes_in o c) (IsReading spans) was.0 behind.0 z was.2 behind.2)
 
-    sessions : SessionsGo o NoOtherComes d f
+    sessions : SessionsGo o (EndsIf had card) d f
     sessions c valid z left =
         let behind = next.sessions c valid z left in
         let was = first.sessions c valid behind.0 behind.1 in
-        (was.0, was.1, session-then (sizes_in o c) (NoOtherComes c) was.0 behind.0 z was.2 behind.2)
+        (was.0, was.1, session-then (sizes_in o c) (EndsIf had card c) was.0 behind.0 z (session-more (sizes_in o c) (NoOtherComes c) (EndsIf had card c) (λ t none. absurd none) was.0 behind.0 was.2) behind.2)
 
 -- ---- MINUTES ARE KEPT
 timed-places : (o : Origin) → IsOrigin o → (values : List ℕ) (d e : Devices) → AreTimedOn o.found values d e → PlacesStay o d e
@@ -188,12 +190,16 @@ closing-go {C = C} state o spans done s at waits rest run out c U V Z x y w whol
     by v None is h = subst (λ (z : C). ImagesGo spans (card_image o.recording c) (state x) (state z)) (sym (still is)) (λ z there. (z, there, goes-itself (sizes_in o c) (IsReading spans) z))
     by v (Some a) is h = closes-vehicles o spans _ run.keeper.cabin.cards c U (state x) Z (state y) w.origin w.within.found whole size a h.0 is w.within.powered h.1 v
 
--- and its session goes on, or is closed
+-- and its session goes on
 abbrev SessionGo : (start : List ℕ) → Card → (old new : State) → Type 0
 SessionGo start c old new = (y : List ℕ) → new.may_leave y → (x : List ℕ) × old.may_leave x × SessionGoes (own_sizes start) (NoOtherComes c) x y
 
+-- or is ended, where it had one
+abbrev SessionEnds : (start : List ℕ) → (May : ℕ → Type 0) → (old new : State) → Type 0
+SessionEnds start May old new = (y : List ℕ) → new.may_leave y → (x : List ℕ) × old.may_leave x × SessionGoes (own_sizes start) May x y
+
 closes-session : (o : Origin) (w : RunLedger) (cards : Cards) (c : Card) (U X Z : State) (Y : State) → IsOrigin o → AreFoundCards o.found cards → IsCoherent X → LARGEST_IMAGE ≤ X.size → (a : Accepted) (act : Activity) → session_of cards c ≡ Some a → DevicesPowered o.found w cards (arranged c U X Z) →
-    LeavesOnly X Y (λ i n. IsSession a.session i → IsCardClosing a.session act i n) → IsOwnValid (card_image o.recording c) → SessionGo (card_image o.recording c) c X Y
+    LeavesOnly X Y (λ i n. IsSession a.session i → IsCardClosing a.session act i n) → IsOwnValid (card_image o.recording c) → SessionEnds (card_image o.recording c) IsNone X Y
 closes-session o w cards c U X Z Y origin found whole size a act has p run valid y left =
     let there : IsOwnValid (found_of o.found c).image = valid-found o origin c valid in
     let one : CardLit o.found w.book (w.standing c) (w.hands c) (w.firsts c) (w.brought c) (Some a) c U X = subst (λ (q : Option Accepted). CardLit o.found w.book (w.standing c) (w.hands c) (w.firsts c) (w.brought c) q c U X) has ((parts-of o.found w cards c U X Z p).mine there) in
@@ -201,26 +207,32 @@ closes-session o w cards c U X Z Y origin found whole size a act has p run valid
     let sizes : a.session.application ≡ own_sizes (card_image o.recording c) = on.sizes ∙ ap own_sizes (origin.image c) in
     let fits = largest_image a.session.application (subst IsApplication (sym on.sizes) (found.sizes c there)) in
     ⊎_elim
-    (λ before. (y, before, session-itself (sizes_in o c) (NoOtherComes c) y))
+    (λ before. (y, before, session-itself (sizes_in o c) IsNone y))
     (λ (x, is, closes).
     let long = whole.sized x is in (
       x,
       whole.is_left x is,
-      subst (λ (app : Application). SessionGoes app (NoOtherComes c) x y) sizes
-          (close-session (NoOtherComes c) a.session act x y (omega (arith, fits, size, long)) (closes (at_image (IsSession a.session) is on.session))),
+      subst (λ (app : Application). SessionGoes app IsNone x y) sizes
+          (close-session a.session act x y (omega (arith, fits, size, long)) (closes (at_image (IsSession a.session) is on.session))),
     ))
     (run.now y left)
 
+itself-card : (x : Card) → same_card x x ≡ true
+itself-card A = refl
+itself-card B = refl
+
 closing-session : {C : Type 0} (state : C → State) (o : Origin) (done : List TraceSecond) (s : TraceSecond) (at : Phase) (waits : List Visit) (rest : List Minute) (run : Run) (out : Outcome) (c : Card) (U V Z : State) (x y : C) → RunWithin o done s at waits rest run out (arranged c U (state x) Z) →
     IsCoherent (state x) → LARGEST_IMAGE ≤ (state x).size → IfSome (session_of run.keeper.cabin.cards c) (λ s. (act : Activity) × LeavesOnly (state x) (state y) (λ i n. IsSession s.session i → IsCardClosing s.session act i n)) →
-    (session_of run.keeper.cabin.cards c ≡ None → y ≡ x) → SessionsGo o NoOtherComes (arranged c U (state x) Z) (arranged c V (state y) Z)
+    (session_of run.keeper.cabin.cards c ≡ None → y ≡ x) → SessionsGo o (EndsIf (is_some (session_of run.keeper.cabin.cards c)) c) (arranged c U (state x) Z) (arranged c V (state y) Z)
 closing-session {C = C} state o done s at waits rest run out c U V Z x y w whole size left still q0 valid =
-    each c U V (state x) (state y) Z (λ (q : Card) (a b : State). IsOwnValid (card_image o.recording q) → SessionGo (card_image o.recording q) q a b)
-    (λ v. by v (session_of run.keeper.cabin.cards c) refl left) (λ v z there. (z, there, session-itself (sizes_in o (other c)) (NoOtherComes (other c)) z)) q0 valid
+    each c U V (state x) (state y) Z (λ (q : Card) (a b : State). IsOwnValid (card_image o.recording q) → SessionEnds (card_image o.recording q) (EndsIf (is_some (session_of run.keeper.cabin.cards c)) c q) a b)
+    (λ v. by v (session_of run.keeper.cabin.cards c) refl left) (λ v z there. (z, there, session-itself (sizes_in o (other c)) (EndsIf (is_some (session_of run.keeper.cabin.cards c)) c (other c)) z)) q0 valid
   where
-    by : IsOwnValid (card_image o.recording c) → (q : Option Accepted) → session_of run.keeper.cabin.cards c ≡ q → IfSome q (λ s. (act : Activity) × LeavesOnly (state x) (state y) (λ i n. IsSession s.session i → IsCardClosing s.session act i n)) → SessionGo (card_image o.recording c) c (state x) (state y)
-    by v None is h = subst (λ (z : C). SessionGo (card_image o.recording c) c (state x) (state z)) (sym (still is)) (λ z there. (z, there, session-itself (sizes_in o c) (NoOtherComes c) z))
-    by v (Some a) is h = closes-session o _ run.keeper.cabin.cards c U (state x) Z (state y) w.origin w.within.found whole size a h.0 is w.within.powered h.1 v
+    by : IsOwnValid (card_image o.recording c) → (q : Option Accepted) → session_of run.keeper.cabin.cards c ≡ q → IfSome q (λ s. (act : Activity) × LeavesOnly (state x) (state y) (λ i n. IsSession s.session i → IsCardClosing s.session act i n)) → SessionEnds (card_image o.recording c) (EndsIf (is_some (session_of run.keeper.cabin.cards c)) c c) (state x) (state y)
+    by v None is h = subst (λ (z : C). SessionEnds (card_image o.recording c) (EndsIf (is_some (session_of run.keeper.cabin.cards c)) c c) (state x) (state z)) (sym (still is)) (λ z there. (z, there, session-itself (sizes_in o c) (EndsIf (is_some (session_of run.keeper.cabin.cards c)) c c) z))
+    by v (Some a) is h = λ z there.
+        let was = closes-session o _ run.keeper.cabin.cards c U (state x) Z (state y) w.origin w.within.found whole size a h.0 is w.within.powered h.1 v z there in
+        (was.0, was.1, session-more (sizes_in o c) IsNone (EndsIf (is_some (session_of run.keeper.cabin.cards c)) c c) (λ t none. (ap (λ (q : Option Accepted). is_some q) is, (itself-card c, none))) was.0 z was.2)
 
 -- WHERE IT IS CLOSED each image tells of none
 pub closed-none : (o : Origin) (w : RunLedger) (cards : Cards) (c : Card) (U X Z Y : State) → IsOrigin o → AreFoundCards o.found cards → IsCoherent X → LARGEST_IMAGE ≤ X.size → (a : Accepted) (act : Activity) → session_of cards c ≡ Some a → DevicesPowered o.found w cards (arranged c U X Z) →
@@ -238,7 +250,7 @@ closed-none o w cards c U X Z Y origin found whole size a act has p closes valid
 
 pub closing-stays : {C : Type 0} (state : C → State) (o : Origin) (spans : List SpanFrom) (done : List TraceSecond) (s : TraceSecond) (at : Phase) (waits : List Visit) (rest : List Minute) (run : Run) (out : Outcome) (c : Card) (U V Z : State) (x y : C) → RunWithin o done s at waits rest run out (arranged c U (state x) Z) →
     IsCoherent (state x) → LARGEST_IMAGE ≤ (state x).size → IfSome (session_of run.keeper.cabin.cards c) (λ s. (act : Activity) × LeavesOnly (state x) (state y) (λ i n. IsSession s.session i → IsCardClosing s.session act i n)) →
-    (session_of run.keeper.cabin.cards c ≡ None → y ≡ x) → CardsStay o spans (arranged c U (state x) Z) (arranged c V (state y) Z)
+    (session_of run.keeper.cabin.cards c ≡ None → y ≡ x) → CardsGo o spans (EndsIf (is_some (session_of run.keeper.cabin.cards c)) c) (arranged c U (state x) Z) (arranged c V (state y) Z)
 closing-stays state o spans done s at waits rest run out c U V Z x y w whole size left still =
     record {
       places = closing-stay state o done s at waits rest run out c U V Z x y w whole size left still;

@@ -33,8 +33,9 @@ use Rattle.run_minutes.proofs.Seats.{sessions-then}
 use Rattle.run_minutes.specs.run_promise.Origin.{Origin}
 use Rattle.run_minutes.specs.run_promise.Beside.{HaveLeftMore}
 use Rattle.run_events.specs.run_rings.Spans.{with_second}
-use Rattle.run_note_record.specs.OnCards.{CardsStay}
-use Rattle.run_note_record.specs.Sessions.{Shuts}
+use Rattle.run_note_record.specs.OnCards.{has_call_failed_in, CardsGo, CardsStay}
+use Rattle.run_note_record.specs.Sessions.{EndsIf, Shuts}
+use Rattle.run_note_record.proofs.Sessions.{stay-may}
 use Rattle.run_note_record.specs.Ringed.{Seating, LeavesRings}
 use Rattle.run_note_record.specs.RingsSoFar.{RingedBehind, AreFewer}
 use Rattle.run_note_record.specs.Steps.{nobody, spans_cut}
@@ -43,6 +44,7 @@ use Rattle.run_acts.specs.Acting.{Closing, Bare, Closed, Fell, IsClosingOf, IsCl
 use Rattle.run_acts.specs.Recording.{log_of, values_of, RunWithin}
 use Rattle.run_acts.specs.RunRinged.{seats_of, RingsWithin, with_cut, RingsGoOn}
 use Rattle.run_acts.specs.Ringing.{seating_of, odometer_of, Withdraws, ClosesRings}
+use Rattle.run_acts.proofs.CardPlaces.{tear-failed}
 use Rattle.run_acts.proofs.Leaving.{closed-sessions}
 use Rattle.run_acts.proofs.WithdrawnRecorded.{acting_at}
 use Rattle.run_acts.proofs.RingedLines.{AreTears, TellsTears, SatIn, TellsTear, tears-both, up-to-tells, tear-told, tear-behind, gone-torn, seats-go}
@@ -86,7 +88,7 @@ went-of x y B new h is = went-on_ x.b.accepted new (subst (GoesOnFrom x.b.accept
 
 module _ (o : Origin) (done : List TraceSecond) (s : TraceSecond) (front rest : List Action) (slot : Slot) (are : s.actions ≡ front ++ Withdraw slot ∷ rest) (speed : ℕ) (now : s.speed ≡ speed) (c : Card) (run between : Run) (before told : Outcome) (d e : Devices)
     (w : RunWithin o done s (In (length front)) [] [] run before d) (seat : card_in (seat_in run.keeper.cabin.slots.seats slot) ≡ Some c) (allowed : refusal (logged run.keeper.cabin.slots.seats) speed (Withdraw slot) ≡ None)
-    (failed : Bool) (kept : IsSettled (acting_at s.number (suc (length front))) failed (left_run slot s.number run) between before told) (left : HaveLeftMore o d e) (spans : List SpanFrom) (t : ToldSecond) (places : CardsStay o (with_second spans run.keeper.odometer t) d e)
+    (failed : Bool) (kept : IsSettled (acting_at s.number (suc (length front))) failed (left_run slot s.number run) between before told) (left : HaveLeftMore o d e) (spans : List SpanFrom) (t : ToldSecond)
     (rings : RingsWithin o done s w.within.b.run.log front run (log_of before) spans t d) (low : ℕ) (stands : CabinIsSound low None run.keeper.cabin) (small : s.number < 2 ^ 32)
     (entries : IfSome (session_of run.keeper.cabin.cards c) (λ q. q.entry < insertion_ring.count)) where
   abbrev at : Moment
@@ -105,20 +107,23 @@ module _ (o : Origin) (done : List TraceSecond) (s : TraceSecond) (front rest : 
   noted-is = ap (λ (r : Run). r.noted) kept.only
 
   -- THE UNIT FAILED as the minutes were kept
-  pub settling-ringed : LeavesRings d.unit e.unit → RingsGoOn true o done s w.within.b (front ++ a ∷ []) between (log_of told) spans t e
-  settling-ringed leaves = record {
-    counted = counted-on o done s front rest slot are run before d e w told-tears.lines (log_of told) told-is told-tears.tears left spans t places rings c seat low stands speed now allowed small between noted-is;
+  pub settling-ringed : CardsStay o (with_second spans run.keeper.odometer t) d e → LeavesRings d.unit e.unit → RingsGoOn true o done s w.within.b (front ++ a ∷ []) between (log_of told) spans t e
+  settling-ringed stays leaves = record {
+    counted = counted-on o done s front rest slot are run before d e w told-tears.lines (log_of told) told-is told-tears.tears left spans t c false (stay-may o (with_second spans run.keeper.odometer t) (EndsIf false c) d e stays) rings seat low stands speed now allowed small between noted-is;
     lines = since-begun o done s (In (length front)) [] None [] (values_of run before) d w.within (log_of told) (told-tears.lines, ap (λ (l : RunLog). l.breaks) told-is);
     behind = (is-cut o done s front rest a are (values_of run before) d w.within told-tears.lines (log_of told) told-is told-tears.tears).behind;
     odometer = told-tears.odometer ∙ w.odometer;
     ringed = subst (λ (b : ℕ). RingedBehind o (done ++ s ∷ []) (with_cut (log_of told) s (front ++ a ∷ [])) (suc s.number) (spans_cut spans b (with_cut (log_of told) s (front ++ a ∷ [])) done s) nobody e) (sym told-tears.odometer)
-        (cut-leaves o done s front rest slot are run before d e w told-tears.lines (log_of told) told-is told-tears.tears left spans t places rings c seat low stands speed now allowed small entries leaves);
+        (cut-leaves o done s front rest slot are run before d e w told-tears.lines (log_of told) told-is told-tears.tears left spans t c false (stay-may o (with_second spans run.keeper.odometer t) (EndsIf false c) d e stays) rings seat low stands speed now allowed small entries leaves);
   }
 
   -- THEY ARE KEPT, and its session is closed
-  module _ (new : Run) (after : Listed Break) (closing : Closing) (closed : IsClosed c slot at between new told.breaks after closing) where
+  module _ (places : CardsGo o (with_second spans run.keeper.odometer t) (EndsIf (is_some (session_of between.keeper.cabin.cards c)) c) d e) (new : Run) (after : Listed Break) (closing : Closing) (closed : IsClosed c slot at between new told.breaks after closing) where
     abbrev later : RunLog
     later = log_of (record told { breaks = after })
+
+    abbrev had_session : Bool
+    had_session = is_some (session_of between.keeper.cabin.cards c)
 
     abbrev lines : List Break
     lines = told-tears.lines ++ closed_breaks closing slot at
@@ -171,12 +176,12 @@ module _ (o : Origin) (done : List TraceSecond) (s : TraceSecond) (front rest : 
         (shuts : closing ≡ Closed → Shuts o later (record { second = s.number; card = c }) e) where
       broken : (k : Closing) → closing ≡ k → (q : Option Accepted) → session_of between.keeper.cabin.cards c ≡ q → ClosesRings k q at true between d.unit e.unit →
           RingedBehind o (done ++ s ∷ []) (with_cut later s (front ++ a ∷ [])) (suc s.number) (spans_cut spans run.keeper.odometer (with_cut later s (front ++ a ∷ [])) done s) nobody e
-      broken Bare k q is h = cut-leaves o done s front rest slot are run before d e w lines later later-is tears left spans t places rings c seat low stands speed now allowed small entries h
-      broken Fell k q is h = cut-leaves o done s front rest slot are run before d e w lines later later-is tears left spans t places rings c seat low stands speed now allowed small entries h
+      broken Bare k q is h = cut-leaves o done s front rest slot are run before d e w lines later later-is tears left spans t c had_session places rings seat low stands speed now allowed small entries h
+      broken Fell k q is h = cut-leaves o done s front rest slot are run before d e w lines later later-is tears left spans t c had_session places rings seat low stands speed now allowed small entries h
       broken Closed k None is h = absurd h
       broken Closed k (Some x) is h =
           let went = went-of run.keeper.cabin.cards between.keeper.cabin.cards c x told-tears.sessions is in
-          cut-writes o done s front rest slot are run before d e w lines later later-is tears left spans t places rings c seat low stands speed now allowed small went.was went.is
+          cut-writes o done s front rest slot are run before d e w lines later later-is tears left spans t c had_session places rings seat low stands speed now allowed small went.was went.is
           (subst (λ (q : Option Accepted). IfSome q (λ r. r.entry < insertion_ring.count)) went.is entries)
           (subst (λ (l : RunLog). is_torn_in l s.number (In (suc (length front))) slot ≡ false) (same-log (ap (λ (j : Closing). closed_breaks j slot at) k)) (untorn (ap (λ (q : Option Accepted). is_some q) went.is) (ap (λ (q : Option Accepted). is_some q) is)))
           (same-writes true x went (h (settled w.within.sp) stands_))
@@ -185,12 +190,21 @@ module _ (o : Origin) (done : List TraceSecond) (s : TraceSecond) (front rest : 
       closed-bare : closing ≡ Bare → session_of between.keeper.cabin.cards c ≡ None → LeavesRings d.unit e.unit → RingsWithin o done s w.within.b.run.log (front ++ a ∷ []) new later spans t e
       closed-bare k none h = by (session_of run.keeper.cabin.cards c) refl
         where
+          bare-sat : is_some (session_of between.keeper.cabin.cards c) ≡ true → ⊥
+          bare-sat sat = let clash : false ≡ true = sym (ap (λ (q : Option Accepted). is_some q) none) ∙ sat in cc
+
           by : (q : Option Accepted) → session_of run.keeper.cabin.cards c ≡ q → RingsWithin o done s w.within.b.run.log (front ++ a ∷ []) new later spans t e
-          by None is = quiet-bare o done s front rest slot are run before d e w lines later later-is tears left spans t places rings c seat low stands speed now allowed small new fewer new-odometer new-noted h is
+          by None is = quiet-bare o done s front rest slot are run before d e w lines later later-is tears left spans t c had_session places rings seat low stands speed now allowed small new fewer new-odometer new-noted h (λ sat. absurd (bare-sat sat)) is
           by (Some x) is =
               let some : is_some (session_of run.keeper.cabin.cards c) ≡ true = ap (λ (q : Option Accepted). is_some q) is in
-              quiet-torn o done s front rest slot are run before d e w lines later later-is tears left spans t places rings c seat low stands speed now allowed small new fewer new-odometer new-noted h some
+              quiet-torn o done s front rest slot are run before d e w lines later later-is tears left spans t c had_session places rings seat low stands speed now allowed small new fewer new-odometer new-noted h (λ sat. absurd (bare-sat sat)) some
               (subst (λ (l : RunLog). is_torn_in l s.number (In (suc (length front))) slot ≡ true) (same-log (ap (λ (j : Closing). closed_breaks j slot at) k)) (torn some none))
+
+      -- it fell in the closing: a call failed
+      fell-told : closing ≡ Fell → has_call_failed_in later s.number ≡ true
+      fell-told k =
+          ap (λ (l : Listed Break). has_call_failed_in (log_of (record told { breaks = l })) s.number) closed.told
+          ∙ subst (λ (j : Closing). has_call_failed_in (record (log_of told) { breaks = (log_of told).breaks ++ closed_breaks j slot at }) s.number ≡ true) (sym k) (tear-failed (log_of told) slot at)
 
       noted : (k : Closing) → closing ≡ k → (q : Option Accepted) → session_of between.keeper.cabin.cards c ≡ q → IsClosingOf q k → ClosesRings k q at false between d.unit e.unit →
           RingsWithin o done s w.within.b.run.log (front ++ a ∷ []) new later spans t e
@@ -199,13 +213,13 @@ module _ (o : Origin) (done : List TraceSecond) (s : TraceSecond) (front rest : 
       noted Fell k None is of h = absurd of
       noted Fell k (Some x) is of h =
           let went = went-of run.keeper.cabin.cards between.keeper.cabin.cards c x told-tears.sessions is in
-          quiet-torn o done s front rest slot are run before d e w lines later later-is tears left spans t places rings c seat low stands speed now allowed small new fewer new-odometer new-noted h (ap (λ (q : Option Accepted). is_some q) went.is)
+          quiet-torn o done s front rest slot are run before d e w lines later later-is tears left spans t c had_session places rings seat low stands speed now allowed small new fewer new-odometer new-noted h (λ sat. fell-told k) (ap (λ (q : Option Accepted). is_some q) went.is)
           (tear-told slot at lines (log_of before) later later-is
           (subst (λ (j : Closing). TellsTear slot at (told-tears.lines ++ closed_breaks j slot at)) (sym k) (tear-behind slot at told-tears.lines (tear_of slot at ∷ []) ([], [], refl))))
       noted Closed k None is of h = absurd of
       noted Closed k (Some x) is of h =
           let went = went-of run.keeper.cabin.cards between.keeper.cabin.cards c x told-tears.sessions is in
-          withdrawn o done s front rest slot are run before d e w lines later later-is tears left spans t places rings c seat low stands speed now allowed small went.was went.is
+          withdrawn o done s front rest slot are run before d e w lines later later-is tears left spans t c had_session places rings seat low stands speed now allowed small went.was went.is
           (subst (λ (q : Option Accepted). IfSome q (λ r. r.entry < insertion_ring.count)) went.is entries) new fewer gone new-odometer new-noted
           (subst (λ (l : RunLog). is_torn_in l s.number (In (suc (length front))) slot ≡ false) (same-log (ap (λ (j : Closing). closed_breaks j slot at) k)) (untorn (ap (λ (q : Option Accepted). is_some q) went.is) (ap (λ (q : Option Accepted). is_some q) is)))
           (same-writes false x went (h (settled w.within.sp) stands_)) (shuts k)
@@ -213,7 +227,7 @@ module _ (o : Origin) (done : List TraceSecond) (s : TraceSecond) (front rest : 
       pub closing-ringed : (fails : Bool) → ClosesRings closing (session_of between.keeper.cabin.cards c) at fails between d.unit e.unit → RingsGoOn fails o done s w.within.b (front ++ a ∷ []) new later spans t e
       closing-ringed false h = noted closing refl (session_of between.keeper.cabin.cards c) refl closed.is h
       closing-ringed true h = record {
-        counted = counted-on o done s front rest slot are run before d e w lines later later-is tears left spans t places rings c seat low stands speed now allowed small new new-noted;
+        counted = counted-on o done s front rest slot are run before d e w lines later later-is tears left spans t c had_session places rings seat low stands speed now allowed small new new-noted;
         lines = since-begun o done s (In (length front)) [] None [] (values_of run before) d w.within later (lines, ap (λ (l : RunLog). l.breaks) later-is);
         behind = (is-cut o done s front rest a are (values_of run before) d w.within lines later later-is tears).behind;
         odometer = new-odometer ∙ w.odometer;

@@ -35,9 +35,10 @@ use Rattle.run_minutes.specs.run_promise.Beside.{HaveLeftMore}
 use Rattle.run_note_record.specs.Ringed.{Seating, LeavesRings, WritesRing, MayBeWithdrawn}
 use Rattle.run_note_record.specs.RingsSoFar.{RingedBehind, RingedIn, AreFewer}
 use Rattle.run_note_record.specs.Steps.{GoesOnTo, IsCutIn, nobody, spans_cut}
-use Rattle.run_note_record.specs.OnCards.{CardsStay}
-use Rattle.run_note_record.specs.Sessions.{FailsIn, Shuts}
-use Rattle.run_note_record.proofs.Sessions.{stay-may}
+use Rattle.run_note_record.specs.OnCards.{has_call_failed_in, CardsGo}
+use Rattle.run_note_record.specs.Sessions.{EndsIf, Shuts}
+use Rattle.run_note_record.proofs.OnCards.{call-failed}
+use Rattle.run_note_record.proofs.Sessions.{ends-all, ends-fail}
 use Rattle.run_note_record.proofs.RingSteps.{passes, action-cut, card-withdrawn, withdrawal-is-cut}
 use Rattle.run_record.specs.Recorded.{Values}
 use Rattle.run_record.specs.Within.{told_before, course_in}
@@ -72,8 +73,8 @@ none-written q time odometer d e leaves = λ y at.
 
 module _ (o : Origin) (done : List TraceSecond) (s : TraceSecond) (front rest : List Action) (slot : Slot) (are : s.actions ≡ front ++ Withdraw slot ∷ rest) (run : Run) (before : Outcome) (d e : Devices)
     (w : RunWithin o done s (In (length front)) [] [] run before d) (lines : List Break) (later : RunLog) (is : later ≡ record (log_of before) { breaks = (log_of before).breaks ++ lines })
-    (tears : AreTears (record { second = s.number; begun = suc (length front); late = false }) lines) (left : HaveLeftMore o d e) (spans : List SpanFrom) (t : ToldSecond) (places : CardsStay o (with_second spans run.keeper.odometer t) d e) (rings : RingsWithin o done s w.within.b.run.log front run (log_of before) spans t d)
-    (card : Card) (seat : card_in (seat_in run.keeper.cabin.slots.seats slot) ≡ Some card) (low : ℕ) (stands : CabinIsSound low None run.keeper.cabin) (speed : ℕ) (now : s.speed ≡ speed)
+    (tears : AreTears (record { second = s.number; begun = suc (length front); late = false }) lines) (left : HaveLeftMore o d e) (spans : List SpanFrom) (t : ToldSecond) (card : Card) (had : Bool) (places : CardsGo o (with_second spans run.keeper.odometer t) (EndsIf had card) d e) (rings : RingsWithin o done s w.within.b.run.log front run (log_of before) spans t d)
+    (seat : card_in (seat_in run.keeper.cabin.slots.seats slot) ≡ Some card) (low : ℕ) (stands : CabinIsSound low None run.keeper.cabin) (speed : ℕ) (now : s.speed ≡ speed)
     (allowed : refusal (logged run.keeper.cabin.slots.seats) speed (Withdraw slot) ≡ None) (small : s.number < 2 ^ 32) where
   abbrev v : Values
   v = values_of run before
@@ -145,26 +146,26 @@ module _ (o : Origin) (done : List TraceSecond) (s : TraceSecond) (front rest : 
   counted-on new same = subst (λ (k : ℕ). k ≤ length later.finds) (sym same) (subst (λ (l : RunLog). run.noted ≤ length l.finds) (sym is) rings.counted)
 
   -- IT NOTES NOTHING
-  goes-quiet : (new : Run) → AreFewer (seats_of run) (seats_of new) → new.keeper.odometer ≡ run.keeper.odometer → new.noted ≡ run.noted → LeavesRings d.unit e.unit → NotesMore later was s front a [] →
+  goes-quiet : (new : Run) → AreFewer (seats_of run) (seats_of new) → new.keeper.odometer ≡ run.keeper.odometer → new.noted ≡ run.noted → LeavesRings d.unit e.unit → (had ≡ true → has_call_failed_in later s.number ≡ true) → NotesMore later was s front a [] →
       RingsWithin o done s w.within.b.run.log (front ++ a ∷ []) new later spans t e
-  goes-quiet new fewer same noted leaves none = record {
+  goes-quiet new fewer same noted leaves fails none = record {
     base = subst (λ (b : ℕ). IsLastFrom b (with_second spans b t)) (sym same) rings.base;
     counted = counted-on new noted;
     ringed = subst (λ (b : ℕ). RingedIn o done s w.within.b.run.log (front ++ a ∷ []) later spans b t (seats_of new) e) (sym same)
-        (passes d e o done s w.within.b.run.log (log_of before) later front a spans run.keeper.odometer t (seats_of run) (seats_of new) rings.ringed goes none leaves left (stay-may o (with_second spans run.keeper.odometer t) (FailsIn later s.number) d e places) fewer);
+        (passes d e o done s w.within.b.run.log (log_of before) later front a spans run.keeper.odometer t (seats_of run) (seats_of new) rings.ringed goes none leaves left (ends-fail o (with_second spans run.keeper.odometer t) had card later s.number d e fails places) fewer);
   }
 
-  pub quiet-torn : (new : Run) → AreFewer (seats_of run) (seats_of new) → new.keeper.odometer ≡ run.keeper.odometer → new.noted ≡ run.noted → LeavesRings d.unit e.unit → is_some (session_of run.keeper.cabin.cards card) ≡ true →
+  pub quiet-torn : (new : Run) → AreFewer (seats_of run) (seats_of new) → new.keeper.odometer ≡ run.keeper.odometer → new.noted ≡ run.noted → LeavesRings d.unit e.unit → (had ≡ true → has_call_failed_in later s.number ≡ true) → is_some (session_of run.keeper.cabin.cards card) ≡ true →
       is_torn_in later s.number (In (suc (length front))) slot ≡ true → RingsWithin o done s w.within.b.run.log (front ++ a ∷ []) new later spans t e
-  quiet-torn new fewer same noted leaves some torn =
+  quiet-torn new fewer same noted leaves fails some torn =
       let x = sits-some some in
-      goes-quiet new fewer same noted leaves (none-torn later (record { card = card; accepted = Some x.0 }) (then_ (record { card = card; accepted = Some x.0 }) x.1) goes.begun torn)
+      goes-quiet new fewer same noted leaves fails (none-torn later (record { card = card; accepted = Some x.0 }) (then_ (record { card = card; accepted = Some x.0 }) x.1) goes.begun torn)
 
-  pub quiet-bare : (new : Run) → AreFewer (seats_of run) (seats_of new) → new.keeper.odometer ≡ run.keeper.odometer → new.noted ≡ run.noted → LeavesRings d.unit e.unit → session_of run.keeper.cabin.cards card ≡ None →
+  pub quiet-bare : (new : Run) → AreFewer (seats_of run) (seats_of new) → new.keeper.odometer ≡ run.keeper.odometer → new.noted ≡ run.noted → LeavesRings d.unit e.unit → (had ≡ true → has_call_failed_in later s.number ≡ true) → session_of run.keeper.cabin.cards card ≡ None →
       RingsWithin o done s w.within.b.run.log (front ++ a ∷ []) new later spans t e
-  quiet-bare new fewer same noted leaves none =
+  quiet-bare new fewer same noted leaves fails none =
       let x = sits-bare none in
-      goes-quiet new fewer same noted leaves (none-bare later x.0 (then_ x.0 x.1) goes.begun x.3)
+      goes-quiet new fewer same noted leaves fails (none-bare later x.0 (then_ x.0 x.1) goes.begun x.3)
 
   -- THE WITHDRAWAL IS NOTED
   abbrev seats-then : Run → Card → Option Seating
@@ -208,7 +209,7 @@ module _ (o : Origin) (done : List TraceSecond) (s : TraceSecond) (front rest : 
       counted = counted-on new noted;
       ringed = subst (λ (b : ℕ). RingedIn o done s w.within.b.run.log (front ++ a ∷ []) later spans b t (seats_of new) e) (sym same)
           (card-withdrawn d e o done s w.within.b.run.log (log_of before) later front spans run.keeper.odometer t (seats_of run) (seats-then run) (seats_of new) rings.ringed goes slot x (then_ x (sits-some some-session).1) still
-          (ap (λ (n : ℕ). is_torn_in later s.number (In n) slot) longer ∙ untorn) refl (seating_of run.noted session) seat-is entry time odometer refl odometer-is small few-kilometres writes others-stay left places shuts (then-fewer new fewer gone));
+          (ap (λ (n : ℕ). is_torn_in later s.number (In n) slot) longer ∙ untorn) refl (seating_of run.noted session) seat-is entry time odometer refl odometer-is small few-kilometres writes others-stay left (ends-all o (with_second spans run.keeper.odometer t) had card d e places) shuts (then-fewer new fewer gone));
     }
 
     -- or the unit failed in it: it stands, or does not
@@ -216,11 +217,11 @@ module _ (o : Origin) (done : List TraceSecond) (s : TraceSecond) (front rest : 
         RingedBehind o (done ++ s ∷ []) log_cut (suc s.number) (spans_cut spans run.keeper.odometer log_cut done s) nobody e
     broken-noted untorn writes =
         withdrawal-is-cut d e o done s w.within.b.run.log (log_of before) log_cut front rest spans run.keeper.odometer t (seats_of run) rings.ringed slot cuts x (then-cut x (sits-some some-session).1) still
-        (ap (λ (n : ℕ). is_torn_in log_cut s.number (In n) slot) longer ∙ untorn) refl (seating_of run.noted session) seat-is entry time odometer refl odometer-is small few-kilometres writes left places
+        (ap (λ (n : ℕ). is_torn_in log_cut s.number (In n) slot) longer ∙ untorn) refl (seating_of run.noted session) seat-is entry time odometer refl odometer-is small few-kilometres writes left (ends-all o (with_second spans run.keeper.odometer t) had card d e places)
 
   -- THE UNIT FAILED, and no withdrawal is written, or this one may be
   cut-quiet : LeavesRings d.unit e.unit → NotesMore log_cut was s front a [] → RingedBehind o (done ++ s ∷ []) log_cut (suc s.number) (spans_cut spans run.keeper.odometer log_cut done s) nobody e
-  cut-quiet leaves none = action-cut d e o done s w.within.b.run.log (log_of before) log_cut front a rest spans run.keeper.odometer t (seats_of run) rings.ringed cuts none leaves left (stay-may o (with_second spans run.keeper.odometer t) (FailsIn log_cut s.number) d e places)
+  cut-quiet leaves none = action-cut d e o done s w.within.b.run.log (log_of before) log_cut front a rest spans run.keeper.odometer t (seats_of run) rings.ringed cuts none leaves left (ends-fail o (with_second spans run.keeper.odometer t) had card log_cut s.number d e (λ sat. call-failed log_cut s.number cuts.failed) places)
 
   pub cut-leaves : IfSome (session_of run.keeper.cabin.cards card) (λ q. q.entry < insertion_ring.count) → LeavesRings d.unit e.unit →
       RingedBehind o (done ++ s ∷ []) log_cut (suc s.number) (spans_cut spans run.keeper.odometer log_cut done s) nobody e

@@ -64,9 +64,9 @@ use Rattle.run_acts.specs.RunCards.{StillShow, CardsSettling, PlacesSettling}
 use Rattle.run_acts.proofs.CardStays.{closing-still}
 use Rattle.unit_notes.specs.note_model.Odometer.{SpanFrom}
 use Rattle.run_events.specs.run_rings.Spans.{with_second}
-use Rattle.run_note_record.specs.OnCards.{CardsStay}
+use Rattle.run_note_record.specs.OnCards.{CardsGo, CardsStay}
 use Rattle.run_acts.specs.RunRinged.{AreSpansNow}
-use Rattle.run_note_record.specs.Sessions.{Shuts}
+use Rattle.run_note_record.specs.Sessions.{EndsIf, Shuts}
 use Rattle.run_acts.specs.CardWrites.{ClosesCard}
 use Rattle.run_acts.proofs.CardPlaces.{closing-stays}
 use Rattle.run_acts.proofs.SessionsClosed.{closing-shuts}
@@ -270,7 +270,7 @@ module _ (o : Origin) (done : List TraceSecond) (s : TraceSecond) (front rest : 
   pub closed-places : {C : Type 0} (state : C → State) (U V Z : State) (x y : C) → IsCoherent (state x) → LARGEST_IMAGE ≤ (state x).size →
       IfSome (session_of between.keeper.cabin.cards c) (λ s. (act : Activity) × LeavesOnly (state x) (state y) (λ i n. IsSession s.session i → IsCardClosing s.session act i n)) → (session_of between.keeper.cabin.cards c ≡ None → y ≡ x) →
       RecordsSettling decided (acting_at s.number (suc (length front))) false (left_run slot s.number run) between before told d (arranged c U (state x) Z) → HaveTime (arranged c U (state x) Z) →
-      (spans : List SpanFrom) → CardsStay o spans (arranged c U (state x) Z) (arranged c V (state y) Z)
+      (spans : List SpanFrom) → CardsGo o spans (EndsIf (is_some (session_of between.keeper.cabin.cards c)) c) (arranged c U (state x) Z) (arranged c V (state y) Z)
   closed-places state U V Z x y whole size closes still records time spans =
       let kept_all : IsSettledIn o done s (In (suc (length front))) [] gone.within.b gone.within.from (gone.within.from + length decided) (left_run slot s.number run) between before told d (arranged c U (state x) Z) =
       records o done s (suc (length front)) [] (omega arith) refl gone time in

@@ -31,7 +31,7 @@ use Rattle.run_minutes.specs.Minutes.{KeepingState}
 use Rattle.run_minutes.specs.Books.{HaveTime}
 use Rattle.run_minutes.specs.Decided.{MayBookAll}
 use Rattle.run_acts.specs.declared.run.Run.{Run}
-use Rattle.run_acts.specs.Acting.{Closing, Bare, Closed, Fell, IsSettled, IsClosed, left_run, told_of}
+use Rattle.run_acts.specs.Acting.{Closing, Bare, Closed, Fell, IsSettled, IsClosed, IsClosedBehind, left_run, told_of}
 
 -- ---- a place
 
@@ -83,25 +83,29 @@ IsShut None act card_after = ⊥
 IsShut (Some a) act card_after = (c : List ℕ) → card_after.may_leave c
     → (x : List ℕ) × IsSession a.session x × IsCardClosed a.session act x c
 
--- A WITHDRAWN CARD: the minutes before are kept, and then it is closed, over devices that tell, where it was valid
-pub record ShutsBehind (card : Card) (slot : Slot) (at : Moment) (t : KeepingState) (old new : Run) (after : Outcome)
+-- behind these minutes, over devices that tell, so is each image of a card that was valid
+abbrev pub ShutsThen : Card → List Minute → KeepingState → (session : Option Accepted) → Activity → (d e : Devices)
+    → Type 0
+ShutsThen card decided t session act d e = (f : Found) (w : RunLedger) (start : ℕ) (g : Travel)
+    → MayBookAll f w decided t d → HasTravelled start w.book g d.unit
+    → t.keeper.odometer ≡ odometer_after start g.before → HaveTime e → IsOwnValid (found_of f card).image
+    → IsShut session act (card_of e card)
+
+-- A WITHDRAWN CARD: its slot is left, the minutes before are kept, and then the session that it has still is closed,
+-- with what is selected for the next second
+pub record ShutsBehind (card : Card) (slot : Slot) (at : Moment) (old new : Run) (before after : Outcome)
     (d e : Devices) : Type 0 where
+  pub behind : IsClosedBehind card slot at old new before after
   pub decided : List Minute
   pub given : (span : Span) → CountsSpan old.minutes span → decided_in (settled span) ≡ decided_in span ++ decided
-  pub between : Run
-  pub told : Outcome
-  pub closing : Closing
-  pub closed : IsClosed card slot at between new told.breaks after.breaks closing
   pub act : Activity
-  pub selected : (span : Span) → CountsSpan between.minutes span → act ≡ activity_next slot span
-  pub shut : closing ≡ Closed → (f : Found) (w : RunLedger) (start : ℕ) (g : Travel) → MayBookAll f w decided t d
-      → HasTravelled start w.book g d.unit → t.keeper.odometer ≡ odometer_after start g.before → HaveTime e
-      → IsOwnValid (found_of f card).image
-      → IsShut (session_of between.keeper.cabin.cards card) act (card_of e card)
+  pub selected : (span : Span) → CountsSpan behind.between.minutes span → act ≡ activity_next slot span
+  pub shut : behind.closing ≡ Closed → ShutsThen card decided (told_of (left_run slot at.second old) before)
+      (session_of behind.between.keeper.cabin.cards card) act d e
 
 -- or the unit failed in these minutes
 abbrev pub WithdrawsShut : Card → Slot → Moment → (failed : Bool) → (old new : Run) → (before after : Outcome)
     → (d e : Devices) → Type 0
 WithdrawsShut card slot at failed old new before after d e =
     ((failed ≡ true) × IsSettled at true (left_run slot at.second old) new before after)
-    ⊎ ShutsBehind card slot at (told_of (left_run slot at.second old) before) old new after d e
+    ⊎ ShutsBehind card slot at old new before after d e

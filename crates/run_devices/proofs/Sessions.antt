@@ -18,7 +18,7 @@ use Rattle.device_calls.specs.card_files.CurrentUses.{current_use_of}
 use Rattle.device_calls.specs.card_image.Fields.{file, file_bytes, current_use, session_time}
 use Rattle.device_calls.specs.card_session.Books.{closed}
 use Rattle.device_calls.specs.card_session.Cards.{IsCard, IsCardClosing}
-use Rattle.device_calls.specs.card_session.Inserting.{repaired, IsRepairMoment, During, IsStill, IsRepaired, IsRepairing, IsNoted, IsNoting, IsShut, IsShutting, IsEnded, IsEnding, IsOpening, IsCardInserting, timed, registered, unclosed}
+use Rattle.device_calls.specs.card_session.Inserting.{repaired, IsRepairMoment, During, IsStill, IsRepaired, IsRepairing, IsNoted, IsNoting, IsShut, IsShutting, IsEnded, IsEnding, IsOpening, IsCardInserting, IsCardInserted, timed, registered, unclosed}
 use Rattle.device_calls.specs.card_session.Moments.{IsBook, IsCloseMoment}
 use Rattle.device_calls.specs.card_session.Sessions.{Session, book_of}
 use Rattle.device_calls.specs.card_session.Vehicles.{Vehicles}
@@ -27,7 +27,7 @@ use Rattle.device_calls.proofs.card_session.InsertingUse.{use_inside}
 use Rattle.device_calls.proofs.card_session.InsertingAgain.{noted_keeps}
 use Rattle.device_calls.proofs.card_session.Stopping.{session_told, closed_session}
 use Rattle.device_calls.specs.CardNotes.{IsNote}
-use Rattle.run_devices.specs.Sessions.{SessionGoes}
+use Rattle.run_devices.specs.Sessions.{SessionGoes, IsNone, IsNoneOr}
 use Rattle.run_devices.proofs.CardUse.{note-use, event-use, opened-use}
 
 module _ (app : Application) (May : ℕ → Type 0) where
@@ -37,7 +37,7 @@ module _ (app : Application) (May : ℕ → Type 0) where
 
   -- calls one after another
   pub session-then : (x y z : List ℕ) → SessionGoes app May x y → SessionGoes app May y z → SessionGoes app May x z
-  session-then x y z first next = ⊎_elim (λ same. subst (λ (t : ℕ). (t ≡ session_time app x) ⊎ ((t ≡ 0) ⊎ May t)) (sym same) first) (λ other. inr other) next
+  session-then x y z first next = ⊎_elim (λ same. subst (λ (t : ℕ). (t ≡ session_time app x) ⊎ May t) (sym same) first) (λ may. inr may) next
 
   -- what leaves the current use
   pub session-same : (x y : List ℕ) → current_use app y ≡ current_use app x → SessionGoes app May x y
@@ -54,12 +54,12 @@ module _ (app : Application) (May : ℕ → Type 0) where
 
 -- with more that may come
 pub session-more : (app : Application) (May Now : ℕ → Type 0) → ((t : ℕ) → May t → Now t) → (x y : List ℕ) → SessionGoes app May x y → SessionGoes app Now x y
-session-more app May Now more x y goes = ⊎_elim (λ same. inl same) (λ other. ⊎_elim (λ none. inr (inl none)) (λ may. inr (inr (more (session_time app y) may))) other) goes
+session-more app May Now more x y goes = ⊎_elim (λ same. inl same) (λ may. inr (more (session_time app y) may)) goes
 
 -- A CLOSING
-pub close-session : (May : ℕ → Type 0) (s : Session) (act : Activity) (x y : List ℕ) → image_size_of s.application ≤ length x → IsCardClosing s act x y → SessionGoes s.application May x y
-close-session May s act x y fits (inl card) = session-same s.application May x y (use_same s.application (IsCloseMoment s.application.activity act (book_of s.application x)) x y card)
-close-session May s act x y fits (inr done) = inr (inl (closed_session s act x y fits done))
+pub close-session : (s : Session) (act : Activity) (x y : List ℕ) → image_size_of s.application ≤ length x → IsCardClosing s act x y → SessionGoes s.application IsNone x y
+close-session s act x y fits (inl card) = session-same s.application IsNone x y (use_same s.application (IsCloseMoment s.application.activity act (book_of s.application x)) x y card)
+close-session s act x y fits (inr done) = inr (closed_session s act x y fits done)
 
 -- AN INSERTION, in this second
 
@@ -69,16 +69,16 @@ module _ (app : Application) (registration : Registration) (now : ℕ) (long : l
   Fits x = place_of app (file 0x0507) + 19 ≤ length x
 
   abbrev Goes : List ℕ → List ℕ → Type 0
-  Goes x y = Fits y × SessionGoes app (λ t. t ≡ now) x y
+  Goes x y = Fits y × SessionGoes app (IsNoneOr now) x y
 
   abbrev Step : (List ℕ → List ℕ → Type 0) → Type 0
   Step R = (x y : List ℕ) → Fits x → R x y → Goes x y
 
   then-goes : (x y z : List ℕ) → Goes x y → Goes y z → Goes x z
-  then-goes x y z first next = (next.0, session-then app (λ t. t ≡ now) x y z first.1 next.1)
+  then-goes x y z first next = (next.0, session-then app (IsNoneOr now) x y z first.1 next.1)
 
   image-goes : (x y : List ℕ) → Fits x → y ≡ x → Goes x y
-  image-goes x y fits is = (subst Fits (sym is) fits, session-same app (λ t. t ≡ now) x y (ap (λ (l : List ℕ). current_use app l) is))
+  image-goes x y fits is = (subst Fits (sym is) fits, session-same app (IsNoneOr now) x y (ap (λ (l : List ℕ). current_use app l) is))
 
   during-goes : (R S R' : List ℕ → List ℕ → Type 0) → Step R → Step S → Step R' → Step (During R S R')
   during-goes R S R' before done behind x y fits (inl early) = before x y fits early
@@ -87,12 +87,12 @@ module _ (app : Application) (registration : Registration) (now : ℕ) (long : l
       then-goes x late.0 y first (behind late.0 y first.0 late.2)
 
   card-goes : (P : List ℕ → List Day → Vehicles → Type 0) → Step (λ x y. IsCard app (P x) x y)
-  card-goes P x y fits is = (let same = is.outside.same_length in omega (arith, fits, same), session-same app (λ t. t ≡ now) x y (use_same app (P x) x y is))
+  card-goes P x y fits is = (let same = is.outside.same_length in omega (arith, fits, same), session-same app (IsNoneOr now) x y (use_same app (P x) x y is))
 
   noted-goes : Step (IsNoted app now)
   noted-goes x y fits noted = (
     (let same = (noted_keeps app now x y fits noted).1 in omega (arith, fits, same)),
-    session-same app (λ t. t ≡ now) x y (⊎_elim
+    session-same app (IsNoneOr now) x y (⊎_elim
         (λ held. ap (λ (l : List ℕ). current_use app l) held.1)
         (λ is. event-use app (unclosed (current_use app x) now).kind is.1.place x y is.1.takes.below is.1.entry.outside) noted),
   )
@@ -100,7 +100,7 @@ module _ (app : Application) (registration : Registration) (now : ℕ) (long : l
   noting-goes : Step (IsNoting app now)
   noting-goes x y fits noting = (
     (let same : length y ≡ length x = ⊎_elim (λ same. ap (λ (l : List ℕ). length l) same) (λ changed. ⊎_elim (λ absent. absent.outside.same_length) (λ replaced. replaced.outside.same_length) changed) noting.1.entry in omega (arith, fits, same)),
-    session-same app (λ t. t ≡ now) x y (note-use app x y (inl (unclosed (current_use app x) now, noting.1))),
+    session-same app (IsNoneOr now) x y (note-use app x y (inl (unclosed (current_use app x) now, noting.1))),
   )
 
   -- it is ended
@@ -164,8 +164,22 @@ module _ (app : Application) (registration : Registration) (now : ℕ) (long : l
       (during-goes (IsNoting app now) (IsNoted app now) _ noting-goes noted-goes
       (during-goes (IsShutting app) (IsShut app) _ shutting shut (during-goes (IsEnding app) (IsEnded app) _ ending-goes ended-goes opening-goes)))) x y fits open_one.1
 
-  pub inserting-session : (odometer : ℕ) (owed : List Entry) (x y : List ℕ) → image_size_of app ≤ length x → IsCardInserting app registration odometer owed now x y → SessionGoes app (λ t. t ≡ now) x y
+  pub inserting-session : (odometer : ℕ) (owed : List Entry) (x y : List ℕ) → image_size_of app ≤ length x → IsCardInserting app registration odometer owed now x y → SessionGoes app (IsNoneOr now) x y
   inserting-session odometer owed x y fits inserting = (goes-inserting odometer owed x y (omega (arith, fits, use_inside app)) inserting).1
+
+  -- and behind all of it that of now
+  pub inserted-session : (odometer : ℕ) (owed : List Entry) (x y : List ℕ) → image_size_of app ≤ length x → IsCardInserted app registration odometer owed now x y → session_time app y ≡ now
+  inserted-session odometer owed x y fits (inl (none, (x1, still_, (x2, shut_, opened_)))) =
+      let first = still x x1 (omega (arith, fits, use_inside app)) still_ in
+      let next = shut x1 x2 first.0 shut_ in
+      ap (λ (u : CurrentUse). u.session.0) (opened-use app registration now long few x2 next.0 y opened_)
+  inserted-session odometer owed x y fits (inr (some, (x1, still_, (x2, mended_, (x3, noted_, (x4, shut_, (x5, ended_, opened_))))))) =
+      let first = still x x1 (omega (arith, fits, use_inside app)) still_ in
+      let second = repaired-goes odometer owed x1 x2 first.0 mended_ in
+      let third = noted-goes x2 x3 second.0 noted_ in
+      let fourth = shut x3 x4 third.0 shut_ in
+      let fifth = ended-goes x4 x5 fourth.0 ended_ in
+      ap (λ (u : CurrentUse). u.session.0) (opened-use app registration now long few x5 fifth.0 y opened_)
 
 -- AN EVENT, and a moment of that
 pub event-session : (app : Application) (May : ℕ → Type 0) (e : CardEvent) (x y : List ℕ) → IsNotingEvent app e x y → SessionGoes app May x y

@@ -6,7 +6,7 @@ use Rattle.run_events.specs.gated_ring.Change.{IsAdded}
 use Rattle.run_events.specs.message_model.Records.{insertion_ring, unit_place_ring}
 use Rattle.run_devices.specs.log_model.Log.{RunLog}
 use Rattle.run_devices.specs.note_model.Odometer.{SpanFrom, odometer_at}
-use Rattle.run_devices.specs.note_model.Noted.{Withdrawal, InsertionNote, PlaceNote, Note, Accepts, Withdraws, Enters}
+use Rattle.run_devices.specs.note_model.Noted.{Acceptance, Withdrawal, InsertionNote, PlaceNote, Note, Accepts, Withdraws, Enters}
 use Rattle.run_devices.specs.safety_model.Recording.{card_image}
 use Rattle.run_devices.specs.safety_model.Safe.{Devices, card_of}
 use Rattle.run_devices.specs.run_promise.Found.{found_of}
@@ -15,7 +15,7 @@ use Rattle.run_note_record.specs.Ringed.{holder_in, TellsIn, IsInsertionIn, Seat
 use Rattle.run_devices.specs.card_image.Own.{own_sizes}
 use Rattle.run_devices.proofs.Measured.{goes-itself}
 use Rattle.run_note_record.specs.OnCards.{PlacesStay, IsReading, VehiclesGo, SessionsGo, NoOtherComes, CardsGo, CardsStay, PlaceIsTaken}
-use Rattle.run_note_record.specs.Sessions.{IsBrokenSince, OpensSince, Shuts}
+use Rattle.run_note_record.specs.Sessions.{IsBrokenSince, OpensSince, Ends, Opens, Shuts}
 use Rattle.run_note_record.proofs.Sessions.{stay-may}
 use Rattle.run_note_record.proofs.Stands.{insertion-as}
 use Rattle.run_note_record.proofs.Rings.{rings-stay, go-on, tells-more, insertion-noted, insertion-broken, place-noted, place-broken}
@@ -108,6 +108,10 @@ module _ (R : List ℕ → List ℕ → Type 0) (d e : Devices) where
         places A = cards.places A
         places B = cards.places B
 
+    pub opens-between : (log : RunLog) (a : Acceptance) → Opens o.origin log a e → Opens o.origin log a behind-it
+    opens-between log a opens A = opens A
+    opens-between log a opens B = opens B
+
     pub shuts-between : (log : RunLog) (w : Withdrawal) → Shuts o.origin log w e → Shuts o.origin log w behind-it
     shuts-between log w shuts A = shuts A
     shuts-between log w shuts B = shuts B
@@ -134,9 +138,9 @@ module _ (R : List ℕ → List ℕ → Type 0) (d e : Devices) where
           by (Some u) = refl
 
 pub insertion-around : (d e : Devices) → AnInsertionIsNoted d e
-insertion-around d e o log spans notes seats now v more a cards head index writes full is each =
+insertion-around d e o log spans notes seats now v more a cards opens head index writes full is each =
     ringed-behind (IsAddedAt index head) d e o log spans (notes ++ Accepts a ∷ []) now writes
-    (insertion-noted (before-it (IsAddedAt index head) d e) (behind-it (IsAddedAt index head) d e) o log spans notes seats now (ringed-before (IsAddedAt index head) d e o log spans notes seats v) (to-behind (IsAddedAt index head) d e o more) a (cards-between (IsAddedAt index head) d e o spans (OpensSince log a notes) cards) head index (λ q left. left) full
+    (insertion-noted (before-it (IsAddedAt index head) d e) (behind-it (IsAddedAt index head) d e) o log spans notes seats now (ringed-before (IsAddedAt index head) d e o log spans notes seats v) (to-behind (IsAddedAt index head) d e o more) a (cards-between (IsAddedAt index head) d e o spans (OpensSince log a notes) cards) (opens-between (IsAddedAt index head) d e o log a opens) head index (λ q left. left) full
     (insertion-behind (IsAddedAt index head) d e o log spans notes seats (record { accepted = a; withdrawn = None }) head is) each)
 
 pub place-around : (d e : Devices) → APlaceIsNoted d e
@@ -145,9 +149,9 @@ place-around d e o log spans notes seats v more p head writes full is own long o
     (place-noted (before-it (IsAdded unit_place_ring head) d e) (behind-it (IsAdded unit_place_ring head) d e) o log spans notes seats (ringed-before (IsAdded unit_place_ring head) d e o log spans notes seats v) (to-behind (IsAdded unit_place_ring head) d e o more) p head (λ q left. left) full is own long on (taken-between (IsAdded unit_place_ring head) d e o log p own taken_) (go-between (IsAdded unit_place_ring head) d e o spans goes) (sessions-between (IsAdded unit_place_ring head) d e o NoOtherComes sessions_))
 
 pub withdrawal-around : (d e : Devices) → AWithdrawalIsNoted d e
-withdrawal-around d e o log spans notes seats now v more cards w s at below time odometer second stood time_fits odometer_fits writes each shuts =
+withdrawal-around d e o log spans notes seats now v more w cards s at below time odometer second stood time_fits odometer_fits writes each shuts =
     ringed-behind (IsWithdrawnAt s time odometer) d e o log spans (notes ++ Withdraws w ∷ []) now writes
-    (withdrawal-noted (before-it (IsWithdrawnAt s time odometer) d e) (behind-it (IsWithdrawnAt s time odometer) d e) o log spans notes seats now (ringed-before (IsWithdrawnAt s time odometer) d e o log spans notes seats v) (to-behind (IsWithdrawnAt s time odometer) d e o more) (cards-between (IsWithdrawnAt s time odometer) d e o spans NoOtherComes cards) w s at below time odometer second stood time_fits odometer_fits (λ q left. left) each (shuts-between (IsWithdrawnAt s time odometer) d e o log w shuts))
+    (withdrawal-noted (before-it (IsWithdrawnAt s time odometer) d e) (behind-it (IsWithdrawnAt s time odometer) d e) o log spans notes seats now (ringed-before (IsWithdrawnAt s time odometer) d e o log spans notes seats v) (to-behind (IsWithdrawnAt s time odometer) d e o more) w (cards-between (IsWithdrawnAt s time odometer) d e o spans (Ends w.card) cards) s at below time odometer second stood time_fits odometer_fits (λ q left. left) each (shuts-between (IsWithdrawnAt s time odometer) d e o log w shuts))
 
 pub insertion-cut : (d e : Devices) → AnInsertionIsBroken d e
 insertion-cut d e o log spans notes seats v more a cards head writes full is has =
@@ -161,6 +165,6 @@ place-cut d e o log spans notes seats v more p head writes full is has own long 
     (place-broken (before-it (MayBeAdded unit_place_ring head) d e) (behind-it (MayBeAdded unit_place_ring head) d e) o log spans notes seats (ringed-before (MayBeAdded unit_place_ring head) d e o log spans notes seats v) (to-behind (MayBeAdded unit_place_ring head) d e o more) p head (λ q left. left) full is has own long on (taken-between (MayBeAdded unit_place_ring head) d e o log p own taken_) (go-between (MayBeAdded unit_place_ring head) d e o spans goes) (sessions-between (MayBeAdded unit_place_ring head) d e o NoOtherComes sessions_))
 
 pub withdrawal-cut : (d e : Devices) → AWithdrawalIsBroken d e
-withdrawal-cut d e o log spans notes seats v more cards w s at below time odometer second stood time_fits odometer_fits writes has =
+withdrawal-cut d e o log spans notes seats v more w cards s at below time odometer second stood time_fits odometer_fits writes has =
     ringed-behind (MayBeWithdrawn s time odometer) d e o log spans (notes ++ Withdraws w ∷ []) (λ c. None) writes
-    (withdrawal-broken (before-it (MayBeWithdrawn s time odometer) d e) (behind-it (MayBeWithdrawn s time odometer) d e) o log spans notes seats (ringed-before (MayBeWithdrawn s time odometer) d e o log spans notes seats v) (to-behind (MayBeWithdrawn s time odometer) d e o more) (cards-between (MayBeWithdrawn s time odometer) d e o spans NoOtherComes cards) w s at below time odometer second stood time_fits odometer_fits (λ q left. left) has)
+    (withdrawal-broken (before-it (MayBeWithdrawn s time odometer) d e) (behind-it (MayBeWithdrawn s time odometer) d e) o log spans notes seats (ringed-before (MayBeWithdrawn s time odometer) d e o log spans notes seats v) (to-behind (MayBeWithdrawn s time odometer) d e o more) w (cards-between (MayBeWithdrawn s time odometer) d e o spans (Ends w.card) cards) s at below time odometer second stood time_fits odometer_fits (λ q left. left) has)

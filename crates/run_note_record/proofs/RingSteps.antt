@@ -77,7 +77,7 @@ card-withdrawn d e o done s began log later front spans base t seats now_ fewer 
     let w = lines-in d o done s began log later front spans base t seats v g in
     let notes : List Note = notes_so_far began done later s front in
     let n : Withdrawal = record { second = s.number; card = x.card } in
-    let r : Ringed (since_in o began done s) later now (notes ++ Withdraws n ∷ []) now_ e = withdrawal-around d e (since_in o began done s) later now notes seats now_ w.ringed left cards n q seat below time odometer second kilometres low few_ writes each shuts in
+    let r : Ringed (since_in o began done s) later now (notes ++ Withdraws n ∷ []) now_ e = withdrawal-around d e (since_in o began done s) later now notes seats now_ w.ringed left n cards q seat below time odometer second kilometres low few_ writes each shuts in
     action-noted d e o done s began front (Withdraw slot) later spans base t seats fewer (Withdraws n) w ((withdrawals later (went began done).before s front g.begun slot x sits still).2 torn accepted)
     (fewer-sit e (since_in o began done s) later now (notes ++ Withdraws n ∷ []) now_ fewer r few)
 
@@ -87,7 +87,7 @@ withdrawal-is-cut d e o done s began log cut front rest spans base t seats v slo
     let w = lines-in d o done s began log cut front spans base t seats v c.goes in
     let notes : List Note = notes_so_far began done cut s front in
     let n : Withdrawal = record { second = s.number; card = x.card } in
-    let r : Ringed (since_in o began done s) cut now (notes ++ Withdraws n ∷ []) nobody e = withdrawal-cut d e (since_in o began done s) cut now notes seats w.ringed left cards n q seat below time odometer second kilometres low few_ writes c.failed in
+    let r : Ringed (since_in o began done s) cut now (notes ++ Withdraws n ∷ []) nobody e = withdrawal-cut d e (since_in o began done s) cut now notes seats w.ringed left n cards q seat below time odometer second kilometres low few_ writes c.failed in
     behind-it d e o done s began log cut front (Withdraw slot) rest spans base t nobody c
     (action-noted d e o done s began front (Withdraw slot) cut spans base t seats nobody (Withdraws n) w ((withdrawals cut (went began done).before s front c.goes.begun slot x sits still).2 torn accepted) r)
 
@@ -97,12 +97,12 @@ one-accepts u slot card vs v are accepting =
     ap (accepts_by u slot card) are ∙ ap (λ (b : Bool). map (λ (w : Verdict). Accepts (record { second = u; slot = slot; card = card })) (cond b (v ∷ []) [])) accepting
 
 pub card-accepted : (d e : Devices) → ACardIsAccepted d e
-card-accepted d e o done s began log later front spans base t seats now_ fewer v g slot card fine verdict found accepting head index writes long is each left cards few =
+card-accepted d e o done s began log later front spans base t seats now_ fewer v g slot card fine verdict found accepting head index writes long is each left cards opens few =
     let now : List SpanFrom = with_second spans base t in
     let w = lines-in d o done s began log later front spans base t seats v g in
     let notes : List Note = notes_so_far began done later s front in
     let n : Acceptance = record { second = s.number; slot = slot; card = card } in
-    let r : Ringed (since_in o began done s) later now (notes ++ Accepts n ∷ []) now_ e = insertion-around d e (since_in o began done s) later now notes seats now_ w.ringed left n (go-more o now (OpensIn later n) (OpensSince later n notes) d e (opens-since later n notes (early-so-far done s began later front w.early)) cards) head index writes long is each in
+    let r : Ringed (since_in o began done s) later now (notes ++ Accepts n ∷ []) now_ e = insertion-around d e (since_in o began done s) later now notes seats now_ w.ringed left n (go-more o now (OpensIn later n) (OpensSince later n notes) d e (opens-since later n notes (early-so-far done s began later front w.early)) cards) opens head index writes long is each in
     let one = one-accepts s.number slot card (found_in later s.number (In (length front + 1)) slot) verdict found accepting in
     let more : NotesMore later (went began done).before s front (Insert slot card) (Accepts n ∷ []) = subst (λ (l : List Note). NotesMore later (went began done).before s front (Insert slot card) l) one (insertions later (went began done).before s front g.begun slot card fine) in
     action-noted d e o done s began front (Insert slot card) later spans base t seats fewer (Accepts n) w more (fewer-sit e (since_in o began done s) later now (notes ++ Accepts n ∷ []) now_ fewer r few)

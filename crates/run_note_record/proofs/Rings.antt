@@ -29,9 +29,9 @@ use Rattle.run_note_record.specs.Origin.{Origin}
 use Rattle.run_note_record.specs.Beside.{HaveLeftMore}
 use Rattle.run_note_record.specs.Ringed.{holder_in, TellsIn, IsInsertionIn, IsPlaceIn, sure_insertion, sure_place, ShowsNotes, Seating, one_behind, LiesBehind, StandsAt, IsSeated, ShowsInsertions, Ringed, GoOn, NoRingIsWritten, RingsStay, FewerSit, IsAddedAt, MayBeAdded, Since}
 use Rattle.run_note_record.specs.OnCards.{place_width, IsPlaceOn, VehiclesGo, SessionsGo, NoOtherComes, CardsGo, PlaceIsTaken}
-use Rattle.run_note_record.specs.Sessions.{OpensSince}
-use Rattle.run_note_record.proofs.Sessions.{sessions-none, sessions-go, sessions-accepted, sessions-entered}
-use Rattle.run_note_record.proofs.OnCards.{whole-head, maybe, places-none, places-go, places-beside, places-taken, vehicles-none, vehicles-go}
+use Rattle.run_note_record.specs.Sessions.{OpensSince, Opens}
+use Rattle.run_note_record.proofs.Sessions.{sessions-none, sessions-go, sessions-accepted, opens-none, sessions-entered}
+use Rattle.run_note_record.proofs.OnCards.{call-failed, whole-head, maybe, places-none, places-go, places-beside, places-taken, vehicles-none, vehicles-go}
 use Rattle.run_note_record.proofs.Stands.{Weaker, stand-as, unsure-as, each-as, each-append, all-parts, all-of, all-each, insertions-more, places-more, insertion-as, place-as}
 
 -- two images have their insertions at the same indices, and the next one comes to the same
@@ -344,10 +344,10 @@ seated-more sure Is c (Some s) ns ms x y a head points added other is sits = rec
       sits.there;
 }
 
-pub insertion-noted : (d e : Devices) (o : Since) (log : RunLog) (spans : List SpanFrom) (notes : List Note) (seats now : Card → Option Seating) → Ringed o log spans notes seats d → HaveLeftMore o.origin d e → (a : Acceptance) → CardsGo o.origin spans (OpensSince log a notes) d e → (head : List ℕ) (index : ℕ) → Writes (IsAddedAt index head) d e → length head ≡ insertion_ring.width →
+pub insertion-noted : (d e : Devices) (o : Since) (log : RunLog) (spans : List SpanFrom) (notes : List Note) (seats now : Card → Option Seating) → Ringed o log spans notes seats d → HaveLeftMore o.origin d e → (a : Acceptance) → CardsGo o.origin spans (OpensSince log a notes) d e → Opens o.origin log a e → (head : List ℕ) (index : ℕ) → Writes (IsAddedAt index head) d e → length head ≡ insertion_ring.width →
     IsInsertionIn o log spans e (record { accepted = a; withdrawn = None }) head → ((c : Card) → ((same_card a.card c ≡ false) × (now c ≡ option_map one_behind (seats c))) ⊎ ((same_card a.card c ≡ true) × (now c ≡ Some (record { index = index; behind = 0 })))) →
     Ringed o log spans (notes ++ Accepts a ∷ []) now e
-insertion-noted d e o log spans notes seats now v more a cards head index added full is each = record {
+insertion-noted d e o log spans notes seats now v more a cards opens head index added full is each = record {
   insertions = λ ring y left.
       let w = added y left in
       let was = v.insertions ring w.0 w.1 in
@@ -406,7 +406,7 @@ insertion-noted d e o log spans notes seats now v more a cards head index added 
       });
   on_cards = places-beside o.origin log spans notes (Accepts a) d e refl cards.places v.on_cards;
   vehicles = vehicles-go o.origin spans spans d e (λ k is. is) cards.vehicles v.vehicles;
-  sessions = sessions-accepted o.origin log notes a d e cards.sessions v.sessions;
+  sessions = sessions-accepted o.origin log notes a d e cards.sessions opens v.sessions;
 }
 
 -- or the unit failed in it
@@ -434,5 +434,5 @@ insertion-broken d e o log spans notes seats v more a cards head adding full is 
       });
   on_cards = places-beside o.origin log spans notes (Accepts a) d e refl cards.places v.on_cards;
   vehicles = vehicles-go o.origin spans spans d e (λ k is. is) cards.vehicles v.vehicles;
-  sessions = sessions-accepted o.origin log notes a d e cards.sessions v.sessions;
+  sessions = sessions-accepted o.origin log notes a d e cards.sessions (opens-none o.origin log a e (call-failed log a.second has)) v.sessions;
 }

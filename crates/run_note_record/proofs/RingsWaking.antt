@@ -139,11 +139,11 @@ one-anew log later before s off slot x sits v found accepting =
     ∙ ap (λ (b : Bool). front ++ map (λ (w : Verdict). Accepts (record { second = s.number; slot = slot; card = x.card })) (cond b (v ∷ []) [])) accepting
 
 pub accepted-anew : (d e : Devices) → ACardIsAcceptedAnew d e
-accepted-anew d e o done s began log later spans base t seats now_ fewer v off more slot x sits verdict found accepting head index writes long is each left cards few =
+accepted-anew d e o done s began log later spans base t seats now_ fewer v off more slot x sits verdict found accepting head index writes long is each left cards opens few =
     let now : List SpanFrom = with_second spans base t in
     let notes : List Note = notes_so_far began done log s [] in
     let n : Acceptance = record { second = s.number; slot = slot; card = x.card } in
-    let r : Ringed (since_in o began done s) later now (notes ++ Accepts n ∷ []) now_ e = insertion-around d e (since_in o began done s) later now notes seats now_ (lines-anew d e o done s began log later spans base t seats v more) left n (go-more o now (OpensIn later n) (OpensSince later n notes) d e (opens-since later n notes (early-so-far done s began log [] v.early)) cards) head index writes long is each in
+    let r : Ringed (since_in o began done s) later now (notes ++ Accepts n ∷ []) now_ e = insertion-around d e (since_in o began done s) later now notes seats now_ (lines-anew d e o done s began log later spans base t seats v more) left n (go-more o now (OpensIn later n) (OpensSince later n notes) d e (opens-since later n notes (early-so-far done s began log [] v.early)) cards) opens head index writes long is each in
     noted-anew d e o done s began log later spans base t seats v more fewer (Accepts n ∷ []) (one-anew log later (went began done).before s off slot x sits verdict found accepting)
     (fewer-sit e (since_in o began done s) later now (notes ++ Accepts n ∷ []) now_ fewer r few)
 

@@ -1,5 +1,5 @@
 -- What is carried of the sessions of the cards, over each step.
-use Rattle.std.proofs.Common.{◌≡◌, ◌∙◌, ◌⊎◌, inl, inr, ⊎_elim, ℕ, suc, Bool, true, false, cond, not, ◌&&◌, List, [], ◌∷◌, ◌++◌, Contains, fold, refl, ap, sym, subst, arith}
+use Rattle.std.proofs.Common.{◌≡◌, ◌∙◌, ◌⊎◌, inl, inr, ⊎_elim, ℕ, suc, Bool, true, false, not, ◌&&◌, List, [], ◌∷◌, ◌++◌, Contains, fold, refl, ap, sym, subst, arith}
 use Rattle.std.specs.List.{AllByRecursion}
 use Rattle.std.proofs.lemmas.List.Sums.{fold-append}
 use Rattle.std.proofs.lemmas.List.Elements.{Contains-append_left, Contains-push, Contains-push_cases}
@@ -19,123 +19,152 @@ use Rattle.run_devices.proofs.Sessions.{session-more}
 use Rattle.run_note_record.specs.Origin.{Origin}
 use Rattle.run_note_record.specs.OnCards.{has_call_failed_in, SessionsGo, NoOtherComes, CardsGo, CardsStay}
 use Rattle.run_note_record.specs.RingsSoFar.{AreEarlier}
-use Rattle.run_note_record.specs.Sessions.{is_shut_by, open_with, open_on, IsNotBefore, IsBrokenSince, MayTell, session_told, SessionsOnCards, FailsIn, OpensIn, OpensSince, Shuts}
+use Rattle.run_note_record.specs.Sessions.{is_opened_by, is_shut_by, accepted_then, withdrawn_then, told_with, told_on, IsNotBefore, HasFailedSince, IsBrokenSince, MayTell, session_told, SessionsOnCards, FailsIn, OpensIn, OpensSince, Ends, EndsIf, Opens, Shuts}
 use Rattle.run_note_record.proofs.Stands.{all-of, all-push}
 
--- ---- what may be open
+-- ---- what it may tell
 
-none-in : (t : ℕ) → Contains [] t → ⊥
-none-in t at = let few = at.1 in omega (arith, few)
+tell-next : (log : RunLog) (c : Card) (start : ℕ) (notes : List Note) (n : Note) → told_on log c start (notes ++ n ∷ []) ≡ told_with log c (told_on log c start notes) n
+tell-next log c start notes n = fold-append (told_with log c) (start ∷ []) notes (n ∷ [])
 
-open-next : (log : RunLog) (c : Card) (start : ℕ) (notes : List Note) (n : Note) → open_on log c start (notes ++ n ∷ []) ≡ open_with log c (open_on log c start notes) n
-open-next log c start notes n = fold-append (open_with log c) (start ∷ []) notes (n ∷ [])
+-- no card was accepted or withdrawn so where a call failed in that second
+not-sure : (m : Bool) → (m && not true) ≡ true → ⊥
+not-sure true is = let wrong : false ≡ true = is in cc
+not-sure false is = let wrong : false ≡ true = is in cc
 
--- no card was withdrawn so where a call on the unit failed in that second
-not-shut : (m : Bool) → (m && not true) ≡ true → ⊥
-not-shut true is = let wrong : false ≡ true = is in cc
-not-shut false is = let wrong : false ≡ true = is in cc
+first-holds : (m n : Bool) → (m && n) ≡ true → m ≡ true
+first-holds true n is = refl
+first-holds false n is = absurd (let wrong : false ≡ true = is in cc)
+
+-- where more calls fail it is sure of fewer notes
+sure-back : (m f g : Bool) → (f ≡ true → g ≡ true) → (m && not g) ≡ true → (m && not f) ≡ true
+sure-back false f g then is = absurd (let wrong : false ≡ true = is in cc)
+sure-back true false g then is = refl
+sure-back true true g then is = absurd (let wrong : not true ≡ true = subst (λ (b : Bool). not b ≡ true) (then refl) is in not-sure true wrong)
+
+-- what may be told behind an acceptance: that of before, where it is not sure; that one; and no less where more fails
+accepted-was : (m f : Bool) (was : List ℕ) (u t : ℕ) → (m && not f) ≡ false → Contains was t → Contains (accepted_then m f was u) t
+accepted-was false f was u t off at = at
+accepted-was true false was u t off at = absurd (let wrong : true ≡ false = off in cc)
+accepted-was true true was u t off at = Contains-append_left (was ++ 0 ∷ []) (u ∷ []) t (Contains-append_left was (0 ∷ []) t at)
+
+accepted-came : (f : Bool) (was : List ℕ) (u : ℕ) → Contains (accepted_then true f was u) u
+accepted-came false was u = Contains-push [] u
+accepted-came true was u = Contains-push (was ++ 0 ∷ []) u
+
+pushed-more : (was now : List ℕ) (u : ℕ) → ((t : ℕ) → Contains was t → Contains now t) → (t : ℕ) → Contains (was ++ u ∷ []) t → Contains (now ++ u ∷ []) t
+pushed-more was now u more t at = ⊎_elim
+    (λ before. Contains-append_left now (u ∷ []) t (more t before))
+    (λ is. subst (λ (v : ℕ). Contains (now ++ u ∷ []) v) is (Contains-push now u))
+    (Contains-push_cases was u t at)
+
+accepted-more : (m f g : Bool) → (f ≡ true → g ≡ true) → (was now : List ℕ) (u : ℕ) → ((t : ℕ) → Contains was t → Contains now t) → (t : ℕ) → Contains (accepted_then m f was u) t → Contains (accepted_then m g now u) t
+accepted-more false f g then was now u more t at = more t at
+accepted-more true false false then was now u more t at = at
+accepted-more true false true then was now u more t at = ⊎_elim
+    (λ none. absurd (none-in t none))
+    (λ is. subst (λ (v : ℕ). Contains ((now ++ 0 ∷ []) ++ u ∷ []) v) is (Contains-push (now ++ 0 ∷ []) u))
+    (Contains-push_cases [] u t at)
+  where
+    none-in : (t : ℕ) → Contains [] t → ⊥
+    none-in t at = let few = at.1 in omega (arith, few)
+accepted-more true true false then was now u more t at = absurd (let wrong : false ≡ true = then refl in cc)
+accepted-more true true true then was now u more t at = pushed-more (was ++ 0 ∷ []) (now ++ 0 ∷ []) u (pushed-more was now 0 more) t at
+
+-- and behind a withdrawal
+withdrawn-was : (m f : Bool) (was : List ℕ) (t : ℕ) → (m && not f) ≡ false → Contains was t → Contains (withdrawn_then m f was) t
+withdrawn-was false f was t off at = at
+withdrawn-was true false was t off at = absurd (let wrong : true ≡ false = off in cc)
+withdrawn-was true true was t off at = Contains-append_left was (0 ∷ []) t at
+
+withdrawn-none : (f : Bool) (was : List ℕ) → Contains (withdrawn_then true f was) 0
+withdrawn-none false was = Contains-push [] 0
+withdrawn-none true was = Contains-push was 0
+
+withdrawn-more : (m f g : Bool) → (f ≡ true → g ≡ true) → (was now : List ℕ) → ((t : ℕ) → Contains was t → Contains now t) → (t : ℕ) → Contains (withdrawn_then m f was) t → Contains (withdrawn_then m g now) t
+withdrawn-more false f g then was now more t at = more t at
+withdrawn-more true false false then was now more t at = at
+withdrawn-more true false true then was now more t at = ⊎_elim
+    (λ none. absurd (let few = none.1 in omega (arith, few)))
+    (λ is. subst (λ (v : ℕ). Contains (now ++ 0 ∷ []) v) is (Contains-push now 0))
+    (Contains-push_cases [] 0 t at)
+withdrawn-more true true false then was now more t at = absurd (let wrong : false ≡ true = then refl in cc)
+withdrawn-more true true true then was now more t at = pushed-more was now 0 more t at
 
 module _ (log later : RunLog) (failed : (u : ℕ) → has_failed_in log u ≡ true → has_failed_in later u ≡ true) (fell : (u : ℕ) → has_call_failed_in log u ≡ true → has_call_failed_in later u ≡ true) (c : Card) where
-  -- a later log knows of no other such withdrawal
-  shut-back : (w : Withdrawal) → is_shut_by later c w ≡ true → is_shut_by log c w ≡ true
-  shut-back w is = by (same_card w.card c) (has_failed_in log w.second) (has_failed_in later w.second) (failed w.second) is
-    where
-      by : (m f g : Bool) → (f ≡ true → g ≡ true) → (m && not g) ≡ true → (m && not f) ≡ true
-      by false f g then is = absurd (let wrong : false ≡ true = is in cc)
-      by true false g then is = refl
-      by true true g then is = absurd (let wrong : not true ≡ true = subst (λ (b : Bool). not b ≡ true) (then refl) is in not-shut true wrong)
-
-  -- so no fewer may be open
-  open-grows : (notes : List Note) (ts us : List ℕ) → ((t : ℕ) → Contains ts t → Contains us t) → (t : ℕ) → Contains (fold (open_with log c) ts notes) t → Contains (fold (open_with later c) us notes) t
-  open-grows [] ts us more t at = more t at
-  open-grows (Accepts a ∷ notes) ts us more t at = open-grows notes (open_with log c ts (Accepts a)) (open_with later c us (Accepts a)) (by (same_card a.card c)) t at
-    where
-      by : (m : Bool) → (v : ℕ) → Contains (cond m (ts ++ a.second ∷ []) ts) v → Contains (cond m (us ++ a.second ∷ []) us) v
-      by true v in_ = ⊎_elim
-          (λ was. Contains-append_left us (a.second ∷ []) v (more v was))
-          (λ is. subst (λ (x : ℕ). Contains (us ++ a.second ∷ []) x) is (Contains-push us a.second))
-          (Contains-push_cases ts a.second v in_)
-      by false v in_ = more v in_
-  open-grows (Withdraws w ∷ notes) ts us more t at = open-grows notes (open_with log c ts (Withdraws w)) (open_with later c us (Withdraws w)) (by (is_shut_by log c w) (is_shut_by later c w) (shut-back w)) t at
-    where
-      by : (p q : Bool) → (q ≡ true → p ≡ true) → (v : ℕ) → Contains (cond p [] ts) v → Contains (cond q [] us) v
-      by true q then v in_ = absurd (none-in v in_)
-      by false true then v in_ = absurd (let wrong : false ≡ true = then refl in cc)
-      by false false then v in_ = more v in_
-  open-grows (Enters p ∷ notes) ts us more t at = open-grows notes ts us more t at
+  -- so no fewer may be told
+  tells-grow : (notes : List Note) (ts us : List ℕ) → ((t : ℕ) → Contains ts t → Contains us t) → (t : ℕ) → Contains (fold (told_with log c) ts notes) t → Contains (fold (told_with later c) us notes) t
+  tells-grow [] ts us more t at = more t at
+  tells-grow (Accepts a ∷ notes) ts us more t at =
+      tells-grow notes (told_with log c ts (Accepts a)) (told_with later c us (Accepts a)) (accepted-more (same_card a.card c) (has_call_failed_in log a.second) (has_call_failed_in later a.second) (fell a.second) ts us a.second more) t at
+  tells-grow (Withdraws w ∷ notes) ts us more t at =
+      tells-grow notes (told_with log c ts (Withdraws w)) (told_with later c us (Withdraws w)) (withdrawn-more (same_card w.card c) (has_failed_in log w.second) (has_failed_in later w.second) (failed w.second) ts us more) t at
+  tells-grow (Enters p ∷ notes) ts us more t at = tells-grow notes ts us more t at
 
   later-than : (u : ℕ) (n : Note) → IsNotBefore log c u n → IsNotBefore later c u n
-  later-than u (Accepts a) h = tt
-  later-than u (Withdraws w) h = λ is. h (shut-back w is)
+  later-than u (Accepts a) h = λ is. h (sure-back (same_card a.card c) (has_call_failed_in log a.second) (has_call_failed_in later a.second) (fell a.second) is)
+  later-than u (Withdraws w) h = λ is. h (sure-back (same_card w.card c) (has_failed_in log w.second) (has_failed_in later w.second) (failed w.second) is)
   later-than u (Enters p) h = tt
 
-  broken-still : (notes : List Note) (u : ℕ) → IsBrokenSince log c notes u → IsBrokenSince later c notes u
-  broken-still notes u h = (fell u h.0, all-of (IsNotBefore log c u) (IsNotBefore later c u) (later-than u) notes h.1)
+  broken-still : (notes : List Note) (t : ℕ) → IsBrokenSince log c notes t → IsBrokenSince later c notes t
+  broken-still notes t h = (h.0, (fell h.0 h.1.0, all-of (IsNotBefore log c h.0) (IsNotBefore later c h.0) (later-than h.0) notes h.1.1), h.2)
 
   tell-still : (start : ℕ) (notes : List Note) (t : ℕ) → MayTell log c start notes t → MayTell later c start notes t
-  tell-still start notes t may = ⊎_elim
-      (λ none. inl none)
-      (λ other. inr (⊎_elim (λ here. inl (open-grows notes (start ∷ []) (start ∷ []) (λ u at. at) t here)) (λ broken. inr (broken-still notes t broken)) other))
-      may
+  tell-still start notes t may = ⊎_elim (λ here. inl (tells-grow notes (start ∷ []) (start ∷ []) (λ u at. at) t here)) (λ broken. inr (broken-still notes t broken)) may
 
 -- ---- ONE NOTE MORE
 
 module _ (log : RunLog) (c : Card) (start : ℕ) (notes : List Note) (t : ℕ) where
-  -- an acceptance
-  tell-accepted : (a : Acceptance) → MayTell log c start notes t → MayTell log c start (notes ++ Accepts a ∷ []) t
-  tell-accepted a may = ⊎_elim
-      (λ none. inl none)
-      (λ other. inr (⊎_elim
-      (λ here. inl (subst (λ (l : List ℕ). Contains l t) (sym (open-next log c start notes (Accepts a))) (by (same_card a.card c) here)))
-      (λ broken. inr (broken.0, all-push (IsNotBefore log c t) notes (Accepts a) broken.1 tt))
-      other))
+  -- by what is told behind it
+  tell-by : (n : Note) → (Contains (told_on log c start notes) t → Contains (told_with log c (told_on log c start notes) n) t) → ((u : ℕ) → IsNotBefore log c u n) → MayTell log c start notes t → MayTell log c start (notes ++ n ∷ []) t
+  tell-by n then unsure may = ⊎_elim
+      (λ here. inl (subst (λ (l : List ℕ). Contains l t) (sym (tell-next log c start notes n)) (then here)))
+      (λ broken. inr (broken.0, (broken.1.0, all-push (IsNotBefore log c broken.0) notes n broken.1.1 (unsure broken.0)), broken.2))
       may
-    where
-      by : (m : Bool) → Contains (open_on log c start notes) t → Contains (cond m (open_on log c start notes ++ a.second ∷ []) (open_on log c start notes)) t
-      by true at = Contains-append_left (open_on log c start notes) (a.second ∷ []) t at
-      by false at = at
+
+  tell-now : (n : Note) → Contains (told_with log c (told_on log c start notes) n) t → MayTell log c start (notes ++ n ∷ []) t
+  tell-now n here = inl (subst (λ (l : List ℕ). Contains l t) (sym (tell-next log c start notes n)) here)
+
+  -- an acceptance of the other card, or in a second in which a call failed
+  tell-accepted : (a : Acceptance) → is_opened_by log c a ≡ false → MayTell log c start notes t → MayTell log c start (notes ++ Accepts a ∷ []) t
+  tell-accepted a off = tell-by (Accepts a) (accepted-was (same_card a.card c) (has_call_failed_in log a.second) (told_on log c start notes) a.second t off) (λ u is. absurd (let clash : true ≡ false = sym is ∙ off in cc))
 
   -- which has opened this one
   tell-opened : (a : Acceptance) → same_card a.card c ≡ true → t ≡ a.second → MayTell log c start (notes ++ Accepts a ∷ []) t
   tell-opened a mine is =
-      let now : open_on log c start (notes ++ Accepts a ∷ []) ≡ open_on log c start notes ++ a.second ∷ [] =
-      open-next log c start notes (Accepts a) ∙ ap (λ (b : Bool). cond b (open_on log c start notes ++ a.second ∷ []) (open_on log c start notes)) mine in
-      inr (inl (subst (λ (l : List ℕ). Contains l t) (sym now) (subst (λ (u : ℕ). Contains (open_on log c start notes ++ a.second ∷ []) u) (sym is) (Contains-push (open_on log c start notes) a.second))))
+      tell-now (Accepts a)
+      (subst (λ (m : Bool). Contains (accepted_then m (has_call_failed_in log a.second) (told_on log c start notes) a.second) t) (sym mine)
+      (subst (λ (u : ℕ). Contains (accepted_then true (has_call_failed_in log a.second) (told_on log c start notes) a.second) u) (sym is) (accepted-came (has_call_failed_in log a.second) (told_on log c start notes) a.second)))
 
   -- a withdrawal of the other card, or in a second in which a call on the unit failed
   tell-withdrawn : (w : Withdrawal) → is_shut_by log c w ≡ false → MayTell log c start notes t → MayTell log c start (notes ++ Withdraws w ∷ []) t
-  tell-withdrawn w off may =
-      let now : open_on log c start (notes ++ Withdraws w ∷ []) ≡ open_on log c start notes =
-      open-next log c start notes (Withdraws w) ∙ ap (λ (b : Bool). cond b [] (open_on log c start notes)) off in
-      ⊎_elim
-      (λ none. inl none)
-      (λ other. inr (⊎_elim
-      (λ here. inl (subst (λ (l : List ℕ). Contains l t) (sym now) here))
-      (λ broken. inr (broken.0, all-push (IsNotBefore log c t) notes (Withdraws w) broken.1 (λ is. absurd (let clash : true ≡ false = sym is ∙ off in cc))))
-      other))
-      may
+  tell-withdrawn w off = tell-by (Withdraws w) (withdrawn-was (same_card w.card c) (has_failed_in log w.second) (told_on log c start notes) t off) (λ u is. absurd (let clash : true ≡ false = sym is ∙ off in cc))
+
+  -- which has ended it
+  tell-ended : (w : Withdrawal) → same_card w.card c ≡ true → t ≡ 0 → MayTell log c start (notes ++ Withdraws w ∷ []) t
+  tell-ended w mine is =
+      tell-now (Withdraws w)
+      (subst (λ (m : Bool). Contains (withdrawn_then m (has_failed_in log w.second) (told_on log c start notes)) t) (sym mine)
+      (subst (λ (u : ℕ). Contains (withdrawn_then true (has_failed_in log w.second) (told_on log c start notes)) u) (sym is) (withdrawn-none (has_failed_in log w.second) (told_on log c start notes))))
 
   -- a place
   tell-entered : (p : PlaceNote) → MayTell log c start notes t → MayTell log c start (notes ++ Enters p ∷ []) t
-  tell-entered p may = ⊎_elim
-      (λ none. inl none)
-      (λ other. inr (⊎_elim
-      (λ here. inl (subst (λ (l : List ℕ). Contains l t) (sym (open-next log c start notes (Enters p))) here))
-      (λ broken. inr (broken.0, all-push (IsNotBefore log c t) notes (Enters p) broken.1 tt))
-      other))
-      may
+  tell-entered p = tell-by (Enters p) (λ here. here) (λ u. tt)
 
 -- an image goes on from another
 goes-told : (log : RunLog) (c : Card) (start : ℕ) (notes : List Note) (app : Application) (May : ℕ → Type 0) (x y : List ℕ) → SessionGoes app May x y → MayTell log c start notes (session_time app x) → (May (session_time app y) → MayTell log c start notes (session_time app y)) → MayTell log c start notes (session_time app y)
-goes-told log c start notes app May x y goes may came = ⊎_elim (λ same. subst (λ (t : ℕ). MayTell log c start notes t) (sym same) may) (λ other. ⊎_elim (λ none. inl none) came other) goes
+goes-told log c start notes app May x y goes may came = ⊎_elim (λ same. subst (λ (t : ℕ). MayTell log c start notes t) (sym same) may) came goes
 
 -- ---- OF THE CARDS
+
+-- the session that its image at the start told
+abbrev own : Origin → Card → ℕ
+own o c = session_told (card_image o.recording c) (card_image o.recording c)
 
 -- at the start
 pub sessions-none : (o : Origin) (log : RunLog) (d : Devices) → ((c : Card) (x : List ℕ) → (card_of d c).may_leave x → x ≡ card_image o.recording c) → SessionsOnCards o log [] d
 sessions-none o log d start c valid x left =
-    let own : ℕ = session_told (card_image o.recording c) (card_image o.recording c) in
-    subst (λ (y : List ℕ). MayTell log c own [] (session_told (card_image o.recording c) y)) (sym (start c x left)) (inr (inl (Contains-push [] own)))
+    subst (λ (y : List ℕ). MayTell log c (own o c) [] (session_told (card_image o.recording c) y)) (sym (start c x left)) (inl (Contains-push [] (own o c)))
 
 -- no call
 pub sessions-itself : (o : Origin) (May : Card → ℕ → Type 0) (d : Devices) → SessionsGo o May d d
@@ -159,35 +188,42 @@ sessions-go o log later notes d e failed fell goes v c valid y left =
     let w = goes c valid y left in
     let start : ℕ = session_told (card_image o.recording c) (card_image o.recording c) in
     goes-told later c start notes (own_sizes (card_image o.recording c)) (λ t. IsBrokenSince later c notes t) w.0 y w.2
-    (tell-still log later failed fell c start notes (session_told (card_image o.recording c) w.0) (v c valid w.0 w.1)) (λ broken. inr (inr broken))
+    (tell-still log later failed fell c start notes (session_told (card_image o.recording c) w.0) (v c valid w.0 w.1)) (λ broken. inr broken)
 
 -- a card is accepted
-pub sessions-accepted : (o : Origin) (log : RunLog) (notes : List Note) (a : Acceptance) (d e : Devices) → SessionsGo o (OpensSince log a notes) d e → SessionsOnCards o log notes d → SessionsOnCards o log (notes ++ Accepts a ∷ []) e
-sessions-accepted o log notes a d e goes v c valid y left =
-    let w = goes c valid y left in
-    let start : ℕ = session_told (card_image o.recording c) (card_image o.recording c) in
-    goes-told log c start (notes ++ Accepts a ∷ []) (own_sizes (card_image o.recording c)) (OpensSince log a notes c) w.0 y w.2
-    (tell-accepted log c start notes (session_told (card_image o.recording c) w.0) a (v c valid w.0 w.1))
-    (λ came. ⊎_elim
-    (λ own. tell-opened log c start notes (session_told (card_image o.recording c) y) a own.0 own.1)
-    (λ broken. tell-accepted log c start notes (session_told (card_image o.recording c) y) a (inr (inr broken)))
-    came)
+pub sessions-accepted : (o : Origin) (log : RunLog) (notes : List Note) (a : Acceptance) (d e : Devices) → SessionsGo o (OpensSince log a notes) d e → Opens o log a e → SessionsOnCards o log notes d → SessionsOnCards o log (notes ++ Accepts a ∷ []) e
+sessions-accepted o log notes a d e goes opens v c valid y left = by (is_opened_by log c a) refl
+  where
+    by : (b : Bool) → is_opened_by log c a ≡ b → MayTell log c (own o c) (notes ++ Accepts a ∷ []) (session_told (card_image o.recording c) y)
+    by true is = tell-opened log c (own o c) notes (session_told (card_image o.recording c) y) a (first-holds (same_card a.card c) (not (has_call_failed_in log a.second)) is) (opens c valid is y left)
+    by false is =
+        let w = goes c valid y left in
+        goes-told log c (own o c) (notes ++ Accepts a ∷ []) (own_sizes (card_image o.recording c)) (OpensSince log a notes c) w.0 y w.2
+        (tell-accepted log c (own o c) notes (session_told (card_image o.recording c) w.0) a is (v c valid w.0 w.1))
+        (λ came. ⊎_elim
+        (λ mine. tell-opened log c (own o c) notes (session_told (card_image o.recording c) y) a mine.0 mine.1)
+        (λ broken. tell-accepted log c (own o c) notes (session_told (card_image o.recording c) y) a is (inr broken))
+        came)
+
+-- or a call failed in that second
+pub opens-none : (o : Origin) (log : RunLog) (a : Acceptance) (e : Devices) → has_call_failed_in log a.second ≡ true → Opens o log a e
+opens-none o log a e has c valid is y left = absurd (not-sure (same_card a.card c) (subst (λ (b : Bool). (same_card a.card c && not b) ≡ true) has is))
 
 -- a card is withdrawn
-pub sessions-withdrawn : (o : Origin) (log : RunLog) (notes : List Note) (w : Withdrawal) (d e : Devices) → SessionsGo o NoOtherComes d e → Shuts o log w e → SessionsOnCards o log notes d → SessionsOnCards o log (notes ++ Withdraws w ∷ []) e
+pub sessions-withdrawn : (o : Origin) (log : RunLog) (notes : List Note) (w : Withdrawal) (d e : Devices) → SessionsGo o (Ends w.card) d e → Shuts o log w e → SessionsOnCards o log notes d → SessionsOnCards o log (notes ++ Withdraws w ∷ []) e
 sessions-withdrawn o log notes w d e goes shuts v c valid y left = by (is_shut_by log c w) refl
   where
-    by : (b : Bool) → is_shut_by log c w ≡ b → MayTell log c (session_told (card_image o.recording c) (card_image o.recording c)) (notes ++ Withdraws w ∷ []) (session_told (card_image o.recording c) y)
-    by true is = inl (shuts c valid is y left)
+    by : (b : Bool) → is_shut_by log c w ≡ b → MayTell log c (own o c) (notes ++ Withdraws w ∷ []) (session_told (card_image o.recording c) y)
+    by true is = tell-ended log c (own o c) notes (session_told (card_image o.recording c) y) w (first-holds (same_card w.card c) (not (has_failed_in log w.second)) is) (shuts c valid is y left)
     by false is =
         let i = goes c valid y left in
-        let start : ℕ = session_told (card_image o.recording c) (card_image o.recording c) in
-        goes-told log c start (notes ++ Withdraws w ∷ []) (own_sizes (card_image o.recording c)) (NoOtherComes c) i.0 y i.2
-        (tell-withdrawn log c start notes (session_told (card_image o.recording c) i.0) w is (v c valid i.0 i.1)) (λ none. absurd none)
+        goes-told log c (own o c) (notes ++ Withdraws w ∷ []) (own_sizes (card_image o.recording c)) (Ends w.card c) i.0 y i.2
+        (tell-withdrawn log c (own o c) notes (session_told (card_image o.recording c) i.0) w is (v c valid i.0 i.1))
+        (λ ended. tell-ended log c (own o c) notes (session_told (card_image o.recording c) y) w ended.0 ended.1)
 
 -- or a call on the unit failed in that second
 pub shuts-none : (o : Origin) (log : RunLog) (w : Withdrawal) (e : Devices) → has_failed_in log w.second ≡ true → Shuts o log w e
-shuts-none o log w e has c valid is y left = absurd (not-shut (same_card w.card c) (subst (λ (b : Bool). (same_card w.card c && not b) ≡ true) has is))
+shuts-none o log w e has c valid is y left = absurd (not-sure (same_card w.card c) (subst (λ (b : Bool). (same_card w.card c && not b) ≡ true) has is))
 
 -- a place is entered
 pub sessions-entered : (o : Origin) (log : RunLog) (notes : List Note) (p : PlaceNote) (d e : Devices) → SessionsGo o NoOtherComes d e → SessionsOnCards o log notes d → SessionsOnCards o log (notes ++ Enters p ∷ []) e
@@ -199,18 +235,27 @@ sessions-entered o log notes p d e goes v c valid y left =
 
 -- ---- IN A SECOND
 
--- where a call fails in it, it is no earlier than each withdrawal so far
-pub broken-now : (log : RunLog) (c : Card) (u : ℕ) (notes : List Note) → has_call_failed_in log u ≡ true → AreEarlier (suc u) notes → IsBrokenSince log c notes u
+-- where a call fails in it, it is no earlier than each acceptance and withdrawal so far
+broken-now : (log : RunLog) (c : Card) (u : ℕ) (notes : List Note) → has_call_failed_in log u ≡ true → AreEarlier (suc u) notes → HasFailedSince log c notes u
 broken-now log c u notes has early = (has, by notes early)
   where
     by : (ns : List Note) → AreEarlier (suc u) ns → AllByRecursion (IsNotBefore log c u) ns
     by [] earlier = tt
-    by (Accepts a ∷ ns) earlier = (tt, by ns earlier.1)
+    by (Accepts a ∷ ns) earlier = ((λ is. let at = earlier.0 in omega (arith, at)), by ns earlier.1)
     by (Withdraws w ∷ ns) earlier = ((λ is. let at = earlier.0 in omega (arith, at)), by ns earlier.1)
     by (Enters p ∷ ns) earlier = (tt, by ns earlier.1)
 
 pub fails-since : (log : RunLog) (u : ℕ) (notes : List Note) → AreEarlier (suc u) notes → (c : Card) (t : ℕ) → FailsIn log u c t → IsBrokenSince log c notes t
-fails-since log u notes early c t failing = subst (λ (v : ℕ). IsBrokenSince log c notes v) (sym failing.0) (broken-now log c u notes failing.1 early)
+fails-since log u notes early c t failing = (u, broken-now log c u notes failing.1 early, failing.0)
 
 pub opens-since : (log : RunLog) (a : Acceptance) (notes : List Note) → AreEarlier (suc a.second) notes → (c : Card) (t : ℕ) → OpensIn log a c t → OpensSince log a notes c t
-opens-since log a notes early c t may = ⊎_elim (λ own. inl own) (λ failing. inr (fails-since log a.second notes early c t failing)) may
+opens-since log a notes early c t may = ⊎_elim (λ mine. inl mine) (λ failing. inr (fails-since log a.second notes early c t failing)) may
+
+-- ---- A CARD THAT WAS WITHDRAWN
+
+pub ends-all : (o : Origin) (spans : List SpanFrom) (had : Bool) (card : Card) (d e : Devices) → CardsGo o spans (EndsIf had card) d e → CardsGo o spans (Ends card) d e
+ends-all o spans had card d e cards = go-more o spans (EndsIf had card) (Ends card) d e (λ c t ends. ends.1) cards
+
+-- where a call failed in it
+pub ends-fail : (o : Origin) (spans : List SpanFrom) (had : Bool) (card : Card) (log : RunLog) (u : ℕ) (d e : Devices) → (had ≡ true → has_call_failed_in log u ≡ true) → CardsGo o spans (EndsIf had card) d e → CardsGo o spans (FailsIn log u) d e
+ends-fail o spans had card log u d e fails cards = go-more o spans (EndsIf had card) (FailsIn log u) d e (λ c t ends. (inl ends.1.1, fails ends.0)) cards

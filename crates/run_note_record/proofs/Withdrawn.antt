@@ -33,8 +33,8 @@ use Rattle.run_events.proofs.run_rings.Standing.{stand-append, withdrawal-of-las
 use Rattle.run_events.proofs.run_rings.Few.{RingStays, ring-same, ring-stays, few-as, few-changed}
 use Rattle.run_note_record.specs.Beside.{HaveLeftMore}
 use Rattle.run_note_record.specs.Ringed.{holder_in, TellsIn, Each, HasSameRings, IsInsertionIn, IsPlaceIn, sure_insertion, sure_place, ShowsNotes, Seating, LiesBehind, StandsAt, IsSeated, Ringed, IsWithdrawnAt, MayBeWithdrawn, Since}
-use Rattle.run_note_record.specs.OnCards.{CardsStay}
-use Rattle.run_note_record.specs.Sessions.{Shuts}
+use Rattle.run_note_record.specs.OnCards.{CardsGo}
+use Rattle.run_note_record.specs.Sessions.{Ends, Shuts}
 use Rattle.run_note_record.proofs.Sessions.{sessions-withdrawn, shuts-none}
 use Rattle.run_note_record.proofs.OnCards.{places-beside, vehicles-go}
 use Rattle.run_note_record.proofs.Stands.{each-stand, each-long, each-append, each-split, insertions-more, places-more}
@@ -285,10 +285,10 @@ carried start x y ms h s olders entry newers are behind there time odometer (inr
     let list-is : length (ring_list insertion_ring y) ≡ length (indices insertion_ring y) = length-map (indices insertion_ring y) (entry_at insertion_ring y) in
     ((rings.1, taken_elsewhere insertion_ring insertion_shape x y same.insertions h.points), carries-gone insertion_ring start y ms still olders entry (with_withdrawal time odometer entry) newers are (omega (arith, few, list-is, many, behind)))
 
-pub withdrawal-noted : (d e : Devices) (o : Since) (log : RunLog) (spans : List SpanFrom) (notes : List Note) (seats now : Card → Option Seating) → Ringed o log spans notes seats d → HaveLeftMore o.origin d e → CardsStay o.origin spans d e → (w : Withdrawal) (s : Seating) → seats w.card ≡ Some s → s.index < insertion_ring.count →
+pub withdrawal-noted : (d e : Devices) (o : Since) (log : RunLog) (spans : List SpanFrom) (notes : List Note) (seats now : Card → Option Seating) → Ringed o log spans notes seats d → HaveLeftMore o.origin d e → (w : Withdrawal) → CardsGo o.origin spans (Ends w.card) d e → (s : Seating) → seats w.card ≡ Some s → s.index < insertion_ring.count →
     (time : TimeReal) (odometer : Odometer) → time.0 ≡ w.second → odometer.0 ≡ odometer_at w.second spans → time.0 < 256 ^ 4 → odometer.0 < 256 ^ 3 → Writes (IsWithdrawnAt s time odometer) d e →
     ((c : Card) → ((same_card w.card c ≡ false) × (now c ≡ seats c)) ⊎ ((same_card w.card c ≡ true) × (now c ≡ None))) → Shuts o.origin log w e → Ringed o log spans (notes ++ Withdraws w ∷ []) now e
-withdrawal-noted d e o log spans notes seats now v more cards w s at below time odometer second stood time_fits odometer_fits images each shuts = record {
+withdrawal-noted d e o log spans notes seats now v more w cards s at below time odometer second stood time_fits odometer_fits images each shuts = record {
   insertions = λ ring y left.
       let i = images y left in
       let was = v.insertions ring i.0 i.1 in
@@ -350,10 +350,10 @@ timed-now start x y ms h s olders entry newers are behind there time w lt = ⊎_
     (λ gone. absurd (omega (arith, lt, gone)))
     there
 
-pub withdrawal-broken : (d e : Devices) (o : Since) (log : RunLog) (spans : List SpanFrom) (notes : List Note) (seats : Card → Option Seating) → Ringed o log spans notes seats d → HaveLeftMore o.origin d e → CardsStay o.origin spans d e → (w : Withdrawal) (s : Seating) → seats w.card ≡ Some s → s.index < insertion_ring.count →
+pub withdrawal-broken : (d e : Devices) (o : Since) (log : RunLog) (spans : List SpanFrom) (notes : List Note) (seats : Card → Option Seating) → Ringed o log spans notes seats d → HaveLeftMore o.origin d e → (w : Withdrawal) → CardsGo o.origin spans (Ends w.card) d e → (s : Seating) → seats w.card ≡ Some s → s.index < insertion_ring.count →
     (time : TimeReal) (odometer : Odometer) → time.0 ≡ w.second → odometer.0 ≡ odometer_at w.second spans → time.0 < 256 ^ 4 → odometer.0 < 256 ^ 3 → Writes (MayBeWithdrawn s time odometer) d e → has_failed_in log w.second ≡ true →
     Ringed o log spans (notes ++ Withdraws w ∷ []) (λ c. None) e
-withdrawal-broken d e o log spans notes seats v more cards w s at below time odometer second stood time_fits odometer_fits images has = record {
+withdrawal-broken d e o log spans notes seats v more w cards s at below time odometer second stood time_fits odometer_fits images has = record {
   insertions = λ ring y left.
       let i = images y left in
       let was = v.insertions ring i.0 i.1 in

@@ -134,8 +134,8 @@ VehiclesGo o spans d e = (c : Card) → IsOwnValid (card_image o.recording c) �
 
 -- ---- the session of a card
 
--- CALLS LET THE SESSIONS GO ON, with these that may come: behind them each image tells of that of one before, or of
--- none, or of one of these
+-- CALLS LET THE SESSIONS GO ON, with these that may come: behind them each image tells of that of one before, or of one
+-- of these
 abbrev pub SessionsGo : Origin → (May : Card → ℕ → Type 0) → (d e : Devices) → Type 0
 SessionsGo o May d e = (c : Card) → IsOwnValid (card_image o.recording c) → (y : List ℕ) → (card_of e c).may_leave y
     → (x : List ℕ) × (card_of d c).may_leave x × SessionGoes (own_sizes (card_image o.recording c)) (May c) x y

@@ -33,9 +33,9 @@ use Rattle.run_devices.specs.run_promise.Found.{found_of}
 pub use Rattle.run_events.specs.run_rings.Same.{HasSameRings, LeavesRings}
 pub use Rattle.run_note_record.specs.OnCards.{HasRing, ShowsNotes}
 use Rattle.run_note_record.specs.OnCards.{has_call_failed_in, place_width, IsPlaceOn, PlacesOnCards, IsReading}
-use Rattle.run_note_record.specs.OnCards.{VehiclesOnCards, VehiclesGo, SessionsGo, NoOtherComes, CardsGo, CardsStay}
+use Rattle.run_note_record.specs.OnCards.{VehiclesOnCards, VehiclesGo, SessionsGo, NoOtherComes, CardsGo}
 use Rattle.run_note_record.specs.OnCards.{PlaceIsTaken, HasPlaces, places_in, places_on, is_sure_on}
-use Rattle.run_note_record.specs.Sessions.{IsBrokenSince, SessionsOnCards, OpensSince, Shuts}
+use Rattle.run_note_record.specs.Sessions.{IsBrokenSince, SessionsOnCards, OpensSince, Ends, Opens, Shuts}
 use Rattle.run_note_record.specs.Origin.{Origin}
 use Rattle.run_note_record.specs.Beside.{HaveLeftMore}
 
@@ -222,8 +222,8 @@ FewerSit d = (o : Since) (log : RunLog) (spans : List SpanFrom) (notes : List No
 abbrev pub AnInsertionIsNoted : (d e : Devices) → Type 0
 AnInsertionIsNoted d e = (o : Since) (log : RunLog) (spans : List SpanFrom) (notes : List Note)
     (seats now : Card → Option Seating) → Ringed o log spans notes seats d → HaveLeftMore o.origin d e
-    → (a : Acceptance) → CardsGo o.origin spans (OpensSince log a notes) d e → (head : List ℕ) (index : ℕ) →
-    WritesRing (IsAddedAt index head) d e →
+    → (a : Acceptance) → CardsGo o.origin spans (OpensSince log a notes) d e → Opens o.origin log a e
+    → (head : List ℕ) (index : ℕ) → WritesRing (IsAddedAt index head) d e →
     length head ≡ insertion_ring.width → IsInsertionIn o log spans e (record { accepted = a; withdrawn = None }) head →
     ((c : Card) → ((same_card a.card c ≡ false) × (now c ≡ option_map one_behind (seats c)))
     ⊎ ((same_card a.card c ≡ true) × (now c ≡ Some (record { index = index; behind = 0 })))) →
@@ -244,7 +244,7 @@ APlaceIsNoted d e = (o : Since) (log : RunLog) (spans : List SpanFrom) (notes : 
 abbrev pub AWithdrawalIsNoted : (d e : Devices) → Type 0
 AWithdrawalIsNoted d e = (o : Since) (log : RunLog) (spans : List SpanFrom) (notes : List Note)
     (seats now : Card → Option Seating) → Ringed o log spans notes seats d → HaveLeftMore o.origin d e
-    → CardsStay o.origin spans d e → (w : Withdrawal) (s : Seating) → seats w.card ≡ Some s
+    → (w : Withdrawal) → CardsGo o.origin spans (Ends w.card) d e → (s : Seating) → seats w.card ≡ Some s
     → s.index < insertion_ring.count →
     (time : TimeReal) (odometer : Odometer) → time.0 ≡ w.second → odometer.0 ≡ odometer_at w.second spans
     → time.0 < 256 ^ 4 → odometer.0 < 256 ^ 3 →
@@ -264,7 +264,7 @@ AnInsertionIsBroken d e = (o : Since) (log : RunLog) (spans : List SpanFrom) (no
 abbrev pub AWithdrawalIsBroken : (d e : Devices) → Type 0
 AWithdrawalIsBroken d e = (o : Since) (log : RunLog) (spans : List SpanFrom) (notes : List Note)
     (seats : Card → Option Seating) → Ringed o log spans notes seats d → HaveLeftMore o.origin d e
-    → CardsStay o.origin spans d e → (w : Withdrawal) (s : Seating) → seats w.card ≡ Some s
+    → (w : Withdrawal) → CardsGo o.origin spans (Ends w.card) d e → (s : Seating) → seats w.card ≡ Some s
     → s.index < insertion_ring.count →
     (time : TimeReal) (odometer : Odometer) → time.0 ≡ w.second → odometer.0 ≡ odometer_at w.second spans
     → time.0 < 256 ^ 4 → odometer.0 < 256 ^ 3 → WritesRing (MayBeWithdrawn s time odometer) d e

@@ -1,6 +1,5 @@
 -- WHICH SESSION A CARD TELLS in Current_Usage behind what a run has noted, whatever calls failed (profile).
-use Rattle.std.specs.Prelude.{◌≡◌, ◌⊎◌, ◌≤◌, ℕ, ◌&&◌, Bool, true, not, List, [], ◌∷◌, ◌++◌, Contains, fold}
-use Rattle.std.specs.Prelude.{if◌then◌else◌}
+use Rattle.std.specs.Prelude.{◌≡◌, ◌⊎◌, ◌≤◌, ℕ, ◌&&◌, Bool, true, false, not, List, [], ◌∷◌, ◌++◌, Contains, fold}
 use Rattle.std.specs.List.{AllByRecursion}
 use Rattle.run_devices.specs.trace_model.declared.Card.{Card}
 use Rattle.run_devices.specs.card_image.Fields.{session_time}
@@ -14,38 +13,57 @@ use Rattle.run_devices.specs.safety_model.Safe.{Devices, card_of}
 use Rattle.run_note_record.specs.Origin.{Origin}
 use Rattle.run_note_record.specs.OnCards.{has_call_failed_in}
 
--- ---- which may be open
+-- ---- what is sure of it
+
+-- a card was accepted, and no call failed in that second
+abbrev pub is_opened_by : RunLog → Card → Acceptance → Bool
+is_opened_by log c a = same_card a.card c && not (has_call_failed_in log a.second)
 
 -- a card was withdrawn, and no call on the unit failed in that second
 abbrev pub is_shut_by : RunLog → Card → Withdrawal → Bool
 is_shut_by log c w = same_card w.card c && not (has_failed_in log w.second)
 
--- the sessions that may be open behind one note more: that of an acceptance too; none where it was withdrawn so
-abbrev pub open_with : RunLog → Card → List ℕ → Note → List ℕ
-open_with log c was (Accepts a) = if same_card a.card c then was ++ a.second ∷ [] else was
-open_with log c was (Withdraws w) = if is_shut_by log c w then [] else was
-open_with log c was (Enters p) = was
-
--- THE SESSIONS THAT MAY BE OPEN on a card behind these notes: that of its image at the start, and those of its
--- acceptances, since it was last withdrawn in a second in which no call on the unit failed
-abbrev pub open_on : RunLog → Card → (start : ℕ) → List Note → List ℕ
-open_on log c start notes = fold (open_with log c) (start ∷ []) notes
-
 -- ---- which it may tell
 
--- a second is no earlier than such a withdrawal
+-- behind an acceptance a card tells of that one alone; where a call failed, or of none, or of one that it may have told
+abbrev pub accepted_then : (mine failed : Bool) → List ℕ → (second : ℕ) → List ℕ
+accepted_then false failed was u = was
+accepted_then true false was u = u ∷ []
+accepted_then true true was u = was ++ 0 ∷ [] ++ u ∷ []
+
+-- and behind a withdrawal of none
+abbrev pub withdrawn_then : (mine failed : Bool) → List ℕ → List ℕ
+withdrawn_then false failed was = was
+withdrawn_then true false was = 0 ∷ []
+withdrawn_then true true was = was ++ 0 ∷ []
+
+-- so by one note more
+abbrev pub told_with : RunLog → Card → List ℕ → Note → List ℕ
+told_with log c was (Accepts a) = accepted_then (same_card a.card c) (has_call_failed_in log a.second) was a.second
+told_with log c was (Withdraws w) = withdrawn_then (same_card w.card c) (has_failed_in log w.second) was
+told_with log c was (Enters p) = was
+
+-- THE SESSIONS THAT A CARD MAY TELL behind these notes, of which its image at the start told one: 0 is none
+abbrev pub told_on : RunLog → Card → (start : ℕ) → List Note → List ℕ
+told_on log c start notes = fold (told_with log c) (start ∷ []) notes
+
+-- a second is no earlier than an acceptance or a withdrawal of which that is sure
 abbrev pub IsNotBefore : RunLog → Card → (second : ℕ) → Note → Type 0
-IsNotBefore log c u (Accepts a) = Unit {0}
+IsNotBefore log c u (Accepts a) = is_opened_by log c a ≡ true → a.second ≤ u
 IsNotBefore log c u (Withdraws w) = is_shut_by log c w ≡ true → w.second ≤ u
 IsNotBefore log c u (Enters p) = Unit {0}
 
 -- a second in which a call failed, no earlier than each of them
-abbrev pub IsBrokenSince : RunLog → Card → List Note → (second : ℕ) → Type 0
-IsBrokenSince log c notes u = (has_call_failed_in log u ≡ true) × AllByRecursion (IsNotBefore log c u) notes
+abbrev pub HasFailedSince : RunLog → Card → List Note → (second : ℕ) → Type 0
+HasFailedSince log c notes u = (has_call_failed_in log u ≡ true) × AllByRecursion (IsNotBefore log c u) notes
 
--- SO THE SESSION THAT IT TELLS is none, or one that may be open, or such a second.
+-- what a call that failed since may have left: no session, or one of its second
+abbrev pub IsBrokenSince : RunLog → Card → List Note → (session : ℕ) → Type 0
+IsBrokenSince log c notes t = (u : ℕ) × HasFailedSince log c notes u × ((t ≡ 0) ⊎ (t ≡ u))
+
+-- SO THE SESSION THAT IT TELLS is one of these.
 abbrev pub MayTell : RunLog → Card → (start : ℕ) → List Note → (session : ℕ) → Type 0
-MayTell log c start notes t = (t ≡ 0) ⊎ (Contains (open_on log c start notes) t ⊎ IsBrokenSince log c notes t)
+MayTell log c start notes t = Contains (told_on log c start notes) t ⊎ IsBrokenSince log c notes t
 
 -- the session that the image of a card tells, by the sizes of its image at the start
 abbrev pub session_told : (start x : List ℕ) → ℕ
@@ -60,9 +78,9 @@ SessionsOnCards o log notes d = (c : Card) → IsOwnValid (card_image o.recordin
 
 -- ---- calls
 
--- a call fails in a second, and may have opened one then
+-- a call fails in a second, and may have ended the session, or opened one then
 abbrev pub FailsIn : RunLog → (second : ℕ) → Card → ℕ → Type 0
-FailsIn log u c t = (t ≡ u) × (has_call_failed_in log u ≡ true)
+FailsIn log u c t = ((t ≡ 0) ⊎ (t ≡ u)) × (has_call_failed_in log u ≡ true)
 
 -- a card is accepted in a second, or a call fails in it
 abbrev pub OpensIn : RunLog → Acceptance → Card → ℕ → Type 0
@@ -71,6 +89,18 @@ OpensIn log a c t = ((same_card a.card c ≡ true) × (t ≡ a.second)) ⊎ Fail
 -- or it may have failed behind these notes
 abbrev pub OpensSince : RunLog → Acceptance → List Note → Card → ℕ → Type 0
 OpensSince log a notes c t = ((same_card a.card c ≡ true) × (t ≡ a.second)) ⊎ IsBrokenSince log c notes t
+
+-- the session of a card is ended; where it had one
+abbrev pub Ends : Card → Card → ℕ → Type 0
+Ends card c t = (same_card card c ≡ true) × (t ≡ 0)
+
+abbrev pub EndsIf : (had : Bool) → Card → Card → ℕ → Type 0
+EndsIf had card c t = (had ≡ true) × Ends card c t
+
+-- a card that was accepted, in a second in which no call failed, tells of that one
+abbrev pub Opens : Origin → RunLog → Acceptance → Devices → Type 0
+Opens o log a e = (c : Card) → IsOwnValid (card_image o.recording c) → is_opened_by log c a ≡ true → (y : List ℕ)
+    → (card_of e c).may_leave y → session_told (card_image o.recording c) y ≡ a.second
 
 -- a card that was withdrawn, in a second in which no call on the unit failed, tells of none
 abbrev pub Shuts : Origin → RunLog → Withdrawal → Devices → Type 0

@@ -22,9 +22,9 @@ use Rattle.run_events.specs.run_rings.Notes.{TellSameTo, NotesMore, course_behin
 use Rattle.run_events.specs.run_rings.Spans.{with_second}
 use Rattle.run_note_record.specs.Origin.{Origin}
 use Rattle.run_note_record.specs.Beside.{HaveLeftMore}
-use Rattle.run_note_record.specs.OnCards.{place_width, IsPlaceOn, CardsGo, CardsStay, VehiclesGo, SessionsGo}
+use Rattle.run_note_record.specs.OnCards.{place_width, IsPlaceOn, CardsGo, VehiclesGo, SessionsGo}
 use Rattle.run_note_record.specs.OnCards.{NoOtherComes, PlaceIsTaken}
-use Rattle.run_note_record.specs.Sessions.{FailsIn, OpensIn, Shuts}
+use Rattle.run_note_record.specs.Sessions.{FailsIn, OpensIn, Ends, Opens, Shuts}
 use Rattle.run_note_record.specs.Ringed.{Seating, one_behind, StaysInRings, WritesRing, IsInsertionIn, IsPlaceIn}
 use Rattle.run_note_record.specs.Ringed.{IsAddedAt, MayBeAdded, IsWithdrawnAt, MayBeWithdrawn, since_in}
 use Rattle.run_note_record.specs.RingsSoFar.{RingedBehind, RingedIn, AreFewer, HasMoreBreaks, GoesBehind}
@@ -131,7 +131,7 @@ ACardIsWithdrawn d e = (o : Origin) (done : List TraceSecond) (s : TraceSecond) 
     → odometer.0 ≡ odometer_at s.number (with_second spans base t) → time.0 < 256 ^ 4 → odometer.0 < 256 ^ 3
     → WritesRing (IsWithdrawnAt q time odometer) d e →
     ((c : Card) → ((same_card x.card c ≡ false) × (now c ≡ seats c)) ⊎ ((same_card x.card c ≡ true) × (now c ≡ None)))
-    → HaveLeftMore o d e → CardsStay o (with_second spans base t) d e
+    → HaveLeftMore o d e → CardsGo o (with_second spans base t) (Ends x.card) d e
     → Shuts o later (record { second = s.number; card = x.card }) e → AreFewer now fewer →
     RingedIn o done s began (front ++ Withdraw slot ∷ []) later spans base t fewer e
 
@@ -146,7 +146,7 @@ AWithdrawalIsCut d e = (o : Origin) (done : List TraceSecond) (s : TraceSecond) 
     (time : TimeReal) (odometer : Odometer) → time.0 ≡ s.number
     → odometer.0 ≡ odometer_at s.number (with_second spans base t) → time.0 < 256 ^ 4 → odometer.0 < 256 ^ 3
     → WritesRing (MayBeWithdrawn q time odometer) d e → HaveLeftMore o d e
-    → CardsStay o (with_second spans base t) d e →
+    → CardsGo o (with_second spans base t) (Ends x.card) d e →
     RingedBehind o (done ++ s ∷ []) cut (suc s.number) (spans_cut spans base cut done s) nobody e
 
 -- A CARD IS PUT IN AND ACCEPTED.
@@ -163,7 +163,7 @@ ACardIsAccepted d e = (o : Origin) (done : List TraceSecond) (s : TraceSecond) (
     ((c : Card) → ((same_card card c ≡ false) × (now c ≡ option_map one_behind (seats c)))
     ⊎ ((same_card card c ≡ true) × (now c ≡ Some (record { index = index; behind = 0 })))) → HaveLeftMore o d e
     → CardsGo o (with_second spans base t) (OpensIn later (record { second = s.number; slot = slot; card = card })) d e
-    → AreFewer now fewer →
+    → Opens o later (record { second = s.number; slot = slot; card = card }) e → AreFewer now fewer →
     RingedIn o done s began (front ++ Insert slot card ∷ []) later spans base t fewer e
 
 abbrev pub AnAcceptanceIsCut : (d e : Devices) → Type 0

@@ -17,7 +17,7 @@ use Rattle.run_events.specs.run_rings.Spans.{with_second}
 use Rattle.run_note_record.specs.Origin.{Origin}
 use Rattle.run_note_record.specs.Beside.{HaveLeftMore}
 use Rattle.run_note_record.specs.OnCards.{CardsGo}
-use Rattle.run_note_record.specs.Sessions.{FailsIn, OpensIn}
+use Rattle.run_note_record.specs.Sessions.{FailsIn, OpensIn, Opens}
 use Rattle.run_note_record.specs.Ringed.{Seating, one_behind, StaysInRings, WritesRing, IsInsertionIn, IsAddedAt}
 use Rattle.run_note_record.specs.Ringed.{MayBeAdded, since_in}
 use Rattle.run_note_record.specs.RingsSoFar.{RingedBehind, IsSecond, RingedIn, AreFewer, HasMoreBreaks, GoesBehind}
@@ -66,7 +66,7 @@ ACardIsAcceptedAnew d e = (o : Origin) (done : List TraceSecond) (s : TraceSecon
     ⊎ ((same_card x.card c ≡ true) × (now c ≡ Some (record { index = index; behind = 0 })))) → HaveLeftMore o d e
     → CardsGo o (with_second spans base t)
     (OpensIn later (record { second = s.number; slot = slot; card = x.card })) d e
-    → AreFewer now fewer →
+    → Opens o later (record { second = s.number; slot = slot; card = x.card }) e → AreFewer now fewer →
     RingedIn o done s began [] later spans base t fewer e
 
 -- or the unit failed in that, and power is cut before any action.

@@ -34,8 +34,8 @@ counted_to mark es = filter (λ e. nat_le e.minute mark) es
 
 -- THE STRING. Each image since the start keeps the card's entries and those of the run up to its end mark, but for the
 -- days that the stated overwriting took; of entries by hand it tells some of those at the start and of those given to
--- keeps, in their order, and those of the start of each day that it has; each is valid, and has the card's number; and these
--- entries rise.
+-- keeps, in their order, and those of the start of each day that it has; each is valid, and has the card's number; and
+-- these entries rise.
 pub record StringHolds (f : CardFound) (h : Hands) (c : Card) (b : Book) (card : State) : Type 0 where
   pub kept : (x : List ℕ) → card.left_since f.began x →
       KeepsOf f.image h.given (f.start.entries ++ counted_to (own_view x).mark (brought_by c f.start b))

@@ -52,7 +52,8 @@ module _ (is_sure : Block → Bool) (start : List ℕ) where
     pub now : (x : List ℕ) → unit.may_leave x → CarriesBlocks blocks x
     pub far : (x : List ℕ) → unit.left_since began x → AreNoFewer speed_ring none_sure blocks start x
     pub few : (x : List ℕ) → unit.may_leave x → AreNoFewer speed_ring is_sure blocks start x
-    pub newest : IsDense speed_ring start → AreSure blocks → (x : List ℕ) → unit.may_leave x → HoldsNewest start x blocks
+    pub newest : IsDense speed_ring start → AreSure blocks
+        → (x : List ℕ) → unit.may_leave x → HoldsNewest start x blocks
 
 -- ---- all other calls
 

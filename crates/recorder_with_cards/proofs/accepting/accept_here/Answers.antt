@@ -317,8 +317,9 @@ returns-clause-promises g c = record {
       let few : length c.accept-answer.new.outcome.finds.items < 2 ^ 64 = search rules in
       let v = judged-ringed o done s n waits fewer e run.keeper c.args.outcome.now run.unfound run.next run.begun run.minutes (unit0 g c) (card0 g c) (beside g c) next.goes.within may next.goes.origin (second-small g c s n at) c.requires.fits spans odometer run.noted counted others
       (is_err c.accept-answer.result) c.accept-answer.new.keeper c.accept-answer.new.noted c.accept-answer.new.outcome (unit1 g c) (card1 g c) (way g c) (gone g c) (sound g c time) few
-      (mine-at run.keeper.cabin.cards (g.C.Chip.card c.args.card.now) (g.D.Chip.card c.args.others.now) (card0 g c) (beside g c) e.which c.requires.acting.held.card_a c.requires.acting.held.card_b).size in
-      record { rings = v.rings; others = v.others; here = v.here; cut = v.cut; same = v.same; left = v.left; places = v.places; odometer = ap (λ (q : Keeper). q.odometer) c.accept-answer.ensures.entered.1.left.keeper; counted = v.counted };
+      (mine-at run.keeper.cabin.cards (g.C.Chip.card c.args.card.now) (g.D.Chip.card c.args.others.now) (card0 g c) (beside g c) e.which c.requires.acting.held.card_a c.requires.acting.held.card_b).size
+      (sits-works e (measured (way g c) e run.keeper) c.accept-answer.new.keeper run.noted (ending_of (way g c)) (g.C.Chip.card c.accept-answer.new.card) (card1 g c) c.accept-answer.ensures.entered.1.left.keeper c.accept-answer.ensures.behind.entered.card) in
+      record { rings = v.rings; others = v.others; here = v.here; cut = v.cut; same = v.same; left = v.left; places = v.places; opens = v.opens; odometer = ap (λ (q : Keeper). q.odometer) c.accept-answer.ensures.entered.1.left.keeper; counted = v.counted };
   cards =
       λ room o done s n waits fewer at speed next vehicle time.
       let run = c.args.run.now in

@@ -38,8 +38,9 @@ use Rattle.run_acts.specs.Settling.{RecordsSettling}
 use Rattle.run_acts.proofs.Asked.{withdraws-one}
 use Rattle.run_acts.proofs.WithdrawnRecorded.{acting_at, moment-is, settling-cut, closing-recorded, settled-evented, closing-evented, untorn-then, sat-there, settled-still, settled-places, closed-places, closed-still, closed-shuts}
 use Rattle.run_events.specs.run_rings.Spans.{with_second}
-use Rattle.run_note_record.specs.OnCards.{CardsStay}
-use Rattle.run_acts.proofs.CardPlaces.{stays-then}
+use Rattle.run_note_record.specs.OnCards.{CardsGo}
+use Rattle.run_note_record.specs.Sessions.{EndsIf}
+use Rattle.run_acts.proofs.CardPlaces.{ends-then}
 use Rattle.run_acts.proofs.SessionsClosed.{closes-alike}
 use Rattle.run_acts.proofs.Readings.{spans-here}
 use Rattle.run_acts.specs.Faults.{NotesSettling}
@@ -70,7 +71,7 @@ use Rattle.run_acts.proofs.RingedClosed.{settling-ringed, closing-ringed, gone-t
 use Rattle.run_acts.specs.RunCards.{CardsSettling, PlacesSettling, StillShow, CardsGoOn, CardsIn}
 use Rattle.run_acts.proofs.CardStays.{shows-then}
 use Rattle.run_acts.proofs.CardActs.{TellsLines, settled-lines, closed-lines, quiet-goes}
-use Rattle.run_acts.specs.CardWrites.{ClosesCard, ShutsBehind, WithdrawsShut, IsShut}
+use Rattle.run_acts.specs.CardWrites.{ClosesCard, ShutsThen, ShutsBehind, WithdrawsShut, IsShut}
 use Rattle.run_acts.proofs.CardWrites.{withdrawn-shut}
 use Rattle.run_minutes.proofs.Calm.{calm-same, calm-then}
 use Rattle.trace_model.specs.declared.Action.{Action}
@@ -311,20 +312,19 @@ module _ (g : Over) (c : In_ok-settle g) (k : OneCard c.in-Some.card (g.C.Chip.s
       let n = closes.shows.shut in
       let b = c.in_ok-settle.ensures.keeps in
       subst (λ (q : Card). WithdrawsShut q c.args.withdrawal.slot c.args.withdrawal.at (is_err k.result) c.args.run.now k.new c.args.outcome.now told first_ last) (same-card card there)
-      (inr (subst (λ (left : Cabin). ShutsBehind k.which c.args.withdrawal.slot c.args.withdrawal.at (told_of (with_cabin left c.args.run.now) c.args.outcome.now) c.args.run.now k.new told first_ last) c.leave.ensures.kept (record {
+      (inr (record {
+        behind = record { between = c.settle.new.run; told = c.settle.new.outcome; settled_first = settled-first g c; closing = n.closing; closed = n.closed; outcome = refl };
         decided = b.decided;
         given = b.given;
-        between = c.settle.new.run;
-        told = c.settle.new.outcome;
-        closing = n.closing;
-        closed = n.closed;
         act = n.act;
         selected = n.selected;
-        shut = λ how f w start t may gone stored time valid.
+        shut = λ how.
+            subst (λ (left : Cabin). ShutsThen k.which b.decided (told_of (with_cabin left c.args.run.now) c.args.outcome.now) (session_of c.settle.new.run.keeper.cabin.cards k.which) n.act first_ last) c.leave.ensures.kept
+            (λ f w start t may gone stored time valid.
             subst (λ (x : State). IsShut (session_of c.settle.new.run.keeper.cabin.cards k.which) n.act x) (card-is k.which k.unit (k.state k.after) k.beside)
             (withdrawn-shut k.which (g.M.Medium.state c.settle.new.unit) k.unit (k.state k.before) (k.state k.after) k.beside closes.writes.journal closes.goes.later.clock n.closing b.decided c.args.withdrawal.at (told_of (with_cabin c.leave.new.self c.args.run.now) c.args.outcome.now) (told_of c.settle.new.run c.settle.new.outcome) first_ n.act n.closes b.reach b.is books
-            how f w start t may gone stored time valid);
-      })))
+            how f w start t may gone stored time valid));
+      }))
 
   events : NotesWithdrawing (card_in (seat_in c.args.run.now.keeper.cabin.slots.seats c.args.withdrawal.slot)) c.args.withdrawal.slot c.args.withdrawal.at (is_err k.result) c.args.run.now k.new c.args.outcome.now told first_ last
   events =
@@ -413,14 +413,14 @@ module _ (g : Over) (c : In_ok-settle g) (k : OneCard c.in-Some.card (g.C.Chip.s
         (keeps-by k.which first_ (g.M.Medium.state c.settle.new.unit) k.unit (k.state k.before) (k.state k.after) k.beside (subst (λ (m : Devices). AreLeftMore first_ m) (k.beside_it (g.M.Medium.state c.settle.new.unit)) (settled-left c.settle.ensures.goes.keeping)) (subst (λ (m : Devices). AreLater first_ m) (k.beside_it (g.M.Medium.state c.settle.new.unit)) (settled-later c.settle.ensures.goes.keeping c.settle.ensures.goes.speeds)) closes.writes.journal.keeps
         (closing-left k.state k.before k.after (session_of c.settle.new.run.keeper.cabin.cards k.which) closes.shows.left bare))
 
-    places : (spans : List SpanFrom) (t : Rattle.log_model.specs.Course.ToldSecond) → RingsWithin o done s w.within.b.run.log front c.args.run.now (log_of c.args.outcome.now) spans t first_ → CardsStay o (with_second spans c.args.run.now.keeper.odometer t) first_ last
+    places : (spans : List SpanFrom) (t : Rattle.log_model.specs.Course.ToldSecond) → RingsWithin o done s w.within.b.run.log front c.args.run.now (log_of c.args.outcome.now) spans t first_ → CardsGo o (with_second spans c.args.run.now.keeper.odometer t) (EndsIf (is_some (session_of c.settle.new.run.keeper.cabin.cards k.which)) k.which) first_ last
     places spans t rings =
         let r = c.in_ok-settle.ensures.keeps in
         let v = c.in_ok-settle.ensures.keeps in
         let settles =
         left-there (λ m run. PlacesSettling v.decided m run c.settle.new.run c.args.outcome.now first_ between) c.args.withdrawal.slot c.args.withdrawal.at (acting_at s.number (suc (length front))) c.args.run.now c.leave.new.self c.leave.ensures.kept moment
         (subst (λ (m : Devices). PlacesSettling v.decided c.args.withdrawal.at (with_cabin c.leave.new.self c.args.run.now) c.settle.new.run c.args.outcome.now first_ m) (k.beside_it (g.M.Medium.state c.settle.new.unit)) v.places) in
-        stays-then o (with_second spans c.args.run.now.keeper.odometer t) first_ between last (settled-places o done s front rest c.args.withdrawal.slot are speed now.speed_is k.which c.args.run.now c.settle.new.run c.args.outcome.now c.settle.new.outcome first_ w seat allowed (ungiven_of c.requires.acting.going.span) c.requires.acting.going.cabin minutes v.decided (v.given w.within.sp w.within.minutes) between settles time-then spans t (spans-here o done s w.within.b.run.log front c.args.run.now (log_of c.args.outcome.now) spans t first_ rings))
+        ends-then o (with_second spans c.args.run.now.keeper.odometer t) (is_some (session_of c.settle.new.run.keeper.cabin.cards k.which)) k.which first_ between last (settled-places o done s front rest c.args.withdrawal.slot are speed now.speed_is k.which c.args.run.now c.settle.new.run c.args.outcome.now c.settle.new.outcome first_ w seat allowed (ungiven_of c.requires.acting.going.span) c.requires.acting.going.cabin minutes v.decided (v.given w.within.sp w.within.minutes) between settles time-then spans t (spans-here o done s w.within.b.run.log front c.args.run.now (log_of c.args.outcome.now) spans t first_ rings))
         (closed-places o done s front rest c.args.withdrawal.slot are speed now.speed_is k.which c.args.run.now c.settle.new.run c.args.outcome.now c.settle.new.outcome first_ w seat allowed (ungiven_of c.requires.acting.going.span) c.requires.acting.going.cabin minutes r.decided (r.given w.within.sp w.within.minutes) k.state (g.M.Medium.state c.settle.new.unit) k.unit k.beside k.before k.after k.whole k.size closes.shows.left bare records time-then (with_second spans c.args.run.now.keeper.odometer t))
 
     shows : StillShow o first_ last
@@ -453,10 +453,10 @@ module _ (g : Over) (c : In_ok-settle g) (k : OneCard c.in-Some.card (g.C.Chip.s
         (closes-behind n_.closing (session_of c.settle.new.run.keeper.cabin.cards k.which) c.args.withdrawal.at (is_err k.result) c.settle.new.run (g.M.Medium.state c.args.unit.now) (g.M.Medium.state c.settle.new.unit) k.unit leaves n_.rings)) in
         let from_is : w.within.from ≡ ungiven_of lit.span = let to = w.within.until in let same = same-ungiven c.args.run.now.minutes w.within.sp lit.span w.within.minutes lit.stands in omega (arith, to, same) in
         let later_ = (settled-decides None (c.args.run.now.next / 60) c.args.run.now lit kept.decided c.requires.acting.small (kept.given lit.span lit.stands)).from in
-        closing-ringed o done s front rest c.args.withdrawal.slot are speed now.speed_is k.which c.args.run.now c.settle.new.run c.args.outcome.now c.settle.new.outcome first_ last w seat allowed false kept left spans t (places spans t rings) rings (ungiven_of c.requires.acting.going.span) c.requires.acting.going.cabin small entries
-        k.new k.breaks n_.closing closed minutes
+        closing-ringed o done s front rest c.args.withdrawal.slot are speed now.speed_is k.which c.args.run.now c.settle.new.run c.args.outcome.now c.settle.new.outcome first_ last w seat allowed false kept left spans t rings (ungiven_of c.requires.acting.going.span) c.requires.acting.going.cabin small entries
+        (places spans t rings) k.new k.breaks n_.closing closed minutes
         (λ had has. untorn-then o done s front rest c.args.withdrawal.slot are speed now.speed_is k.which c.args.run.now c.settle.new.run c.args.outcome.now c.settle.new.outcome first_ w seat allowed (ungiven_of c.requires.acting.going.span) c.requires.acting.going.cabin minutes r.decided (r.given w.within.sp w.within.minutes) between records time-then had has)
-        (λ had none. gone-told o done s front rest c.args.withdrawal.slot are speed now.speed_is k.which c.args.run.now c.settle.new.run c.args.outcome.now c.settle.new.outcome first_ last w seat allowed false kept left spans t (places spans t rings) rings (ungiven_of c.requires.acting.going.span) c.requires.acting.going.cabin small entries kept.kept w.within.from
+        (λ had none. gone-told o done s front rest c.args.withdrawal.slot are speed now.speed_is k.which c.args.run.now c.settle.new.run c.args.outcome.now c.settle.new.outcome first_ last w seat allowed false kept left spans t rings (ungiven_of c.requires.acting.going.span) c.requires.acting.going.cabin small entries kept.kept w.within.from
         (sat-there o done s front rest c.args.withdrawal.slot are speed now.speed_is k.which c.args.run.now c.settle.new.run c.args.outcome.now c.settle.new.outcome first_ w seat allowed (ungiven_of c.requires.acting.going.span) c.requires.acting.going.cabin minutes r.decided (r.given w.within.sp w.within.minutes) had)
         (subst (λ (low : ℕ). All (λ (m : Minute). low ≤ m.minute) kept.decided) (sym from_is) later_) had none)
         (λ is. closed-shuts o done s front rest c.args.withdrawal.slot are speed now.speed_is k.which c.args.run.now c.settle.new.run c.args.outcome.now c.settle.new.outcome first_ w seat allowed (ungiven_of c.requires.acting.going.span) c.requires.acting.going.cabin minutes r.decided (r.given w.within.sp w.within.minutes) k.state (g.M.Medium.state c.settle.new.unit) k.unit k.beside k.before k.after k.whole k.size closes.shows.shut.act
@@ -600,7 +600,7 @@ module _ (g : Over) (c : After-from_residual g) where
         subst (λ (q : Bool). RingsGoOn q o done s w.within.b (front ++ Withdraw c.args.withdrawal.slot ∷ []) c.settle.new.run (log_of c.settle.new.outcome) spans t end) failed
         (settling-ringed o done s front rest c.args.withdrawal.slot are speed now.speed_is card c.args.run.now c.settle.new.run c.args.outcome.now c.settle.new.outcome start end w seat-left allowed true
         (left-there (λ m run. IsSettled m true run c.settle.new.run c.args.outcome.now c.settle.new.outcome) c.args.withdrawal.slot c.args.withdrawal.at (acting_at s.number (suc (length front))) c.args.run.now c.leave.new.self c.leave.ensures.kept at-moment c.in_err-settle.ensures.settled)
-        cut-left spans t stay rings (ungiven_of lit.span) lit.cabin low (entry-of c.args.run.now.noted (session_of c.args.run.now.keeper.cabin.cards card) (lit.entries card))
+        cut-left spans t rings (ungiven_of lit.span) lit.cabin low (entry-of c.args.run.now.noted (session_of c.args.run.now.keeper.cabin.cards card) (lit.entries card)) stay
         (settling-leaves c.args.withdrawal.at true (with_cabin c.leave.new.self c.args.run.now) c.settle.new.run c.args.outcome.now c.settle.new.outcome (g.M.Medium.state c.args.unit.now) (g.M.Medium.state c.settle.new.unit) (settled-noted c.in_err-settle.ensures.keeps)))
 
     cut-cards : CardsIn o done s w.within.b.run.log front (log_of c.args.outcome.now) start → CardsGoOn (is_err c.from_residual.result) o done s w.within.b.run.log (front ++ Withdraw c.args.withdrawal.slot ∷ []) (log_of c.settle.new.outcome) end
