@@ -2,211 +2,301 @@ use std::fs;
 use std::fs::File;
 use std::os::fd::AsRawFd;
 use std::os::unix::fs::symlink;
+use std::process::Abort;
 use std::test::Fail;
-use tach_media::{FileMedium, Medium, Missing};
+use tach_media::{Failed, FileMedium, Medium, Missing};
+
+/// Four bytes of a medium.
+fn four<M: Medium>(medium: &mut M, place: u32) -> Result<[u8; 4], Failed> {
+    let mut out = [9; 4];
+    if place > 60 || medium.size() < place + 4 {
+        return Err(Failed);
+    }
+    medium.read_at(place, &mut out)?;
+    Ok(out)
+}
+
+/// Four bytes of a medium are read, and they are these.
+fn reads<M: Medium>(rt: &impl Abort, medium: &mut M, place: u32, wanted: &[u8; 4]) {
+    assert_eq!(rt; four(medium, place), Ok(*wanted));
+}
+
+/// Four bytes of a medium cannot be read.
+fn does_not_read<M: Medium>(rt: &impl Abort, medium: &mut M, place: u32) {
+    assert!(rt; medium.size() >= 8 && place <= 4);
+    assert_eq!(rt; four(medium, place), Err(Failed));
+}
+
+/// Bytes are written at a place of a medium.
+fn write(medium: &mut FileMedium<'_, HostRuntime>, place: u32, bytes: &[u8]) -> Result<(), Failed> {
+    if place > 60 || bytes.len() > 4 || medium.size() < place + 4 {
+        return Err(Failed);
+    }
+    medium.write_at(place, bytes)
+}
+
+/// Bytes can be written at a place of a medium.
+fn writes(rt: &impl Abort, medium: &mut FileMedium<'_, HostRuntime>, place: u32, bytes: &[u8]) {
+    assert_eq!(rt; write(medium, place, bytes), Ok(()));
+}
+
+/// Four bytes cannot be written at the front of a medium.
+fn does_not_write(rt: &impl Abort, medium: &mut FileMedium<'_, HostRuntime>, bytes: &[u8; 4]) {
+    assert!(rt; medium.size() >= 8);
+    assert_eq!(rt; write(medium, 0, bytes), Err(Failed));
+}
+
+/// A medium works again.
+fn revives<M: Medium>(rt: &impl Abort, medium: &mut M) {
+    assert_eq!(rt; medium.revive(), Ok(()));
+}
+
+/// A medium does not work again.
+fn does_not_revive<M: Medium>(rt: &impl Abort, medium: &mut M) {
+    assert_eq!(rt; medium.revive(), Err(Failed));
+}
+
+/// Whether there is no file at this path.
+fn is_not_there(files: &HostRuntime, path: &str) -> bool {
+    matches!(fs::exists(files, path), Ok(false))
+}
+
+/// Whether a file is so long.
+fn is_long(files: &HostRuntime, path: &str, len: u64) -> bool {
+    match fs::metadata(files, path) {
+        Ok(told) => told.len() == len,
+        Err(_) => false,
+    }
+}
+
+/// Whether a file holds these bytes.
+fn holds(files: &HostRuntime, path: &str, wanted: &[u8]) -> bool {
+    match fs::read(files, path) {
+        Ok(bytes) => bytes.as_slice() == wanted,
+        Err(_) => false,
+    }
+}
+
+/// Whether a file holds these bytes now.
+fn put_file(files: &HostRuntime, path: &str, bytes: &[u8]) -> bool {
+    fs::write(files, path, bytes).is_ok()
+}
+
+/// Whether a file goes.
+fn remove(files: &HostRuntime, path: &str) -> bool {
+    fs::remove_file(files, path).is_ok()
+}
+
+/// Whether a link to a path stands at another now.
+fn link(files: &HostRuntime, to: &str, path: &str) -> bool {
+    symlink(files, to, path).is_ok()
+}
 
 #[test]
-fn a_file_is_made_written_and_read(rt: HostRuntime) -> Result<(), Fail> {
-    let mut out = [9u8; 4];
+fn a_file_is_made_written_and_read(rt: HostRuntime) {
     let mut made = FileMedium::new(&rt, "tach_media_made", 64);
-    assert!(rt; !fs::exists(&rt, "tach_media_made")?);
-    assert!(rt; made.write_at(10, b"abc").is_ok());
-    assert!(rt; made.read_at(9, &mut out).is_ok());
-    assert!(rt; &out == b"\0abc");
-    assert_eq!(rt; fs::metadata(&rt, "tach_media_made")?.len(), 64);
-    fs::remove_file(&rt, "tach_media_made")?;
+    assert!(rt; is_not_there(&rt, "tach_media_made"));
+    writes(&rt, &mut made, 10, b"abc");
+    reads(&rt, &mut made, 9, b"\0abc");
+    assert!(rt; is_long(&rt, "tach_media_made", 64));
+    assert!(rt; remove(&rt, "tach_media_made"));
+}
+
+#[test]
+fn a_file_of_no_folder(rt: HostRuntime) {
     let mut nowhere = FileMedium::new(&rt, "no_such_folder/file", 64);
-    assert!(rt; nowhere.read_at(0, &mut out).is_err());
-    assert!(rt; nowhere.revive().is_err());
-    Ok(())
+    does_not_read(&rt, &mut nowhere, 0);
+    does_not_revive(&rt, &mut nowhere);
 }
 
 #[test]
-fn of_a_longer_file_the_front(rt: HostRuntime) -> Result<(), Fail> {
-    let mut out = [0u8; 4];
-    fs::write(&rt, "tach_media_long", b"0123456789")?;
+fn of_a_longer_file_the_front(rt: HostRuntime) {
+    assert!(rt; put_file(&rt, "tach_media_long", b"0123456789"));
     let mut front = FileMedium::new(&rt, "tach_media_long", 8);
-    assert!(rt; front.write_at(4, b"abcd").is_ok());
-    assert!(rt; front.read_at(3, &mut out).is_ok());
-    assert!(rt; &out == b"3abc");
-    assert!(rt; fs::read(&rt, "tach_media_long")?.as_slice() == b"0123abcd89".as_slice());
-    fs::remove_file(&rt, "tach_media_long")?;
-    Ok(())
+    writes(&rt, &mut front, 4, b"abcd");
+    reads(&rt, &mut front, 3, b"3abc");
+    assert!(rt; holds(&rt, "tach_media_long", b"0123abcd89"));
+    assert!(rt; remove(&rt, "tach_media_long"));
 }
 
 #[test]
-fn a_short_file_grows_by_a_write(rt: HostRuntime) -> Result<(), Fail> {
-    let mut out = [0u8; 4];
-    fs::write(&rt, "tach_media_short", b"01234567")?;
+fn a_short_file_grows_by_a_write(rt: HostRuntime) {
+    assert!(rt; put_file(&rt, "tach_media_short", b"01234567"));
     let mut medium = FileMedium::new(&rt, "tach_media_short", 16);
-    assert!(rt; medium.read_at(6, &mut out).is_err());
-    assert!(rt; medium.read_at(0, &mut out).is_err());
-    assert!(rt; medium.revive().is_ok());
-    assert!(rt; medium.read_at(4, &mut out).is_ok());
-    assert!(rt; &out == b"4567");
-    assert!(rt; medium.write_at(12, b"abcd").is_ok());
-    assert!(rt; medium.read_at(10, &mut out).is_ok());
-    assert!(rt; &out == b"\0\0ab");
-    fs::remove_file(&rt, "tach_media_short")?;
-    Ok(())
+    fails_behind_the_end(&rt, &mut medium);
+    does_not_read(&rt, &mut medium, 0);
+    revives(&rt, &mut medium);
+    reads(&rt, &mut medium, 4, b"4567");
+    writes(&rt, &mut medium, 12, b"abcd");
+    reads(&rt, &mut medium, 10, b"\0\0ab");
+    assert!(rt; remove(&rt, "tach_media_short"));
+}
+
+/// A medium of 16 bytes does not read past the first eight.
+fn fails_behind_the_end<M: Medium>(rt: &impl Abort, medium: &mut M) {
+    assert_eq!(rt; medium.size(), 16);
+    assert_eq!(rt; four(medium, 6), Err(Failed));
+}
+
+/// While a medium has its file, another of that file does not work.
+fn has_it_alone(
+    rt: &impl Abort,
+    first: &mut FileMedium<'_, HostRuntime>,
+    second: &mut FileMedium<'_, HostRuntime>,
+) {
+    writes(rt, first, 0, b"abcd");
+    does_not_read(rt, second, 0);
+    assert_eq!(rt; second.missing(), None);
+    does_not_revive(rt, second);
+    does_not_write(rt, second, b"efgh");
+    reads(rt, first, 0, b"abcd");
 }
 
 #[test]
-fn a_file_that_another_has_locked(rt: HostRuntime) -> Result<(), Fail> {
-    let mut out = [0u8; 4];
+fn a_file_that_another_has_locked(rt: HostRuntime) {
     {
         let mut first = FileMedium::new(&rt, "tach_media_locked", 8);
         let mut second = FileMedium::new(&rt, "tach_media_locked", 8);
-        assert!(rt; first.write_at(0, b"abcd").is_ok());
-        assert!(rt; second.read_at(0, &mut out).is_err());
-        assert_eq!(rt; second.missing(), None);
-        assert!(rt; second.revive().is_err());
-        assert!(rt; second.write_at(0, b"efgh").is_err());
-        assert!(rt; first.read_at(0, &mut out).is_ok());
-        assert!(rt; &out == b"abcd");
+        has_it_alone(&rt, &mut first, &mut second);
     }
     let mut later = FileMedium::new(&rt, "tach_media_locked", 8);
-    assert!(rt; later.write_at(4, b"efgh").is_ok());
-    fs::remove_file(&rt, "tach_media_locked")?;
-    Ok(())
+    writes(&rt, &mut later, 4, b"efgh");
+    assert!(rt; remove(&rt, "tach_media_locked"));
 }
 
 #[test]
-fn a_link_to_a_file_and_one_to_none(rt: HostRuntime) -> Result<(), Fail> {
-    let mut out = [0u8; 4];
-    fs::write(&rt, "tach_media_target", b"01234567")?;
-    symlink(&rt, "tach_media_target", "tach_media_link")?;
+fn a_link_to_a_file(rt: HostRuntime) {
+    assert!(rt; put_file(&rt, "tach_media_target", b"01234567"));
+    assert!(rt; link(&rt, "tach_media_target", "tach_media_link"));
     let mut through = FileMedium::new(&rt, "tach_media_link", 8);
-    assert!(rt; through.write_at(0, b"abcd").is_ok());
-    assert!(rt; fs::read(&rt, "tach_media_target")?.as_slice() == b"abcd4567".as_slice());
-    symlink(&rt, "tach_media_nothing", "tach_media_dangling")?;
-    let mut dangling = FileMedium::new(&rt, "tach_media_dangling", 8);
-    assert!(rt; dangling.read_at(0, &mut out).is_err());
-    assert!(rt; dangling.revive().is_err());
-    assert!(rt; !fs::exists(&rt, "tach_media_nothing")?);
-    fs::remove_file(&rt, "tach_media_link")?;
-    fs::remove_file(&rt, "tach_media_dangling")?;
-    fs::remove_file(&rt, "tach_media_target")?;
-    Ok(())
+    writes(&rt, &mut through, 0, b"abcd");
+    assert!(rt; holds(&rt, "tach_media_target", b"abcd4567"));
+    assert!(rt; remove(&rt, "tach_media_link"));
+    assert!(rt; remove(&rt, "tach_media_target"));
 }
 
 #[test]
-fn a_folder_is_no_medium(rt: HostRuntime) -> Result<(), Fail> {
-    let mut out = [0u8; 4];
+fn a_link_to_no_file(rt: HostRuntime) {
+    assert!(rt; link(&rt, "tach_media_nothing", "tach_media_dangling"));
+    let mut dangling = FileMedium::new(&rt, "tach_media_dangling", 8);
+    does_not_read(&rt, &mut dangling, 0);
+    does_not_revive(&rt, &mut dangling);
+    assert!(rt; is_not_there(&rt, "tach_media_nothing"));
+    assert!(rt; remove(&rt, "tach_media_dangling"));
+}
+
+#[test]
+fn a_folder_is_no_medium(rt: HostRuntime) {
     let mut folder = FileMedium::new(&rt, ".", 8);
-    assert!(rt; folder.read_at(0, &mut out).is_err());
-    assert!(rt; folder.revive().is_err());
-    Ok(())
+    does_not_read(&rt, &mut folder, 0);
+    does_not_revive(&rt, &mut folder);
 }
 
 /// A program that runs may be read, and not written.
 #[test]
-fn a_file_that_may_only_be_read(rt: HostRuntime) -> Result<(), Fail> {
-    let mut out = [0u8; 4];
+fn a_file_that_may_only_be_read(rt: HostRuntime) {
     let mut program = FileMedium::new(&rt, "/proc/self/exe", 8);
-    assert!(rt; program.read_at(0, &mut out).is_err());
-    assert!(rt; program.revive().is_err());
+    does_not_read(&rt, &mut program, 0);
+    does_not_revive(&rt, &mut program);
     let mut read = FileMedium::for_reading(&rt, "/proc/self/exe", 8);
-    assert!(rt; read.read_at(0, &mut out).is_ok());
-    assert!(rt; &out == b"\x7fELF");
-    assert!(rt; read.write_at(0, b"abcd").is_err());
-    assert!(rt; read.revive().is_ok());
-    assert!(rt; read.read_at(0, &mut out).is_ok());
+    reads(&rt, &mut read, 0, b"\x7fELF");
+    does_not_write(&rt, &mut read, b"abcd");
+    revives(&rt, &mut read);
+    reads(&rt, &mut read, 0, b"\x7fELF");
     assert_eq!(rt; read.clock(), 0);
-    Ok(())
 }
 
 #[test]
-fn a_file_that_others_read_too(rt: HostRuntime) -> Result<(), Fail> {
-    let mut out = [0u8; 4];
-    fs::write(&rt, "tach_media_read", b"01234567")?;
+fn a_file_that_others_read_too(rt: HostRuntime) {
+    assert!(rt; put_file(&rt, "tach_media_read", b"01234567"));
     {
         let mut first = FileMedium::for_reading(&rt, "tach_media_read", 8);
         let mut second = FileMedium::for_reading(&rt, "tach_media_read", 8);
         let mut writer = FileMedium::new(&rt, "tach_media_read", 8);
-        assert!(rt; first.read_at(0, &mut out).is_ok());
-        assert!(rt; second.read_at(4, &mut out).is_ok());
-        assert!(rt; &out == b"4567");
-        assert!(rt; second.write_at(0, b"abcd").is_err());
-        assert!(rt; writer.read_at(0, &mut out).is_err());
+        reads(&rt, &mut first, 0, b"0123");
+        reads(&rt, &mut second, 4, b"4567");
+        does_not_write(&rt, &mut second, b"abcd");
+        does_not_read(&rt, &mut writer, 0);
     }
     {
         let mut writer = FileMedium::new(&rt, "tach_media_read", 8);
         let mut reader = FileMedium::for_reading(&rt, "tach_media_read", 8);
-        assert!(rt; writer.read_at(0, &mut out).is_ok());
-        assert!(rt; &out == b"0123");
-        assert!(rt; reader.read_at(0, &mut out).is_err());
+        reads(&rt, &mut writer, 0, b"0123");
+        does_not_read(&rt, &mut reader, 0);
     }
-    fs::remove_file(&rt, "tach_media_read")?;
-    Ok(())
+    assert!(rt; remove(&rt, "tach_media_read"));
 }
 
-/// One that is missing, or has no byte, as a making that was stopped leaves it, is made, and for reading too.
+/// One that has no byte, as a making that was stopped leaves it, is made.
 #[test]
-fn a_file_without_a_byte_is_made(rt: HostRuntime) -> Result<(), Fail> {
-    let mut out = [9u8; 4];
-    fs::write(&rt, "tach_media_empty", b"")?;
+fn a_file_without_a_byte_is_made(rt: HostRuntime) {
+    assert!(rt; put_file(&rt, "tach_media_empty", b""));
     {
         let mut made = FileMedium::new(&rt, "tach_media_empty", 64);
-        assert!(rt; made.read_at(60, &mut out).is_ok());
-        assert!(rt; out == [0; 4]);
-        assert!(rt; made.write_at(0, b"abcd").is_ok());
+        reads(&rt, &mut made, 60, &[0; 4]);
+        writes(&rt, &mut made, 0, b"abcd");
     }
-    assert_eq!(rt; fs::metadata(&rt, "tach_media_empty")?.len(), 64);
-    fs::write(&rt, "tach_media_empty", b"")?;
+    assert!(rt; is_long(&rt, "tach_media_empty", 64));
+    assert!(rt; remove(&rt, "tach_media_empty"));
+}
+
+/// One that is missing, or has no byte, is made for reading too.
+#[test]
+fn a_file_is_made_for_reading(rt: HostRuntime) {
+    assert!(rt; put_file(&rt, "tach_media_bare", b""));
     {
-        let mut first = FileMedium::for_reading(&rt, "tach_media_empty", 64);
-        let mut second = FileMedium::for_reading(&rt, "tach_media_empty", 64);
-        assert!(rt; first.read_at(60, &mut out).is_ok());
-        assert!(rt; second.read_at(60, &mut out).is_ok());
-        assert!(rt; first.write_at(0, b"abcd").is_err());
+        let mut first = FileMedium::for_reading(&rt, "tach_media_bare", 64);
+        let mut second = FileMedium::for_reading(&rt, "tach_media_bare", 64);
+        reads(&rt, &mut first, 60, &[0; 4]);
+        reads(&rt, &mut second, 60, &[0; 4]);
+        does_not_write(&rt, &mut first, b"abcd");
     }
-    fs::remove_file(&rt, "tach_media_empty")?;
-    let mut missing = FileMedium::for_reading(&rt, "tach_media_empty", 64);
-    assert!(rt; missing.read_at(60, &mut out).is_ok());
-    assert_eq!(rt; fs::metadata(&rt, "tach_media_empty")?.len(), 64);
-    fs::remove_file(&rt, "tach_media_empty")?;
-    Ok(())
+    assert!(rt; remove(&rt, "tach_media_bare"));
+    let mut missing = FileMedium::for_reading(&rt, "tach_media_bare", 64);
+    reads(&rt, &mut missing, 60, &[0; 4]);
+    assert!(rt; is_long(&rt, "tach_media_bare", 64));
+    assert!(rt; remove(&rt, "tach_media_bare"));
+}
+
+/// A medium whose file's folder cannot be synchronised tells that.
+fn lacks_its_folder(rt: &impl Abort, medium: &mut FileMedium<'_, HostRuntime>) {
+    assert_eq!(rt; medium.missing(), None);
+    does_not_read(rt, medium, 0);
+    assert_eq!(rt; medium.missing(), Some(Missing::SynchronisedFolders));
+    does_not_write(rt, medium, b"abcd");
+    does_not_revive(rt, medium);
+    assert_eq!(rt; medium.missing(), Some(Missing::SynchronisedFolders));
 }
 
 /// By the folder of the files that a process has open each can be opened anew, and no name there stands on a disk.
 #[test]
 fn a_folder_that_cannot_be_synchronised(rt: HostRuntime) -> Result<(), Fail> {
-    let mut out = [9u8; 4];
     let kept = File::create(&rt, "tach_media_open")?;
     let number = kept.as_raw_fd();
     let path = format!(in rt.alloc(); "/proc/self/fd/{number}")?;
     let mut medium = FileMedium::new(&rt, path.as_str(), 8);
-    assert_eq!(rt; medium.missing(), None);
-    assert!(rt; medium.read_at(0, &mut out).is_err());
-    assert_eq!(rt; medium.missing(), Some(Missing::SynchronisedFolders));
-    assert!(rt; medium.write_at(0, b"abcd").is_err());
-    assert!(rt; medium.revive().is_err());
-    assert_eq!(rt; medium.missing(), Some(Missing::SynchronisedFolders));
-    assert_eq!(rt; fs::metadata(&rt, "tach_media_open")?.len(), 0);
+    lacks_its_folder(&rt, &mut medium);
+    assert!(rt; is_long(&rt, "tach_media_open", 0));
     let mut made = FileMedium::new(&rt, "tach_media_open", 8);
-    assert!(rt; made.read_at(4, &mut out).is_ok());
-    assert!(rt; out == [0; 4]);
+    reads(&rt, &mut made, 4, &[0; 4]);
     assert_eq!(rt; made.missing(), None);
-    fs::remove_file(&rt, "tach_media_open")?;
+    assert!(rt; remove(&rt, "tach_media_open"));
     Ok(())
 }
 
 /// What of a process goes into its core file can be written, and stands on no disk.
 #[test]
-fn a_write_that_cannot_be_synchronised(rt: HostRuntime) -> Result<(), Fail> {
-    let mut out = [0u8; 8];
+fn a_write_that_cannot_be_synchronised(rt: HostRuntime) {
     {
         let mut shown = FileMedium::without_waiting(&rt, "/proc/self/coredump_filter", 8);
-        assert!(rt; shown.write_at(0, b"0x33").is_ok());
-        assert!(rt; shown.revive().is_ok());
+        writes(&rt, &mut shown, 0, b"0x33");
+        revives(&rt, &mut shown);
     }
     let mut filter = FileMedium::new(&rt, "/proc/self/coredump_filter", 8);
-    assert!(rt; filter.read_at(0, &mut out).is_ok());
-    assert!(rt; &out == b"00000033");
-    assert!(rt; filter.write_at(0, b"0x33").is_err());
-    assert!(rt; filter.revive().is_err());
-    assert!(rt; filter.read_at(0, &mut out).is_err());
+    reads(&rt, &mut filter, 0, b"0000");
+    reads(&rt, &mut filter, 4, b"0033");
+    does_not_write(&rt, &mut filter, b"0x33");
+    does_not_revive(&rt, &mut filter);
+    does_not_read(&rt, &mut filter, 0);
     assert_eq!(rt; filter.clock(), 1);
-    Ok(())
 }

@@ -59,55 +59,76 @@ fn found_with<M: Medium>(
     Ok(answer)
 }
 
-/// What loading finds of a new unit, and with one field of it changed.
+/// Six bytes that are put at a place, and the place that is told then; none, where the unit is good with them.
+const FIELDS: [(u32, [u8; 6], Option<u32>); 13] = [
+    // the last-kept minute past the last second, and one whose day is not there
+    (564, [0x04, 0x44, 0x44, 0x45, 0, 0], Some(564)),
+    (564, [0, 0, 0x05, 0xA0, 0, 0], Some(564)),
+    // 10000000 kilometres, 256 over speedings
+    (568, [0, 0x98, 0x96, 0x80, 0, 0], Some(568)),
+    (576, [0, 0, 1, 0, 0, 0], Some(576)),
+    // a cell with a word at 1440, and with one at 1439
+    (648, [0, 0, 0, 1, 0x05, 0xA0], Some(652)),
+    (648, [0, 0, 0, 1, 0x05, 0x9F], None),
+    // a day that is no day, and one without words
+    (1028, [0, 0, 0, 1, 0, 0], Some(1028)),
+    (1028, [0, 1, 0x51, 0x80, 0, 0], Some(1036)),
+    // each pointer at its count
+    (1024, [0, 0, 1, 0x6E, 0, 0], Some(1024)),
+    (2115044, [0, 0, 8, 0, 0, 0], Some(2115044)),
+    (2379240, [0, 0, 0, 0xFF, 0, 0], Some(2379240)),
+    (2393644, [0, 0, 0x05, 0xA0, 0, 0], Some(2393644)),
+    // in version 1 no rule byte is looked at
+    (558, [0, 0, 0, 2, 0, 0], None),
+];
+
+/// Loading finds this.
+fn is_found<M: Medium>(rt: &impl Abort, unit: &mut M, wanted: Result<Identity, u32>)
+    requires { IsUnit (M.state unit.old) }
+    ensures { IsUnit (M.state unit.new) }
+{
+    assert_eq!(rt; found(unit), Ok(wanted));
+}
+
+/// Loading finds this place, or the identity, with these bytes.
+fn is_found_with<M: Medium>(
+    rt: &impl Abort,
+    unit: &mut M,
+    place: u32,
+    bytes: [u8; 6],
+    bad: Option<u32>,
+)
+    requires { IsUnit (M.state unit.old) }
+    ensures { IsUnit (M.state unit.new) }
+{
+    assert!(rt; place <= 2485802);
+    let wanted = match bad {
+        Some(place) => Err(place),
+        None => Ok(IDENTITY),
+    };
+    assert_eq!(rt; found_with(unit, place, bytes), Ok(wanted));
+}
+
+/// Each field of a unit is looked at.
+fn fields<M: Medium>(rt: &impl Abort, unit: &mut M)
+    requires { IsUnit (M.state unit.old) }
+    ensures { IsUnit (M.state unit.new) }
+{
+    for field in FIELDS {
+        let (place, bytes, bad) = field;
+        is_found_with(rt, unit, place, bytes, bad);
+    }
+}
+
+/// What loading finds of a new unit, and with one field of it changed; then all is as it was.
 fn new_unit<M: Medium>(rt: &impl Abort, unit: &mut M) -> Result<(), Failed>
     requires { IsUnit (M.state unit.old) }
 {
-    assert_eq!(rt; found(unit)?, Err(0));
+    is_found(rt, unit, Err(0));
     format_unit(unit, &IDENTITY)?;
-    assert_eq!(rt; found(unit)?, Ok(IDENTITY));
-    // the last-kept minute past the last second, and one whose day is not there
-    assert_eq!(rt;
-        found_with(unit, 564, [0x04, 0x44, 0x44, 0x45, 0, 0])?,
-        Err(564)
-    );
-    assert_eq!(rt; found_with(unit, 564, [0, 0, 0x05, 0xA0, 0, 0])?, Err(564));
-    // 10000000 kilometres, 256 over speedings
-    assert_eq!(rt;
-        found_with(unit, 568, [0, 0x98, 0x96, 0x80, 0, 0])?,
-        Err(568)
-    );
-    assert_eq!(rt; found_with(unit, 576, [0, 0, 1, 0, 0, 0])?, Err(576));
-    // a cell with a word at 1440, and with one at 1439
-    assert_eq!(rt; found_with(unit, 648, [0, 0, 0, 1, 0x05, 0xA0])?, Err(652));
-    assert_eq!(rt;
-        found_with(unit, 648, [0, 0, 0, 1, 0x05, 0x9F])?,
-        Ok(IDENTITY)
-    );
-    // a day that is no day, and one without words
-    assert_eq!(rt; found_with(unit, 1028, [0, 0, 0, 1, 0, 0])?, Err(1028));
-    assert_eq!(rt;
-        found_with(unit, 1028, [0, 1, 0x51, 0x80, 0, 0])?,
-        Err(1036)
-    );
-    // each pointer at its count
-    assert_eq!(rt; found_with(unit, 1024, [0, 0, 1, 0x6E, 0, 0])?, Err(1024));
-    assert_eq!(rt;
-        found_with(unit, 2115044, [0, 0, 8, 0, 0, 0])?,
-        Err(2115044)
-    );
-    assert_eq!(rt;
-        found_with(unit, 2379240, [0, 0, 0, 0xFF, 0, 0])?,
-        Err(2379240)
-    );
-    assert_eq!(rt;
-        found_with(unit, 2393644, [0, 0, 0x05, 0xA0, 0, 0])?,
-        Err(2393644)
-    );
-    // in version 1 no rule byte is looked at
-    assert_eq!(rt; found_with(unit, 558, [0, 0, 0, 2, 0, 0])?, Ok(IDENTITY));
-    // all is as it was
-    assert_eq!(rt; found(unit)?, Ok(IDENTITY));
+    is_found(rt, unit, Ok(IDENTITY));
+    fields(rt, unit);
+    is_found(rt, unit, Ok(IDENTITY));
     Ok(())
 }
 

@@ -8,6 +8,7 @@ use card_files::{
 use card_layout::{Application, Fid};
 use gated_ring::{Ring, RingFault};
 use std::alloc::Global;
+use std::process::Abort;
 use std::test::Fail;
 use tach_media::{Failed, Left, Medium, MemMedium, Memory, Stop};
 use tacho_types::{Nation, Odometer, PlaceEntry, Registration, TimeReal};
@@ -122,20 +123,38 @@ fn ring(
     Ring::load(medium, base as u32, width, 84, pointer_width, gate)
 }
 
+// The rings of a blank card are those of these places.
+fn rings_of(rt: &impl Abort, blank: &mut MemMedium) {
+    let vehicles = loaded_vehicles(blank);
+    assert!(rt; vehicles.is_ok() && vehicles == ring(blank, VEHICLES, 31, 2, 6));
+    let places = loaded_places(blank);
+    assert!(rt; places.is_ok() && places == ring(blank, PLACES, 10, 1, 0));
+}
+
+// The ring of vehicles of a card with this pointer.
+fn vehicles_at(alloc: Global, pointer: u8) -> Result<Result<Ring, RingFault>, Memory> {
+    let mut card = card(alloc, VEHICLES, &[0, pointer], NEVER, Left::Before)?;
+    Ok(loaded_vehicles(&mut card))
+}
+
+// The ring of places of a card with this pointer.
+fn places_at(alloc: Global, pointer: u8) -> Result<Result<Ring, RingFault>, Memory> {
+    let mut card = card(alloc, PLACES, &[pointer], NEVER, Left::Before)?;
+    Ok(loaded_places(&mut card))
+}
+
 #[test]
 fn the_rings_of_vehicles_and_places(rt: HostRuntime) -> Result<(), Fail> {
-    let alloc = rt.alloc();
-    let mut blank = card(alloc, 0, &[], NEVER, Left::Before)?;
-    let vehicles = loaded_vehicles(&mut blank);
-    assert!(rt; vehicles.is_ok() && vehicles == ring(&mut blank, VEHICLES, 31, 2, 6));
-    let places = loaded_places(&mut blank);
-    assert!(rt; places.is_ok() && places == ring(&mut blank, PLACES, 10, 1, 0));
-    let mut last = card(alloc, VEHICLES, &[0, 83], NEVER, Left::Before)?;
-    assert!(rt; loaded_vehicles(&mut last).is_ok());
-    let mut bad = card(alloc, VEHICLES, &[0, 84], NEVER, Left::Before)?;
-    assert!(rt; loaded_vehicles(&mut bad) == Err(RingFault::BadPointer(84)));
-    let mut bad = card(alloc, PLACES, &[84], NEVER, Left::Before)?;
-    assert!(rt; loaded_places(&mut bad) == Err(RingFault::BadPointer(84)));
+    let mut blank = card(rt.alloc(), 0, &[], NEVER, Left::Before)?;
+    rings_of(&rt, &mut blank);
+    Ok(())
+}
+
+#[test]
+fn pointers_of_vehicles_and_places(rt: HostRuntime) -> Result<(), Fail> {
+    assert!(rt; vehicles_at(rt.alloc(), 83)?.is_ok());
+    assert!(rt; vehicles_at(rt.alloc(), 84)? == Err(RingFault::BadPointer(84)));
+    assert!(rt; places_at(rt.alloc(), 84)? == Err(RingFault::BadPointer(84)));
     Ok(())
 }
 
@@ -185,18 +204,30 @@ const ROWS: [([u8; 6], [u8; 6], usize); 4] = [
     ([3, 2, 4, 2, 6, 7], [3, BEGIN, 4, 2, 6, 7], 1),
 ];
 
+// Whether the event, one of another begin, one of another type, and one of no begin are there.
+fn seen_events(medium: &mut MemMedium) -> Result<[bool; 4], Failed> {
+    Ok([
+        has(medium, 5, BEGIN)?,
+        has(medium, 5, BEGIN + 1)?,
+        has(medium, 6, BEGIN)?,
+        has(medium, 5, 0)?,
+    ])
+}
+
+// The event is noted in a set of these begins, which has those then.
+fn is_noted(rt: &impl Abort, alloc: Global, before: [u8; 6], after: [u8; 6]) -> Result<(), Memory> {
+    let mut medium = card(alloc, SET, &set(before), NEVER, Left::Before)?;
+    assert!(rt; has(&mut medium, 5, BEGIN) == Ok(false));
+    assert!(rt; noted(&mut medium) == Ok(()));
+    assert!(rt; bytes(&mut medium, SET as u32) == Ok(set(after)));
+    assert!(rt; seen_events(&mut medium) == Ok([true, false, false, false]));
+    Ok(())
+}
+
 #[test]
 fn an_event_takes_an_empty_place_or_that_of_the_earliest(rt: HostRuntime) -> Result<(), Fail> {
     for (before, after, _) in ROWS {
-        let mut medium = card(rt.alloc(), SET, &set(before), NEVER, Left::Before)?;
-        assert!(rt; has(&mut medium, 5, BEGIN) == Ok(false));
-        assert!(rt; noted(&mut medium) == Ok(()));
-        let found: [u8; 144] = bytes(&mut medium, SET as u32).expect(&rt, "read");
-        assert!(rt; found == set(after));
-        assert!(rt; has(&mut medium, 5, BEGIN) == Ok(true));
-        assert!(rt; has(&mut medium, 5, BEGIN + 1) == Ok(false));
-        assert!(rt; has(&mut medium, 6, BEGIN) == Ok(false));
-        assert!(rt; has(&mut medium, 5, 0) == Ok(false));
+        is_noted(&rt, rt.alloc(), before, after)?;
     }
     Ok(())
 }
@@ -216,24 +247,48 @@ fn seen(found: [u8; 144], index: usize) -> [u8; 144]
     bytes
 }
 
+// A note that stops at this call: whether it was made, and the set behind it.
+fn stopped_note(
+    rt: &impl Abort,
+    alloc: Global,
+    before: [u8; 6],
+    call: u64,
+) -> Result<(bool, [u8; 144]), Memory> {
+    let mut medium = card(alloc, SET, &set(before), call, Left::Torn(0x55))?;
+    let made = noted(&mut medium).is_ok();
+    Ok((made, bytes(&mut medium, SET as u32).expect(rt, "revived")))
+}
+
+// The set without the event at this place.
+fn without(before: [u8; 6], index: usize) -> [u8; 144]
+    requires { index < 6 }
+{
+    let mut begins = before;
+    begins[index] = 0;
+    set(begins)
+}
+
+// A note that stops at each of its calls leaves the set without the event, or with it.
+fn is_left(rt: &impl Abort, alloc: Global, row: &([u8; 6], [u8; 6], usize)) -> Result<(), Memory> {
+    let (before, after, index) = *row;
+    assert!(rt; index < 6);
+    for call in 0..=CALLS {
+        let (made, found) = stopped_note(rt, alloc, before, call)?;
+        assert!(rt; made || call < CALLS);
+        let found = seen(found, index);
+        let left = !made && (found == set(before) || found == without(before, index));
+        assert!(rt; left || found == set(after));
+        if made {
+            break;
+        }
+    }
+    Ok(())
+}
+
 #[test]
 fn a_stopped_note_leaves_the_set_without_or_with_the_event(rt: HostRuntime) -> Result<(), Fail> {
-    for (before, after, index) in ROWS {
-        for call in 0..=CALLS {
-            let mut medium = card(rt.alloc(), SET, &set(before), call, Left::Torn(0x55))?;
-            let done = noted(&mut medium).is_ok();
-            assert!(rt; done || call < CALLS);
-            assert!(rt; index < 6);
-            let found = bytes(&mut medium, SET as u32).expect(&rt, "revived");
-            let found = seen(found, index);
-            let mut without = before;
-            without[index] = 0;
-            let left = !done && (found == set(before) || found == set(without));
-            assert!(rt; left || found == set(after));
-            if done {
-                break;
-            }
-        }
+    for row in &ROWS {
+        is_left(&rt, rt.alloc(), row)?;
     }
     Ok(())
 }

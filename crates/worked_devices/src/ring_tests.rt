@@ -1,5 +1,6 @@
 use gated_ring::{Ring, RingFault};
 use std::alloc::Global;
+use std::process::Abort;
 use std::test::Fail;
 use tach_media::{Failed, Left, Medium, MemMedium, Memory, Stop};
 
@@ -172,29 +173,61 @@ const ROWS: [Row; 6] = [
 // fails.
 const CALLS: u64 = 9;
 
+// An `add` that may stop: whether it was made, the list behind it, and the bytes behind another one.
+#[derive(Clone, Copy)]
+struct Added {
+    made: bool,
+    found: [u8; 3],
+    again: [u8; 24],
+}
+
+// What an `add` leaves whose call of that number fails, and another one behind it.
+fn stopped_add(
+    rt: &impl Abort,
+    alloc: Global,
+    row: &Row,
+    call: u64,
+    left: Left,
+) -> Result<Added, Memory> {
+    let mut medium = medium(alloc, &image(row.pointer, row.marks), call, left)?;
+    let made = add(&mut medium, 9).is_ok();
+    let found = list(&bytes(&mut medium).expect(rt, "revived"));
+    assert!(rt; add(&mut medium, 8).is_ok());
+    let again = bytes(&mut medium).expect(rt, "read");
+    Ok(Added { made, found, again })
+}
+
+// An `add` leaves one of three lists, and where it was made the last of them.
+fn is_one_of_three(rt: &impl Abort, row: &Row, found: [u8; 3], made: bool) {
+    let left = !made && (found == row.before || found == row.without);
+    assert!(rt; left || found == row.after);
+}
+
+// Another one adds its entry behind that, and nothing else of the medium changes.
+fn is_behind(rt: &impl Abort, found: [u8; 3], again: &[u8; 24]) {
+    assert!(rt; list(again) == with(found, 8));
+    assert!(rt; again[..2] == [0xEE; 2] && again[21..] == [0xEE; 3]);
+}
+
+// An `add` to a ring stops at each of its calls.
+fn adds(rt: &impl Abort, alloc: Global, row: &Row, left: Left) -> Result<(), Memory> {
+    for call in 0..=CALLS {
+        let added = stopped_add(rt, alloc, row, call, left)?;
+        assert!(rt; added.made || call < CALLS);
+        is_one_of_three(rt, row, added.found, added.made);
+        is_behind(rt, added.found, &added.again);
+        if added.made {
+            break;
+        }
+    }
+    Ok(())
+}
+
 #[test]
 fn a_stopped_add_leaves_one_of_three_lists(rt: HostRuntime) -> Result<(), Fail> {
     for row in &ROWS {
         for left in LEFT {
-            for call in 0..=CALLS {
-                let mut medium = medium(rt.alloc(), &image(row.pointer, row.marks), call, left)?;
-                let added = add(&mut medium, 9).is_ok();
-                assert!(rt; added || call < CALLS);
-                let stopped = bytes(&mut medium).expect(&rt, "revived");
-                let found = list(&stopped);
-                if added {
-                    assert!(rt; found == row.after);
-                } else {
-                    assert!(rt; found == row.before || found == row.without || found == row.after);
-                }
-                assert!(rt; add(&mut medium, 8).is_ok());
-                let again = bytes(&mut medium).expect(&rt, "read");
-                assert!(rt; list(&again) == with(found, 8));
-                assert!(rt; again[..2] == [0xEE; 2] && again[21..] == [0xEE; 3]);
-                if added {
-                    break;
-                }
-            }
+            adds(&rt, rt.alloc(), row, left)?;
         }
     }
     Ok(())
@@ -210,27 +243,73 @@ fn put(medium: &mut MemMedium, index: u32, mark: u8, pointer_width: u8) -> Resul
     ring.put_at(medium, index, &[mark, 0, 0, 0, mark, mark])
 }
 
+// A ring, by its marks and the width of its pointer.
+#[derive(Clone, Copy)]
+struct Marked {
+    marks: [u8; 3],
+    pointer_width: u8,
+}
+
+// A `put_at` that may stop: whether it was made, the marks behind it, and the bytes behind another one.
+#[derive(Clone, Copy)]
+struct Placed {
+    made: bool,
+    found: [u8; 3],
+    again: [u8; 24],
+}
+
+// What a `put_at` of the first entry leaves whose call of that number fails, and another one behind it.
+fn stopped_put(
+    rt: &impl Abort,
+    alloc: Global,
+    ring: Marked,
+    call: u64,
+    left: Left,
+) -> Result<Placed, Memory> {
+    let mut medium = medium(alloc, &image(1, ring.marks), call, left)?;
+    let made = put(&mut medium, 0, 9, ring.pointer_width).is_ok();
+    let found = marks_of(&bytes(&mut medium).expect(rt, "revived"));
+    assert!(rt; put(&mut medium, 0, 8, ring.pointer_width).is_ok());
+    let again = bytes(&mut medium).expect(rt, "read");
+    Ok(Placed { made, found, again })
+}
+
+// The first entry is the old one, none or the new one, and each other one is there still.
+fn changes_one(rt: &impl Abort, marks: [u8; 3], found: [u8; 3], made: bool) {
+    let [first, second, third] = found;
+    let old = !made && (first == marks[0] || first == 0);
+    assert!(rt; (old || first == 9) && second == marks[1] && third == marks[2]);
+}
+
+// A `put_at` into a ring stops at each of its calls.
+fn puts(rt: &impl Abort, alloc: Global, ring: Marked, left: Left) -> Result<(), Memory> {
+    let marks = ring.marks;
+    for call in 0..=CALLS {
+        let placed = stopped_put(rt, alloc, ring, call, left)?;
+        assert!(rt; placed.made || call < CALLS);
+        changes_one(rt, marks, placed.found, placed.made);
+        assert!(rt; placed.again == image(1, [8, marks[1], marks[2]]));
+        if placed.made {
+            break;
+        }
+    }
+    Ok(())
+}
+
 #[test]
 fn a_stopped_put_changes_one_entry(rt: HostRuntime) -> Result<(), Fail> {
     for marks in [[0, 0, 0], [1, 0, 0], [1, 2, 3], [0, 2, 3]] {
-        for pointer_width in 0..2 {
-            for left in LEFT {
-                for call in 0..=CALLS {
-                    let mut medium = medium(rt.alloc(), &image(1, marks), call, left)?;
-                    let placed = put(&mut medium, 0, 9, pointer_width).is_ok();
-                    assert!(rt; placed || call < CALLS);
-                    let [first, second, third] = marks_of(&bytes(&mut medium).expect(
-                        &rt, "revived",
-                    ));
-                    let old = !placed && (first == marks[0] || first == 0);
-                    assert!(rt; (old || first == 9) && second == marks[1] && third == marks[2]);
-                    assert!(rt; put(&mut medium, 0, 8, pointer_width).is_ok());
-                    let again = bytes(&mut medium).expect(&rt, "read");
-                    assert!(rt; again == image(1, [8, marks[1], marks[2]]));
-                    if placed {
-                        break;
-                    }
-                }
+        for left in LEFT {
+            for pointer_width in 0..2 {
+                puts(
+                    &rt,
+                    rt.alloc(),
+                    Marked {
+                        marks,
+                        pointer_width,
+                    },
+                    left,
+                )?;
             }
         }
     }

@@ -13,6 +13,7 @@ use card_layout::{Application, Fid};
 use card_session::{CardSession, Inserted, Kept, LATEST_MINUTE};
 use card_validity::InsertFault;
 use std::alloc::Global;
+use std::process::Abort;
 use std::test::Fail;
 use tach_media::{Failed, Left, Medium, MemMedium, Memory, Stop};
 use tacho_types::{Name36, Nation, Odometer, Registration, TimeReal};
@@ -74,6 +75,20 @@ fn bytes<const N: usize>(card: &mut MemMedium, place: u32) -> Result<[u8; N], Fa
     Ok(out)
 }
 
+// Whether these bytes stand at a place of it.
+fn has<const N: usize>(card: &mut MemMedium, place: u32, wanted: &[u8; N]) -> bool
+    requires { place + N ≤ 11411 }
+{
+    bytes(card, place) == Ok(*wanted)
+}
+
+// These bytes stand at a place of it.
+fn shows<const N: usize>(rt: &impl Abort, card: &mut MemMedium, place: u32, wanted: &[u8; N])
+    requires { place + N ≤ 11411 }
+{
+    assert!(rt; has(card, place, wanted));
+}
+
 // Other bytes at a place of it.
 fn put<const N: usize>(card: &mut MemMedium, place: u32, bytes: [u8; N]) -> Result<(), Failed>
     requires { place + N ≤ 11411 }
@@ -132,6 +147,14 @@ fn first(card: &mut MemMedium, seconds: u32) -> Result<Inserted, InsertFault>
 {
     let none = Owed::new();
     inserted(card, seconds, 100, &none)
+}
+
+// Inserts it, where that goes well.
+fn begin(rt: &impl Abort, card: &mut MemMedium, seconds: u32) -> Inserted
+    requires some { 1 ≤ seconds }
+    requires last { seconds / 60 < LATEST_MINUTE }
+{
+    first(card, seconds).expect(rt, "inserted")
 }
 
 // A minute of the day, or of the next one, in the driver's slot.
@@ -208,6 +231,20 @@ fn kept(session: &mut CardSession, card: &mut MemMedium, minute: u32, odometer: 
     did(session, card, Activity::Work, minute, odometer)
 }
 
+// Keeps a minute of work.
+fn keeps(
+    rt: &impl Abort,
+    session: &mut CardSession,
+    card: &mut MemMedium,
+    minute: u32,
+    odometer: u32,
+)
+    requires minute { minute < 2880 }
+    requires fits { odometer < 2 ^ 24 }
+{
+    assert!(rt; kept(session, card, minute, odometer));
+}
+
 fn withdrawn(session: CardSession, card: &mut MemMedium) -> bool {
     let least = image_size(session.application());
     let held = card.size();
@@ -225,126 +262,146 @@ fn left_open(card: &mut MemMedium) -> bool {
     }
 }
 
-#[test]
-fn a_session_of_a_new_card(rt: HostRuntime) -> Result<(), Fail> {
-    let mut card = new_card(rt.alloc())?;
-    let Ok(mut begun) = first(&mut card, BEGIN) else {
-        assert!(rt; false);
-        return Ok(());
-    };
-    assert!(rt; begun.session.newest_minute() == 0 && begun.replayed == 0);
-    assert!(rt; bytes(&mut card, CURRENT_USE) == Ok(*b"\x4B\x8B\x90\x20\x0D\x01DEMO         "));
-    assert!(rt; bytes(&mut card, EVENTS) == Ok(*b"\0\0\0\0\0\0\0\0"));
+// Three minutes of work, with a gap before the last.
+fn works(rt: &impl Abort, session: &mut CardSession, card: &mut MemMedium) {
     // a day with its first words, and the vehicle
-    assert!(rt; kept(&mut begun.session, &mut card, 600, 100));
-    assert!(rt;
-        bytes(&mut card, DAYS)
-            == Ok(*b"\0\0\0\0\0\0\0\x10\x4B\x8B\x03\x80\0\x01\0\0\x20\0\x12\x58\0\0")
-    );
+    keeps(rt, session, card, 600, 100);
+    let first = b"\0\0\0\0\0\0\0\x10\x4B\x8B\x03\x80\0\x01\0\0\x20\0\x12\x58\0\0";
+    shows(rt, card, DAYS, first);
     // a minute of the same state: the distance and the vehicle alone
-    assert!(rt; kept(&mut begun.session, &mut card, 601, 101));
+    keeps(rt, session, card, 601, 101);
     // a gap: the word that closes it, and the state again
-    assert!(rt; kept(&mut begun.session, &mut card, 603, 103));
-    assert!(rt;
-        bytes(&mut card, DAYS + 4)
-            == Ok(*b"\0\0\0\x14\x4B\x8B\x03\x80\0\x01\0\x03\x20\0\x12\x58\x22\x5A\x12\x5B\0\0")
+    keeps(rt, session, card, 603, 103);
+    let words = b"\0\0\0\x14\x4B\x8B\x03\x80\0\x01\0\x03\x20\0\x12\x58\x22\x5A\x12\x5B\0\0";
+    shows(rt, card, DAYS + 4, words);
+    shows(
+        rt,
+        card,
+        VEHICLES,
+        b"\0\0\0\0\x64\0\0\x67\x4B\x8B\x90\x20\x4B\x8B\x90\xD4",
     );
-    assert!(rt;
-        bytes(&mut card, VEHICLES) == Ok(*b"\0\0\0\0\x64\0\0\x67\x4B\x8B\x90\x20\x4B\x8B\x90\xD4")
-    );
-    // the withdrawal, with work selected: the word that closes, and the end mark at it
-    assert!(rt; withdrawn(begun.session, &mut card));
-    assert!(rt;
-        bytes(&mut card, DAYS + 4)
-            == Ok(
-                *b"\0\0\0\x16\x4B\x8B\x03\x80\0\x01\0\x03\x20\0\x12\x58\x22\x5A\x12\x5B\x32\x5C\0\0"
-            )
-    );
-    assert!(rt; bytes(&mut card, CURRENT_USE) == Ok(*b"\0\0\0\0\x0D\x01DEMO         "));
-    Ok(())
 }
 
 #[test]
-fn a_session_left_open(rt: HostRuntime) -> Result<(), Fail> {
+fn a_session_of_a_new_card(rt: HostRuntime) -> Result<(), Fail> {
     let mut card = new_card(rt.alloc())?;
-    assert!(rt; left_open(&mut card));
-    // it comes back; owed are two minutes up to its end mark, and two after it
-    let Ok(back) = again(&mut card) else {
-        assert!(rt; false);
-        return Ok(());
-    };
-    assert!(rt; back.replayed == 2 && back.session.newest_minute() == MIDNIGHT + 604);
-    // both are on the card, and the word that closes
-    assert!(rt;
-        bytes(&mut card, DAYS + 4)
-            == Ok(
-                *b"\0\0\0\x16\x4B\x8B\x03\x80\0\x01\0\0\x20\0\x12\x58\x22\x5A\x12\x5B\x22\x5C\0\0"
-            )
+    let mut begun = begin(&rt, &mut card, BEGIN);
+    assert!(rt; begun.session.newest_minute() == 0 && begun.replayed == 0);
+    shows(
+        &rt,
+        &mut card,
+        CURRENT_USE,
+        b"\x4B\x8B\x90\x20\x0D\x01DEMO         ",
     );
-    assert!(rt;
-        bytes(&mut card, VEHICLES) == Ok(*b"\0\0\0\0\x64\0\0\x68\x4B\x8B\x90\x20\x4B\x8B\x91\x10")
+    shows(&rt, &mut card, EVENTS, b"\0\0\0\0\0\0\0\0");
+    works(&rt, &mut begun.session, &mut card);
+    // the withdrawal, with work selected: the word that closes, and the end mark at it
+    assert!(rt; withdrawn(begun.session, &mut card));
+    let closed =
+        b"\0\0\0\x16\x4B\x8B\x03\x80\0\x01\0\x03\x20\0\x12\x58\x22\x5A\x12\x5B\x32\x5C\0\0";
+    shows(&rt, &mut card, DAYS + 4, closed);
+    shows(
+        &rt,
+        &mut card,
+        CURRENT_USE,
+        b"\0\0\0\0\x0D\x01DEMO         ",
     );
-    assert!(rt;
-        bytes(&mut card, EVENTS)
-            == Ok(*b"\x06\x4B\x8B\x90\x20\x4B\x8B\x91\x4C\x0D\x01DEMO         \0")
-    );
-    assert!(rt; bytes(&mut card, CURRENT_USE) == Ok(*b"\x4B\x8B\x91\x4C\x0D\x01DEMO         "));
     Ok(())
+}
+
+// A new card after a session that kept minute 600 and was left open.
+fn open_card(rt: &impl Abort, alloc: Global) -> Result<MemMedium, Memory> {
+    let mut card = new_card(alloc)?;
+    assert!(rt; left_open(&mut card));
+    Ok(card)
+}
+
+// Owed minutes behind the end mark are on it, and the word that closes; so is the event of its session.
+fn has_owed(rt: &impl Abort, card: &mut MemMedium) {
+    let words = b"\0\0\0\x16\x4B\x8B\x03\x80\0\x01\0\0\x20\0\x12\x58\x22\x5A\x12\x5B\x22\x5C\0\0";
+    shows(rt, card, DAYS + 4, words);
+    shows(
+        rt,
+        card,
+        VEHICLES,
+        b"\0\0\0\0\x64\0\0\x68\x4B\x8B\x90\x20\x4B\x8B\x91\x10",
+    );
+    let event = b"\x06\x4B\x8B\x90\x20\x4B\x8B\x91\x4C\x0D\x01DEMO         \0";
+    shows(rt, card, EVENTS, event);
+    shows(
+        rt,
+        card,
+        CURRENT_USE,
+        b"\x4B\x8B\x91\x4C\x0D\x01DEMO         ",
+    );
+}
+
+// It comes back; owed are two minutes up to its end mark, and two after it.
+#[test]
+fn a_session_left_open(rt: HostRuntime) -> Result<(), Fail> {
+    let mut card = open_card(&rt, rt.alloc())?;
+    let back = again(&mut card).expect(&rt, "inserted");
+    assert!(rt; back.replayed == 2 && back.session.newest_minute() == MIDNIGHT + 604);
+    has_owed(&rt, &mut card);
+    Ok(())
+}
+
+// The word of minute 601 stands there, its use of the vehicle does not.
+fn put_word(rt: &impl Abort, card: &mut MemMedium) {
+    assert!(rt; put(card, DAYS + 20, [0x1A, 0x59]).is_ok());
+    assert!(rt; put(card, DAYS + 6, [0, 0x12]).is_ok());
 }
 
 #[test]
 fn words_behind_the_mark_are_cut(rt: HostRuntime) -> Result<(), Fail> {
-    let mut card = new_card(rt.alloc())?;
-    assert!(rt; left_open(&mut card));
-    // the word of minute 601 stands there, its use of the vehicle does not
-    put(&mut card, DAYS + 20, [0x1A, 0x59])?;
-    put(&mut card, DAYS + 6, [0, 0x12])?;
-    let Ok(back) = first(&mut card, BEGIN + 300) else {
-        assert!(rt; false);
-        return Ok(());
-    };
+    let mut card = open_card(&rt, rt.alloc())?;
+    put_word(&rt, &mut card);
+    let back = begin(&rt, &mut card, BEGIN + 300);
     assert!(rt; back.replayed == 0 && back.session.newest_minute() == MIDNIGHT + 601);
-    assert!(rt;
-        bytes(&mut card, DAYS + 4)
-            == Ok(*b"\0\0\0\x12\x4B\x8B\x03\x80\0\x01\0\0\x20\0\x12\x58\x22\x59")
-    );
+    let words = b"\0\0\0\x12\x4B\x8B\x03\x80\0\x01\0\0\x20\0\x12\x58\x22\x59";
+    shows(&rt, &mut card, DAYS + 4, words);
     Ok(())
 }
 
+// It is inserted at this second of a card that was used later, and no write is begun.
+fn is_early(rt: &impl Abort, card: &mut MemMedium) {
+    let clock = card.clock();
+    let early = first(card, BEGIN - 1).err();
+    let overlap = InsertFault::TimeOverlap {
+        stored: BEGIN,
+        now: BEGIN - 1,
+    };
+    assert!(rt; early == Some(overlap));
+    assert!(rt; card.clock() == clock);
+}
+
+// Its vehicle was used last at 10:00:00.
 #[test]
 fn a_later_time(rt: HostRuntime) -> Result<(), Fail> {
-    let mut card = new_card(rt.alloc())?;
-    assert!(rt; left_open(&mut card));
-    // its vehicle was used last at 10:00:00
-    let clock = card.clock();
-    let early = first(&mut card, BEGIN - 1).err();
-    assert!(rt;
-        early
-            == Some(InsertFault::TimeOverlap {
-                stored: BEGIN,
-                now: BEGIN - 1,
-            })
-    );
-    assert!(rt; card.clock() == clock);
+    let mut card = open_card(&rt, rt.alloc())?;
+    is_early(&rt, &mut card);
     assert!(rt; first(&mut card, BEGIN).is_ok());
     Ok(())
 }
 
+// It is refused for its file of vehicles, and no write is begun.
+fn is_damaged(rt: &impl Abort, card: &mut MemMedium) {
+    let clock = card.clock();
+    let bad = again(card).err();
+    let vehicles = InsertFault::NotValid {
+        fid: Fid::VEHICLES,
+        place: 0,
+    };
+    assert!(rt; bad == Some(vehicles));
+    assert!(rt; card.clock() == clock);
+}
+
+// The pointer of the vehicle entries is no index.
 #[test]
 fn a_damaged_card(rt: HostRuntime) -> Result<(), Fail> {
-    let mut card = new_card(rt.alloc())?;
-    assert!(rt; left_open(&mut card));
-    // the pointer of the vehicle entries is no index
-    put(&mut card, VEHICLES, [0, 200])?;
-    let clock = card.clock();
-    let bad = again(&mut card).err();
-    assert!(rt;
-        bad == Some(InsertFault::NotValid {
-            fid: Fid::VEHICLES,
-            place: 0,
-        })
-    );
-    assert!(rt; card.clock() == clock);
+    let mut card = open_card(&rt, rt.alloc())?;
+    assert!(rt; put(&mut card, VEHICLES, [0, 200]).is_ok());
+    is_damaged(&rt, &mut card);
     Ok(())
 }
 
@@ -363,51 +420,61 @@ fn rest_and_driving(session: &mut CardSession, card: &mut MemMedium) -> bool {
     true
 }
 
+// A drive of a new card, and its withdrawal.
+fn drives(rt: &impl Abort, card: &mut MemMedium) {
+    let mut begun = begin(rt, card, 60 * MIDNIGHT);
+    assert!(rt; rest_and_driving(&mut begun.session, card));
+    assert!(rt; withdrawn(begun.session, card));
+    let words = b"\0\0\0\x12\x4B\x8B\x03\x80\0\x01\0\x05\0\0\x18\x05\x30\x0A";
+    shows(rt, card, DAYS + 4, words);
+    shows(rt, card, VEHICLES + 12, b"\x4B\x8B\x05\xD8");
+    shows(rt, card, CURRENT_USE, b"\0\0\0\0");
+}
+
+// It comes back within that minute, which then is not its own.
+fn comes_back(rt: &impl Abort, card: &mut MemMedium) {
+    let mut back = begin(rt, card, 60 * MIDNIGHT + 600);
+    assert!(rt; !kept(&mut back.session, card, 10, 5));
+    assert!(rt; kept(&mut back.session, card, 11, 5));
+    shows(rt, card, DAYS + 16, b"\0\0\x18\x05\x30\x0A\x10\x0B");
+}
+
 #[test]
 fn a_drive_and_a_withdrawal(rt: HostRuntime) -> Result<(), Fail> {
     let mut card = new_card(rt.alloc())?;
-    let Ok(mut begun) = first(&mut card, 60 * MIDNIGHT) else {
-        assert!(rt; false);
-        return Ok(());
-    };
-    assert!(rt; rest_and_driving(&mut begun.session, &mut card));
-    assert!(rt; withdrawn(begun.session, &mut card));
-    assert!(rt;
-        bytes(&mut card, DAYS + 4)
-            == Ok(*b"\0\0\0\x12\x4B\x8B\x03\x80\0\x01\0\x05\0\0\x18\x05\x30\x0A")
-    );
-    assert!(rt; bytes(&mut card, VEHICLES + 12) == Ok(*b"\x4B\x8B\x05\xD8"));
-    assert!(rt; bytes(&mut card, CURRENT_USE) == Ok(*b"\0\0\0\0"));
-    // it comes back within that minute, which then is not its own
-    let Ok(mut back) = first(&mut card, 60 * MIDNIGHT + 600) else {
-        assert!(rt; false);
-        return Ok(());
-    };
-    assert!(rt; !kept(&mut back.session, &mut card, 10, 5));
-    assert!(rt; kept(&mut back.session, &mut card, 11, 5));
-    assert!(rt; bytes(&mut card, DAYS + 16) == Ok(*b"\0\0\x18\x05\x30\x0A\x10\x0B"));
+    drives(&rt, &mut card);
+    comes_back(&rt, &mut card);
     Ok(())
+}
+
+// The last minute of a day and the first of the next one, of rest.
+fn rests(rt: &impl Abort, card: &mut MemMedium) {
+    let mut begun = begin(rt, card, 60 * MIDNIGHT + 86340);
+    assert!(rt; did(&mut begun.session, card, Activity::Rest, 1439, 0));
+    assert!(rt; did(&mut begun.session, card, Activity::Rest, 1440, 0));
 }
 
 #[test]
 fn minutes_round_midnight(rt: HostRuntime) -> Result<(), Fail> {
     let mut card = new_card(rt.alloc())?;
-    let Ok(mut begun) = first(&mut card, 60 * MIDNIGHT + 86340) else {
-        assert!(rt; false);
-        return Ok(());
-    };
-    assert!(rt; did(&mut begun.session, &mut card, Activity::Rest, 1439, 0));
-    assert!(rt; did(&mut begun.session, &mut card, Activity::Rest, 1440, 0));
-    assert!(rt;
-        bytes(&mut card, DAYS)
-            == Ok(
-                *b"\0\0\0\x10\0\0\0\x10\x4B\x8B\x03\x80\0\x01\0\0\x20\0\x05\x9F\0\x10\0\x0E\x4B\x8C\x55\0\0\x02\0\0\0\0"
-            )
-    );
+    rests(&rt, &mut card);
+    let words =
+        b"\0\0\0\x10\0\0\0\x10\x4B\x8B\x03\x80\0\x01\0\0\x20\0\x05\x9F\0\x10\0\x0E\x4B\x8C\x55\0\0\x02\0\0\0\0";
+    shows(&rt, &mut card, DAYS, words);
     // two vehicle entries, one for each day
-    assert!(rt; bytes(&mut card, VEHICLES) == Ok(*b"\0\x01"));
-    assert!(rt; bytes(&mut card, VEHICLES + 8) == Ok(*b"\x4B\x8C\x54\xC4\x4B\x8C\x54\xC4"));
-    assert!(rt; bytes(&mut card, VEHICLES + 39) == Ok(*b"\x4B\x8C\x55\0\x4B\x8C\x55\0"));
+    shows(&rt, &mut card, VEHICLES, b"\0\x01");
+    shows(
+        &rt,
+        &mut card,
+        VEHICLES + 8,
+        b"\x4B\x8C\x54\xC4\x4B\x8C\x54\xC4",
+    );
+    shows(
+        &rt,
+        &mut card,
+        VEHICLES + 39,
+        b"\x4B\x8C\x55\0\x4B\x8C\x55\0",
+    );
     Ok(())
 }
 
@@ -433,25 +500,42 @@ fn stopping(alloc: Global, image: Vec<u8>, call: u64, left: Left) -> Result<MemM
     MemMedium::new(alloc, image, 128, 4096, stops)
 }
 
-// Inserts a new card that was left open, which stops at a call behind that, and then once more. `None` where no call
-// was stopped, else whether the second insertion ends with the same days, vehicle and current use.
-fn stopped(alloc: Global, call: u64, left: Left) -> Result<Option<bool>, Memory> {
+// The image of a new card that was left open.
+fn open_image(alloc: Global) -> Result<Vec<u8>, Memory> {
     let mut card = new_card(alloc)?;
     if !left_open(&mut card) {
         return Err(Memory);
     }
-    let image = image_of(alloc, &mut card)?;
+    image_of(alloc, &mut card)
+}
+
+// Whether a card that failed is inserted once more, with the days, vehicle and current use of an insertion that goes
+// well.
+fn is_back(card: &mut MemMedium) -> bool {
+    card.revive().is_ok()
+        && again(card).is_ok()
+        && has(
+            card,
+            DAYS + 4,
+            b"\0\0\0\x16\x4B\x8B\x03\x80\0\x01\0\0\x20\0\x12\x58\x22\x5A\x12\x5B\x22\x5C",
+        )
+        && has(
+            card,
+            VEHICLES,
+            b"\0\0\0\0\x64\0\0\x68\x4B\x8B\x90\x20\x4B\x8B\x91\x10",
+        )
+        && has(card, CURRENT_USE, b"\x4B\x8B\x91\x4C\x0D\x01DEMO         ")
+}
+
+// Inserts a new card that was left open, which stops at a call behind that, and then once more. `None` where no call
+// was stopped, else whether the second insertion ends with the same days, vehicle and current use.
+fn stopped(alloc: Global, call: u64, left: Left) -> Result<Option<bool>, Memory> {
+    let image = open_image(alloc)?;
     let mut card = stopping(alloc, image, call, left)?;
     if again(&mut card).is_ok() {
         return Ok(None);
     }
-    let back = card.revive().is_ok() && again(&mut card).is_ok();
-    let days = bytes(&mut card, DAYS + 4)
-        == Ok(*b"\0\0\0\x16\x4B\x8B\x03\x80\0\x01\0\0\x20\0\x12\x58\x22\x5A\x12\x5B\x22\x5C");
-    let vehicle = bytes(&mut card, VEHICLES)
-        == Ok(*b"\0\0\0\0\x64\0\0\x68\x4B\x8B\x90\x20\x4B\x8B\x91\x10");
-    let current = bytes(&mut card, CURRENT_USE) == Ok(*b"\x4B\x8B\x91\x4C\x0D\x01DEMO         ");
-    Ok(Some(back && days && vehicle && current))
+    Ok(Some(is_back(&mut card)))
 }
 
 // The days of a full card: 396 of them, each of one word.
@@ -516,31 +600,51 @@ fn once_more(card: &mut MemMedium) -> Result<Inserted, InsertFault> {
     inserted(card, BEGIN + 300, 104, &owed)
 }
 
+// A session, and the image of its card.
+#[derive(Drop)]
+struct Begun {
+    session: CardSession,
+    image: Vec<u8>,
+}
+
+// The session of a full card.
+fn begun_of_full(alloc: Global) -> Result<Begun, Memory> {
+    let mut card = full_card(alloc)?;
+    match first(&mut card, BEGIN) {
+        Ok(begun) => Ok(Begun {
+            session: begun.session,
+            image: image_of(alloc, &mut card)?,
+        }),
+        Err(_) => Err(Memory),
+    }
+}
+
+// Whether a full card that failed is inserted once more, with all owed minutes, and without two of its oldest days.
+fn is_full_again(card: &mut MemMedium) -> bool {
+    card.revive().is_ok()
+        && once_more(card).is_ok()
+        && has(
+            card,
+            DAYS,
+            b"\0\x1C\0\0\0\x0E\0\x16\x4B\x8B\x03\x80\x03\x97\0\0\x20\0\x12\x58\x22\x5A\x12\x5B\x22\x5D",
+        )
+        && has(card, VEHICLES + 39, b"\x4B\x8B\x90\x20\x4B\x8B\x91\x4C")
+        && has(card, CURRENT_USE, b"\x4B\x8B\x91\x4C\x0D\x01DEMO         ")
+}
+
 // Keeps the first minute of a day on a full card, which stops at a call in it, and inserts the card. `None` where no
 // call was stopped, else whether all owed minutes are on it, and of the oldest days two have gone.
 fn stopped_keep(alloc: Global, call: u64, left: Left) -> Result<Option<bool>, Memory> {
-    let mut card = full_card(alloc)?;
-    let Ok(mut begun) = first(&mut card, BEGIN) else {
-        return Err(Memory);
-    };
-    let image = image_of(alloc, &mut card)?;
-    let mut card = stopping(alloc, image, call, left)?;
+    let mut begun = begun_of_full(alloc)?;
+    let mut card = stopping(alloc, begun.image, call, left)?;
     if kept(&mut begun.session, &mut card, 600, 100) {
         return Ok(None);
     }
-    let back = card.revive().is_ok() && once_more(&mut card).is_ok();
-    let days = bytes(&mut card, DAYS)
-        == Ok(
-            *b"\0\x1C\0\0\0\x0E\0\x16\x4B\x8B\x03\x80\x03\x97\0\0\x20\0\x12\x58\x22\x5A\x12\x5B\x22\x5D",
-        );
-    let vehicle = bytes(&mut card, VEHICLES + 39) == Ok(*b"\x4B\x8B\x90\x20\x4B\x8B\x91\x4C");
-    let current = bytes(&mut card, CURRENT_USE) == Ok(*b"\x4B\x8B\x91\x4C\x0D\x01DEMO         ");
-    Ok(Some(back && days && vehicle && current))
+    Ok(Some(is_full_again(&mut card)))
 }
 
-// Withdraws a card, which stops at a call in that, and inserts it. `None` where no call was stopped, else whether its
-// minute is closed, by the one or by the other.
-fn stopped_close(alloc: Global, call: u64, left: Left) -> Result<Option<bool>, Memory> {
+// The session of a new card that has kept minute 600.
+fn begun_and_kept(alloc: Global) -> Result<Begun, Memory> {
     let mut card = new_card(alloc)?;
     let Ok(mut begun) = first(&mut card, BEGIN) else {
         return Err(Memory);
@@ -548,17 +652,32 @@ fn stopped_close(alloc: Global, call: u64, left: Left) -> Result<Option<bool>, M
     if !kept(&mut begun.session, &mut card, 600, 100) {
         return Err(Memory);
     }
-    let image = image_of(alloc, &mut card)?;
-    let mut card = stopping(alloc, image, call, left)?;
+    Ok(Begun {
+        session: begun.session,
+        image: image_of(alloc, &mut card)?,
+    })
+}
+
+// Whether a card that failed is inserted, with its minute closed by the withdrawal or by this.
+fn is_closed(card: &mut MemMedium) -> bool {
+    if card.revive().is_err() || first(card, BEGIN + 300).is_err() {
+        return false;
+    }
+    let words = bytes(card, DAYS + 16);
+    let days = words == Ok(*b"\x20\0\x12\x58\x22\x59") || words == Ok(*b"\x20\0\x12\x58\x32\x59");
+    days && has(card, VEHICLES + 12, b"\x4B\x8B\x90\x5C")
+        && has(card, CURRENT_USE, b"\x4B\x8B\x91\x4C\x0D\x01DEMO         ")
+}
+
+// Withdraws a card, which stops at a call in that, and inserts it. `None` where no call was stopped, else whether its
+// minute is closed, by the one or by the other.
+fn stopped_close(alloc: Global, call: u64, left: Left) -> Result<Option<bool>, Memory> {
+    let begun = begun_and_kept(alloc)?;
+    let mut card = stopping(alloc, begun.image, call, left)?;
     if withdrawn(begun.session, &mut card) {
         return Ok(None);
     }
-    let back = card.revive().is_ok() && first(&mut card, BEGIN + 300).is_ok();
-    let words = bytes(&mut card, DAYS + 16);
-    let days = words == Ok(*b"\x20\0\x12\x58\x22\x59") || words == Ok(*b"\x20\0\x12\x58\x32\x59");
-    let vehicle = bytes(&mut card, VEHICLES + 12) == Ok(*b"\x4B\x8B\x90\x5C");
-    let current = bytes(&mut card, CURRENT_USE) == Ok(*b"\x4B\x8B\x91\x4C\x0D\x01DEMO         ");
-    Ok(Some(back && days && vehicle && current))
+    Ok(Some(is_closed(&mut card)))
 }
 
 /// Before a write, behind it, and in the midst of it.

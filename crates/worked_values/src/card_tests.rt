@@ -3,6 +3,7 @@ use card_download::{CardFileFault, write_card_file};
 use card_layout::LARGEST_IMAGE;
 use std::alloc::{AllocError, Global};
 use std::ops::Range;
+use std::process::Abort;
 use std::test::*;
 use tach_media::{Chip, Left, MemMedium, MemSink, Memory, Stop};
 
@@ -57,12 +58,18 @@ struct Ended {
     clock: u64,
 }
 
-/// How the writing ends over a card of this image, to a sink of this room; these calls of the card fail.
-fn ends(alloc: Global, image: Vec<u8>, room: usize, stops: Vec<Stop>) -> Result<Ended, Memory> {
+/// A card of this image; these calls of it fail.
+fn card_of(alloc: Global, image: Vec<u8>, stops: Vec<Stop>) -> Result<SimCard<MemMedium>, Memory> {
     if image.len() != LARGEST_IMAGE as usize {
         return Err(Memory);
     }
-    let mut card = SimCard::new(MemMedium::new(alloc, image, 0, 0, stops)?);
+    Ok(SimCard::new(MemMedium::new(alloc, image, 0, 0, stops)?))
+}
+
+/// How the writing ends over a card with these bytes of Application_Identification, to a sink of this room; these calls
+/// of the card fail.
+fn ends(alloc: Global, sizes: &[u8; 10], room: usize, stops: Vec<Stop>) -> Result<Ended, Memory> {
+    let mut card = card_of(alloc, image(alloc, sizes)?, stops)?;
     let mut sink = MemSink::new(Vec::with_capacity(alloc, room)?, Vec::new(alloc));
     let answer = write_card_file(&mut card, &mut sink);
     let held = sink.held().to_vec(alloc)?;
@@ -77,9 +84,9 @@ fn ends(alloc: Global, image: Vec<u8>, room: usize, stops: Vec<Stop>) -> Result<
 fn file_of(alloc: Global, image: &[u8]) -> Result<Vec<u8>, AllocError> {
     let mut file = Vec::new(alloc);
     for (fid, place, len) in FILES {
-        file.extend_from_slice(&fid.to_be_bytes())?;
-        file.push(0)?;
-        file.extend_from_slice(&len.to_be_bytes())?;
+        let [f0, f1] = fid.to_be_bytes();
+        let [l0, l1] = len.to_be_bytes();
+        file.extend_from_slice(&[f0, f1, 0, l0, l1])?;
         let begin = usize::from(place);
         let end = begin.saturating_add(usize::from(len));
         if let Some(bytes) = image.get(begin..end) {
@@ -89,52 +96,55 @@ fn file_of(alloc: Global, image: &[u8]) -> Result<Vec<u8>, AllocError> {
     Ok(file)
 }
 
+/// The card file of a card of the largest sizes.
+fn whole_file(alloc: Global) -> Result<Vec<u8>, AllocError> {
+    let image = image(alloc, &SIZES)?;
+    file_of(alloc, image.as_slice())
+}
+
+/// The writing ended so, with so many bytes in the sink.
+fn ends_so(rt: &impl Abort, ended: &Ended, answer: Result<(), CardFileFault>, len: usize) {
+    assert_eq!(rt; ended.answer, answer);
+    assert_eq!(rt; ended.held.len(), len);
+}
+
 #[test]
 fn a_card_is_written_whole(rt: HostRuntime) -> Result<(), Fail> {
-    let alloc = rt.alloc();
-    let image = image(alloc, &SIZES)?;
-    let file = file_of(alloc, image.as_slice())?;
+    let file = whole_file(rt.alloc())?;
     assert_eq!(rt; file.len(), FILE_SIZE);
-    let ended = ends(alloc, image, FILE_SIZE, Vec::new(alloc))?;
-    assert_eq!(rt; ended.answer, Ok(()));
+    let ended = ends(rt.alloc(), &SIZES, FILE_SIZE, Vec::new(rt.alloc()))?;
+    ends_so(&rt, &ended, Ok(()), FILE_SIZE);
     assert!(rt; ended.held.as_slice() == file.as_slice());
     assert_eq!(rt; ended.clock, 0);
     Ok(())
 }
 
+// A string of days whose length is odd.
 #[test]
 fn a_bad_field_is_named(rt: HostRuntime) -> Result<(), Fail> {
-    let alloc = rt.alloc();
-    // a string of days whose length is odd
     let mut sizes = SIZES;
     sizes[6] = 0xD1;
-    let odd = image(alloc, &sizes)?;
-    let ended = ends(alloc, odd, FILE_SIZE, Vec::new(alloc))?;
-    assert_eq!(rt; ended.answer, Err(CardFileFault::BadApplication(5)));
-    assert_eq!(rt; ended.held.len(), 0);
+    let ended = ends(rt.alloc(), &sizes, FILE_SIZE, Vec::new(rt.alloc()))?;
+    ends_so(&rt, &ended, Err(CardFileFault::BadApplication(5)), 0);
     Ok(())
 }
 
+// The file at 0 is there, and the head of the next.
 #[test]
 fn a_card_that_fails_is_told(rt: HostRuntime) -> Result<(), Fail> {
-    let alloc = rt.alloc();
-    let mut stops = Vec::new(alloc);
+    let mut stops = Vec::new(rt.alloc());
     stops.push(Stop {
         call: 3,
         left: Left::Before,
     })?;
-    let ended = ends(alloc, image(alloc, &SIZES)?, FILE_SIZE, stops)?;
-    assert_eq!(rt; ended.answer, Err(CardFileFault::Failed));
-    // the file at 0 is there, and the head of the next
-    assert_eq!(rt; ended.held.len(), 35);
+    let ended = ends(rt.alloc(), &SIZES, FILE_SIZE, stops)?;
+    ends_so(&rt, &ended, Err(CardFileFault::Failed), 35);
     Ok(())
 }
 
 #[test]
 fn a_full_sink_is_told(rt: HostRuntime) -> Result<(), Fail> {
-    let alloc = rt.alloc();
-    let ended = ends(alloc, image(alloc, &SIZES)?, 700, Vec::new(alloc))?;
-    assert_eq!(rt; ended.answer, Err(CardFileFault::WriteFault));
-    assert_eq!(rt; ended.held.len(), 700);
+    let ended = ends(rt.alloc(), &SIZES, 700, Vec::new(rt.alloc()))?;
+    ends_so(&rt, &ended, Err(CardFileFault::WriteFault), 700);
     Ok(())
 }

@@ -1,3 +1,4 @@
+use crate::checks::same;
 use activity_codec::{Activity, BadMinute, Change, Slot, decode_change, encode_change, state_at};
 use std::test::*;
 
@@ -10,8 +11,8 @@ fn words_tell_changes(rt: HostRuntime) {
         act: Activity::Driving,
         minute: 540,
     };
-    assert_eq!(rt; decode_change(0x1A1C), Ok(driving));
-    assert_eq!(rt; encode_change(&driving), 0x1A1C);
+    same(&rt, &decode_change(0x1A1C), &Ok(driving));
+    same(&rt, &encode_change(&driving), &0x1A1C);
     let resting = Change {
         slot: Slot::Driver,
         crew_or_known: false,
@@ -19,26 +20,28 @@ fn words_tell_changes(rt: HostRuntime) {
         act: Activity::Rest,
         minute: 1080,
     };
-    assert_eq!(rt; decode_change(0x2438), Ok(resting));
+    same(&rt, &decode_change(0x2438), &Ok(resting));
     let last = Change {
         minute: 1439,
         ..Change::default()
     };
-    assert_eq!(rt; decode_change(0x059F), Ok(last));
-    assert_eq!(rt; decode_change(0x05A0), Err(BadMinute(1440)));
+    same(&rt, &decode_change(0x059F), &Ok(last));
+    same(&rt, &decode_change(0x05A0), &Err(BadMinute(1440)));
 }
 
 #[test]
 fn the_last_word_not_after_a_minute(rt: HostRuntime) {
     // The words are in no order of minutes, and one is of the other slot.
     let words = [0x0000, 0x1A1C, 0x8005, 0x1003];
-    assert_eq!(rt;
-        state_at(&words, Slot::Driver, 2).map(|c| c.act),
-        Some(Activity::Rest)
+    same(
+        &rt,
+        &state_at(&words, Slot::Driver, 2).map(|c| c.act),
+        &Some(Activity::Rest),
     );
-    assert_eq!(rt;
-        state_at(&words, Slot::Driver, 1439).map(|c| c.act),
-        Some(Activity::Work)
+    same(
+        &rt,
+        &state_at(&words, Slot::Driver, 1439).map(|c| c.act),
+        &Some(Activity::Work),
     );
-    assert_eq!(rt; state_at(&words, Slot::CoDriver, 4), None);
+    same(&rt, &state_at(&words, Slot::CoDriver, 4), &None);
 }

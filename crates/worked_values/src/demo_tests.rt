@@ -8,14 +8,32 @@ use trace_text::{Action, Card, Item, Items, Trace, demo_trace};
 /// How many items a demonstration has.
 const ALL: usize = 1001;
 
-/// A stop, a drive with its speed, and a selection.
-#[derive(Clone, Copy)]
-struct Part {
-    stop: u32,
-    drive: u32,
-    speed: u8,
-    pick: Pick,
-}
+/// How long the vehicle stands and how long it is driven, at which speed, and what is then selected.
+type Part = (u32, u32, u8, Pick);
+
+/// The parts of the demonstration of 0.
+const OF_ZERO: [Part; 8] = [
+    (1, 5269, 71, Pick::Available),
+    (518, 3499, 49, Pick::Available),
+    (1646, 3542, 44, Pick::Work),
+    (1211, 1462, 28, Pick::Available),
+    (2060, 4359, 7, Pick::Rest),
+    (676, 5369, 62, Pick::Available),
+    (813, 1462, 29, Pick::Rest),
+    (992, 1466, 11, Pick::Work),
+];
+
+/// The parts of the demonstration of 1.
+const OF_ONE: [Part; 8] = [
+    (2439, 359, 25, Pick::Rest),
+    (3116, 4052, 30, Pick::Work),
+    (1411, 2020, 79, Pick::Rest),
+    (487, 2750, 85, Pick::Work),
+    (1885, 1261, 61, Pick::Work),
+    (3144, 3490, 66, Pick::Rest),
+    (3538, 3967, 32, Pick::Work),
+    (1379, 4296, 60, Pick::Rest),
+];
 
 const fn run(seconds: u32, speed: u8) -> Item {
     Item::Run { seconds, speed }
@@ -30,12 +48,13 @@ fn has_part(items: &Items, at: usize, part: &Part) -> bool {
     if items.len() != ALL || at > 900 {
         return false;
     }
+    let (stop, drive, speed, pick) = *part;
     let select = Action::Select {
         slot: Slot::Driver,
-        pick: part.pick,
+        pick,
     };
-    *items.get(at) == run(part.stop, 0)
-        && *items.get(at + 1) == run(part.drive, part.speed)
+    *items.get(at) == run(stop, 0)
+        && *items.get(at + 1) == run(drive, speed)
         && *items.get(at + 2) == act(select)
 }
 
@@ -71,114 +90,14 @@ fn demo(rt: &HostRuntime, x: u32) -> Result<Trace, Fail> {
 
 #[test]
 fn from_zero(rt: HostRuntime) -> Result<(), Fail> {
-    let parts = [
-        Part {
-            stop: 1,
-            drive: 5269,
-            speed: 71,
-            pick: Pick::Available,
-        },
-        Part {
-            stop: 518,
-            drive: 3499,
-            speed: 49,
-            pick: Pick::Available,
-        },
-        Part {
-            stop: 1646,
-            drive: 3542,
-            speed: 44,
-            pick: Pick::Work,
-        },
-        Part {
-            stop: 1211,
-            drive: 1462,
-            speed: 28,
-            pick: Pick::Available,
-        },
-        Part {
-            stop: 2060,
-            drive: 4359,
-            speed: 7,
-            pick: Pick::Rest,
-        },
-        Part {
-            stop: 676,
-            drive: 5369,
-            speed: 62,
-            pick: Pick::Available,
-        },
-        Part {
-            stop: 813,
-            drive: 1462,
-            speed: 29,
-            pick: Pick::Rest,
-        },
-        Part {
-            stop: 992,
-            drive: 1466,
-            speed: 11,
-            pick: Pick::Work,
-        },
-    ];
     let trace = demo(&rt, 0)?;
-    assert!(rt; is_demo(&trace, &parts, 52055, 47494));
+    assert!(rt; is_demo(&trace, &OF_ZERO, 52055, 47494));
     Ok(())
 }
 
 #[test]
 fn from_one(rt: HostRuntime) -> Result<(), Fail> {
-    let parts = [
-        Part {
-            stop: 2439,
-            drive: 359,
-            speed: 25,
-            pick: Pick::Rest,
-        },
-        Part {
-            stop: 3116,
-            drive: 4052,
-            speed: 30,
-            pick: Pick::Work,
-        },
-        Part {
-            stop: 1411,
-            drive: 2020,
-            speed: 79,
-            pick: Pick::Rest,
-        },
-        Part {
-            stop: 487,
-            drive: 2750,
-            speed: 85,
-            pick: Pick::Work,
-        },
-        Part {
-            stop: 1885,
-            drive: 1261,
-            speed: 61,
-            pick: Pick::Work,
-        },
-        Part {
-            stop: 3144,
-            drive: 3490,
-            speed: 66,
-            pick: Pick::Rest,
-        },
-        Part {
-            stop: 3538,
-            drive: 3967,
-            speed: 32,
-            pick: Pick::Work,
-        },
-        Part {
-            stop: 1379,
-            drive: 4296,
-            speed: 60,
-            pick: Pick::Rest,
-        },
-    ];
     let trace = demo(&rt, 1)?;
-    assert!(rt; is_demo(&trace, &parts, 46806, 57086));
+    assert!(rt; is_demo(&trace, &OF_ONE, 46806, 57086));
     Ok(())
 }

@@ -4,6 +4,7 @@ ghost use Rattle.unit_model.specs.Image.{IsUnit};
 
 use link_loader::Downloader;
 use std::alloc::{AllocError, Global};
+use std::process::Abort;
 use std::test::*;
 use tach_media::{AbsentMedium, Medium, MemMedium, MemSink, Memory};
 use unit_download::{DownloadFault, Passed, Unlisted, Wire, download, exchange_all};
@@ -23,14 +24,21 @@ fn image(alloc: Global, front: &[u8], bytes: &[u8]) -> Result<Vec<u8>, AllocErro
     Ok(image)
 }
 
-/// What stands from 564 on where one day is recorded: the last-kept minute, the odometer, and behind zeros the day,
-/// 2010-03-01, with four words.
+/// What stands from 564 on where one day is recorded: the last-kept minute and the odometer.
+const KEPT: [u8; 8] = [0x01, 0x42, 0x51, 0x59, 0, 0, 0, 0x2F];
+
+/// What stands from 1028 on there: the day, 2010-03-01, with four words.
+const DAY: [u8; 24] = [
+    0x4B, 0x8B, 0x03, 0x80, 0, 0, 0, 0, 0, 4, 0, 0, 0, 0, 0, 0, //
+    0x20, 0, 0xA0, 0, 0x38, 1, 0xA8, 1,
+];
+
+/// What stands from 564 on where one day is recorded.
 fn one_day(alloc: Global) -> Result<Vec<u8>, AllocError> {
     let mut bytes = Vec::new(alloc);
-    bytes.extend_from_slice(&[0x01, 0x42, 0x51, 0x59, 0, 0, 0, 0x2F])?;
+    bytes.extend_from_slice(&KEPT)?;
     bytes.resize(1028 - 564, 0)?;
-    bytes.extend_from_slice(&[0x4B, 0x8B, 0x03, 0x80, 0, 0, 0, 0, 0, 4, 0, 0, 0, 0, 0, 0])?;
-    bytes.extend_from_slice(&[0x20, 0, 0xA0, 0, 0x38, 1, 0xA8, 1])?;
+    bytes.extend_from_slice(&DAY)?;
     Ok(bytes)
 }
 
@@ -63,6 +71,30 @@ fn downloaded<U: Medium>(alloc: Global, unit: &mut U, room: usize) -> Result<End
     Ok(Ended { answer, held, wire })
 }
 
+/// The download of a unit of this image to a sink of this room.
+fn downloaded_of(alloc: Global, image: Vec<u8>, room: usize) -> Result<Ended, Memory> {
+    let mut unit = unit_with(alloc, image)?;
+    Ok(downloaded(alloc, &mut unit, room)?)
+}
+
+/// The download of a new unit to a sink of this room.
+fn of_new(alloc: Global, room: usize) -> Result<Ended, Memory> {
+    downloaded_of(alloc, image(alloc, &FRONT, &[])?, room)
+}
+
+/// The download of a unit with one day.
+fn of_a_day(alloc: Global) -> Result<Ended, Memory> {
+    let bytes = one_day(alloc)?;
+    let image = image(alloc, &FRONT, bytes.as_slice())?;
+    downloaded_of(alloc, image, 2000)
+}
+
+/// A download ended so, with so many bytes in the sink.
+fn ends_so(rt: &impl Abort, ended: &Ended, answer: Result<(), DownloadFault>, len: usize) {
+    assert_eq!(rt; ended.answer, answer);
+    assert_eq!(rt; ended.held.len(), len);
+}
+
 /// Whether the frame at this place of the wire has this data.
 fn is_at(frames: &[Passed], index: usize, bytes: &[u8]) -> bool {
     match frames.get(index) {
@@ -73,21 +105,18 @@ fn is_at(frames: &[Passed], index: usize, bytes: &[u8]) -> bool {
 
 /// Whether these bytes stand at a place of what the sink holds.
 fn has(held: &[u8], place: usize, bytes: &[u8]) -> bool {
-    if held.len() < place {
-        return false;
+    match held.get(place..) {
+        Some(rest) => rest.starts_with(bytes),
+        None => false,
     }
-    held[place..].starts_with(bytes)
 }
 
 // An overview, events, detailed speed without a block, and technical data.
 #[test]
 fn a_new_unit_is_downloaded(rt: HostRuntime) -> Result<(), Fail> {
-    let alloc = rt.alloc();
-    let mut unit = unit_with(alloc, image(alloc, &FRONT, &[])?)?;
-    let ended = downloaded(alloc, &mut unit, 2000)?;
-    assert_eq!(rt; ended.answer, Ok(()));
+    let ended = of_new(rt.alloc(), 2000)?;
+    ends_so(&rt, &ended, Ok(()), 623 + 143 + 132 + 267);
     let held = ended.held.as_slice();
-    assert_eq!(rt; held.len(), 623 + 143 + 132 + 267);
     assert!(rt; has(held, 0, &[0x76, 1]));
     assert!(rt; has(held, 623, &[0x76, 3]));
     assert!(rt; has(held, 766, &[0x76, 4, 0, 0]));
@@ -95,56 +124,69 @@ fn a_new_unit_is_downloaded(rt: HostRuntime) -> Result<(), Fail> {
     Ok(())
 }
 
-// Start, diagnostic, upload; three pieces, a day, events, speed, two pieces; exit, stop.
-#[test]
-fn a_day_is_downloaded(rt: HostRuntime) -> Result<(), Fail> {
-    let alloc = rt.alloc();
-    let bytes = one_day(alloc)?;
-    let mut unit = unit_with(alloc, image(alloc, &FRONT, bytes.as_slice())?)?;
-    let ended = downloaded(alloc, &mut unit, 2000)?;
-    assert_eq!(rt; ended.answer, Ok(()));
-    let held = ended.held.as_slice();
-    assert_eq!(rt; held.len(), 623 + 152 + 143 + 132 + 267);
+/// The day stands behind the overview, and speed behind the day and events.
+fn holds_a_day(rt: &impl Abort, held: &[u8]) {
     assert!(rt; has(held, 623, &[0x76, 2, 0x4B, 0x8B, 0x03, 0x80]));
     assert!(rt; has(held, 918, &[0x76, 4, 0, 0]));
-    let frames = ended.wire.frames();
+}
+
+/// Start, diagnostic, upload; three pieces, a day, events, speed, two pieces; exit, stop.
+fn passes_a_day(rt: &impl Abort, frames: &[Passed]) {
     assert_eq!(rt; frames.len(), 26);
     assert!(rt; is_at(frames, 8, &[0x83, 0x76, 0, 2]));
     assert!(rt; is_at(frames, 12, &[0x36, 2, 0x4B, 0x8B, 0x03, 0x80]));
     assert!(rt; is_at(frames, 16, &[0x36, 4]));
     assert!(rt; is_at(frames, 25, &[0xC2]));
+}
+
+#[test]
+fn a_day_is_downloaded(rt: HostRuntime) -> Result<(), Fail> {
+    let ended = of_a_day(rt.alloc())?;
+    ends_so(&rt, &ended, Ok(()), 623 + 152 + 143 + 132 + 267);
+    holds_a_day(&rt, ended.held.as_slice());
+    passes_a_day(&rt, ended.wire.frames());
     Ok(())
 }
 
 #[test]
 fn a_unit_that_is_none_is_refused(rt: HostRuntime) -> Result<(), Fail> {
-    let alloc = rt.alloc();
-    let mut unit = unit_with(alloc, image(alloc, &[], &[])?)?;
-    let ended = downloaded(alloc, &mut unit, 2000)?;
-    assert_eq!(rt; ended.answer, Err(DownloadFault::BadUnit(0)));
-    assert_eq!(rt; ended.held.len(), 0);
+    let ended = downloaded_of(rt.alloc(), image(rt.alloc(), &[], &[])?, 2000)?;
+    ends_so(&rt, &ended, Err(DownloadFault::BadUnit(0)), 0);
     assert_eq!(rt; ended.wire.len(), 7);
     Ok(())
 }
 
 #[test]
 fn a_unit_that_fails_is_told(rt: HostRuntime) -> Result<(), Fail> {
-    let alloc = rt.alloc();
     let mut unit = AbsentMedium::new(IMAGE_SIZE);
-    let ended = downloaded(alloc, &mut unit, 2000)?;
-    assert_eq!(rt; ended.answer, Err(DownloadFault::Failed));
-    assert_eq!(rt; ended.held.len(), 0);
+    let ended = downloaded(rt.alloc(), &mut unit, 2000)?;
+    ends_so(&rt, &ended, Err(DownloadFault::Failed), 0);
     assert_eq!(rt; ended.wire.len(), 7);
     Ok(())
 }
 
 #[test]
 fn a_full_sink_is_told(rt: HostRuntime) -> Result<(), Fail> {
-    let alloc = rt.alloc();
-    let mut unit = unit_with(alloc, image(alloc, &FRONT, &[])?)?;
-    let ended = downloaded(alloc, &mut unit, 700)?;
-    assert_eq!(rt; ended.answer, Err(DownloadFault::WriteFault));
-    assert_eq!(rt; ended.held.len(), 700);
+    let ended = of_new(rt.alloc(), 700)?;
+    ends_so(&rt, &ended, Err(DownloadFault::WriteFault), 700);
+    Ok(())
+}
+
+/// A download of this unit whose frames go unlisted gives a file of this length.
+fn goes_unlisted<U: Medium>(
+    rt: &impl Abort,
+    alloc: Global,
+    unit: &mut U,
+    len: usize,
+) -> Result<(), Memory>
+    requires { IsUnit (U.state unit.old) }
+{
+    let mut sink = MemSink::new(Vec::with_capacity(alloc, 2000)?, Vec::new(alloc));
+    let mut loader = Downloader::new(alloc);
+    loader.reserve()?;
+    let answer = exchange_all(&mut loader, &mut sink, unit, &mut Unlisted::new());
+    assert_eq!(rt; answer, Ok(()));
+    assert_eq!(rt; sink.held().len(), len);
     Ok(())
 }
 
@@ -153,11 +195,6 @@ fn a_full_sink_is_told(rt: HostRuntime) -> Result<(), Fail> {
 fn frames_may_go_unlisted(rt: HostRuntime) -> Result<(), Fail> {
     let alloc = rt.alloc();
     let mut unit = unit_with(alloc, image(alloc, &FRONT, &[])?)?;
-    let mut sink = MemSink::new(Vec::with_capacity(alloc, 2000)?, Vec::new(alloc));
-    let mut loader = Downloader::new(alloc);
-    loader.reserve()?;
-    let answer = exchange_all(&mut loader, &mut sink, &mut unit, &mut Unlisted::new());
-    assert_eq!(rt; answer, Ok(()));
-    assert_eq!(rt; sink.held().len(), 623 + 143 + 132 + 267);
+    goes_unlisted(&rt, alloc, &mut unit, 623 + 143 + 132 + 267)?;
     Ok(())
 }

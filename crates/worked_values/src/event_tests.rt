@@ -1,4 +1,5 @@
 //! Worked seconds, fed one by one and in runs.
+use crate::checks::same;
 use event_model::{DRIVING_WITHOUT_CARD, OVER_SPEEDING};
 use event_rules::{
     Held, NoCardRun, Over, Overspeed, Span, day_place, place_for, power_gap, similar_after,
@@ -17,41 +18,41 @@ fn sixty_one_seconds_are_an_over_speeding(rt: HostRuntime) {
         average: 100,
     };
     let mut speeds = Overspeed::new(90);
-    assert_eq!(rt; speeds.feed_run(START, 60, 100), None);
-    assert_eq!(rt; speeds.feed(START + 60, 100), None);
-    assert_eq!(rt; speeds.feed(START + 61, 0), Some(over));
-    assert_eq!(rt; speeds.feed(START + 62, 0), None);
+    same(&rt, &speeds.feed_run(START, 60, 100), &None);
+    same(&rt, &speeds.feed(START + 60, 100), &None);
+    same(&rt, &speeds.feed(START + 61, 0), &Some(over));
+    same(&rt, &speeds.feed(START + 62, 0), &None);
     let mut shorter = Overspeed::new(90);
-    assert_eq!(rt; shorter.feed_run(START, 60, 100), None);
-    assert_eq!(rt; shorter.feed(START + 60, 0), None);
+    same(&rt, &shorter.feed_run(START, 60, 100), &None);
+    same(&rt, &shorter.feed(START + 60, 0), &None);
 }
 
 #[test]
 fn two_over_speedings_in_a_span(rt: HostRuntime) {
     let mut speeds = Overspeed::new(90);
-    assert_eq!(rt; speeds.feed_run(86400, 61, 95), None);
-    assert_eq!(rt; speeds.feed(86461, 100), None);
+    same(&rt, &speeds.feed_run(86400, 61, 95), &None);
+    same(&rt, &speeds.feed(86461, 100), &None);
     let first = speeds.feed(86462, 90);
-    assert_eq!(rt; first.map(|over| over.average), Some(95));
-    assert_eq!(rt; first.map(|over| over.most), Some(100));
-    assert_eq!(rt; speeds.feed_run(86463, 61, 200), None);
+    same(&rt, &first.map(|over| over.average), &Some(95));
+    same(&rt, &first.map(|over| over.most), &Some(100));
+    same(&rt, &speeds.feed_run(86463, 61, 200), &None);
     let second = speeds.feed_run(86524, 60, 0);
-    assert_eq!(rt; second.map(|over| over.begin), Some(86463));
-    assert_eq!(rt; second.map(|over| over.end), Some(86523));
+    same(&rt, &second.map(|over| over.begin), &Some(86463));
+    same(&rt, &second.map(|over| over.end), &Some(86523));
 }
 
 #[test]
 fn driving_without_a_card_till_one_is_accepted(rt: HostRuntime) {
     let mut run = NoCardRun::new();
-    assert_eq!(rt; run.feed_run(START, 240, false), None);
-    assert_eq!(rt; run.feed_run(START + 240, 60, true), None);
-    assert_eq!(rt; run.feed_run(START + 300, 60, true), None);
+    same(&rt, &run.feed_run(START, 240, false), &None);
+    same(&rt, &run.feed_run(START + 240, 60, true), &None);
+    same(&rt, &run.feed_run(START + 300, 60, true), &None);
     let ended = Span {
         begin: START + 240,
         end: START + 359,
     };
-    assert_eq!(rt; run.feed(START + 360, false), Some(ended));
-    assert_eq!(rt; run.feed(START + 361, false), None);
+    same(&rt, &run.feed(START + 360, false), &Some(ended));
+    same(&rt, &run.feed(START + 361, false), &None);
 }
 
 #[test]
@@ -60,8 +61,8 @@ fn power_was_gone_since_the_minute_after_the_last_kept(rt: HostRuntime) {
         begin: START + 480,
         end: START + 1200,
     };
-    assert_eq!(rt; power_gap(START / 60 + 7, START + 1200), Some(gap));
-    assert_eq!(rt; power_gap(0, START), None);
+    same(&rt, &power_gap(START / 60 + 7, START + 1200), &Some(gap));
+    same(&rt, &power_gap(0, START), &None);
 }
 
 #[test]
@@ -87,11 +88,19 @@ fn of_equals_the_held_event_stays_and_counts_the_other(rt: HostRuntime) {
         end: 172801,
         weight: 0,
     };
-    assert_eq!(rt; place_for(DRIVING_WITHOUT_CARD, &held, &equal), None);
-    assert_eq!(rt; day_place(DRIVING_WITHOUT_CARD, &held, &equal), Some(0));
-    assert_eq!(rt; similar_after(Some(1)), 2);
-    assert_eq!(rt; place_for(DRIVING_WITHOUT_CARD, &held, &longer), Some(0));
-    assert_eq!(rt; place_for(OVER_SPEEDING, &held, &next_day), Some(1));
-    assert_eq!(rt; day_place(OVER_SPEEDING, &held, &next_day), None);
-    assert_eq!(rt; similar_after(None), 1);
+    same(&rt, &place_for(DRIVING_WITHOUT_CARD, &held, &equal), &None);
+    same(
+        &rt,
+        &day_place(DRIVING_WITHOUT_CARD, &held, &equal),
+        &Some(0),
+    );
+    same(&rt, &similar_after(Some(1)), &2);
+    same(
+        &rt,
+        &place_for(DRIVING_WITHOUT_CARD, &held, &longer),
+        &Some(0),
+    );
+    same(&rt, &place_for(OVER_SPEEDING, &held, &next_day), &Some(1));
+    same(&rt, &day_place(OVER_SPEEDING, &held, &next_day), &None);
+    same(&rt, &similar_after(None), &1);
 }

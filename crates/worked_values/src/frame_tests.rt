@@ -1,5 +1,6 @@
 ghost use Rattle.std.specs.Prelude.{◌<◌};
 
+use crate::checks::{same, same_bytes};
 use link_frames::{End, Frame, Scanner, Seen, write_frame};
 use std::alloc::Global;
 use std::test::*;
@@ -43,26 +44,31 @@ const STREAM: [u8; 25] = [
 fn hears_in_any_pieces(rt: HostRuntime) {
     for piece in 1..26usize {
         let heard = heard(rt.alloc(), End::Unit, &STREAM, piece);
-        assert_eq!(rt; heard.as_slice(), &[1, 0x81, 0, 0x82, 1, 0x82][..]);
+        same_bytes(&rt, heard.as_slice(), &[1, 0x81, 0, 0x82, 1, 0x82][..]);
     }
 }
 
 #[test]
 fn writes_the_fixed_frames(rt: HostRuntime) {
     let start = write_frame(End::Loader, &Frame::new(&[0x81]));
-    assert_eq!(rt; start.as_slice(), &[0x81, 0xEE, 0xF0, 0x81, 0xE0][..]);
+    same_bytes(&rt, start.as_slice(), &[0x81, 0xEE, 0xF0, 0x81, 0xE0][..]);
     let answer = write_frame(End::Unit, &Frame::new(&[0xC1, 0xEA, 0x8F]));
-    assert_eq!(rt;
+    same_bytes(
+        &rt,
         answer.as_slice(),
-        &[0x80, 0xF0, 0xEE, 0x03, 0xC1, 0xEA, 0x8F, 0x9B][..]
+        &[0x80, 0xF0, 0xEE, 0x03, 0xC1, 0xEA, 0x8F, 0x9B][..],
     );
     let end = write_frame(End::Loader, &Frame::new(&[0x82]));
-    assert_eq!(rt; end.as_slice(), &[0x80, 0xEE, 0xF0, 0x01, 0x82, 0xE1][..]);
+    same_bytes(
+        &rt,
+        end.as_slice(),
+        &[0x80, 0xEE, 0xF0, 0x01, 0x82, 0xE1][..],
+    );
 }
 
 #[test]
 fn hears_the_longest_frame(rt: HostRuntime) {
     let longest = write_frame(End::Unit, &Frame::new(&[0xFF; 255]));
     let heard = heard(rt.alloc(), End::Loader, longest.as_slice(), 260);
-    assert_eq!(rt; heard.len(), 256);
+    same(&rt, &heard.len(), &256);
 }

@@ -8,26 +8,33 @@ use std::process::Abort;
 use std::test::Fail;
 use tach_media::Memory;
 
+/// The head of a card file: Application_Identification, which tells the least sizes, and Driver_Activity_Data, whose
+/// string has 2010-03-01 with a driver's words from 00:02 to 00:04, and 2010-03-02 with no card.
+const DAYS: [u8; 54] = [
+    0x05, 0x01, 0, 0, 10, 1, 0, 0, 6, 12, 0x15, 0xA8, 0, 84, 84, //
+    0x05, 0x04, 0, 0x15, 0xAC, 0, 0, 0, 16, //
+    0, 0, 0, 16, 0x4B, 0x8B, 0x03, 0x80, 0, 1, 0, 0, 0x20, 0, 0x18, 2, //
+    0, 16, 0, 14, 0x4B, 0x8C, 0x55, 0x00, 0, 2, 0, 0, 0x20, 0,
+];
+
+/// Vehicles_Used with one entry, whose end is 2010-03-01 00:03.
+const VEHICLES: [u8; 21] = [
+    0x05, 0x05, 0, 0x0A, 0x2E, 0, 0, //
+    0, 0, 0, 0, 0, 1, 0x4B, 0x8B, 0x03, 0x80, 0x4B, 0x8B, 0x04, 0x34,
+];
+
+/// Puts these bytes behind the others, and zeros up to this length.
+fn put(bytes: &mut Vec<u8>, part: &[u8], len: usize) -> Result<(), AllocError> {
+    bytes.extend_from_slice(part)?;
+    bytes.resize(len, 0)
+}
+
 /// A card file of the least sizes: Application_Identification at 0, Driver_Activity_Data at 15, Vehicles_Used at 5568.
-/// Its string has 2010-03-01 with a driver's words from 00:02 to 00:04, and 2010-03-02 with no card; the end mark is
-/// 2010-03-01 00:03.
+/// The end mark is the end of its vehicle entry.
 fn file(alloc: Global) -> Result<Vec<u8>, AllocError> {
     let mut bytes = Vec::new(alloc);
-    bytes.extend_from_slice(&[0x05, 0x01, 0, 0, 10])?;
-    bytes.extend_from_slice(&[1, 0, 0, 6, 12, 0x15, 0xA8, 0, 84, 84])?;
-    bytes.extend_from_slice(&[0x05, 0x04, 0, 0x15, 0xAC, 0, 0, 0, 16])?;
-    bytes.extend_from_slice(&[0, 0, 0, 16, 0x4B, 0x8B, 0x03, 0x80, 0, 1, 0, 0])?;
-    bytes.extend_from_slice(&[0x20, 0, 0x18, 2])?;
-    bytes.extend_from_slice(&[0, 16, 0, 14, 0x4B, 0x8C, 0x55, 0x00, 0, 2, 0, 0, 0x20, 0])?;
-    for _ in 0..5514 {
-        bytes.push(0)?;
-    }
-    bytes.extend_from_slice(&[0x05, 0x05, 0, 0x0A, 0x2E, 0, 0])?;
-    bytes.extend_from_slice(&[0, 0, 0, 0, 0, 1, 0x4B, 0x8B, 0x03, 0x80])?;
-    bytes.extend_from_slice(&[0x4B, 0x8B, 0x04, 0x34])?;
-    for _ in 0..2590 {
-        bytes.push(0)?;
-    }
+    put(&mut bytes, &DAYS, 5568)?;
+    put(&mut bytes, &VEHICLES, 8179)?;
     Ok(bytes)
 }
 
@@ -77,47 +84,50 @@ fn the_newest_day_may_have_no_entry(rt: HostRuntime) -> Result<(), Fail> {
     Ok(())
 }
 
+/// A place of the file, the byte that it is given, and the place where the file then fails, or 0.
+const FAULTS: [(usize, u8, u32); 7] = [
+    (9999, 0, 0),
+    // the kind of each entry
+    (17, 2, 15),
+    (5570, 2, 5568),
+    // a signature in place of the days: the vehicle entries are there, the days are missing
+    (17, 1, 8179),
+    // the days under the identifier of the sizes, a first word at minute 1, a pointer of 84
+    (16, 1, 15),
+    (37, 1, 15),
+    (5574, 84, 5568),
+];
+
 #[test]
 fn a_file_fails_at_its_first_bad_entry(rt: HostRuntime) -> Result<(), Fail> {
-    let alloc = rt.alloc();
-    assert_eq!(rt; place_of(alloc, 9999, 0)?, 0);
-    // the kind of each entry
-    assert_eq!(rt; place_of(alloc, 17, 2)?, 15);
-    assert_eq!(rt; place_of(alloc, 5570, 2)?, 5568);
-    // a signature in place of the days: the vehicle entries are there, the days are missing
-    assert_eq!(rt; place_of(alloc, 17, 1)?, 8179);
-    // the days under the identifier of the sizes, a first word at minute 1, a pointer of 84
-    assert_eq!(rt; place_of(alloc, 16, 1)?, 15);
-    assert_eq!(rt; place_of(alloc, 37, 1)?, 15);
-    assert_eq!(rt; place_of(alloc, 5574, 84)?, 5568);
-    let read = read_card_file(alloc, &[]);
+    for (at, byte, place) in FAULTS {
+        assert_eq!(rt; place_of(rt.alloc(), at, byte)?, place);
+    }
+    let read = read_card_file(rt.alloc(), &[]);
     assert!(rt; matches!(read, Err(ViewFault::BadFile(0))));
     Ok(())
 }
 
-/// A unit file of an overview, whose time is 2010-03-02 00:02, and the messages of 2010-03-01 and 2010-03-02. The first
-/// day's words are not in the order of their minutes: the driver's second one, of 00:00, decides after the first, of
-/// 00:02.
+/// The message of 2010-03-01. Its words are not in the order of their minutes: the driver's second one, of 00:00,
+/// decides after the first, of 00:02.
+const FIRST_DAY: [u8; 22] = [
+    0x76, 2, 0x4B, 0x8B, 0x03, 0x80, 0, 0, 0, 0, 0, 0, 3, //
+    0x18, 2, 0x20, 0, 0x80, 1, 0, 0, 0,
+];
+
+/// The message of 2010-03-02.
+const SECOND_DAY: [u8; 18] = [
+    0x76, 2, 0x4B, 0x8C, 0x55, 0, 0, 0, 0, 0, 0, 0, 1, //
+    0x00, 1, 0, 0, 0,
+];
+
+/// A unit file of an overview, whose time is 2010-03-02 00:02, and the messages of 2010-03-01 and 2010-03-02.
 fn unit_file(alloc: Global) -> Result<Vec<u8>, AllocError> {
     let mut bytes = Vec::new(alloc);
-    bytes.extend_from_slice(&[0x76, 1])?;
-    for _ in 0..420 {
-        bytes.push(0)?;
-    }
-    bytes.extend_from_slice(&[0x4B, 0x8C, 0x55, 0x78])?;
-    for _ in 0..197 {
-        bytes.push(0)?;
-    }
-    bytes.extend_from_slice(&[0x76, 2, 0x4B, 0x8B, 0x03, 0x80, 0, 0, 0, 0, 0, 0, 3])?;
-    bytes.extend_from_slice(&[0x18, 2, 0x20, 0, 0x80, 1, 0, 0, 0])?;
-    for _ in 0..128 {
-        bytes.push(0)?;
-    }
-    bytes.extend_from_slice(&[0x76, 2, 0x4B, 0x8C, 0x55, 0, 0, 0, 0, 0, 0, 0, 1])?;
-    bytes.extend_from_slice(&[0x00, 1, 0, 0, 0])?;
-    for _ in 0..128 {
-        bytes.push(0)?;
-    }
+    put(&mut bytes, &[0x76, 1], 422)?;
+    put(&mut bytes, &[0x4B, 0x8C, 0x55, 0x78], 623)?;
+    put(&mut bytes, &FIRST_DAY, 773)?;
+    put(&mut bytes, &SECOND_DAY, 919)?;
     Ok(bytes)
 }
 
@@ -162,17 +172,23 @@ fn unit_place(alloc: Global, len: usize) -> Result<u32, AllocError> {
     }
 }
 
+/// How long a front of the file is, and the place that is told of it.
+const FRONTS: [(usize, u32); 9] = [
+    (0, 0),
+    (1, 0),
+    (622, 0),
+    (623, 1),
+    (624, 623),
+    (772, 623),
+    (773, 1),
+    (774, 773),
+    (919, 1),
+];
+
 #[test]
 fn a_unit_file_fails_at_its_first_bad_message(rt: HostRuntime) -> Result<(), Fail> {
-    let alloc = rt.alloc();
-    assert_eq!(rt; unit_place(alloc, 0)?, 0);
-    assert_eq!(rt; unit_place(alloc, 1)?, 0);
-    assert_eq!(rt; unit_place(alloc, 622)?, 0);
-    assert_eq!(rt; unit_place(alloc, 623)?, 1);
-    assert_eq!(rt; unit_place(alloc, 624)?, 623);
-    assert_eq!(rt; unit_place(alloc, 772)?, 623);
-    assert_eq!(rt; unit_place(alloc, 773)?, 1);
-    assert_eq!(rt; unit_place(alloc, 774)?, 773);
-    assert_eq!(rt; unit_place(alloc, 919)?, 1);
+    for (len, place) in FRONTS {
+        assert_eq!(rt; unit_place(rt.alloc(), len)?, place);
+    }
     Ok(())
 }

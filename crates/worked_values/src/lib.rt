@@ -6,6 +6,8 @@ mod answer_tests;
 #[cfg(test)]
 mod card_tests;
 #[cfg(test)]
+mod checks;
+#[cfg(test)]
 mod codec_tests;
 #[cfg(test)]
 mod demo_tests;

@@ -73,80 +73,112 @@ fn whole(
     Ok(Some(Ok(MessageRead { request, len })))
 }
 
-/// The messages of a unit that is nothing yet, and of a new one, which has no day.
-fn new_unit<M: Medium>(rt: &impl Abort, alloc: Global, unit: &mut M)
+/// A whole message of the unit is read so.
+fn reads<M: Medium>(rt: &impl Abort, alloc: Global, unit: &mut M, request: Request, len: u32)
     requires { IsUnit (M.state unit.old) }
+    ensures { IsUnit (M.state unit.new) }
+{
+    assert_eq!(rt; read(alloc, unit, &request), whole(request, len));
+}
+
+/// A piece of a message of the unit, from a place on, is answered so, and then these bytes are there.
+fn gives<M: Medium>(
+    rt: &impl Abort,
+    unit: &mut M,
+    asked: (Request, u32),
+    out: &mut ArrayVec<u8, 252>,
+    wanted: (Result<Option<u32>, PieceFault>, &[u8]),
+)
+    requires { IsUnit (M.state unit.old) }
+    ensures { IsUnit (M.state unit.new) }
+{
+    let (request, from) = asked;
+    assert_eq!(rt; given(unit, &request, from, out), wanted.0);
+    assert_eq!(rt; out.as_slice(), wanted.1);
+}
+
+/// Pieces of the messages of a unit that is nothing yet, and of a new one, which has no day.
+fn new_unit<M: Medium>(rt: &impl Abort, unit: &mut M)
+    requires { IsUnit (M.state unit.old) }
+    ensures { IsUnit (M.state unit.new) }
 {
     let mut out = ArrayVec::new();
-    assert_eq!(rt;
-        given(unit, &Request::Technical, 0, &mut out),
-        Err(PieceFault::BadUnit(0))
-    );
+    let nothing = (Err(PieceFault::BadUnit(0)), [].as_slice());
+    gives(rt, unit, (Request::Technical, 0), &mut out, nothing);
     assert!(rt; format_unit(unit, &IDENTITY).is_ok());
-    assert_eq!(rt;
-        given(unit, &Request::Technical, 252, &mut out),
-        Ok(Some(267))
-    );
-    assert_eq!(rt; out.as_slice(), &[0; 15][..]);
-    assert_eq!(rt; given(unit, &Request::Day(0), 0, &mut out), Ok(None));
-    assert_eq!(rt; out.as_slice(), &[0; 15][..]);
-    assert_eq!(rt;
-        given(unit, &Request::Overview, 623, &mut out),
-        Ok(Some(623))
-    );
-    assert_eq!(rt; out.as_slice(), &[][..]);
-    let overview = read(alloc, unit, &Request::Overview);
-    assert_eq!(rt; overview, whole(Request::Overview, 623));
-    let events = read(alloc, unit, &Request::Events);
-    assert_eq!(rt; events, whole(Request::Events, 143));
-    let speed = read(alloc, unit, &Request::Speed);
-    assert_eq!(rt; speed, whole(Request::Speed, 132));
+    let last = (Ok(Some(267)), [0; 15].as_slice());
+    gives(rt, unit, (Request::Technical, 252), &mut out, last);
+    let no_day = (Ok(None), [0; 15].as_slice());
+    gives(rt, unit, (Request::Day(0), 0), &mut out, no_day);
+    let end = (Ok(Some(623)), [].as_slice());
+    gives(rt, unit, (Request::Overview, 623), &mut out, end);
 }
 
 #[test]
 fn sends_a_new_unit(rt: HostRuntime) -> Result<(), Fail> {
     let mut unit = blank(rt.alloc())?;
-    new_unit(&rt, rt.alloc(), &mut unit);
+    new_unit(&rt, &mut unit);
+    reads(&rt, rt.alloc(), &mut unit, Request::Overview, 623);
+    reads(&rt, rt.alloc(), &mut unit, Request::Events, 143);
+    reads(&rt, rt.alloc(), &mut unit, Request::Speed, 132);
     Ok(())
+}
+
+/// The first piece of a message of technical data with no calibration, 251 bytes of its content.
+fn first_piece() -> [u8; 255] {
+    let mut bytes = [0u8; 255];
+    bytes[..4].copy_from_slice(&[0x76, 5, 0, 1]);
+    bytes[254] = 7;
+    bytes
+}
+
+/// Its last piece, 14 bytes of its content.
+const LAST_PIECE: [u8; 18] = [0x76, 5, 0, 2, 8, 0, 0, 0, 0, 0, 0, 0, 0, 0, 0, 0, 0, 0];
+
+/// The message.
+fn technical() -> [u8; 267] {
+    let mut bytes = [0u8; 267];
+    bytes[..2].copy_from_slice(&[0x76, 5]);
+    bytes[252..254].copy_from_slice(&[7, 8]);
+    bytes
+}
+
+/// The joiner answers the first piece so.
+fn takes_first(rt: &impl Abort, joiner: &mut Joiner, wanted: Result<bool, JoinFault>) {
+    assert_eq!(rt; joiner.take(&Frame::new(&first_piece())), wanted);
+}
+
+/// The joiner answers the last piece so.
+fn takes_last(rt: &impl Abort, joiner: &mut Joiner, wanted: Result<bool, JoinFault>) {
+    assert_eq!(rt; joiner.take(&Frame::new(&LAST_PIECE)), wanted);
+}
+
+/// What was joined is read so.
+fn joined(rt: &impl Abort, joiner: &Joiner, wanted: Result<MessageRead, BadMessage>) {
+    assert_eq!(rt; read_message(joiner.bytes()), wanted);
 }
 
 // A message of technical data with no calibration has 267 bytes: 251 of its content stand in the first piece, and 14 in
 // the last.
 #[test]
-fn joins_pieces(rt: HostRuntime) {
+fn a_message_is_split_into_pieces(rt: HostRuntime) {
     assert_eq!(rt; split_at(265, 1), Some((0, 251)));
     assert_eq!(rt; split_at(265, 2), Some((251, 14)));
     assert_eq!(rt; split_at(265, 3), None);
-    let mut first = [0u8; 255];
-    first[0] = 0x76;
-    first[1] = 5;
-    first[3] = 1;
-    first[254] = 7;
-    let last = [0x76, 5, 0, 2, 8, 0, 0, 0, 0, 0, 0, 0, 0, 0, 0, 0, 0, 0];
-    let mut whole = [0u8; 267];
-    whole[0] = 0x76;
-    whole[1] = 5;
-    whole[252] = 7;
-    whole[253] = 8;
+}
+
+#[test]
+fn joins_pieces(rt: HostRuntime) {
     let mut joiner = Joiner::new(rt.alloc());
-    assert_eq!(rt;
-        joiner.take(&Frame::new(&last[..])),
-        Err(JoinFault::Broken(1, 2))
-    );
-    assert_eq!(rt; joiner.take(&Frame::new(&first[..])), Ok(false));
-    assert_eq!(rt;
-        joiner.take(&Frame::new(&first[..])),
-        Err(JoinFault::Broken(2, 1))
-    );
-    assert_eq!(rt; read_message(joiner.bytes()), Err(BadMessage(0)));
-    assert_eq!(rt; joiner.take(&Frame::new(&last[..])), Ok(true));
-    assert_eq!(rt; joiner.bytes(), &whole[..]);
-    let read = MessageRead {
-        request: Request::Technical,
-        len: 267,
-    };
-    assert_eq!(rt; read_message(joiner.bytes()), Ok(read));
+    takes_last(&rt, &mut joiner, Err(JoinFault::Broken(1, 2)));
+    takes_first(&rt, &mut joiner, Ok(false));
+    takes_first(&rt, &mut joiner, Err(JoinFault::Broken(2, 1)));
+    joined(&rt, &joiner, Err(BadMessage(0)));
+    takes_last(&rt, &mut joiner, Ok(true));
+    assert!(rt; joiner.bytes() == technical().as_slice());
+    let request = Request::Technical;
+    joined(&rt, &joiner, Ok(MessageRead { request, len: 267 }));
     joiner.clear();
-    assert_eq!(rt; joiner.bytes(), &[][..]);
-    assert_eq!(rt; joiner.take(&Frame::new(&first[..])), Ok(false));
+    assert!(rt; joiner.bytes().is_empty());
+    takes_first(&rt, &mut joiner, Ok(false));
 }

@@ -1,24 +1,19 @@
-use crate::noisy_tests::{happen_all, image, unit_with};
+use crate::noisy_tests::{image, sink_of, unit_with, world_after};
 use noisy_link::{Event, World};
 use packet_service::{PacketsFault, download_packets, put_packet, serve_packets};
 use std::alloc::{AllocError, Global};
+use std::process::Abort;
 use std::test::*;
-use tach_media::{MemSink, MemSource};
+use tach_media::{MemSink, MemSource, Memory};
 
 /// The events of a download over a link that keeps all, of at most 64 exchanges.
 fn exchanges(alloc: Global) -> Result<Vec<Event>, AllocError> {
     let mut events = Vec::new(alloc);
     for place in 0..64 {
-        events.push(Event::Send)?;
-        events.push(Event::ToUnit(place))?;
-        events.push(Event::ToLoader(place))?;
+        let exchange = [Event::Send, Event::ToUnit(place), Event::ToLoader(place)];
+        events.extend_from_slice(&exchange)?;
     }
     Ok(events)
-}
-
-/// A sink with room for so many bytes.
-fn sink_of(alloc: Global, room: usize) -> Result<MemSink, AllocError> {
-    Ok(MemSink::new(Vec::with_capacity(alloc, room)?, Vec::new(alloc)))
 }
 
 /// A source of what a sink holds.
@@ -50,52 +45,77 @@ fn put_answers(world: &World, times: u32, sink: &mut MemSink) -> bool {
     true
 }
 
+/// The datagrams of a download: the loader's, and the unit's.
+#[derive(Drop)]
+struct Link {
+    requests: MemSink,
+    answers: MemSink,
+}
+
+/// What goes over a link in a download of a new unit: each request so many times, and each answer twice. The file goes
+/// to this sink.
+fn link_of(rt: &impl Abort, alloc: Global, times: u32, file: &mut MemSink) -> Result<Link, Memory> {
+    let events = exchanges(alloc)?;
+    let world = world_after(rt, alloc, events.as_slice(), file)?;
+    assert!(rt; world.finished());
+    sent_over(rt, alloc, times, &world)
+}
+
+/// Each request of this world so many times, and each answer twice.
+fn sent_over(rt: &impl Abort, alloc: Global, times: u32, world: &World) -> Result<Link, Memory> {
+    let mut requests = sink_of(alloc, 20000)?;
+    assert!(rt; put_sent(world, times, &mut requests));
+    let mut answers = sink_of(alloc, 20000)?;
+    assert!(rt; put_answers(world, 2, &mut answers));
+    Ok(Link { requests, answers })
+}
+
+/// What a new unit answers to these requests.
+fn served(rt: &impl Abort, alloc: Global, requests: &MemSink) -> Result<MemSink, Memory> {
+    let mut unit = unit_with(alloc, image(alloc)?)?;
+    let mut source = source_of(alloc, requests)?;
+    let mut back = sink_of(alloc, 20000)?;
+    assert!(rt; serve_packets(&mut source, &mut back, &mut unit).is_ok());
+    Ok(back)
+}
+
 // Each request comes twice, and each answer goes back twice; what is no packet is passed over.
 #[test]
 fn each_request_that_comes_is_answered(rt: HostRuntime) -> Result<(), Fail> {
-    let alloc = rt.alloc();
-    let mut unit = unit_with(alloc, image(alloc)?)?;
-    let mut file = sink_of(alloc, 2000)?;
-    let mut world = World::new(alloc);
-    let events = exchanges(alloc)?;
-    assert!(rt; happen_all(&mut world, &mut unit, events.as_slice(), &mut file));
-    assert!(rt; world.finished());
-    let mut requests = sink_of(alloc, 20000)?;
-    let mut answers = sink_of(alloc, 20000)?;
-    assert!(rt; put_sent(&world, 2, &mut requests));
-    assert!(rt; put_answers(&world, 2, &mut answers));
-    let mut source = source_of(alloc, &requests)?;
-    let mut back = sink_of(alloc, 20000)?;
-    let mut other = unit_with(alloc, image(alloc)?)?;
-    assert!(rt; serve_packets(&mut source, &mut back, &mut other).is_ok());
+    let mut file = sink_of(rt.alloc(), 2000)?;
+    let link = link_of(&rt, rt.alloc(), 2, &mut file)?;
+    let back = served(&rt, rt.alloc(), &link.requests)?;
     assert!(rt; back.held().len() > 2000);
-    assert!(rt; back.held() == answers.held());
+    assert!(rt; back.held() == link.answers.held());
     Ok(())
+}
+
+/// What a loader sends to which these answers come; the file goes to this sink.
+fn loaded(
+    rt: &impl Abort,
+    alloc: Global,
+    answers: &MemSink,
+    file: &mut MemSink,
+) -> Result<MemSink, Memory> {
+    let mut source = source_of(alloc, answers)?;
+    let mut sent = sink_of(alloc, 20000)?;
+    assert_eq!(rt;
+        download_packets(alloc, &mut source, &mut sent, file),
+        Ok(())
+    );
+    Ok(sent)
 }
 
 // Each answer comes twice, and each request goes out once: the file is that of a download.
 #[test]
 fn each_answer_is_taken_once(rt: HostRuntime) -> Result<(), Fail> {
-    let alloc = rt.alloc();
-    let mut unit = unit_with(alloc, image(alloc)?)?;
-    let mut wanted = sink_of(alloc, 2000)?;
-    let mut world = World::new(alloc);
-    let events = exchanges(alloc)?;
-    assert!(rt; happen_all(&mut world, &mut unit, events.as_slice(), &mut wanted));
-    let mut requests = sink_of(alloc, 20000)?;
-    let mut answers = sink_of(alloc, 20000)?;
-    assert!(rt; put_sent(&world, 1, &mut requests));
-    assert!(rt; put_answers(&world, 2, &mut answers));
-    let mut source = source_of(alloc, &answers)?;
-    let mut link = sink_of(alloc, 20000)?;
-    let mut file = sink_of(alloc, 2000)?;
-    assert_eq!(rt;
-        download_packets(alloc, &mut source, &mut link, &mut file),
-        Ok(())
-    );
+    let mut wanted = sink_of(rt.alloc(), 2000)?;
+    let link = link_of(&rt, rt.alloc(), 1, &mut wanted)?;
+    let mut file = sink_of(rt.alloc(), 2000)?;
+    let sent = loaded(&rt, rt.alloc(), &link.answers, &mut file)?;
     assert_eq!(rt; file.held().len(), 623 + 143 + 132 + 267);
     assert!(rt; file.held() == wanted.held());
-    assert!(rt; link.held() == requests.held());
+    assert!(rt; sent.held() == link.requests.held());
     Ok(())
 }
 
@@ -114,19 +134,36 @@ fn sent_behind(
 /// The first request: the start of communication with number 1.
 const FIRST: [u8; 12] = *b"\x00\x0A\x4E\x00\x00\x00\x00\x00\x00\x00\x01\x81";
 
+/// How a download by packets ends where these bytes come, and how many bytes go to the link.
+fn ends_behind(
+    rt: &impl Abort,
+    alloc: Global,
+    bytes: &[u8],
+    fault: PacketsFault,
+    len: usize,
+) -> Result<(), AllocError> {
+    let (ended, sent) = sent_behind(alloc, bytes)?;
+    assert_eq!(rt; ended, Err(fault));
+    assert_eq!(rt; sent.len(), len);
+    Ok(())
+}
+
 // An empty datagram lets the loader's end send again; one that is no packet does not, and a length of more than 264
 // ends it.
 #[test]
 fn an_empty_datagram_is_a_tick(rt: HostRuntime) -> Result<(), Fail> {
-    let alloc = rt.alloc();
-    let (ended, sent) = sent_behind(alloc, &[])?;
-    assert_eq!(rt; ended, Err(PacketsFault::Ended));
+    let (_ended, sent) = sent_behind(rt.alloc(), &[])?;
     assert!(rt; sent.as_slice() == FIRST.as_slice());
-    let (ended, sent) = sent_behind(alloc, &[0, 0, 0, 1, 0x4E, 0, 0, 0, 1])?;
-    assert_eq!(rt; ended, Err(PacketsFault::Ended));
-    assert_eq!(rt; sent.len(), 3 * FIRST.len());
-    let (ended, sent) = sent_behind(alloc, &[0, 0, 1, 9])?;
-    assert_eq!(rt; ended, Err(PacketsFault::TooLong));
-    assert_eq!(rt; sent.len(), 2 * FIRST.len());
+    ends_behind(&rt, rt.alloc(), &[], PacketsFault::Ended, FIRST.len())?;
+    let two = [0, 0, 0, 1, 0x4E, 0, 0, 0, 1];
+    ends_behind(&rt, rt.alloc(), &two, PacketsFault::Ended, 3 * FIRST.len())?;
+    let long = [0, 0, 1, 9];
+    ends_behind(
+        &rt,
+        rt.alloc(),
+        &long,
+        PacketsFault::TooLong,
+        2 * FIRST.len(),
+    )?;
     Ok(())
 }

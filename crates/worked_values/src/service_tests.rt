@@ -2,6 +2,7 @@ ghost use Rattle.std.specs.declared.option.Option.TheVariants.{None as Untold};
 
 use link_session::{Peer, ServeFault, serve};
 use std::alloc::{AllocError, Global};
+use std::process::Abort;
 use std::test::*;
 use tach_media::{AbsentMedium, Failed, MemSink, MemSource, Sink, Source};
 use unit_model::layout::IMAGE_SIZE;
@@ -91,13 +92,30 @@ impl Peer<MemSink> for Loader {
     }
 }
 
+/// A service of this source over a unit that is not there: it ends well, and all is answered.
+fn answers_all<S: Peer<MemSink>>(
+    rt: &impl Abort,
+    alloc: Global,
+    source: &mut S,
+) -> Result<(), AllocError> {
+    let mut unit = AbsentMedium::new(IMAGE_SIZE);
+    let mut sink = MemSink::new(Vec::with_capacity(alloc, 100)?, Vec::new(alloc));
+    assert_eq!(rt; serve(source, &mut sink, &mut unit), Ok(()));
+    assert_eq!(rt; sink.held(), &ANSWERED[..]);
+    Ok(())
+}
+
 #[test]
 fn a_loader_that_waits_is_answered(rt: HostRuntime) -> Result<(), Fail> {
-    let mut unit = AbsentMedium::new(IMAGE_SIZE);
-    let mut source = Loader { at: 0 };
-    let mut sink = MemSink::new(Vec::with_capacity(rt.alloc(), 100)?, Vec::new(rt.alloc()));
-    assert_eq!(rt; serve(&mut source, &mut sink, &mut unit), Ok(()));
-    assert_eq!(rt; sink.held(), &ANSWERED[..]);
+    answers_all(&rt, rt.alloc(), &mut Loader { at: 0 })?;
+    Ok(())
+}
+
+#[test]
+fn answers_in_any_pieces(rt: HostRuntime) -> Result<(), Fail> {
+    for piece in [1, 2, 7, 255] {
+        answers_all(&rt, rt.alloc(), &mut Pieces { piece, at: 0 })?;
+    }
     Ok(())
 }
 
@@ -115,68 +133,92 @@ fn listed(alloc: Global, numbers: &[u64]) -> Result<Vec<u64>, AllocError> {
     Ok(list)
 }
 
-#[test]
-fn answers_in_any_pieces(rt: HostRuntime) -> Result<(), Fail> {
-    for piece in [1, 2, 7, 255] {
-        let mut unit = AbsentMedium::new(IMAGE_SIZE);
-        let mut source = Pieces { piece, at: 0 };
-        let mut sink = MemSink::new(Vec::with_capacity(rt.alloc(), 100)?, Vec::new(rt.alloc()));
-        assert_eq!(rt; serve(&mut source, &mut sink, &mut unit), Ok(()));
-        assert_eq!(rt; sink.held(), &ANSWERED[..]);
-    }
-    Ok(())
+/// What a service is given: these bytes, the calls of the source and of the sink that fail, each counted from 0, and so
+/// much room in the sink.
+#[derive(Clone, Copy)]
+struct Given<'a> {
+    bytes: &'a [u8],
+    source_fails: &'a [u64],
+    sink_fails: &'a [u64],
+    room: usize,
 }
 
-/// A service of these bytes, over a unit that is not there: how it ends, and what the sink holds. These calls of the
-/// source and of the sink fail, each counted from 0; the sink has so much room.
-fn served(
-    alloc: Global,
-    bytes: &[u8],
-    source_fails: &[u64],
-    sink_fails: &[u64],
-    room: usize,
-) -> Result<(Result<(), ServeFault>, MemSink), AllocError> {
+/// A service over a unit that is not there: how it ends, and what the sink holds.
+fn served(alloc: Global, given: &Given) -> Result<(Result<(), ServeFault>, MemSink), AllocError> {
     let mut unit = AbsentMedium::new(IMAGE_SIZE);
-    let mut source = MemSource::new(copied(alloc, bytes)?, listed(alloc, source_fails)?);
-    let mut sink = MemSink::new(Vec::with_capacity(alloc, room)?, listed(alloc, sink_fails)?);
+    let bytes = copied(alloc, given.bytes)?;
+    let mut source = MemSource::new(bytes, listed(alloc, given.source_fails)?);
+    let room = Vec::with_capacity(alloc, given.room)?;
+    let mut sink = MemSink::new(room, listed(alloc, given.sink_fails)?);
     let ended = serve(&mut source, &mut sink, &mut unit);
     Ok((ended, sink))
 }
 
+/// The service ends so, and the sink holds so many of the answers.
+fn serves_so(
+    rt: &impl Abort,
+    alloc: Global,
+    given: &Given,
+    ends: Result<(), ServeFault>,
+    count: usize,
+) -> Result<(), AllocError> {
+    let (ended, sink) = served(alloc, given)?;
+    assert_eq!(rt; ended, ends);
+    assert_eq!(rt; sink.held(), &ANSWERED[..count.min(ANSWERED.len())]);
+    Ok(())
+}
+
+/// All that was heard, with a sink that has room for the answers.
+const ALL: Given = Given {
+    bytes: &HEARD,
+    source_fails: &[],
+    sink_fails: &[],
+    room: 100,
+};
+
 #[test]
 fn serves_a_source_to_its_end(rt: HostRuntime) -> Result<(), Fail> {
-    let (ended, sink) = served(rt.alloc(), &HEARD, &[], &[], 100)?;
-    assert_eq!(rt; ended, Ok(()));
-    assert_eq!(rt; sink.held(), &ANSWERED[..]);
+    serves_so(&rt, rt.alloc(), &ALL, Ok(()), ANSWERED.len())?;
     Ok(())
 }
 
 #[test]
 fn a_full_sink_ends_the_service(rt: HostRuntime) -> Result<(), Fail> {
-    let (ended, sink) = served(rt.alloc(), &HEARD, &[], &[], 10)?;
-    assert_eq!(rt; ended, Err(ServeFault::WriteFault));
-    assert_eq!(rt; sink.held(), &ANSWERED[..10]);
+    let full = Given { room: 10, ..ALL };
+    serves_so(&rt, rt.alloc(), &full, Err(ServeFault::WriteFault), 10)?;
     Ok(())
 }
 
 /// The third answer fails: the two before it were written.
 #[test]
 fn a_failed_sink_ends_the_service(rt: HostRuntime) -> Result<(), Fail> {
-    let (ended, sink) = served(rt.alloc(), &HEARD, &[], &[2], 100)?;
-    assert_eq!(rt; ended, Err(ServeFault::WriteFault));
-    assert_eq!(rt; sink.held(), &ANSWERED[..16]);
+    let failed = Given {
+        sink_fails: &[2],
+        ..ALL
+    };
+    serves_so(&rt, rt.alloc(), &failed, Err(ServeFault::WriteFault), 16)?;
     Ok(())
 }
 
 /// What came before the source failed is answered.
 #[test]
 fn a_failed_source_ends_the_service(rt: HostRuntime) -> Result<(), Fail> {
-    let (ended, sink) = served(rt.alloc(), &HEARD, &[1], &[], 100)?;
-    assert_eq!(rt; ended, Err(ServeFault::ReadFault));
-    assert_eq!(rt; sink.held(), &ANSWERED[..]);
-    let (ended, sink) = served(rt.alloc(), &HEARD, &[0], &[], 100)?;
-    assert_eq!(rt; ended, Err(ServeFault::ReadFault));
-    assert_eq!(rt; sink.held(), &[][..]);
+    let late = Given {
+        source_fails: &[1],
+        ..ALL
+    };
+    serves_so(
+        &rt,
+        rt.alloc(),
+        &late,
+        Err(ServeFault::ReadFault),
+        ANSWERED.len(),
+    )?;
+    let early = Given {
+        source_fails: &[0],
+        ..ALL
+    };
+    serves_so(&rt, rt.alloc(), &early, Err(ServeFault::ReadFault), 0)?;
     Ok(())
 }
 
@@ -185,8 +227,10 @@ fn a_failed_source_ends_the_service(rt: HostRuntime) -> Result<(), Fail> {
 fn a_unit_is_called_where_it_is_asked(rt: HostRuntime) -> Result<(), Fail> {
     let mut bytes = copied(rt.alloc(), &HEARD[..34])?;
     bytes.extend_from_slice(&[0x80, 0xEE, 0xF0, 0x02, 0x36, 0x01, 0x97])?;
-    let (ended, sink) = served(rt.alloc(), bytes.as_slice(), &[], &[], 100)?;
-    assert_eq!(rt; ended, Err(ServeFault::Failed));
-    assert_eq!(rt; sink.held(), &ANSWERED[..31]);
+    let asked = Given {
+        bytes: bytes.as_slice(),
+        ..ALL
+    };
+    serves_so(&rt, rt.alloc(), &asked, Err(ServeFault::Failed), 31)?;
     Ok(())
 }

@@ -1,4 +1,5 @@
 //! Runs of calls.
+use crate::checks::same;
 use activity_codec::Slot;
 use card_slots::{SlotFault, Slots};
 use std::test::*;
@@ -14,17 +15,18 @@ fn a_card_is_present_from_the_minute_after_its_newest(rt: HostRuntime) {
     let mut slots = Slots::new();
     // In the slot, and then accepted.
     slots.put(Slot::Driver, Card::A, None);
-    assert_eq!(rt;
-        slots.may_note(Slot::Driver),
-        Err(SlotFault::NoCard(Slot::Driver))
+    same(
+        &rt,
+        &slots.may_note(Slot::Driver),
+        &Err(SlotFault::NoCard(Slot::Driver)),
     );
     slots.put(Slot::Driver, Card::A, Some(MINUTE));
-    assert_eq!(rt; slots.may_note(Slot::Driver), Ok(()));
+    same(&rt, &slots.may_note(Slot::Driver), &Ok(()));
     slots.end_minute(MINUTE);
     slots.end_minute(MINUTE + 1);
-    assert_eq!(rt; slots.present(MINUTE).driver, None);
-    assert_eq!(rt; slots.present(MINUTE + 1).driver, Some(Card::A));
-    assert_eq!(rt; slots.present(MINUTE + 1).codriver, None);
+    same(&rt, &slots.present(MINUTE).driver, &None);
+    same(&rt, &slots.present(MINUTE + 1).driver, &Some(Card::A));
+    same(&rt, &slots.present(MINUTE + 1).codriver, &None);
 }
 
 #[test]
@@ -37,10 +39,10 @@ fn a_card_that_changes_slots_is_not_present_in_that_minute(rt: HostRuntime) {
     slots.put(Slot::Driver, Card::A, Some(0));
     slots.end_minute(MINUTE + 1);
     slots.end_minute(MINUTE + 2);
-    assert_eq!(rt; slots.present(MINUTE).driver, Some(Card::A));
-    assert_eq!(rt; slots.present(MINUTE + 1).driver, None);
-    assert_eq!(rt; slots.present(MINUTE + 1).codriver, Some(Card::B));
-    assert_eq!(rt; slots.present(MINUTE + 2).driver, Some(Card::A));
+    same(&rt, &slots.present(MINUTE).driver, &Some(Card::A));
+    same(&rt, &slots.present(MINUTE + 1).driver, &None);
+    same(&rt, &slots.present(MINUTE + 1).codriver, &Some(Card::B));
+    same(&rt, &slots.present(MINUTE + 2).driver, &Some(Card::A));
 }
 
 #[test]
@@ -48,54 +50,62 @@ fn power_that_is_lost_ends_acceptance(rt: HostRuntime) {
     let mut slots = Slots::new();
     slots.put(Slot::CoDriver, Card::B, Some(0));
     slots.cut(SECOND + 59);
-    assert_eq!(rt;
-        slots.may_note(Slot::CoDriver),
-        Err(SlotFault::NoCard(Slot::CoDriver))
+    same(
+        &rt,
+        &slots.may_note(Slot::CoDriver),
+        &Err(SlotFault::NoCard(Slot::CoDriver)),
     );
-    assert_eq!(rt; slots.card(Slot::CoDriver), Some(Card::B));
+    same(&rt, &slots.card(Slot::CoDriver), &Some(Card::B));
     slots.end_minute(MINUTE);
     slots.put(Slot::CoDriver, Card::B, Some(MINUTE));
     slots.end_minute(MINUTE + 1);
-    assert_eq!(rt; slots.present(MINUTE).codriver, None);
-    assert_eq!(rt; slots.present(MINUTE + 1).codriver, Some(Card::B));
+    same(&rt, &slots.present(MINUTE).codriver, &None);
+    same(&rt, &slots.present(MINUTE + 1).codriver, &Some(Card::B));
 }
 
 #[test]
 fn refusals_in_their_order(rt: HostRuntime) {
     let mut slots = Slots::new();
-    assert_eq!(rt;
-        slots.may_tear(Slot::Driver),
-        Err(SlotFault::Empty(Slot::Driver))
+    same(
+        &rt,
+        &slots.may_tear(Slot::Driver),
+        &Err(SlotFault::Empty(Slot::Driver)),
     );
-    assert_eq!(rt;
-        slots.may_withdraw(Slot::Driver, 80),
-        Err(SlotFault::Empty(Slot::Driver))
+    same(
+        &rt,
+        &slots.may_withdraw(Slot::Driver, 80),
+        &Err(SlotFault::Empty(Slot::Driver)),
     );
     slots.put(Slot::Driver, Card::A, None);
-    assert_eq!(rt;
-        slots.may_withdraw(Slot::Driver, 80),
-        Err(SlotFault::Moving(80))
+    same(
+        &rt,
+        &slots.may_withdraw(Slot::Driver, 80),
+        &Err(SlotFault::Moving(80)),
     );
-    assert_eq!(rt; slots.may_withdraw(Slot::Driver, 0), Ok(()));
-    assert_eq!(rt; slots.may_tear(Slot::Driver), Ok(()));
-    assert_eq!(rt;
-        slots.may_insert(Slot::CoDriver, Card::A),
-        Err(SlotFault::Elsewhere(Card::A))
+    same(&rt, &slots.may_withdraw(Slot::Driver, 0), &Ok(()));
+    same(&rt, &slots.may_tear(Slot::Driver), &Ok(()));
+    same(
+        &rt,
+        &slots.may_insert(Slot::CoDriver, Card::A),
+        &Err(SlotFault::Elsewhere(Card::A)),
     );
-    assert_eq!(rt; slots.may_insert(Slot::CoDriver, Card::B), Ok(()));
+    same(&rt, &slots.may_insert(Slot::CoDriver, Card::B), &Ok(()));
     slots.put(Slot::CoDriver, Card::B, None);
-    assert_eq!(rt;
-        slots.may_insert(Slot::CoDriver, Card::A),
-        Err(SlotFault::Occupied(Slot::CoDriver))
+    same(
+        &rt,
+        &slots.may_insert(Slot::CoDriver, Card::A),
+        &Err(SlotFault::Occupied(Slot::CoDriver)),
     );
-    assert_eq!(rt;
-        slots.may_enter(Slot::CoDriver, 80),
-        Err(SlotFault::NoCard(Slot::CoDriver))
+    same(
+        &rt,
+        &slots.may_enter(Slot::CoDriver, 80),
+        &Err(SlotFault::NoCard(Slot::CoDriver)),
     );
     slots.put(Slot::CoDriver, Card::B, Some(0));
-    assert_eq!(rt;
-        slots.may_enter(Slot::CoDriver, 80),
-        Err(SlotFault::Moving(80))
+    same(
+        &rt,
+        &slots.may_enter(Slot::CoDriver, 80),
+        &Err(SlotFault::Moving(80)),
     );
-    assert_eq!(rt; slots.may_enter(Slot::CoDriver, 0), Ok(()));
+    same(&rt, &slots.may_enter(Slot::CoDriver, 0), &Ok(()));
 }

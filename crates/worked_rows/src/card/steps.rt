@@ -180,35 +180,23 @@ fn put_in<M: Medium, C: Chip, D: Chip>(
     if second == 0 || second / 60 <= journal.last_kept() {
         return Err(Stopped);
     }
-    let entered = enter(
-        unit,
-        &journal,
-        card,
-        other,
-        Card::A,
-        CardInsertion {
-            app,
-            time: TimeReal(second),
-            registration: REGISTRATION,
-            odometer: Odometer(odometer),
-            spared: None,
-        },
-    )?;
+    let insertion = CardInsertion {
+        app,
+        time: TimeReal(second),
+        registration: REGISTRATION,
+        odometer: Odometer(odometer),
+        spared: None,
+    };
+    let entered = enter(unit, &journal, card, other, Card::A, insertion)?;
     let number = entered.look.number;
     let row = entered.row;
-    begin(
-        unit,
-        &mut journal,
-        card,
-        other,
-        Card::A,
-        NewRow {
-            number,
-            session: second,
-            index: row,
-            spared: None,
-        },
-    )?;
+    let new_row = NewRow {
+        number,
+        session: second,
+        index: row,
+        spared: None,
+    };
+    begin(unit, &mut journal, card, other, Card::A, new_row)?;
     Ok(Drive {
         journal,
         app,
