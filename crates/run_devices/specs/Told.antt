@@ -38,8 +38,8 @@ use Rattle.run_devices.specs.Strung.{CardHoldsString}
 -- ---- what was found
 
 -- What was found of the cards: two numbers, which are those that the valid ones have told, no other card, and for which
--- owed rows are begun; and of each valid card sizes, and the entries of its image, which counts the words behind its end
--- mark.
+-- owed rows are begun; and of each valid card sizes, and the entries of its image, which counts the words behind its
+-- end mark.
 pub record AreFoundCards (f : Found) (cards : Cards) : Type 0 where
   pub two : f.card_a.number ≢ f.card_b.number
   pub named : (c : Card) → IsOwnValid (found_of f c).image
