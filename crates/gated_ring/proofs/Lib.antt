@@ -1,3 +1,4 @@
+pub mod AddedAs
 pub mod Adding
 pub mod Behind
 pub mod Dense

@@ -1,10 +1,10 @@
 -- What the calls on a ring leave of it, after them and at each moment.
 use Rattle.std.specs.Prelude.{◌≡◌, ◌≢◌, ◌⊎◌, ℕ, ◌+◌, ◌-◌, ◌<◌, List, [], ◌∷◌, ◌++◌, map, replicate, if◌then◌else◌, ◌==◌}
-use Rattle.std.specs.Prelude.{true, false}
-use Rattle.tach_media.specs.Medium.{put, SameOutside}
+use Rattle.std.specs.Prelude.{true, false, IfSome}
+use Rattle.tach_media.specs.Medium.{State, put, SameOutside}
 use Rattle.gated_ring.specs.Ring.{Shape, size_of, place_of, gate_of, pointer, PointsInside, is_there, entry_at, next}
 use Rattle.gated_ring.specs.Ring.{indices, ring_list, indices_with, indices_without, taken, staying, with_head, IsDense}
-use Rattle.gated_ring.specs.Ring.{newest_of}
+use Rattle.gated_ring.specs.Ring.{newest_of, IsAtPointer}
 
 -- the entries of other indices are the same in both images
 abbrev pub SameOthers : Shape → ℕ → List ℕ → List ℕ → Type 0
@@ -114,3 +114,14 @@ pub record IsSet (r : Shape) (i offset : ℕ) (bytes x y : List ℕ) : Type 0 wh
 -- a write of a few bytes is whole or absent
 abbrev pub OrUnwritten : (List ℕ → List ℕ → Type 0) → List ℕ → List ℕ → Type 0
 OrUnwritten R x c = (c ≡ x) ⊎ R x c
+
+-- AN ENTRY TOOK this index: the one that the image had for the next one
+pub record TookNext (r : Shape) (old : State) (index : ℕ) : Type 0 where
+  pub is : IfSome old.image (λ x. PointsInside r x → index ≡ taken r x)
+  pub below : index < r.count
+
+-- AN ENTRY TOOK this index behind that of the newest: the one after it, at which it is the newest now
+pub record TookBehind (r : Shape) (last : ℕ) (new : State) (index : ℕ) : Type 0 where
+  pub is : index ≡ next r last
+  pub below : index < r.count
+  pub newest : IfSome new.image (IsAtPointer r index)

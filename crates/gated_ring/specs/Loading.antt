@@ -1,6 +1,6 @@
 -- What loading a ring answers, and what it does to the medium.
 use Rattle.std.specs.Prelude.{◌≡◌, ℕ, zero, suc, Bool, true, false, Result, Ok, Err}
-use Rattle.tach_media.specs.Medium.{State, LeavesOnly, Unchanged, Reads}
+use Rattle.tach_media.specs.Medium.{State, LeavesOnly, Unchanged, KeepsBroken, Reads}
 use Rattle.gated_ring.specs.declared.fault.RingFault.{RingFault}
 use Rattle.gated_ring.specs.declared.fault.RingFault.TheVariants.{Failed, BadPointer}
 
@@ -23,6 +23,7 @@ pub record MadeNoCall (old new : State) : Type 0 where
   pub works : new.works ≡ old.works
   pub faults : new.faults ≡ old.faults
   pub breakdowns : new.breakdowns ≡ old.breakdowns
+  pub tells : KeepsBroken old new
 
 -- a pointer of this width was read; of no pointer no call was made, and none has failed
 abbrev pub ReadsPointer : ℕ → State → State → Bool → Type 0

@@ -1,8 +1,8 @@
 -- The writes of the calls on a ring, in their order.
 use Rattle.std.specs.Prelude.{ℕ, ◌+◌, ◌-◌, Bool, List, [], ◌∷◌, ◌++◌, length, take, drop, replicate, if◌then◌else◌}
-use Rattle.std.specs.Prelude.{◌==◌}
+use Rattle.std.specs.Prelude.{◌==◌, ◌≤◌}
 use Rattle.std.specs.Int.{to_be_bytes, w32}
-use Rattle.tach_media.specs.Plan.{Piece, piece}
+use Rattle.tach_media.specs.Plan.{Piece, Pieces, piece}
 use Rattle.gated_ring.specs.declared.room.Room.{Room}
 use Rattle.gated_ring.specs.Ring.{Shape, place_of, gate_of, pointer, is_there, taken, gate_bytes}
 
@@ -51,3 +51,17 @@ exchanging_pieces r i used head = shut_pieces r i used ++ (body_pieces r i head 
 -- the writes of a `put_at`
 abbrev pub replacing_pieces : Shape → (i : ℕ) → (head : List ℕ) → List ℕ → List Piece
 replacing_pieces r i head x = exchanging_pieces r i (is_there r x i) head
+
+-- THE HEAD OF AN ENTRY that is planned: its gate lies in it, it is no longer than an entry, and a plan of so many bytes
+-- for a write takes each part of it at once
+pub record IsPlannedHead (r : Shape) (most : ℕ) (head : List ℕ) : Type 0 where
+  pub gate : r.gate + 4 ≤ length head
+  pub width : length head ≤ r.width
+  pub short : length head ≤ most
+  pub at_once : length head ≤ 255
+
+-- A PLAN TAKES AN ENTRY of this length at this index: it has room for five writes, and all of them lie inside it
+pub record TakesEntry (r : Shape) (writes index len : ℕ) (plan : Pieces) : Type 0 where
+  pub room : length plan.pieces + 5 ≤ writes
+  pub from : plan.from ≤ r.base
+  pub end : place_of r index + len ≤ plan.end

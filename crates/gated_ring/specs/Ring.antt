@@ -1,6 +1,7 @@
 -- A ring of entries inside an image: a pointer, and behind it places of one width. An entry is there where its gate is
 -- not 0.
-use Rattle.std.specs.Prelude.{◌≡◌, ◌⊎◌, ℕ, ◌+◌, ◌-◌, ◌*◌, ◌^◌, ◌<◌, ◌≤◌, Bool, not, ◌||◌, List, [], ◌∷◌, ◌++◌, length}
+use Rattle.std.specs.Prelude.{◌≡◌, ◌≢◌, ◌⊎◌, ℕ, ◌+◌, ◌-◌, ◌*◌, ◌^◌, ◌<◌, ◌≤◌, Bool, not, ◌||◌}
+use Rattle.std.specs.Prelude.{List, [], ◌∷◌, ◌++◌, length}
 use Rattle.std.specs.Prelude.{drop, map, filter, if◌then◌else◌, ◌==◌, true, Option, Some, None}
 use Rattle.std.specs.List.{range_with_len}
 pub use Rattle.tach_media.specs.card_layout.Images.{number_at}
@@ -138,3 +139,10 @@ IsDense r x = (indices r x ≡ []) ⊎ ((last : ℕ) × IsRun r x last)
 -- the last n of a list, or all where there are fewer
 abbrev pub newest_of : {X : Type 0} → ℕ → List X → List X
 newest_of n l = drop (length l - n) l
+
+-- THE HEAD OF AN ENTRY that is written at once: its gate lies in it and is not 0, and it is no longer than an entry
+pub record IsHead (r : Shape) (head : List ℕ) : Type 0 where
+  pub gate : r.gate + 4 ≤ length head
+  pub width : length head ≤ r.width
+  pub short : length head ≤ 254
+  pub opens : gate_number r head ≢ 0

@@ -1,16 +1,17 @@
-ghost use Rattle.std.specs.Prelude.{◌≡◌, ◌≢◌, ◌≤◌, ◌<◌, ◌+◌, ◌^◌, min, length, take, drop, IfOk, OnOk, IfSome, is_err};
+ghost use Rattle.std.specs.Prelude.{◌≡◌, ◌≤◌, ◌<◌, ◌+◌, ◌^◌, min, length, take, drop, IfOk, OnOk, IfSome, is_err};
 ghost use Rattle.std.specs.Prelude.{true, IsTrue, IsFalse, IfErr, IsOk, ◌⊎◌, ◌*◌, ◌-◌};
 ghost use Rattle.std.specs.List.{range_with_len};
 ghost use Rattle.tach_media.specs.Medium.{bytes_at, LeavesOnly, Reads, HasCause, LiesInside, IsSettled, Rose};
-ghost use Rattle.tach_media.specs.Medium.{last_count};
+ghost use Rattle.tach_media.specs.Medium.{last_count, Alters};
 ghost use Rattle.tach_media.specs.Plan.{PutsAll, PutsBy, more};
 ghost use Rattle.gated_ring.specs.Ring.{IsShape, FitsIn, size_of, is_pointer_width, place_of, gate_of, gate_bytes};
-ghost use Rattle.gated_ring.specs.Ring.{gate_number, is_there, IsNewest, IsAtPointer, pointer, PointsInside, number_at};
-ghost use Rattle.gated_ring.specs.Ring.{next, taken};
+ghost use Rattle.gated_ring.specs.Ring.{is_there, IsNewest, IsAtPointer, pointer, PointsInside, number_at};
+ghost use Rattle.gated_ring.specs.Ring.{next, taken, IsHead};
 ghost use Rattle.gated_ring.specs.Change.{adding_writes, replacing_writes, IsAdding, IsAdded, IsReplaced};
-ghost use Rattle.gated_ring.specs.Change.{IsReplacingEntry, IsClosed, IsSet, OrUnwritten};
+ghost use Rattle.gated_ring.specs.Change.{IsReplacingEntry, IsClosed, IsSet, OrUnwritten, TookNext, TookBehind};
 ghost use Rattle.gated_ring.specs.Plans.{some_piece, shut_pieces, body_pieces, pointer_pieces, gate_pieces};
 ghost use Rattle.gated_ring.specs.Plans.{placing_pieces, adding_pieces, exchanging_pieces, replacing_pieces};
+ghost use Rattle.gated_ring.specs.Plans.{IsPlannedHead, TakesEntry};
 ghost use Rattle.gated_ring.specs.Searching.{IsNewestOf};
 
 use crate::{RingFault, Room};
@@ -346,13 +347,8 @@ impl Ring {
     )
         requires index { room.now.index < self.now.count }
         requires pointer { 0 < self.now.pointer_width }
-        requires gate { self.now.gate + 4 ≤ length head.now }
-        requires width { length head.now ≤ self.now.width }
-        requires short { length head.now ≤ B }
-        requires at_once { length head.now ≤ 255 }
-        requires room { length plan.old.pieces + 5 ≤ N }
-        requires from { plan.old.from ≤ self.now.base }
-        requires end { place_of self.now room.now.index + length head.now ≤ plan.old.end }
+        requires head { IsPlannedHead self.now B head.now }
+        requires takes { TakesEntry self.now N room.now.index (length head.now) plan.old }
         ensures plan { plan.new ≡ more plan.old (placing_pieces self.now room.now head.now) }
         ensures length { length plan.new.pieces ≤ length plan.old.pieces + (min self.now.gate 1 + 4) }
     {
@@ -416,23 +412,14 @@ impl Ring {
         requires fits { FitsIn self.old (M.state medium.old) }
         requires writable { LiesInside (M.state medium.old).writable self.old.base (size_of self.old) }
         requires pointer { 0 < self.old.pointer_width }
-        requires gate { self.old.gate + 4 ≤ length head.now }
-        requires width { length head.now ≤ self.old.width }
-        requires short { length head.now ≤ 254 }
-        requires open { gate_number self.old head.now ≢ 0 }
+        requires head { IsHead self.old head.now }
         ensures shape { self.new ≡ self.old }
-        ensures index { IfOk result (λ index.
-            IfSome (M.state medium.old).image (λ x. PointsInside self.old x → index ≡ taken self.old x)) }
-        ensures below { IfOk result (λ index. index < self.old.count) }
+        ensures took { IfOk result (TookNext self.old (M.state medium.old)) }
         ensures puts { IfSome (M.state medium.old).image (PointsInside self.old)
             → PutsBy (M.state medium.old) (M.state medium.new) (is_err result) 1 5 (adding_pieces self.old head.now) }
-        ensures added { OnOk result (IfSome (M.state medium.old).image
-            (λ x. IfSome (M.state medium.new).image (IsAdded self.old head.now x))) }
-        ensures moments { LeavesOnly (M.state medium.old) (M.state medium.new) (IsAdding self.old head.now) }
-        ensures settled { OnOk result ((M.state medium.new).clock < last_count → IsSettled (M.state medium.new)) }
+        ensures alters { Alters result (M.state medium.old) (M.state medium.new) 5 (IsAdded self.old head.now)
+            (IsAdding self.old head.now) }
         ensures clock { OnOk result (Rose (M.state medium.old).clock (M.state medium.new).clock) }
-        ensures cause { HasCause (M.state medium.old) (M.state medium.new) (is_err result) }
-        ensures most { (M.state medium.new).clock ≤ (M.state medium.old).clock + 5 }
         ensures writes { IfSome (M.state medium.old).image
             (λ x. PointsInside self.old x
             → (M.state medium.new).clock ≤ (M.state medium.old).clock + adding_writes self.old x) }
@@ -455,21 +442,12 @@ impl Ring {
         requires pointer { 0 < self.old.pointer_width }
         requires last { last < self.old.count }
         requires known { IfSome (M.state medium.old).image (IsAtPointer self.old last) }
-        requires gate { self.old.gate + 4 ≤ length head.now }
-        requires width { length head.now ≤ self.old.width }
-        requires short { length head.now ≤ 254 }
-        requires open { gate_number self.old head.now ≢ 0 }
+        requires head { IsHead self.old head.now }
         ensures shape { self.new ≡ self.old }
-        ensures index { IfOk result (λ index. index ≡ next self.old last) }
-        ensures below { IfOk result (λ index. index < self.old.count) }
-        ensures at_pointer { IfOk result (λ index. IfSome (M.state medium.new).image (IsAtPointer self.old index)) }
-        ensures added { OnOk result (IfSome (M.state medium.old).image
-            (λ x. IfSome (M.state medium.new).image (IsAdded self.old head.now x))) }
-        ensures moments { LeavesOnly (M.state medium.old) (M.state medium.new) (IsAdding self.old head.now) }
-        ensures settled { OnOk result ((M.state medium.new).clock < last_count → IsSettled (M.state medium.new)) }
+        ensures took { IfOk result (TookBehind self.old last (M.state medium.new)) }
+        ensures alters { Alters result (M.state medium.old) (M.state medium.new) 5 (IsAdded self.old head.now)
+            (IsAdding self.old head.now) }
         ensures clock { OnOk result (Rose (M.state medium.old).clock (M.state medium.new).clock) }
-        ensures cause { HasCause (M.state medium.old) (M.state medium.new) (is_err result) }
-        ensures most { (M.state medium.new).clock ≤ (M.state medium.old).clock + 5 }
         ensures writes { IfSome (M.state medium.old).image
             (λ x. (M.state medium.new).clock ≤ (M.state medium.old).clock + adding_writes self.old x) }
     {
@@ -497,21 +475,13 @@ impl Ring {
         requires fits { FitsIn self.old (M.state medium.old) }
         requires writable { LiesInside (M.state medium.old).writable (place_of self.old index) (length head.now) }
         requires index { index < self.old.count }
-        requires gate { self.old.gate + 4 ≤ length head.now }
-        requires width { length head.now ≤ self.old.width }
-        requires short { length head.now ≤ 254 }
-        requires open { gate_number self.old head.now ≢ 0 }
+        requires head { IsHead self.old head.now }
         ensures shape { self.new ≡ self.old }
         ensures puts { PutsBy (M.state medium.old) (M.state medium.new) (is_err result) 1 4
             (replacing_pieces self.old index head.now) }
-        ensures replaced { OnOk result (IfSome (M.state medium.old).image
-            (λ x. IfSome (M.state medium.new).image (IsReplaced self.old index head.now x))) }
-        ensures moments { LeavesOnly (M.state medium.old) (M.state medium.new)
-            (IsReplacingEntry self.old index head.now) }
-        ensures settled { OnOk result ((M.state medium.new).clock < last_count → IsSettled (M.state medium.new)) }
+        ensures alters { Alters result (M.state medium.old) (M.state medium.new) 4
+            (IsReplaced self.old index head.now) (IsReplacingEntry self.old index head.now) }
         ensures clock { OnOk result (Rose (M.state medium.old).clock (M.state medium.new).clock) }
-        ensures cause { HasCause (M.state medium.old) (M.state medium.new) (is_err result) }
-        ensures most { (M.state medium.new).clock ≤ (M.state medium.old).clock + 4 }
         ensures writes { IfSome (M.state medium.old).image
             (λ x. (M.state medium.new).clock ≤ (M.state medium.old).clock + replacing_writes self.old x index) }
     {
@@ -554,14 +524,9 @@ impl Ring {
         requires width { offset + length bytes.now ≤ self.old.width }
         requires apart { (offset + length bytes.now ≤ self.old.gate) ⊎ (self.old.gate + 4 ≤ offset) }
         ensures shape { self.new ≡ self.old }
-        ensures set { OnOk result (IfSome (M.state medium.old).image
-            (λ x. IfSome (M.state medium.new).image (IsSet self.old index offset bytes.now x))) }
-        ensures moments { LeavesOnly (M.state medium.old) (M.state medium.new)
-            (OrUnwritten (IsSet self.old index offset bytes.now)) }
-        ensures settled { OnOk result ((M.state medium.new).clock < last_count → IsSettled (M.state medium.new)) }
+        ensures alters { Alters result (M.state medium.old) (M.state medium.new) 1
+            (IsSet self.old index offset bytes.now) (OrUnwritten (IsSet self.old index offset bytes.now)) }
         ensures clock { OnOk result (Rose (M.state medium.old).clock (M.state medium.new).clock) }
-        ensures cause { HasCause (M.state medium.old) (M.state medium.new) (is_err result) }
-        ensures most { (M.state medium.new).clock ≤ (M.state medium.old).clock + 1 }
     {
         medium.write_at(self.place_of(index) + offset, bytes)
     }

@@ -10,7 +10,7 @@ module _ (name : GName) {old new : State} where
   lent_leaves run = record { size = run.size; behind = run.behind; writable = run.writable; layers = ap (λ (l : List Layer). Reference name ∷ l) run.layers; tells = run.tells; later = run.later; since = run.since; now = run.now; keeps = run.keeps }
 
   pub lent_cause : {failed : Bool} → HasCause old new failed → HasCause (lent name old) (lent name new) failed
-  lent_cause cause = record { works = cause.works; broken = cause.broken; faults = cause.faults; fault = cause.fault; breakdowns = cause.breakdowns; breaks = cause.breaks; unbroken = cause.unbroken; already = cause.already; once = cause.once }
+  lent_cause cause = record { works = cause.works; broken = cause.broken; faults = cause.faults; fault = cause.fault; breakdowns = cause.breakdowns; breaks = cause.breaks; unbroken = cause.unbroken; already = cause.already; once = cause.once; tells = record { later = cause.tells.later; told = cause.tells.told } }
 
   pub lent_reads : {failed : Bool} → Reads old new failed → Reads (lent name old) (lent name new) failed
   lent_reads reads = record { same = reads.same; leaves = lent_leaves reads.leaves; clock = reads.clock; cause = lent_cause reads.cause }

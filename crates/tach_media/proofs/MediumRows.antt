@@ -3,7 +3,7 @@ use Rattle.std.proofs.Common.{◌≡◌, refl, List, ℕ, zero, suc, [], ◌∷�
 use Rattle.card_layout.specs.Fields.{IsBytes}
 use Rattle.tach_media.specs.Medium.{put}
 use Rattle.tach_media.specs.Counting.{failed_once}
-use Rattle.tach_media.specs.Log.{image_left, image_after, MightLeave}
+use Rattle.tach_media.specs.Log.{image_left, image_after, MightLeave, BrokenAsBegun}
 use Rattle.tach_media.specs.declared.log.Entry.{Entry}
 use Rattle.tach_media.specs.declared.log.Left.TheVariants.{Before, After, Torn}
 
@@ -29,7 +29,7 @@ torn_five = refl
 
 -- two writes, whose bytes stand one after the other
 abbrev two_writes : List Entry
-two_writes = record { place = 0; len = 1; left = After } ∷ record { place = 4; len = 2; left = After } ∷ []
+two_writes = record { place = 0; len = 1; left = After; broken = 0 } ∷ record { place = 4; len = 2; left = After; broken = 1 } ∷ []
 
 after_two : image_after two_writes (7 ∷ 8 ∷ 9 ∷ []) six ≡ 7 ∷ 1 ∷ 2 ∷ 3 ∷ 8 ∷ 9 ∷ []
 after_two = refl
@@ -60,3 +60,10 @@ next_failure = refl
 
 last_failure : failed_once (record { works = false; faults = 18446744073709551615; breakdowns = 1 }) ≡ record { works = false; faults = 18446744073709551615; breakdowns = 1 }
 last_failure = refl
+
+-- the first was begun on a medium that had not broken down yet, the second on one that had once
+broken_at_second : (n : ℕ) → BrokenAsBegun two_writes 1 n → n ≡ 1
+broken_at_second n had = had
+
+never_at_first : BrokenAsBegun two_writes 0 0
+never_at_first = refl

@@ -3,7 +3,7 @@ use Rattle.std.proofs.Common.{true, sym, ◌≡◌, inl, inr, ⊎_elim, ℕ, Boo
 use Rattle.std.specs.Prelude.{◌+◌, ◌<◌, ◌≤◌, ◌⊎◌, Result, Ok, Err, IfOk, IsErrAnd, OnOk, is_err}
 use Rattle.std.proofs.lemmas.Bool.{cases_lt}
 use Rattle.card_layout.specs.Fields.{IsBytes}
-use Rattle.tach_media.specs.Medium.{State, IsCoherent, LeavesOnly, Reads, Writes, StaysSettled, HasCause, IsSettled, Unchanged, Rose, last_count, most_writes, put, IsPartlyWritten, HoldsBytes}
+use Rattle.tach_media.specs.Medium.{State, IsCoherent, LeavesOnly, Reads, Writes, Alters, StaysSettled, KeepsBroken, HasCause, IsSettled, Unchanged, Rose, last_count, most_writes, put, IsPartlyWritten, HoldsBytes}
 
 -- no call yet
 pub starts : (s : State) (R : List ℕ → List ℕ → Type 0) → LeavesOnly s s R
@@ -82,6 +82,16 @@ image_then o p q f h first next = next ∙ ap (option_map h) first ∙ twice o
     twice None = refl
     twice (Some x) = refl
 
+-- what is told of earlier breakdowns stays, of no call and from run to run
+pub broken_same : (s : State) → KeepsBroken s s
+broken_same s = record { later = omega arith; told = λ t n low told. told }
+
+pub broken_then : {old mid new : State} → KeepsBroken old mid → KeepsBroken mid new → KeepsBroken old new
+broken_then first next = record {
+  later = omega (arith, first.later, next.later);
+  told = λ t n low told. first.told t n low (next.told t n (omega (arith, low, first.later)) told);
+}
+
 -- the cause of an answer after a run that answered Ok
 pub cause_after : {old mid new : State} {failed : Bool} → HasCause old mid false → HasCause mid new failed → HasCause old new failed
 cause_after {old} {mid} {new} {failed} first next = record {
@@ -94,6 +104,7 @@ cause_after {old} {mid} {new} {failed} first next = record {
   unbroken = λ f. next.unbroken f ∙ first.unbroken refl;
   already = λ was. absurd (grind (arith, first.broken was));
   once = λ low. let few = next.once low in let same = first.unbroken refl in omega (arith, few, same);
+  tells = broken_then first.tells next.tells;
 }
 
 -- what is said of a told image
@@ -178,7 +189,7 @@ no_reads s works = record {
   same = λ fine. refl;
   leaves = starts s Unchanged;
   clock = refl;
-  cause = record { works = works; broken = λ was. sym was ∙ works; faults = omega arith; fault = λ f. absurd (cc); breakdowns = omega arith; breaks = λ was f. absurd (cc); unbroken = λ f. refl; already = λ was. refl; once = λ low. omega arith };
+  cause = record { works = works; broken = λ was. sym was ∙ works; faults = omega arith; fault = λ f. absurd (cc); breakdowns = omega arith; breaks = λ was f. absurd (cc); unbroken = λ f. refl; already = λ was. refl; once = λ low. omega arith; tells = broken_same s };
 }
 
 -- reads leave settled what was
@@ -306,3 +317,23 @@ on_ok (Err e) f = tt
 pub ok_gives : {A E P : Type 0} (r : Result A E) → OnOk r P → is_err r ≡ false → P
 ok_gives (Ok a) said fine = said
 ok_gives (Err e) said fine = absurd (cc)
+
+-- what a call does that alters the image, said of another answer that fails where this one does
+pub alters_as : {T E T' E' : Type 0} {r : Result T E} {old new : State} {n : ℕ} {S R : List ℕ → List ℕ → Type 0} (q : Result T' E') → is_err q ≡ is_err r → Alters r old new n S R → Alters q old new n S R
+alters_as {T} {E} {T'} {E'} {r} {old} {new} {n} {S} {R} q same does = record {
+  done = on_ok q (λ fine. ok_gives r does.done (sym same ∙ fine));
+  moments = does.moments;
+  settled = on_ok q (λ fine. ok_gives r does.settled (sym same ∙ fine));
+  cause = subst (HasCause old new) (sym same) does.cause;
+  most = does.most;
+}
+
+-- what a call does that failed
+pub alters_failed : {T E : Type 0} {old new : State} {n : ℕ} {S R : List ℕ → List ℕ → Type 0} (q : Result T E) → is_err q ≡ true → LeavesOnly old new R → HasCause old new true → new.clock ≤ old.clock + n → Alters q old new n S R
+alters_failed {T} {E} {old} {new} {n} {S} {R} q failed moments cause most = record {
+  done = on_ok q (λ fine. absurd (let bad : true ≡ false = sym failed ∙ fine in cc));
+  moments = moments;
+  settled = on_ok q (λ fine. absurd (let bad : true ≡ false = sym failed ∙ fine in cc));
+  cause = subst (HasCause old new) (sym failed) cause;
+  most = most;
+}

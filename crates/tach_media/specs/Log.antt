@@ -37,13 +37,19 @@ abbrev pub bytes_of : List Entry → ℕ
 bytes_of [] = 0
 bytes_of (e ∷ entries) = e.len + bytes_of entries
 
--- one write more
-abbrev pub add : History → ℕ → Left → List ℕ → History
-add h place left bytes = record h {
-  entries = h.entries ++ (record { place = place; len = length bytes; left = left })
+-- one write more, on a medium that had broken down so often
+abbrev pub add : History → ℕ → Left → (broken : ℕ) → List ℕ → History
+add h place left broken bytes = record h {
+  entries = h.entries ++ (record { place = place; len = length bytes; left = left; broken = broken })
       ∷ [];
   written = h.written ++ bytes;
 }
+
+-- the medium had broken down n times as the write behind the first t of these was begun
+abbrev pub BrokenAsBegun : List Entry → (t n : ℕ) → Type 0
+BrokenAsBegun [] t n = ⊥
+BrokenAsBegun (e ∷ entries) zero n = n ≡ e.broken
+BrokenAsBegun (e ∷ entries) (suc t) n = BrokenAsBegun entries t n
 
 -- there is room for a write of so many bytes
 abbrev pub has_room : History → ℕ → Bool

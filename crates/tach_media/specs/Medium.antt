@@ -1,6 +1,7 @@
 -- What a medium tells of itself, and what its calls do to that.
 use Rattle.std.specs.Prelude.{◌≡◌, ◌⊎◌, ℕ, ◌+◌, ◌≤◌, ◌<◌, ◌^◌, ◌-◌, ◌/◌, min, max, ◌&&◌, if◌then◌else◌, Bool, true}
-use Rattle.std.specs.Prelude.{false, not, List, [], ◌∷◌, length, Option, Some, is_some, option_map}
+use Rattle.std.specs.Prelude.{false, not, List, [], ◌∷◌, length, Option, Some, is_some, option_map, IfSome}
+use Rattle.std.specs.Prelude.{Result, OnOk, is_err}
 use Rattle.std.specs.Borrow.{GName}
 pub use Rattle.card_layout.specs.Images.{bytes_at, put, SameOutside}
 use Rattle.card_layout.specs.Fields.{IsBytes}
@@ -25,6 +26,8 @@ pub record State : Type 1 where
   pub works : Bool
   pub faults : ℕ
   pub breakdowns : ℕ
+  -- it tells that it had broken down so often while that many writes were begun, and no more
+  pub broke : ℕ → ℕ → Type 0
   -- through what it is reached, the outermost first
   pub layers : List Layer
 
@@ -38,6 +41,8 @@ pub record IsCoherent (s : State) : Type 0 where
   -- this moment is one of those since an earlier one
   pub counts_now : (t : ℕ) (x : List ℕ) → t ≤ s.clock → s.may_leave x → s.left_since t x
   pub earlier : (t u : ℕ) (x : List ℕ) → t ≤ u → u ≤ s.clock → s.left_since u x → s.left_since t x
+  -- it never tells of more breakdowns than there were
+  pub broken : (t n : ℕ) → s.broke t n → n ≤ s.breakdowns
 
 -- each image that it tells, and each that a stop may leave or might have left, is of bytes
 pub record HoldsBytes (s : State) : Type 0 where
@@ -92,6 +97,12 @@ pub record LeavesOnly (old new : State) (R : List ℕ → List ℕ → Type 0) :
 abbrev pub IsSettled : State → Type 0
 IsSettled s = (c : List ℕ) → s.left_since s.clock c → s.image ≡ Some c
 
+-- WHAT IT TELLS OF EARLIER BREAKDOWNS STAYS: its clock doesn't go back, and how often it had broken down while fewer
+-- writes were begun than before it tells as it told it.
+pub record KeepsBroken (old new : State) : Type 0 where
+  pub later : old.clock ≤ new.clock
+  pub told : (t n : ℕ) → t < old.clock → new.broke t n → old.broke t n
+
 -- What an answer says of the medium and its counts. `failed` is whether it is `Failed`.
 pub record HasCause (old new : State) (failed : Bool) : Type 0 where
   pub works : new.works ≡ not failed
@@ -105,6 +116,7 @@ pub record HasCause (old new : State) (failed : Bool) : Type 0 where
   pub already : old.works ≡ false → new.breakdowns ≡ old.breakdowns
   -- and it is no more than one, until that count stands at its last value
   pub once : new.breakdowns < last_count → new.breakdowns ≤ old.breakdowns + 1
+  pub tells : KeepsBroken old new
 
 -- Over calls, however they ended, and calls of `revive`: so many of them at least broke the medium, or that count
 -- stands at its last value.
@@ -142,6 +154,17 @@ pub record Writes (old new : State) (failed : Bool) (least most : ℕ) (f : List
   pub clock : new.clock ≤ old.clock + most
   pub cause : HasCause old new failed
 
+-- WHAT A CALL DOES that alters the image: after Ok the image is so related (S) to the one before, and a stop leaves
+-- that image and no other; a stop at a moment of the call leaves an image that is so related (R) to the one before. It
+-- failed exactly where that was answered, and began so many writes at most.
+pub record Alters {T E : Type 0} (result : Result T E) (old new : State) (most_begun : ℕ)
+    (S R : List ℕ → List ℕ → Type 0) : Type 0 where
+  pub done : OnOk result (IfSome old.image (λ x. IfSome new.image (S x)))
+  pub moments : LeavesOnly old new R
+  pub settled : OnOk result (new.clock < last_count → IsSettled new)
+  pub cause : HasCause old new (is_err result)
+  pub most : new.clock ≤ old.clock + most_begun
+
 -- a medium reached through a reference
 abbrev pub lent : GName → State → State
 lent name s = record s { layers = Reference name ∷ s.layers }
@@ -154,6 +177,7 @@ lent_coherent name s whole = record {
   only = whole.only;
   counts_now = whole.counts_now;
   earlier = whole.earlier;
+  broken = whole.broken;
 }
 
 -- as if the medium worked: a `revive` that fails is a breakdown too

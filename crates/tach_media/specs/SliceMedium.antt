@@ -17,6 +17,7 @@ slice_state bytes = record {
   works = true;
   faults = 0;
   breakdowns = 0;
+  broke = λ t n. n ≡ 0;
   layers = [];
 }
 
@@ -37,4 +38,5 @@ slice_coherent bytes = record {
   only = λ x works left. left;
   counts_now = λ t x le left. left;
   earlier = λ t u x le high left. left;
+  broken = λ t n told. omega (arith, told);
 }

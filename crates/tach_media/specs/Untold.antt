@@ -16,6 +16,7 @@ untold_state size writable clock works faults
       works = works;
       faults = faults;
       breakdowns = breakdowns;
+      broke = λ t n. ⊥;
       layers = [];
     }
 
@@ -28,4 +29,5 @@ untold size writable clock works faults breakdowns = record {
   only = λ x w left. absurd left;
   counts_now = λ t x le left. left;
   earlier = λ t u x le high left. left;
+  broken = λ t n told. absurd told;
 }

@@ -22,6 +22,8 @@ pub struct Entry {
     pub place: u32,
     pub len: u32,
     pub left: Left,
+    /// How often the medium had broken down when it began.
+    pub broken: u64,
 }
 
 /// An image with all the writes that were begun on it, and room for so many.
@@ -132,11 +134,12 @@ impl Log {
             && self.written.len() + len <= self.most_bytes as usize
     }
 
-    /// Begins a write, of which so much is done. Where there is no room for it, nothing is.
-    pub fn write(&mut self, place: u32, bytes: &[u8], left: Left) -> bool
+    /// Begins a write, of which so much is done, on a medium that had broken down so often. Where there is no room for
+    /// it, nothing is.
+    pub fn write(&mut self, place: u32, bytes: &[u8], left: Left, broken: u64) -> bool
         requires { place + length bytes.now ≤ length (image_of self.old) }
         ensures room { result ≡ has_room self.old (length bytes.now) }
-        ensures begun { OnTrue result (self.new ≡ add self.old place left bytes.now) }
+        ensures begun { OnTrue result (self.new ≡ add self.old place left broken bytes.now) }
         ensures full { OnFalse result (self.new ≡ self.old) }
         ensures whole { bytes_of self.old.entries ≡ length self.old.written }
         ensures bytes { IsBytes (image_of self.old) }
@@ -149,7 +152,12 @@ impl Log {
         append(
             &mut self.entries,
             &mut self.written,
-            Entry { place, len, left },
+            Entry {
+                place,
+                len,
+                left,
+                broken,
+            },
             bytes,
         );
         apply(&mut self.image, place as usize, bytes, left);

@@ -1,9 +1,8 @@
-ghost use Rattle.std.specs.Prelude.{◌≡◌, ◌↔◌, ◌⊎◌, ◌<◌, ◌≤◌, ◌^◌, ◌+◌, length, min, true, false, [], IfOk, IfSome};
-ghost use Rattle.std.specs.Prelude.{IsErr, IsOk, IsSome, OnOk, option_map, find, is_err, ◌==◌};
+ghost use Rattle.std.specs.Prelude.{◌≡◌, ◌<◌, ◌≤◌, ◌^◌, ◌+◌, length, min, true, [], IfOk, IfSome};
+ghost use Rattle.std.specs.Prelude.{IsOk, OnOk, option_map, find, is_err, ◌==◌};
 ghost use Rattle.tach_media.specs.Medium.{IsNew, bytes_at, put, last_count, LeavesOnly, Reads, IsSettled, HasCause};
 ghost use Rattle.tach_media.specs.Medium.{IsPartlyWritten, Rose, Unchanged, most_writes, revivable};
-ghost use Rattle.tach_media.specs.Log.{has_room};
-ghost use Rattle.tach_media.specs.MemMedium.{memory_state, coherent, next_stop, read_fails, write_fails, log_after};
+ghost use Rattle.tach_media.specs.MemMedium.{memory_state, coherent, read_fails, MemWrote};
 ghost use Rattle.tach_media.specs.MemMedium.{counts_after};
 
 use crate::{Counts, Failed, Left, Log, Medium, Memory, Stop};
@@ -21,11 +20,13 @@ pub struct MemMedium {
 }
 
 impl Model for MemMedium {
-    ghost use Rattle.tach_media.specs.MemMedium.{MemView};
+    ghost use Rattle.tach_media.specs.MemMedium.{MemView, AreCounted};
 
     ghost Value = { MemView };
 
     ghost view = { λ m. record { log = m.log; stops = m.stops.items; calls = m.calls; counts = m.counts } };
+
+    ghost invariant = { λ m. AreCounted m.log m.counts };
 }
 
 impl MemMedium {
@@ -118,10 +119,7 @@ impl Medium for MemMedium {
             (is_err result) }
 
         // It fails at a stop, on a broken medium, and where the log has no room.
-        ensures fails { is_err result ≡ write_fails self.old (length bytes.now) }
-        ensures log { self.new.log ≡ log_after self.old place bytes.now }
-        ensures counts { self.new.counts ≡ counts_after self.old.counts (is_err result) }
-        ensures calls { (self.new.calls ≡ min (self.old.calls + 1) last_count) × (self.new.stops ≡ self.old.stops) }
+        ensures wrote { MemWrote self.old self.new place bytes.now (is_err result) }
     {
         let stop = stop_at(&self.stops, self.calls);
         self.calls = self.calls.saturating_add(1);
@@ -129,7 +127,9 @@ impl Medium for MemMedium {
             self.counts.fail();
             return Err(Failed);
         }
-        let begun = self.log.write(place, bytes, stop.unwrap_or(Left::After));
+        let broken = self.counts.breakdowns;
+        let left = stop.unwrap_or(Left::After);
+        let begun = self.log.write(place, bytes, left, broken);
         if stop.is_some() || !begun {
             self.counts.fail();
             return Err(Failed);

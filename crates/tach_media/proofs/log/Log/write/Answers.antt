@@ -8,7 +8,7 @@ use Rattle.tach_media.proofs.log.Log.write.Goals as goal
 pub invariant_of-self : goal.invariant_of-self
 invariant_of-self c =
     let before = c.self.inside in
-    let entry : Entry = record { place = c.args.place; len = length c.args.bytes.now; left = c.args.left } in
+    let entry : Entry = record { place = c.args.place; len = length c.args.bytes.now; left = c.args.left; broken = c.args.broken } in
     let same_len : before.image.len ≡ length c.apply.new.image = omega (arith, c.apply.auto.image, c.deref_mut.ensures.len) in
     let applied : c.apply.new.image ≡ image_left c.args.left c.args.place c.args.bytes.now before.image.items = c.apply.ensures ∙ ap (λ (l : List ℕ). image_left c.args.left c.args.place c.args.bytes.now l) c.deref_mut.ensures.value in
     let kept = image_kept before.entries.items entry c.args.bytes.now before.written.items before.start.items before.image.items c.apply.new.image before.image.len same_len applied c.self.invariant.now c.self.invariant.whole refl in
