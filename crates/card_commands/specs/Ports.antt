@@ -36,6 +36,7 @@ port_coherent app s whole = record {
   only = whole.only;
   counts_now = whole.counts_now;
   earlier = whole.earlier;
+  broken = whole.broken;
 }
 
 -- the file in which a place lies, where the first of the files begins at this base

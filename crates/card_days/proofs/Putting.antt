@@ -2,7 +2,7 @@
 use Rattle.std.proofs.Common.{◌≡◌, ⊎_elim, inl, inr, ℕ, Bool, List, length, IfSome, option_map, refl, ◌∙◌, ap, subst, arith}
 use Rattle.std.specs.Prelude.{◌≤◌}
 use Rattle.tach_media.specs.Medium.{State, Writes, HasCause, IsSettled}
-use Rattle.tach_media.proofs.Runs.{after_reads, goes_same, reads_then, reads_writes, settled_then}
+use Rattle.tach_media.proofs.Runs.{broken_then, after_reads, goes_same, reads_then, reads_writes, settled_then}
 use Rattle.tach_media.specs.Plan.{Piece, PutsAll, PutsBy}
 use Rattle.tach_media.proofs.Plans.{puts_as}
 use Rattle.card_days.specs.Steps.{IsIdle, Looks}
@@ -19,6 +19,7 @@ idle_cause {old} {mid} {new} {failed} idle next = record {
   unbroken = λ f. next.unbroken f ∙ idle.breakdowns;
   already = λ was. next.already (idle.works ∙ was) ∙ idle.breakdowns;
   once = λ low. let few = next.once low in omega (arith, idle.breakdowns, few);
+  tells = broken_then idle.tells next.tells;
 }
 
 idle_settled : {old mid : State} → IsIdle old mid → IsSettled old → IsSettled mid
@@ -61,6 +62,7 @@ looks_then (inl first) (inr idle) = inl (record {
     unbroken = λ f. idle.breakdowns ∙ first.cause.unbroken f;
     already = λ was. idle.breakdowns ∙ first.cause.already was;
     once = λ low. let same = first.cause.unbroken refl in omega (arith, idle.breakdowns, same);
+    tells = broken_then first.cause.tells idle.tells;
   };
 })
 looks_then (inr idle) (inl next) = inl (record { same = λ fine. next.same fine ∙ idle.image; leaves = goes_same idle.leaves next.leaves; clock = next.clock ∙ idle.clock; cause = idle_cause idle next.cause })
@@ -71,6 +73,7 @@ looks_then (inr first) (inr next) = inr (record {
   works = next.works ∙ first.works;
   faults = next.faults ∙ first.faults;
   breakdowns = next.breakdowns ∙ first.breakdowns;
+  tells = broken_then first.tells next.tells;
 })
 
 -- the plan is that of the image, where it is told

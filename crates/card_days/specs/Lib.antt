@@ -1,3 +1,4 @@
+pub mod Calls
 pub mod Moments
 pub mod Steps
 pub mod Trim

@@ -1,6 +1,6 @@
 -- The newest end of a string, as it was read.
-use Rattle.std.specs.Prelude.{◌≡◌, ℕ, ◌+◌, ◌≤◌, ◌&&◌, List, Bool, nat_lt, take}
-use Rattle.tach_media.specs.Medium.{bytes_at}
+use Rattle.std.specs.Prelude.{◌≡◌, ℕ, ◌+◌, ◌≤◌, ◌&&◌, List, Bool, nat_lt, take, IfSome}
+use Rattle.tach_media.specs.Medium.{bytes_at, State}
 use Rattle.card_model.specs.Image.{StringShape, IsPointer, oldest_pointer, newest_pointer, string_of, turned, at}
 use Rattle.card_days.specs.declared.head.RecordHead.{RecordHead}
 use Rattle.card_days.specs.declared.rear.TheConstants.{BLOCK}
@@ -28,3 +28,15 @@ pub record IsRear (r : StringShape) (v : Rear) (x : List ℕ) : Type 0 where
   pub newest : IsPointer r.size (newest_pointer r x) → v.newest ≡ newest_pointer r x
   pub head : head_bytes v.head ≡ take 12 (turned v.newest (string_of r x))
   pub block : IsBlock r v.block x
+
+-- THE ENDS OF THE STRING are known: both are pointers, and where those of the image are, these are they
+pub record EndsAreKnown (r : StringShape) (oldest newest : ℕ) (U : State) : Type 0 where
+  pub start : IsPointer r.size oldest
+  pub end : IsPointer r.size newest
+  pub oldest_is : IfSome U.image (λ x. IsPointer r.size (oldest_pointer r x) → oldest ≡ oldest_pointer r x)
+  pub newest_is : IfSome U.image (λ x. IsPointer r.size (newest_pointer r x) → newest ≡ newest_pointer r x)
+
+-- A BLOCK IS KNOWN: it lies in the string, and its bytes are those of the image
+pub record BlockIsKnown (r : StringShape) (block : Block) (U : State) : Type 0 where
+  pub inside : block.place + BLOCK ≤ r.size
+  pub bytes : IfSome U.image (IsBlock r block)

@@ -2,7 +2,7 @@
 use Rattle.std.specs.Prelude.{◌≡◌, ◌⊎◌, false, ℕ, ◌+◌, ◌-◌, ◌<◌, ◌≤◌, ◌≢◌, List, [], ◌∷◌, length, take, drop, nat_le}
 use Rattle.std.specs.Prelude.{◌==◌, if◌then◌else◌}
 use Rattle.tach_media.specs.Medium.{State, Reads, LeavesOnly, Unchanged, put, SameOutside, IsPartlyWritten, IsSettled}
-use Rattle.tach_media.specs.Medium.{last_count}
+use Rattle.tach_media.specs.Medium.{last_count, KeepsBroken}
 use Rattle.card_model.specs.Bytes.{two_bytes}
 use Rattle.card_model.specs.Days.{Day, total}
 use Rattle.card_model.specs.Changes.{with_newest, with_km}
@@ -90,6 +90,7 @@ pub record IsIdle (old new : State) : Type 0 where
   pub works : new.works ≡ old.works
   pub faults : new.faults ≡ old.faults
   pub breakdowns : new.breakdowns ≡ old.breakdowns
+  pub tells : KeepsBroken old new
 
 -- a call that reads, or makes no call
 abbrev pub Looks : (old new : State) → Type 0

@@ -1,10 +1,10 @@
 //! The newest end of a string, which is read in blocks.
 ghost use Rattle.std.specs.Prelude.{◌≡◌, ◌≤◌, ◌+◌, ◌-◌, true, IfOk, IfSome, is_err};
 ghost use Rattle.tach_media.specs.Medium.{Reads, bytes_at};
-ghost use Rattle.card_model.specs.Image.{IsPointer, IsStringShape, oldest_pointer, newest_pointer};
+ghost use Rattle.card_model.specs.Image.{IsPointer, IsStringShape};
 ghost use Rattle.card_days.specs.Heads.{head_bytes};
 ghost use Rattle.card_days.specs.Moments.{FileFitsIn};
-ghost use Rattle.card_days.specs.Rears.{head_later, IsBlock, IsRear, LiesOn};
+ghost use Rattle.card_days.specs.Rears.{head_later, IsBlock, IsRear, LiesOn, BlockIsKnown, EndsAreKnown};
 ghost use Rattle.card_days.specs.declared.rear.TheConstants.{BLOCK};
 
 use crate::circle::Circle;
@@ -103,8 +103,7 @@ impl Circle {
         requires shape { IsStringShape self.now }
         requires pointer { IsPointer self.now.size place }
         requires whole { place + 12 ≤ self.now.size }
-        requires inside { block.place + BLOCK ≤ self.now.size }
-        requires bytes { IfSome (M.state medium.old).image (IsBlock self.now block) }
+        requires block { BlockIsKnown self.now block (M.state medium.old) }
         ensures inside { IfOk result (λ b. b.place + BLOCK ≤ self.now.size) }
         ensures from { IfOk result (λ b. b.place ≤ place) }
         ensures to { IfOk result (λ b. place + 12 ≤ b.place + BLOCK) }
@@ -128,14 +127,8 @@ impl Circle {
         requires works { (M.state medium.old).works ≡ true }
         requires fits { FileFitsIn self.now (M.state medium.old) }
         requires shape { IsStringShape self.now }
-        requires start { IsPointer self.now.size oldest }
-        requires end { IsPointer self.now.size newest }
-        requires inside { block.place + BLOCK ≤ self.now.size }
-        requires oldest { IfSome (M.state medium.old).image
-            (λ x. IsPointer self.now.size (oldest_pointer self.now x) → oldest ≡ oldest_pointer self.now x) }
-        requires newest { IfSome (M.state medium.old).image
-            (λ x. IsPointer self.now.size (newest_pointer self.now x) → newest ≡ newest_pointer self.now x) }
-        requires bytes { IfSome (M.state medium.old).image (IsBlock self.now block) }
+        requires ends { EndsAreKnown self.now oldest newest (M.state medium.old) }
+        requires block { BlockIsKnown self.now block (M.state medium.old) }
         ensures lies { IfOk result (LiesOn self.now) }
         ensures known { IfOk result (λ v. IfSome (M.state medium.new).image (IsRear self.now v)) }
         ensures reads { Reads (M.state medium.old) (M.state medium.new) (is_err result) }

@@ -4,7 +4,7 @@ use Rattle.std.specs.Prelude.{◌⊎◌}
 use Rattle.card_layout.proofs.Images.{outside_then}
 use Rattle.card_layout.specs.declared.files.Application.{Application}
 use Rattle.tach_media.specs.Medium.{State, HasCause, Unchanged}
-use Rattle.tach_media.proofs.Runs.{weaken, goes_on, told_too, cause_after, starts, where_told, at_image}
+use Rattle.tach_media.proofs.Runs.{weaken, goes_on, told_too, broken_same, broken_then, cause_after, starts, where_told, at_image}
 use Rattle.card_days.specs.card_model.Days.{Day}
 use Rattle.card_days.specs.Steps.{IsIdle}
 use Rattle.card_validity.specs.card_image.Fields.{day_string}
@@ -31,6 +31,7 @@ idle_cause {old} {mid} {new} {failed} idle next = record {
   unbroken = λ f. next.unbroken f ∙ idle.breakdowns;
   already = λ was. next.already (idle.works ∙ was) ∙ idle.breakdowns;
   once = λ low. let few = next.once low in omega (arith, idle.breakdowns, few);
+  tells = broken_then idle.tells next.tells;
 }
 
 cause_idle : {old mid new : State} → HasCause old mid false → IsIdle mid new → HasCause old new false
@@ -44,6 +45,7 @@ cause_idle {old} {mid} {new} first idle = record {
   unbroken = λ f. idle.breakdowns ∙ first.unbroken f;
   already = λ was. idle.breakdowns ∙ first.already was;
   once = λ low. let same = first.unbroken refl in omega (arith, idle.breakdowns, same);
+  tells = broken_then first.tells idle.tells;
 }
 
 idle_then : {old mid new : State} → IsIdle old mid → IsIdle mid new → IsIdle old new
@@ -54,6 +56,7 @@ idle_then {old} {mid} {new} first next = record {
   works = next.works ∙ first.works;
   faults = next.faults ∙ first.faults;
   breakdowns = next.breakdowns ∙ first.breakdowns;
+  tells = broken_then first.tells next.tells;
 }
 
 cause_then : {old mid new : State} {failed : Bool} → MayCause old mid false → MayCause mid new failed → MayCause old new failed
@@ -71,7 +74,7 @@ pub called_last : {old mid late new : State} {failed : Bool} → MayCause old mi
 called_last first next last = called_then (cause_then first next) last
 
 pub idle : (s : State) → IsIdle s s
-idle s = record { image = refl; leaves = starts s Unchanged; clock = refl; works = refl; faults = refl; breakdowns = refl }
+idle s = record { image = refl; leaves = starts s Unchanged; clock = refl; works = refl; faults = refl; breakdowns = refl; tells = broken_same s }
 
 -- ---- parts
 

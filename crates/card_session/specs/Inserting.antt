@@ -1,19 +1,28 @@
 -- What an insertion makes of a card, and what is left of it at each moment (profile).
-use Rattle.std.specs.Prelude.{◌≡◌, ◌≢◌, ◌⊎◌, ℕ, ◌+◌, ◌/◌, ◌<◌, List, [], ◌∷◌, length, nat_eq, nat_lt, All}
-use Rattle.std.specs.Prelude.{if◌then◌else◌}
+use Rattle.std.specs.Prelude.{◌≡◌, ◌≢◌, ◌⊎◌, ℕ, ◌+◌, ◌/◌, ◌^◌, ◌<◌, ◌≤◌, List, [], ◌∷◌, length, nat_eq, nat_lt, All}
+use Rattle.std.specs.Prelude.{if◌then◌else◌, Some, None, false, Result, IfSome, IsOk}
 use Rattle.activity_codec.specs.declared.values.Activity.TheVariants.{Rest}
 use Rattle.activity_codec.specs.declared.entries.Entry.{Entry}
 use Rattle.card_layout.specs.declared.files.Application.{Application}
+use Rattle.card_layout.specs.Application.{IsApplication}
 use Rattle.card_layout.specs.Files.{place_of, size_of}
-use Rattle.tach_media.specs.Medium.{State, LiesInside, IsPartlyWritten, put}
+use Rattle.tach_media.specs.Medium.{State, LiesInside, IsPartlyWritten, put, LeavesOnly, Unchanged, Reads, HasCause}
+use Rattle.tach_media.specs.Medium.{IsSettled, last_count}
 use Rattle.tacho_types.specs.declared.texts.Registration.{Registration}
 use Rattle.tacho_types.specs.Numbers.{time_bytes}
 use Rattle.card_files.specs.declared.card_event.CardEvent.{CardEvent}
 use Rattle.card_files.specs.declared.current_use.CurrentUse.{CurrentUse}
 use Rattle.card_files.specs.Noting.{HoldsEvent, IsNotingEvent, IsEventNoted}
+use Rattle.card_days.specs.card_model.declared.lengths.TheConstants.{DAYS_MOST}
 use Rattle.card_days.specs.card_model.Days.{Day}
 use Rattle.card_days.specs.card_model.Changes.{Shorter, date_of, trimmed}
-use Rattle.card_validity.specs.card_image.Fields.{file, current_use, session_time}
+use Rattle.card_validity.specs.card_image.Fields.{file, current_use, session_time, end_mark}
+use Rattle.card_validity.specs.card_image.Judging.{first_bad_file, IsValid}
+use Rattle.card_validity.specs.card_image.View.{card_view}
+use Rattle.card_validity.specs.declared.fault.InsertFault.{InsertFault}
+use Rattle.card_validity.specs.Faults.{IfNotValid, IfTimeOverlap, has_failed}
+use Rattle.card_validity.specs.Judged.{TellsSizes}
+use Rattle.card_session.specs.declared.insert.Inserted.{Inserted}
 use Rattle.card_session.specs.declared.words.TheConstants.{LATEST_MINUTE}
 use Rattle.card_session.specs.Vehicles.{Vehicles}
 use Rattle.card_session.specs.Books.{Book, mark_of, with_entry, closed}
@@ -274,3 +283,49 @@ IsTaken s next current odometer owed now x y = Takes s current x
 abbrev pub IsTaking : Session → CurrentUse → (odometer : ℕ) → (owed : List Entry) → (now : ℕ) → List ℕ → List ℕ → Type 0
 IsTaking s current odometer owed now x c = Takes s current x
     → IsCardInserting s.application s.registration odometer owed now x c
+
+-- ---- the call
+
+-- A CARD MAY BE PUT IN by these sizes: they are of the formats, a session may be opened on it, and it tells them
+pub record CardMayBePutIn (app : Application) (x : State) : Type 0 where
+  pub sizes : IsApplication app
+  pub card : MayInsert app x
+  pub told : IfSome x.image (TellsSizes app)
+
+-- AND AT THIS SECOND, at this odometer, with these entries owed: they are within the bounds of the formats
+pub record MayBePutIn (now odometer : ℕ) (entries : List Entry) : Type 0 where
+  pub some : 1 ≤ now
+  pub last : now / 60 < LATEST_MINUTE
+  pub fits : odometer < 2 ^ 24
+  pub owed : AreOwed now entries
+
+-- THE CARD IS ACCEPTED: it was valid, of no later time; its image is that of a card that is inserted; the session is
+-- its own, of this vehicle, with no odometer yet; and of the owed entries those were replayed that it lacked
+pub record CardAccepted (app : Application) (registration : Registration) (odometer : ℕ) (owed : List Entry) (now : ℕ)
+    (X Y : State) (i : Inserted) : Type 0 where
+  pub valid : IfSome X.image (λ x. IsValid app x × ((card_view app x).stored ≤ now))
+  pub inserted : IfSome X.image (λ x. IfSome Y.image (IsCardInserted app registration odometer owed now x))
+  pub session : IfSome X.image (λ x. IfSome Y.image (IsSession i.session))
+  pub value : (i.session.application ≡ app) × (i.session.registration ≡ registration) × (i.session.odometer ≡ None)
+  pub few : i.replayed ≤ length owed
+  pub replayed : IfSome X.image (λ x. i.replayed ≡ replayed_count (session_time app x) (end_mark app x) owed)
+
+-- THE CARD IS REFUSED: it is not valid, and this is its first bad place; or its stored time is later than now; in both
+-- cases it was only read
+pub record CardRefused (app : Application) (now : ℕ) (X Y : State) (fault : InsertFault) : Type 0 where
+  pub bad : IfNotValid fault (λ fid place. IfSome X.image (λ x. first_bad_file app x ≡ Some (fid, place)))
+  pub late : IfTimeOverlap fault (λ stored at. (at ≡ now) × (now < stored)
+      × IfSome X.image (λ x. IsValid app x × (stored ≡ (card_view app x).stored)))
+  pub bad_reads : IfNotValid fault (λ fid place. Reads X Y false)
+  pub late_reads : IfTimeOverlap fault (λ stored at. Reads X Y false)
+
+-- WHAT IT LEAVES: each image that a stop may leave is one of a card that is being inserted; it was written only where
+-- its stored time is not later than now; where it was accepted a stop leaves it as it is; a call on it failed exactly
+-- where that was answered; and no more writes were begun than these
+pub record LeavesInserting (app : Application) (registration : Registration) (odometer : ℕ) (owed : List Entry)
+    (now : ℕ) (result : Result Inserted InsertFault) (X Y : State) : Type 0 where
+  pub moments : LeavesOnly X Y (IsCardInserting app registration odometer owed now)
+  pub in_time : LeavesOnly X Y Unchanged ⊎ IfSome X.image (λ x. (card_view app x).stored ≤ now)
+  pub settled : IsOk result → Y.clock < last_count → IsSettled Y
+  pub cause : HasCause X Y (has_failed result)
+  pub most : Y.clock ≤ X.clock + (DAYS_MOST + 84)

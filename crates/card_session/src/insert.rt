@@ -1,34 +1,30 @@
 //! The insertion of a driver card (profile): it is judged, what a session left that was not closed is repaired, and a
 //! session is opened.
-ghost use Rattle.std.specs.Prelude.{min, max, false, ◌≡◌, ◌≢◌, ◌⊎◌, ◌≤◌, ◌<◌, ◌+◌, ◌*◌, ◌/◌, ◌^◌, length, All, Some};
-ghost use Rattle.std.specs.Prelude.{None, List, ℕ, IfOk, IfErr, IfSome, IfNone, IsOk, OnOk, is_err, option_map};
+ghost use Rattle.std.specs.Prelude.{min, ◌≡◌, ◌≢◌, ◌⊎◌, ◌≤◌, ◌<◌, ◌+◌, ◌*◌, ◌/◌, ◌^◌, length, All, Some};
+ghost use Rattle.std.specs.Prelude.{None, List, ℕ, IfOk, IfErr, IfSome, IfNone, OnOk, is_err, option_map};
 ghost use Rattle.activity_codec.specs.declared.values.Activity.TheVariants.{Rest};
 ghost use Rattle.card_layout.specs.Application.{IsApplication};
 ghost use Rattle.card_layout.specs.Files.{place_of};
 ghost use Rattle.card_layout.specs.declared.files.Application.{Application};
-ghost use Rattle.tach_media.specs.Medium.{LeavesOnly, Unchanged, Reads, HasCause, IsPartlyWritten, IsSettled};
+ghost use Rattle.tach_media.specs.Medium.{LeavesOnly, HasCause, IsPartlyWritten, IsSettled};
 ghost use Rattle.tach_media.specs.Medium.{last_count};
 ghost use Rattle.card_days.specs.card_model.declared.lengths.TheConstants.{DAYS_MOST};
-ghost use Rattle.card_days.specs.card_model.Changes.{trimmed};
-ghost use Rattle.card_validity.specs.card_image.Fields.{file, last_use_of, current_use, session_time, end_mark};
+ghost use Rattle.card_validity.specs.card_image.Fields.{file, last_use_of, current_use};
 ghost use Rattle.card_validity.specs.card_image.View.{card_view};
-ghost use Rattle.card_validity.specs.card_image.Judging.{first_bad_file, IsValid};
-ghost use Rattle.card_validity.specs.Faults.{IfNotValid, IfTimeOverlap, has_failed};
-ghost use Rattle.card_validity.specs.Judged.{TellsSizes, IsKnown};
-ghost use Rattle.card_session.specs.Books.{mark_of, closed};
+ghost use Rattle.card_validity.specs.Judged.{IsKnown};
+ghost use Rattle.card_session.specs.Books.{closed};
 ghost use Rattle.card_session.specs.declared.words.TheConstants.{LATEST_MINUTE};
 ghost use Rattle.card_session.specs.Telling.{minute_told};
-ghost use Rattle.card_session.specs.Sessions.{IsSession, IsOpenBook, IsValue, KnowsCard, EndsStrictly, MayKeep};
+ghost use Rattle.card_session.specs.Sessions.{IsSession, IsOpenBook, IsValue, KnowsCard, MayKeep};
 ghost use Rattle.card_session.specs.Sessions.{book_of};
 ghost use Rattle.card_session.specs.Moments.{IsBook, IsCloseMoment};
-ghost use Rattle.card_session.specs.Cards.{IsCard};
 ghost use Rattle.card_session.specs.Parts.{DoesPart, IsPartDone, IsPartMoment, HasSame, AnyBook};
-ghost use Rattle.card_session.specs.Inserting.{AreOwed, Follow, MayInsert, lacked, with_cut, IsCutting, with_owed};
+ghost use Rattle.card_session.specs.Inserting.{Follow, MayInsert, lacked, with_cut, IsCutting, with_owed};
 ghost use Rattle.card_session.specs.Inserting.{IsBeforeAll, IsReplaying, MayShut, EndsCut, IsSessionMended};
 ghost use Rattle.card_session.specs.Inserting.{IsMendMoment, IsShutThen, IsShutThenMoment, IsReopened, IsReopening};
 ghost use Rattle.card_session.specs.Inserting.{IsStarted, IsStartMoment, IsTaken, IsTaking, replayed_count, repaired};
 ghost use Rattle.card_session.specs.Inserting.{IsRepairMoment, IsNoted, IsNoting, timed, registered, IsOpening};
-ghost use Rattle.card_session.specs.Inserting.{IsCardInserted, IsCardInserting};
+ghost use Rattle.card_session.specs.Inserting.{CardAccepted, CardMayBePutIn, CardRefused, LeavesInserting, MayBePutIn};
 
 use crate::session::{CardSession, Kept, newest_minute, session_place};
 use crate::vehicle_use::last_use;
@@ -362,41 +358,14 @@ impl CardSession {
         odometer: Odometer,
         owed: &Owed,
     ) -> Result<Inserted, InsertFault>
-        requires sizes { IsApplication app.now }
-        requires card { MayInsert app.now (M.state port.old) }
-        requires told { IfSome (M.state port.old).image (TellsSizes app.now) }
-        requires some { 1 ≤ now.0 }
-        requires last { now.0 / 60 < LATEST_MINUTE }
-        requires fits { odometer.0 < 2 ^ 24 }
-        requires owed { AreOwed now.0 owed.now.items }
-        ensures inserted { IfOk result (λ i. IfSome (M.state port.old).image
-            (λ x. IfSome (M.state port.new).image
-            (IsCardInserted app.now registration.now odometer.0 owed.now.items now.0 x))) }
-        ensures session { IfOk result (λ i. IfSome (M.state port.old).image
-            (λ x. IfSome (M.state port.new).image (IsSession i.session))) }
-        ensures value { IfOk result (λ i. (i.session.application ≡ app.now)
-            × (i.session.registration ≡ registration.now) × (i.session.odometer ≡ None)) }
-        ensures accepted { IfOk result (λ i. IfSome (M.state port.old).image
-            (λ x. IsValid app.now x × ((card_view app.now x).stored ≤ now.0))) }
-        ensures few { IfOk result (λ i. i.replayed ≤ length owed.now.items) }
-        ensures replayed { IfOk result (λ i. IfSome (M.state port.old).image
-            (λ x. i.replayed ≡ replayed_count (session_time app.now x) (end_mark app.now x) owed.now.items)) }
-        ensures bad { IfErr result (λ fault. IfNotValid fault (λ fid place. IfSome (M.state port.old).image
-            (λ x. first_bad_file app.now x ≡ Some (fid, place)))) }
-        ensures late { IfErr result (λ fault.
-            IfTimeOverlap fault (λ stored at. (at ≡ now.0) × (now.0 < stored)
-            × IfSome (M.state port.old).image (λ x. IsValid app.now x × (stored ≡ (card_view app.now x).stored)))) }
-        ensures refused { IfErr result (λ fault. IfNotValid fault
-            (λ fid place. Reads (M.state port.old) (M.state port.new) false)) }
-        ensures refused_late { IfErr result (λ fault. IfTimeOverlap fault
-            (λ stored at. Reads (M.state port.old) (M.state port.new) false)) }
-        ensures moments { LeavesOnly (M.state port.old) (M.state port.new)
-            (IsCardInserting app.now registration.now odometer.0 owed.now.items now.0) }
-        ensures in_time { LeavesOnly (M.state port.old) (M.state port.new) Unchanged
-            ⊎ IfSome (M.state port.old).image (λ x. (card_view app.now x).stored ≤ now.0) }
-        ensures settled { IsOk result → (M.state port.new).clock < last_count → IsSettled (M.state port.new) }
-        ensures cause { HasCause (M.state port.old) (M.state port.new) (has_failed result) }
-        ensures most { (M.state port.new).clock ≤ (M.state port.old).clock + (DAYS_MOST + 84) }
+        requires card { CardMayBePutIn app.now (M.state port.old) }
+        requires may { MayBePutIn now.0 odometer.0 owed.now.items }
+        ensures accepted { IfOk result
+            (CardAccepted app.now registration.now odometer.0 owed.now.items now.0 (M.state port.old)
+            (M.state port.new)) }
+        ensures refused { IfErr result (CardRefused app.now now.0 (M.state port.old) (M.state port.new)) }
+        ensures leaves { LeavesInserting app.now registration.now odometer.0 owed.now.items now.0 result
+            (M.state port.old) (M.state port.new) }
     {
         let judged = judge(port, app)?;
         let stored = stored(&judged);

@@ -1,5 +1,5 @@
 -- What sessions have made of a card's days and of its vehicle entries since an image of it, deed by deed (profile).
-use Rattle.std.specs.Prelude.{◌≡◌, ℕ, ◌<◌, List, [], ◌∷◌, ◌++◌}
+use Rattle.std.specs.Prelude.{◌≡◌, ℕ, ◌<◌, ◌≤◌, List, [], ◌∷◌, ◌++◌}
 use Rattle.std.specs.List.{AllByRecursion}
 use Rattle.card_by_hand.specs.activity_codec.declared.values.Activity.{Activity}
 use Rattle.card_by_hand.specs.activity_codec.declared.entries.Entry.{Entry}
@@ -115,3 +115,7 @@ pub record IsMadeSince (app : Application) (minute : ℕ) (z x : List ℕ) : Typ
   pub steps : List Step
   pub later : AllByRecursion (IsLaterStep minute) steps
   pub made : MadeBy app.activity steps (book_of app z) (book_of app x)
+
+-- ONE IMAGE GOES ON FROM ANOTHER: since each minute that the other's end mark counts it is made of it.
+abbrev pub IsMadeOn : (app : Application) → (x y : List ℕ) → Type 0
+IsMadeOn app x y = (minute : ℕ) → minute ≤ mark_of (book_of app x) → IsMadeSince app minute x y

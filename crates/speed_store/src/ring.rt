@@ -1,7 +1,7 @@
 //! The ring of blocks, and a block that is added.
-ghost use Rattle.std.specs.Prelude.{◌≡◌, ◌≢◌, ◌≤◌, ◌<◌, ◌+◌, length, IfOk, IfSome, OnOk, is_err};
+ghost use Rattle.std.specs.Prelude.{◌≡◌, ◌≢◌, ◌≤◌, ◌<◌, ◌+◌, length, IfOk, IfSome, OnOk};
 ghost use Rattle.card_layout.specs.Images.{number_at};
-ghost use Rattle.tach_media.specs.Medium.{LeavesOnly, HasCause, IsSettled, Rose, last_count};
+ghost use Rattle.tach_media.specs.Medium.{Rose, Alters};
 ghost use Rattle.gated_ring.specs.Ring.{PointsInside, IsAtPointer};
 ghost use Rattle.gated_ring.specs.Change.{IsAdding, IsAdded, adding_writes};
 ghost use Rattle.unit_model.specs.Image.{IsUnit};
@@ -48,13 +48,9 @@ pub fn add_block<M: Medium>(unit: &mut M, block: &Block) -> Result<u32, Failed>
     ensures newest { IfOk result (λ index.
         IfSome (M.state unit.old).image (λ x. PointsInside speed_ring x → IfSome (M.state unit.new).image
         (IsAtPointer speed_ring index))) }
-    ensures added { OnOk result (IfSome (M.state unit.old).image
-        (λ x. IfSome (M.state unit.new).image (IsAdded speed_ring (block_bytes block.now) x))) }
-    ensures moments { LeavesOnly (M.state unit.old) (M.state unit.new) (IsAdding speed_ring (block_bytes block.now)) }
-    ensures settled { OnOk result ((M.state unit.new).clock < last_count → IsSettled (M.state unit.new)) }
+    ensures alters { Alters result (M.state unit.old) (M.state unit.new) 5
+        (IsAdded speed_ring (block_bytes block.now)) (IsAdding speed_ring (block_bytes block.now)) }
     ensures clock { OnOk result (Rose (M.state unit.old).clock (M.state unit.new).clock) }
-    ensures cause { HasCause (M.state unit.old) (M.state unit.new) (is_err result) }
-    ensures most { (M.state unit.new).clock ≤ (M.state unit.old).clock + 5 }
     ensures writes { IfSome (M.state unit.old).image
         (λ x. PointsInside speed_ring x
         → (M.state unit.new).clock ≤ (M.state unit.old).clock + adding_writes speed_ring x) }
@@ -78,13 +74,9 @@ pub fn add_block_behind<M: Medium>(unit: &mut M, last: u32, block: &Block) -> Re
     requires time { block.now.time ≢ 0 }
     ensures below { IfOk result (λ index. index < BLOCK_SLOTS) }
     ensures newest { IfOk result (λ index. IfSome (M.state unit.new).image (IsAtPointer speed_ring index)) }
-    ensures added { OnOk result (IfSome (M.state unit.old).image
-        (λ x. IfSome (M.state unit.new).image (IsAdded speed_ring (block_bytes block.now) x))) }
-    ensures moments { LeavesOnly (M.state unit.old) (M.state unit.new) (IsAdding speed_ring (block_bytes block.now)) }
-    ensures settled { OnOk result ((M.state unit.new).clock < last_count → IsSettled (M.state unit.new)) }
+    ensures alters { Alters result (M.state unit.old) (M.state unit.new) 5
+        (IsAdded speed_ring (block_bytes block.now)) (IsAdding speed_ring (block_bytes block.now)) }
     ensures clock { OnOk result (Rose (M.state unit.old).clock (M.state unit.new).clock) }
-    ensures cause { HasCause (M.state unit.old) (M.state unit.new) (is_err result) }
-    ensures most { (M.state unit.new).clock ≤ (M.state unit.old).clock + 5 }
     ensures writes { IfSome (M.state unit.old).image
         (λ x. (M.state unit.new).clock ≤ (M.state unit.old).clock + adding_writes speed_ring x) }
 {

@@ -4,6 +4,7 @@ use Rattle.std.specs.Int.{to_be_bytes, w32}
 use Rattle.tach_media.specs.card_layout.Images.{big_number}
 use Rattle.std.proofs.lemmas.List.{append-nil, length-replicate, take-replicate, drop-replicate, drop_all}
 use Rattle.tach_media.specs.Medium.{State, put, SameOutside, IsPartlyWritten, HasCause, most_writes}
+use Rattle.tach_media.proofs.Runs.{broken_same}
 use Rattle.tach_media.proofs.Images.{put_outside, part_before, part_put, outside_wider, outside_then}
 use Rattle.tach_media.proofs.Chunks.{put_behind, chunk_more, chunk_next}
 use Rattle.unit_model.specs.declared.layout.TheConstants.{IDENTIFICATION, IMAGE_SIZE}
@@ -22,6 +23,7 @@ idle s works = record {
   unbroken = λ fine. refl;
   already = λ was. refl;
   once = λ low. omega arith;
+  tells = broken_same s;
 }
 
 -- a chunk of zeros takes so many writes at most

@@ -1,6 +1,6 @@
 -- What an upgrade leaves of a unit (profile).
-use Rattle.std.specs.Prelude.{◌≡◌, ◌⊎◌, ℕ, ◌+◌, ◌≤◌, List, ◌==◌, if◌then◌else◌}
-use Rattle.tach_media.specs.Medium.{bytes_at}
+use Rattle.std.specs.Prelude.{◌≡◌, ◌⊎◌, ℕ, ◌+◌, ◌≤◌, List, ◌==◌, if◌then◌else◌, Bool, IfSome, option_map}
+use Rattle.tach_media.specs.Medium.{bytes_at, State}
 use Rattle.unit_model.specs.gated_ring.Ring.{Shape, ring_list}
 use Rattle.unit_model.specs.declared.layout.TheConstants.{PLAIN_VERSION, RULED_VERSION, OWED, SPARE}
 use Rattle.unit_model.specs.Image.{recorded, last_kept, odometer_at}
@@ -25,3 +25,9 @@ pub record IsUpgrading (x c : List ℕ) : Type 0 where
   pub odometer : odometer_at c ≡ odometer_at x
   pub owed : bytes_at c OWED.place OWED.size ≡ bytes_at x OWED.place OWED.size
   pub rings : (ring : Shape) → SPARE.place ≤ ring.base → ring_list ring c ≡ ring_list ring x
+
+-- THE UNIT HAS VERSION 2, newly or already: its image decoded, of version 1 or of 2, and is the one of version 2
+pub record HasVersionTwo (old new : State) (newly : Bool) : Type 0 where
+  pub version : IfSome old.image (λ x. version_of x ≡ version_before newly)
+  pub image : new.image ≡ option_map upgraded_from old.image
+  pub decodes : IfSome old.image Decodes

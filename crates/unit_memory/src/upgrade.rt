@@ -5,7 +5,7 @@ ghost use Rattle.unit_model.specs.declared.layout.TheConstants.{PLAIN_VERSION};
 ghost use Rattle.unit_model.specs.Image.{IsUnit};
 ghost use Rattle.unit_model.specs.Decoding.{Decodes, first_bad_place};
 ghost use Rattle.unit_model.specs.Versions.{version_of, upgraded};
-ghost use Rattle.unit_memory.specs.Upgrades.{upgraded_from, version_before, IsUpgrading};
+ghost use Rattle.unit_memory.specs.Upgrades.{IsUpgrading, HasVersionTwo};
 ghost use Rattle.unit_memory.specs.Fault.{IfBadUnit, has_failed};
 
 use crate::fault::UnitFault;
@@ -23,10 +23,7 @@ impl UnitMemory {
     /// `Failed` where the medium failed, and `BadUnit` as a load has it; then nothing was written.
     pub fn upgrade<M: Medium>(unit: &mut M) -> Result<bool, UnitFault>
         requires unit { IsUnit (M.state unit.old) }
-        ensures version { IfOk result (λ newly. IfSome (M.state unit.old).image
-            (λ x. version_of x ≡ version_before newly)) }
-        ensures upgraded { OnOk result ((M.state unit.new).image ≡ option_map upgraded_from (M.state unit.old).image) }
-        ensures decodes { OnOk result (IfSome (M.state unit.old).image Decodes) }
+        ensures upgraded { IfOk result (HasVersionTwo (M.state unit.old) (M.state unit.new)) }
         ensures bad { IfErr result (λ fault. IfBadUnit fault (λ p. IfSome (M.state unit.old).image
             (λ x. first_bad_place x ≡ Some p))) }
         ensures moments { LeavesOnly (M.state unit.old) (M.state unit.new) IsUpgrading }

@@ -1,12 +1,12 @@
 -- Calls that only read, one after the other, of which some may make none.
 use Rattle.std.proofs.Common.{◌≡◌, ℕ, ◌≤◌, false, true, refl, ◌∙◌, sym, subst, inl, inr, ⊎_elim, Bool, arith}
 use Rattle.tach_media.specs.Medium.{State, Unchanged, Reads, Rose}
-use Rattle.tach_media.proofs.Runs.{starts, goes_same, reads_then}
+use Rattle.tach_media.proofs.Runs.{starts, goes_same, broken_same, broken_then, reads_then}
 use Rattle.gated_ring.specs.Loading.{MadeNoCall}
 use Rattle.unit_minutes.specs.Reading.{ReadsIfAny}
 
 pub no_call : (s : State) → ReadsIfAny s s false
-no_call s = inl (refl, record { same = refl; leaves = starts s Unchanged; clock = refl; works = refl; faults = refl; breakdowns = refl })
+no_call s = inl (refl, record { same = refl; leaves = starts s Unchanged; clock = refl; works = refl; faults = refl; breakdowns = refl; tells = broken_same s })
 
 none_none : {old mid new : State} → MadeNoCall old mid → MadeNoCall mid new → MadeNoCall old new
 none_none a b = record {
@@ -16,6 +16,7 @@ none_none a b = record {
   works = b.works ∙ a.works;
   faults = b.faults ∙ a.faults;
   breakdowns = b.breakdowns ∙ a.breakdowns;
+  tells = broken_then a.tells b.tells;
 }
 
 none_reads : {old mid new : State} {failed : Bool} → MadeNoCall old mid → Reads mid new failed → Reads old new failed
@@ -33,6 +34,7 @@ none_reads {old} {mid} {new} {failed} a b = record {
     unbroken = λ f. b.cause.unbroken f ∙ a.breakdowns;
     already = λ was. b.cause.already (a.works ∙ was) ∙ a.breakdowns;
     once = λ low. let few = b.cause.once low in let same = a.breakdowns in omega (arith, few, same);
+    tells = broken_then a.tells b.cause.tells;
   };
 }
 
@@ -51,6 +53,7 @@ reads_none {old} {mid} {new} a b = record {
     unbroken = λ f. b.breakdowns ∙ a.cause.unbroken f;
     already = λ was. b.breakdowns ∙ a.cause.already was;
     once = λ low. let before = a.cause.unbroken refl in let same = b.breakdowns in omega (arith, before, same);
+    tells = broken_then a.cause.tells b.tells;
   };
 }
 

@@ -10,6 +10,7 @@ pub mod DaysWith
 pub mod Plans
 pub mod Beside
 pub mod DayOdometers
+pub mod Calls
 pub use Rattle.activity_codec.specs as activity_codec
 pub use Rattle.gated_ring.specs as gated_ring
 pub use Rattle.tacho_types.specs as tacho_types

@@ -1,18 +1,19 @@
-ghost use Rattle.std.specs.Prelude.{IfErr, Some, None, ◌≡◌, ◌≤◌, ◌<◌, ◌+◌, ◌*◌, ◌-◌, ◌/◌, ◌%◌, min, length, IfOk, OnOk};
+ghost use Rattle.std.specs.Prelude.{IfErr, Some, None, ◌≡◌, ◌≤◌, ◌<◌, ◌+◌, ◌/◌, min, length, IfOk, OnOk};
 ghost use Rattle.std.specs.Prelude.{OnErr, IfSome, is_err, option_map, true};
 ghost use Rattle.unit_model.specs.declared.layout.TheConstants.{DAY_SLOTS, HIGHEST_ODOMETER, IMAGE_SIZE, LAST_MINUTE};
-ghost use Rattle.tach_media.specs.Medium.{LeavesOnly, Reads, HasCause, IsSettled, last_count, StaysSettled};
+ghost use Rattle.tach_media.specs.Medium.{LeavesOnly, Reads, HasCause};
 ghost use Rattle.unit_model.specs.Image.{day_ring, IsUnit};
 ghost use Rattle.unit_minutes.specs.Coming.{IsComing};
 ghost use Rattle.unit_minutes.specs.Image.{IsNotes, Agrees};
-ghost use Rattle.unit_minutes.specs.Keeping.{IsKeeping, IsKept};
+ghost use Rattle.unit_minutes.specs.Keeping.{IsKeeping};
 ghost use Rattle.unit_minutes.specs.Minute.{notes_on, notes_begun, notes_after};
 ghost use Rattle.tach_media.specs.Plan.{PutsAll, PutsBy, more, none};
 ghost use Rattle.unit_minutes.specs.Plans.{going, turning, renewing, keeping, most_kept};
-ghost use Rattle.unit_minutes.specs.Mends.{IsMendable, IsMending, IsMended, HasNothingLater, notes_mended, mended};
+ghost use Rattle.unit_minutes.specs.Mends.{IsMendable, IsMending, HasNothingLater, mended};
 ghost use Rattle.unit_minutes.specs.Mends.{mending};
-ghost use Rattle.unit_minutes.specs.Kept.{kept_minute, keeping_of, HasDaysWith, HasDaysBetween};
+ghost use Rattle.unit_minutes.specs.Kept.{kept_minute, keeping_of, HasDaysBetween};
 ghost use Rattle.gated_ring.specs.Ring.{pointer, taken};
+ghost use Rattle.unit_minutes.specs.Calls.{UnitKept, UnitMended};
 
 mod owing;
 mod reading;
@@ -233,19 +234,13 @@ impl Journal {
         requires later { self.old.kept < kept.now.minute }
         requires small { kept.now.minute ≤ LAST_MINUTE }
         requires odometer { kept.now.odometer.0 ≤ HIGHEST_ODOMETER }
-        ensures notes { OnOk result ((self.new.kept ≡ kept.now.minute) × (self.new.odometer ≡ kept.now.odometer.0)) }
+        ensures kept { OnOk result (UnitKept kept.now self.new (M.state unit.old) (M.state unit.new)) }
         ensures same { OnErr result (self.new ≡ self.old) }
-        ensures agrees { OnOk result (IfSome (M.state unit.new).image (Agrees self.new)) }
-        ensures kept { OnOk result (IfSome (M.state unit.old).image
-            (λ x. IfSome (M.state unit.new).image (IsKept (kept_minute kept.now) x))) }
-        ensures days { OnOk result (IfSome (M.state unit.old).image
-            (λ x. IfSome (M.state unit.new).image (HasDaysWith kept.now x))) }
         ensures puts { PutsBy (M.state unit.old) (M.state unit.new) (is_err result) 3
             (most_kept self.old.kept kept.now.minute) (keeping_of self.old kept.now) }
         ensures moments { LeavesOnly (M.state unit.old) (M.state unit.new)
             (IsKeeping (kept_minute kept.now) kept.now.odometer.0) }
         ensures words { LeavesOnly (M.state unit.old) (M.state unit.new) (HasDaysBetween kept.now) }
-        ensures settled { OnOk result ((M.state unit.new).clock < last_count → IsSettled (M.state unit.new)) }
         ensures cause { HasCause (M.state unit.old) (M.state unit.new) (is_err result) }
     {
         self.write_minute(unit, coming_of(kept))
@@ -262,18 +257,12 @@ impl Journal {
     pub fn mend<M: Medium>(&mut self, unit: &mut M) -> Result<(), Failed>
         requires unit { IsUnit (M.state unit.old) }
         requires mendable { IfSome (M.state unit.old).image (IsMendable self.old) }
-        ensures notes { OnOk result (self.new ≡ notes_mended self.old) }
+        ensures mended { OnOk result (UnitMended self.old self.new (M.state unit.old) (M.state unit.new)) }
         ensures same { OnErr result (self.new ≡ self.old) }
-        ensures agrees { OnOk result (IfSome (M.state unit.new).image (Agrees self.new)) }
-        ensures mended { OnOk result (IfSome (M.state unit.old).image
-            (λ x. IfSome (M.state unit.new).image (IsMended x))) }
         ensures written { OnOk result ((M.state unit.new).image ≡ option_map (mended self.old)
             (M.state unit.old).image) }
         ensures puts { PutsBy (M.state unit.old) (M.state unit.new) (is_err result) 0 34 (mending self.old) }
         ensures moments { LeavesOnly (M.state unit.old) (M.state unit.new) (IsMending self.old) }
-        ensures idle { OnOk result (IfSome (M.state unit.old).image
-            (λ x. HasNothingLater self.old x → (M.state unit.new).clock ≡ (M.state unit.old).clock)) }
-        ensures settled { OnOk result (StaysSettled (M.state unit.old) (M.state unit.new)) }
         ensures cause { HasCause (M.state unit.old) (M.state unit.new) (is_err result) }
         ensures most { (M.state unit.new).clock ≤ (M.state unit.old).clock + 34 }
     {

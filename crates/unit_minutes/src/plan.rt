@@ -24,31 +24,33 @@ use unit_model::layout::{
 /// the mark. A slot's beginning has 20 bytes.
 pub type Writing = Plan<12, 20>;
 
+/// A slot's state that turns at a minute, as the bits of its word (profile).
+#[derive(Clone, Copy)]
+pub struct SlotChange {
+    pub slot: u32,
+    pub minute: u32,
+    pub old: u32,
+    pub new: u32,
+}
+
 /// Adds the word of a slot's state where it differs, behind so many words of a day, and answers how many there are
 /// then.
-pub fn add_change(
-    plan: &mut Writing,
-    index: u32,
-    count: u32,
-    slot: u32,
-    minute: u32,
-    old: u32,
-    new: u32,
-) -> u32
+pub fn add_change(plan: &mut Writing, index: u32, count: u32, turned: SlotChange) -> u32
     requires room { HasRoom 1 12 plan.old }
     requires index { index < DAY_SLOTS }
     requires few { count < DAY_WORD_LIMIT }
-    requires slot { slot < 2 }
-    requires minute { minute < 1440 }
-    requires state { new < 16 }
-    ensures count { result ≡ count + length (change slot minute old new) }
-    ensures plan { plan.new ≡ more plan.old (word_pieces (free_place index count) (change slot minute old new)) }
+    requires slot { turned.slot < 2 }
+    requires minute { turned.minute < 1440 }
+    requires state { turned.new < 16 }
+    ensures count { result ≡ count + length (change turned.slot turned.minute turned.old turned.new) }
+    ensures plan { plan.new ≡ more plan.old (word_pieces (free_place index count)
+        (change turned.slot turned.minute turned.old turned.new)) }
     ensures length { length plan.new.pieces ≤ length plan.old.pieces + 1 }
 {
-    if old == new {
+    if turned.old == turned.new {
         return count;
     }
-    let word = (WORD_SLOT * slot + WORD_MINUTES * new + minute) as u16;
+    let word = (WORD_SLOT * turned.slot + WORD_MINUTES * turned.new + turned.minute) as u16;
     plan.put(
         slot_place(index) + DAY_WORDS.place + 2 * count,
         &word.to_be_bytes(),
@@ -75,8 +77,20 @@ pub fn add_changes(
     ensures plan { plan.new ≡ more plan.old (word_pieces (free_place index count) (changes_to minute old new)) }
     ensures length { length plan.new.pieces ≤ length plan.old.pieces + 2 }
 {
-    let count = add_change(plan, index, count, 0, minute, old.driver, new.driver);
-    add_change(plan, index, count, 1, minute, old.codriver, new.codriver)
+    let driver = SlotChange {
+        slot: 0,
+        minute,
+        old: old.driver,
+        new: new.driver,
+    };
+    let codriver = SlotChange {
+        slot: 1,
+        minute,
+        old: old.codriver,
+        new: new.codriver,
+    };
+    let count = add_change(plan, index, count, driver);
+    add_change(plan, index, count, codriver)
 }
 
 /// Adds the words that a minute brings on the day of the last-kept one, and answers how many there are then.

@@ -1,8 +1,8 @@
 //! What the memory of a unit notes.
 ghost use Rattle.std.specs.Prelude.{◌≡◌, ◌≢◌, ◌≤◌, ◌<◌, ◌+◌, ◌^◌, ◌==◌, not, ◌&&◌, IsTrue, IfOk, IfSome, OnOk, is_err};
-ghost use Rattle.tach_media.specs.Medium.{LeavesOnly, HasCause, IsSettled, StaysSettled, Rose, last_count};
-ghost use Rattle.gated_ring.specs.Ring.{PointsInside, taken};
-ghost use Rattle.gated_ring.specs.Change.{IsAdding, IsAdded, adding_writes};
+ghost use Rattle.tach_media.specs.Medium.{LeavesOnly, HasCause, IsSettled, StaysSettled, Rose, last_count, Alters};
+ghost use Rattle.gated_ring.specs.Ring.{PointsInside};
+ghost use Rattle.gated_ring.specs.Change.{IsAdding, IsAdded, adding_writes, TookNext};
 ghost use Rattle.unit_model.specs.Image.{IsUnit};
 ghost use Rattle.event_model.specs.declared.kinds.TheConstants.{CARD_FAULT, OVER_SPEEDING};
 ghost use Rattle.event_model.specs.Kinds.{purpose_of, purpose_number, is_event};
@@ -67,18 +67,12 @@ pub trait UnitNotes {
         requires time { entry.now.time.0 ≢ 0 }
         requires odometer { entry.now.odometer.0 < 2 ^ 24 }
         requires out_odometer { entry.now.out_odometer.0 < 2 ^ 24 }
-        ensures index { IfOk result (λ index.
-            IfSome (M.state unit.old).image (λ x. PointsInside insertion_ring x → index ≡ taken insertion_ring x)) }
-        ensures below { IfOk result (λ index. index < insertion_ring.count) }
-        ensures noted { OnOk result (IfSome (M.state unit.old).image
-            (λ x. IfSome (M.state unit.new).image (IsAdded insertion_ring (insertion_bytes entry.now) x))) }
-        ensures moments { LeavesOnly (M.state unit.old) (M.state unit.new)
+        ensures took { IfOk result (TookNext insertion_ring (M.state unit.old)) }
+        ensures alters { Alters result (M.state unit.old) (M.state unit.new) 5
+            (IsAdded insertion_ring (insertion_bytes entry.now))
             (IsAdding insertion_ring (insertion_bytes entry.now)) }
         ensures journal { LeavesOnly (M.state unit.old) (M.state unit.new) LeavesJournal }
-        ensures settled { OnOk result ((M.state unit.new).clock < last_count → IsSettled (M.state unit.new)) }
         ensures clock { OnOk result (Rose (M.state unit.old).clock (M.state unit.new).clock) }
-        ensures cause { HasCause (M.state unit.old) (M.state unit.new) (is_err result) }
-        ensures most { (M.state unit.new).clock ≤ (M.state unit.old).clock + 5 }
         ensures writes { IfSome (M.state unit.old).image
             (λ x. PointsInside insertion_ring x
             → (M.state unit.new).clock ≤ (M.state unit.old).clock + adding_writes insertion_ring x) };
@@ -123,16 +117,11 @@ pub trait UnitNotes {
         requires unit { IsUnit (M.state unit.old) }
         requires time { entry.now.time.0 ≢ 0 }
         requires odometer { entry.now.odometer.0 < 2 ^ 24 }
-        ensures noted { OnOk result (IfSome (M.state unit.old).image
-            (λ x. IfSome (M.state unit.new).image
-            (IsAdded unit_place_ring (unit_place_bytes number.now entry.now) x))) }
-        ensures moments { LeavesOnly (M.state unit.old) (M.state unit.new)
+        ensures alters { Alters result (M.state unit.old) (M.state unit.new) 5
+            (IsAdded unit_place_ring (unit_place_bytes number.now entry.now))
             (IsAdding unit_place_ring (unit_place_bytes number.now entry.now)) }
         ensures journal { LeavesOnly (M.state unit.old) (M.state unit.new) LeavesJournal }
-        ensures settled { OnOk result ((M.state unit.new).clock < last_count → IsSettled (M.state unit.new)) }
         ensures clock { OnOk result (Rose (M.state unit.old).clock (M.state unit.new).clock) }
-        ensures cause { HasCause (M.state unit.old) (M.state unit.new) (is_err result) }
-        ensures most { (M.state unit.new).clock ≤ (M.state unit.old).clock + 5 }
         ensures writes { IfSome (M.state unit.old).image
             (λ x. PointsInside unit_place_ring x
             → (M.state unit.new).clock ≤ (M.state unit.old).clock + adding_writes unit_place_ring x) };

@@ -23,6 +23,15 @@ pub struct Asked {
     pub row: u32,
 }
 
+/// The session of a card, and the minutes between which its entries are owed: later than the one, up to the last-kept
+/// one.
+#[derive(Clone, Copy)]
+pub struct Owing {
+    pub session: u32,
+    pub after: u32,
+    pub kept: u32,
+}
+
 // How many entries from the front on are earlier than a minute.
 fn place_for(entries: &[Entry], minute: u32) -> usize
     ensures place { result ≡ prefix_len (λ e. nat_lt e.minute minute) entries.now }
@@ -62,24 +71,25 @@ fn entry_of(minute: u32, word: u32) -> Entry
 }
 
 // Adds the entry of a cell, where it holds one that is owed.
-fn add_cell(owed: &mut Owed, cell: u32, minute: u32, word: u32, session: u32, after: u32, kept: u32)
+fn add_cell(owed: &mut Owed, cell: u32, minute: u32, word: u32, owing: Owing)
     requires cell { cell < 4 }
     requires word { word < 65536 }
     requires room { length owed.old.items ≤ cell }
     ensures added { owed.new.items
-        ≡ with_owed session after kept owed.old.items cell (record { minute = minute; word = word }) }
+        ≡ with_owed owing.session owing.after owing.kept owed.old.items cell (record { minute = minute; word = word }) }
     ensures room { length owed.new.items ≤ cell + 1 }
 {
-    if is_owed(cell, minute, session, after, kept) {
+    if is_owed(cell, minute, owing) {
         place(owed, entry_of(minute, word));
     }
 }
 
-fn is_owed(cell: u32, minute: u32, session: u32, after: u32, kept: u32) -> bool
-    ensures { result ≡ (minute % 4 == cell && nat_le 1440 minute) && counts session after kept minute }
+fn is_owed(cell: u32, minute: u32, owing: Owing) -> bool
+    ensures { result ≡ (minute % 4 == cell && nat_le 1440 minute)
+        && counts owing.session owing.after owing.kept minute }
 {
     (minute % CELLS == cell && DAY_MINUTES <= minute)
-        && (session / 60 <= minute && (after < minute && minute <= kept))
+        && (owing.session / 60 <= minute && (owing.after < minute && minute <= owing.kept))
 }
 
 // The number in two bytes of the rows.
@@ -93,35 +103,36 @@ fn word_in(rows: &[u8], place: u32) -> u32
 }
 
 // What is owed of the cells of a row.
-fn owed_cells(rows: &[u8], row: u32, session: u32, after: u32, kept: u32) -> Owed
+fn owed_cells(rows: &[u8], row: u32, owing: Owing) -> Owed
     requires sized { length rows.now ≡ OWED.size }
     requires row { row < 8 }
-    ensures items { result.items ≡ fold (λ es i. with_owed session after kept es i (cell_in rows.now row i)) []
+    ensures items { result.items
+        ≡ fold (λ es i. with_owed owing.session owing.after owing.kept es i (cell_in rows.now row i)) []
         (range_with_len 0 4) }
-    ensures sane { IsSane after kept result.items }
+    ensures sane { IsSane owing.after owing.kept result.items }
 {
     let mut owed = Owed::new();
     for cell in 0..CELLS {
         let place = row * OWED_ROW_SIZE + ROW_CELLS.place + cell * CELL_SIZE;
         let minute = number_at(rows, place, 4);
         let word = word_in(rows, place + CELL_WORD.place);
-        add_cell(&mut owed, cell, minute, word, session, after, kept);
+        add_cell(&mut owed, cell, minute, word, owing);
     }
     owed
 }
 
 // What is owed of a row.
-fn owed_in(rows: &[u8], row: Option<u32>, session: u32, after: u32, kept: u32) -> Owed
+fn owed_in(rows: &[u8], row: Option<u32>, owing: Owing) -> Owed
     requires sized { length rows.now ≡ OWED.size }
     requires row { IfSome row (λ r. r < 8) }
-    ensures items { result.items ≡ owed_of session after kept (option_map (row_in rows.now) row) }
-    ensures sane { IsSane after kept result.items }
+    ensures items { result.items ≡ owed_of owing.session owing.after owing.kept (option_map (row_in rows.now) row) }
+    ensures sane { IsSane owing.after owing.kept result.items }
 {
     match row {
         None => Owed::new(),
         Some(row) => {
-            if session_in(rows, row) == session {
-                owed_cells(rows, row, session, after, kept)
+            if session_in(rows, row) == owing.session {
+                owed_cells(rows, row, owing)
             } else {
                 Owed::new()
             }
@@ -146,7 +157,12 @@ pub fn owed<M: Medium>(
     ensures reads { Reads (M.state unit.old) (M.state unit.new) (is_err result) }
 {
     let rows = read_rows(unit)?;
-    Ok(owed_in(&rows, row_index(&rows, number), session, after, kept))
+    let owing = Owing {
+        session,
+        after,
+        kept,
+    };
+    Ok(owed_in(&rows, row_index(&rows, number), owing))
 }
 
 /// The same, and which row is begun for the number, while the row of another one is spared: in one read.
@@ -169,7 +185,12 @@ pub fn ask<M: Medium>(
     ensures reads { Reads (M.state unit.old) (M.state unit.new) (is_err result) }
 {
     let rows = read_rows(unit)?;
-    let owed = owed_in(&rows, row_index(&rows, number), session, after, kept);
+    let owing = Owing {
+        session,
+        after,
+        kept,
+    };
+    let owed = owed_in(&rows, row_index(&rows, number), owing);
     let row = begun_row(&rows, number, spared);
     Ok(Asked { owed, row })
 }

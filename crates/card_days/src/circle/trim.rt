@@ -1,4 +1,4 @@
-ghost use Rattle.std.specs.Prelude.{◌≡◌, ◌≤◌, ◌<◌, ◌+◌, ◌*◌, List, length, IfOk, OnOk, IfSome, is_err, option_map};
+ghost use Rattle.std.specs.Prelude.{◌≡◌, ◌≤◌, ◌<◌, ◌+◌, List, length, IfOk, OnOk, IfSome, is_err, option_map};
 ghost use Rattle.std.specs.Prelude.{true, [], ◌≢◌};
 ghost use Rattle.card_model.specs.declared.lengths.TheConstants.{DAYS_MOST};
 ghost use Rattle.tach_media.specs.Medium.{LeavesOnly, Reads, HasCause, LiesInside, IsPartlyWritten, IsSettled};
@@ -6,12 +6,13 @@ ghost use Rattle.tach_media.specs.Medium.{last_count, put};
 ghost use Rattle.card_model.specs.Days.{Day};
 ghost use Rattle.card_model.specs.Bytes.{two_bytes};
 ghost use Rattle.card_model.specs.Changes.{early, until, date_of, cut};
-ghost use Rattle.card_model.specs.Image.{HoldsDays, IsAt, IsPointer, IsStringShape, at};
+ghost use Rattle.card_model.specs.Image.{HoldsDays, IsAt, IsPointer, IsStringShape};
 ghost use Rattle.card_days.specs.Moments.{FileFitsIn};
 ghost use Rattle.card_days.specs.Rears.{IsRear, LiesOn};
 ghost use Rattle.card_days.specs.Steps.{SettlesIfSettled};
-ghost use Rattle.card_days.specs.Trim.{IsWithoutLast, IsLosingLast, IsTrimming, IsTrimmed, WritesOrReads, IsCutLast};
+ghost use Rattle.card_days.specs.Trim.{IsWithoutLast, IsLosingLast, IsTrimming, IsCutLast};
 ghost use Rattle.card_days.specs.Trim.{IsCuttingLast, IsTrim, IsTrimMoment, WritesWhereDays};
+ghost use Rattle.card_days.specs.Calls.{DroppedDays};
 
 use super::Circle;
 use crate::bytes::write_two;
@@ -68,10 +69,8 @@ impl Circle {
         requires fits { FileFitsIn self.now (M.state medium.old) }
         requires writable { LiesInside (M.state medium.old).writable self.now.base (4 + self.now.size) }
         ensures shape { IsStringShape self.now }
-        ensures trimmed { OnOk result (IfSome (M.state medium.old).image
-            (λ x. IfSome (M.state medium.new).image (IsTrimmed self.now date x))) }
+        ensures dropped { OnOk result (DroppedDays self.now date (M.state medium.old) (M.state medium.new)) }
         ensures moments { LeavesOnly (M.state medium.old) (M.state medium.new) (IsTrimming self.now date 0) }
-        ensures settled { OnOk result (WritesOrReads (M.state medium.old) (M.state medium.new)) }
         ensures empty { IfSome (M.state medium.old).image
             (λ x. HoldsDays self.now x [] → Reads (M.state medium.old) (M.state medium.new) (is_err result)) }
         ensures cause { HasCause (M.state medium.old) (M.state medium.new) (is_err result) }
@@ -79,9 +78,6 @@ impl Circle {
         ensures writes { IfSome (M.state medium.old).image
             (λ x. (days : List Day) → HoldsDays self.now x days
             → (M.state medium.new).clock + length (until date days) ≤ (M.state medium.old).clock + (length days + 1)) }
-        ensures drops { OnOk result (IfSome (M.state medium.old).image
-            (λ x. (days : List Day) → HoldsDays self.now x days
-            → (M.state medium.new).clock + length (until date days) ≤ (M.state medium.old).clock + length days)) }
     {
         let mut rear = self.rear(medium)?;
         let mut later = rear.is_later(date);

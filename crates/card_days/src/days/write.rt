@@ -1,19 +1,19 @@
-ghost use Rattle.std.specs.Prelude.{◌≡◌, ◌≢◌, ◌⊎◌, false, [], ◌≤◌, ◌<◌, ◌+◌, ◌-◌, ◌*◌, ◌%◌, List, length, IfOk, OnOk};
+ghost use Rattle.std.specs.Prelude.{◌≡◌, ◌⊎◌, false, [], ◌≤◌, ◌<◌, ◌+◌, ◌-◌, ◌*◌, ◌%◌, List, length, IfOk, OnOk};
 ghost use Rattle.std.specs.Prelude.{IfSome, is_err};
 ghost use Rattle.card_model.specs.declared.lengths.TheConstants.{DAYS_MOST};
-ghost use Rattle.tach_media.specs.Medium.{LeavesOnly, Reads, HasCause, LiesInside, IsSettled, last_count};
+ghost use Rattle.tach_media.specs.Medium.{LeavesOnly, Reads, HasCause, LiesInside, IsSettled, last_count, Alters};
 ghost use Rattle.tach_media.specs.Plan.{PutsAll, PutsBy};
 ghost use Rattle.card_model.specs.Days.{Day, last_word};
-ghost use Rattle.card_model.specs.Changes.{fitting, until, date_of, trimmed};
+ghost use Rattle.card_model.specs.Changes.{fitting, until, date_of};
 ghost use Rattle.card_model.specs.Image.{HoldsDays, IsPointer};
 ghost use Rattle.card_days.specs.Held.{IsInBounds, Knows, EndsWith};
-ghost use Rattle.card_days.specs.Moments.{FileFitsIn, IfKnown, IsChanging, IsChanged, KnowsChanged, IsDayBeginning};
-ghost use Rattle.card_days.specs.Moments.{IsDayBegun, KnowsBegun, ClearsChanged, ClearsBegun, BeginsAgain};
+ghost use Rattle.card_days.specs.Moments.{FileFitsIn, IfKnown, IsChanging, IsChanged, IsDayBeginning};
+ghost use Rattle.card_days.specs.Moments.{IsDayBegun};
 ghost use Rattle.card_days.specs.Plans.{left_in, most_drops, change_pieces, tail_more, beginning_pieces, tail_begun};
 ghost use Rattle.card_days.specs.Plans.{mend_pieces, km_pieces, tail_km};
-ghost use Rattle.card_days.specs.Steps.{SameDays, IsIdle, IsDropMended, IsMeasured, IsMeasuring, KnowsMeasured};
-ghost use Rattle.card_days.specs.Steps.{SettlesIfSettled};
-ghost use Rattle.card_days.specs.Trim.{IsTrim, IsTrimMoment};
+ghost use Rattle.card_days.specs.Steps.{SameDays, IsIdle, IsMeasured, IsMeasuring, KnowsMeasured};
+ghost use Rattle.card_days.specs.Trim.{IsTrimMoment};
+ghost use Rattle.card_days.specs.Calls.{AddedWord, BeganDay, CutDays, EndedDrop};
 
 use super::Days;
 use crate::bytes::body_of;
@@ -113,22 +113,12 @@ impl Days {
         ensures puts { PutsBy (M.state medium.old) (M.state medium.new) (is_err result) 3
             (5 + 2 * most_drops self.old.shape.size self.old.tail.used (12 + 2 * length words.now))
             (beginning_pieces self.old date.0 words.now) }
-        ensures begun { OnOk result (IfSome (M.state medium.old).image
-            (λ x. IfSome (M.state medium.new).image
-            (IfKnown self.old (IsDayBegun self.old.shape date.0 words.now) x))) }
-        ensures knows { OnOk result (IfSome (M.state medium.old).image
-            (λ x. IfSome (M.state medium.new).image (KnowsBegun self.old self.new date.0 words.now x))) }
-        ensures cleared { OnOk result (IfSome (M.state medium.old).image
-            (λ x. IfSome (M.state medium.new).image (ClearsBegun self.old date.0 words.now x))) }
-        ensures again { OnOk result (IfSome (M.state medium.old).image
-            (λ x. IfSome (M.state medium.new).image (BeginsAgain self.old date.0 words.now x))) }
-        ensures moments { LeavesOnly (M.state medium.old) (M.state medium.new)
+        ensures alters { Alters result (M.state medium.old) (M.state medium.new)
+            (5 + 2 * most_drops self.old.shape.size self.old.tail.used (12 + 2 * length words.now))
+            (IfKnown self.old (IsDayBegun self.old.shape date.0 words.now))
             (IfKnown self.old (IsDayBeginning self.old.shape date.0 words.now)) }
-        ensures settled { OnOk result ((M.state medium.new).clock < last_count → IsSettled (M.state medium.new)) }
-        ensures cause { HasCause (M.state medium.old) (M.state medium.new) (is_err result) }
-        ensures most { (M.state medium.new).clock
-            ≤ (M.state medium.old).clock + (5 + 2 * most_drops self.old.shape.size self.old.tail.used
-            (12 + 2 * length words.now)) }
+        ensures began { OnOk result
+            (BeganDay self.old self.new date.0 words.now (M.state medium.old) (M.state medium.new)) }
         ensures writes { IfSome (M.state medium.old).image (λ x. (days : List Day) → Knows self.old x days
             → (M.state medium.new).clock + 2 * length (fitting (self.old.shape.size - (12 + 2 * length words.now)) days)
             ≤ (M.state medium.old).clock + (5 + 2 * length days)) }
@@ -147,21 +137,11 @@ impl Days {
         ensures shape { self.new.shape ≡ self.old.shape }
         ensures puts { PutsBy (M.state medium.old) (M.state medium.new) (is_err result) 2
             (2 + 2 * most_drops self.old.shape.size self.old.tail.used 2) (change_pieces self.old word) }
-        ensures changed { OnOk result (IfSome (M.state medium.old).image
-            (λ x. IfSome (M.state medium.new).image (IfKnown self.old (IsChanged self.old.shape word) x))) }
-        ensures knows { OnOk result (IfSome (M.state medium.old).image
-            (λ x. IfSome (M.state medium.new).image (KnowsChanged self.old self.new word x))) }
-        ensures cleared { OnOk result (IfSome (M.state medium.old).image
-            (λ x. IfSome (M.state medium.new).image (ClearsChanged self.old word x))) }
-        ensures moments { LeavesOnly (M.state medium.old) (M.state medium.new)
-            (IfKnown self.old (IsChanging self.old.shape word)) }
-        ensures settled { OnOk result ((M.state medium.new).clock < last_count → IsSettled (M.state medium.new)) }
-        ensures cause { HasCause (M.state medium.old) (M.state medium.new) (is_err result) }
-        ensures most { (M.state medium.new).clock
-            ≤ (M.state medium.old).clock + (2 + 2 * most_drops self.old.shape.size self.old.tail.used 2) }
+        ensures alters { Alters result (M.state medium.old) (M.state medium.new)
+            (2 + 2 * most_drops self.old.shape.size self.old.tail.used 2)
+            (IfKnown self.old (IsChanged self.old.shape word)) (IfKnown self.old (IsChanging self.old.shape word)) }
+        ensures added { OnOk result (AddedWord self.old self.new word (M.state medium.old) (M.state medium.new)) }
         ensures ends { OnOk result (EndsWith self.new self.old.tail.head.date.0 word) }
-        ensures used { OnOk result (self.new.tail.used + 14 * most_drops self.old.shape.size self.old.tail.used 2
-            ≤ self.old.tail.used + 2) }
         ensures writes { IfSome (M.state medium.old).image (λ x. (days : List Day) → Knows self.old x days
             → (M.state medium.new).clock + 2 * length (fitting (self.old.shape.size - 2) days)
             ≤ (M.state medium.old).clock + (2 + 2 * length days)) }
@@ -193,18 +173,9 @@ impl Days {
             → PutsAll (M.state medium.old) (M.state medium.new) (is_err result) (mend_pieces self.old) }
         ensures empty { self.old.tail.used ≡ 0
             → (is_err result ≡ false) × IsIdle (M.state medium.old) (M.state medium.new) }
-        ensures same { OnOk result (IfSome (M.state medium.old).image
-            (λ x. IfSome (M.state medium.new).image (IfKnown self.old (SameDays self.old.shape) x))) }
-        ensures mended { OnOk result (IfSome (M.state medium.old).image
-            (λ x. IfSome (M.state medium.new).image
-            (λ y. (days : List Day) → Knows self.old x days → IsDropMended self.old.shape days x y))) }
-        ensures knows { OnOk result (IfSome (M.state medium.old).image
-            (λ x. IfSome (M.state medium.new).image
-            (λ y. (days : List Day) → Knows self.old x days → Knows self.old y days))) }
+        ensures ended { OnOk result (EndedDrop self.old (M.state medium.old) (M.state medium.new)) }
         ensures moments { LeavesOnly (M.state medium.old) (M.state medium.new)
             (IfKnown self.old (SameDays self.old.shape)) }
-        ensures settled { OnOk result (0 < self.old.tail.used → (M.state medium.new).clock < last_count → IsSettled
-            (M.state medium.new)) }
         ensures cause { HasCause (M.state medium.old) (M.state medium.new) (is_err result)
             ⊎ ((is_err result ≡ false) × IsIdle (M.state medium.old) (M.state medium.new)) }
         ensures most { (M.state medium.new).clock ≤ (M.state medium.old).clock + 1 }
@@ -255,16 +226,8 @@ impl Days {
         requires fits { FileFitsIn self.old.shape (M.state medium.old) }
         requires writable { LiesInside (M.state medium.old).writable self.old.shape.base (4 + self.old.shape.size) }
         ensures shape { self.new.shape ≡ self.old.shape }
-        ensures trimmed { OnOk result (IfSome (M.state medium.old).image
-            (λ x. IfSome (M.state medium.new).image (IsTrim self.old.shape minute x))) }
-        ensures knows { OnOk result (IfSome (M.state medium.old).image
-            (λ x. IfSome (M.state medium.new).image
-            (λ y. (days : List Day) → HoldsDays self.old.shape x days → Knows self.new y (trimmed minute days)))) }
+        ensures cut { OnOk result (CutDays self.old self.new minute (M.state medium.old) (M.state medium.new)) }
         ensures moments { LeavesOnly (M.state medium.old) (M.state medium.new) (IsTrimMoment self.old.shape minute) }
-        ensures settled { OnOk result (IfSome (M.state medium.old).image
-            (λ x. (days : List Day) → HoldsDays self.old.shape x days → days ≢ []
-            → (M.state medium.new).clock < last_count → IsSettled (M.state medium.new))) }
-        ensures still { OnOk result (SettlesIfSettled (M.state medium.old) (M.state medium.new)) }
         ensures empty { IfSome (M.state medium.old).image
             (λ x. HoldsDays self.old.shape x [] → Reads (M.state medium.old) (M.state medium.new) (is_err result)) }
         ensures cause { HasCause (M.state medium.old) (M.state medium.new) (is_err result) }

@@ -1,6 +1,6 @@
-ghost use Rattle.std.specs.Prelude.{◌≡◌, ◌↔◌, ◌<◌, ◌≤◌, ◌+◌, ℕ, Option, List, min, true, IfOk, OnOk, IfSome, is_err};
+ghost use Rattle.std.specs.Prelude.{◌≡◌, ◌↔◌, ◌<◌, ℕ, Option, List, true, IfOk, OnOk, IfSome, is_err};
 ghost use Rattle.std.specs.Prelude.{option_map};
-ghost use Rattle.tach_media.specs.Medium.{Reads, LeavesOnly, HasCause, StaysSettled, IsSettled, last_count};
+ghost use Rattle.tach_media.specs.Medium.{Reads, LeavesOnly, HasCause, IsSettled, last_count};
 ghost use Rattle.tacho_types.specs.CardNumber.{card_number_bytes};
 ghost use Rattle.unit_model.specs.Image.{IsUnit};
 ghost use Rattle.unit_minutes.specs.Image.{Agrees};
@@ -9,6 +9,7 @@ ghost use Rattle.unit_owed.specs.Owed.{rows_in, owed_to};
 ghost use Rattle.unit_owed.specs.Rows.{entry_word, cell_pieces, row_pieces, putting, beginning, HasRow, IsRowAt};
 ghost use Rattle.unit_owed.specs.Rows.{IsRowFor, OwedRowHas, IsPutting, IsRowBegun, IsRowBeginning};
 ghost use Rattle.unit_owed.specs.Searching.{IsSane};
+ghost use Rattle.unit_minutes.specs.Calls.{UnitPut};
 
 use super::Journal;
 use tach_media::{Failed, Medium};
@@ -92,17 +93,12 @@ impl Journal {
         requires agrees { IfSome (M.state unit.old).image (Agrees self.old) }
         requires row { IfSome (M.state unit.old).image (HasRow (card_number_bytes number.now)) }
         ensures same { self.new ≡ self.old }
-        ensures agrees { OnOk result (IfSome (M.state unit.new).image (Agrees self.old)) }
-        ensures row { OnOk result (IfSome (M.state unit.new).image (HasRow (card_number_bytes number.now))) }
+        ensures put { OnOk result
+            (UnitPut (card_number_bytes number.now) entry.now self.old (M.state unit.old) (M.state unit.new)) }
         ensures puts { PutsBy (M.state unit.old) (M.state unit.new) (is_err result) 0 3
             (λ x. putting (card_number_bytes number.now) entry.now.minute (entry_word entry.now) (rows_in x)) }
-        ensures wrote { OnOk result (IfSome (M.state unit.old).image
-            (λ x. min ((M.state unit.old).clock + 3) last_count ≤ (M.state unit.new).clock)) }
-        ensures put { OnOk result (IfSome (M.state unit.old).image
-            (λ x. IfSome (M.state unit.new).image (OwedRowHas (card_number_bytes number.now) entry.now x))) }
         ensures moments { LeavesOnly (M.state unit.old) (M.state unit.new)
             (IsPutting (card_number_bytes number.now) entry.now) }
-        ensures settled { OnOk result (StaysSettled (M.state unit.old) (M.state unit.new)) }
         ensures cause { HasCause (M.state unit.old) (M.state unit.new) (is_err result) }
     {
         let _days = &self.days;

@@ -1,3 +1,4 @@
+use Rattle.std.proofs.lemmas.Grind.{common_steps}
 use Rattle.std.proofs.Common.{◌≡◌, ◌≢◌, ◌≤◌, length, rules, refl, ◌∙◌, sym, arith, subst}
 use Rattle.tach_media.proofs.Runs.{after_reads, weaken, at_image}
 use Rattle.gated_ring.specs.Ring.{Shape, gate_number}
@@ -15,17 +16,22 @@ put_at-requires-clause-writable g c =
     let few : length c.write_event.new.out ≤ 24 = omega (arith, len) in
     set_writable c.args.app.now c.args.event.now.kind c.event_ring.result c.event_ring.ensures _ _ c.in_ok-index.index _ c.in_ok-index.ensures.reads.leaves.writable c.in_ok-index.ensures.below few c.requires.writable
 
-pub put_at-requires-clause-open : goal.put_at-requires-clause-open
-put_at-requires-clause-open g c =
-    let is = event_opens c.args.event.now c.write_event.new.out c.write_event.ensures.reads_back in
-    subst (λ (s : Shape). gate_number s c.write_event.new.out ≢ 0) (sym c.event_ring.ensures) (λ zero. c.requires.begin (sym is ∙ zero))
+pub put_at-requires-clause-head : goal.put_at-requires-clause-head
+put_at-requires-clause-head g c = record {
+  gate = first_of (search rules, grind (arith, common_steps));
+  width = first_of (search rules, grind (arith, common_steps));
+  short = first_of (search rules, grind (arith, common_steps));
+  opens =
+      let is = event_opens c.args.event.now c.write_event.new.out c.write_event.ensures.reads_back in
+      subst (λ (s : Shape). gate_number s c.write_event.new.out ≢ 0) (sym c.event_ring.ensures) (λ zero. c.requires.begin (sym is ∙ zero));
+}
 
 pub returns-clause-moments : goal.returns-clause-moments
 returns-clause-moments g c =
     let reads = c.in_ok-index.ensures.reads in
     let app = c.args.app.now in
     let e = c.args.event.now in
-    weaken (after_reads reads.leaves (reads.same refl) c.put_at.ensures.moments) (λ x y was entry.
+    weaken (after_reads reads.leaves (reads.same refl) c.put_at.ensures.alters.moments) (λ x y was entry.
     record {
       place = c.in_ok-index.index;
       takes = at_image (λ x. TakesPlace (event_ring app e.kind) x c.in_ok-index.index) was c.in_ok-index.ensures.takes;

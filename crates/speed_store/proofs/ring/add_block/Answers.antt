@@ -1,13 +1,15 @@
-use Rattle.std.proofs.Common.{rules, ◌≡◌, ◌≤◌, ◌+◌, IfSome, List, ℕ, sym, subst, arith}
+use Rattle.std.proofs.Common.{rules, ◌≡◌, ◌<◌, ◌≤◌, ◌+◌, IfSome, List, ℕ, true, sym, subst, arith}
 use Rattle.tach_media.specs.Medium.{LiesInside}
 use Rattle.tach_media.proofs.Ranges.{lies_part}
-use Rattle.tach_media.proofs.Runs.{at_image, if_told, from_told}
+use Rattle.tach_media.proofs.Runs.{at_image, if_told, from_told, alters_as}
 use Rattle.gated_ring.specs.Ring.{Shape, PointsInside, IsAtPointer, size_of, taken}
 use Rattle.gated_ring.specs.Change.{IsAdded, adding_writes}
 use Rattle.gated_ring.proofs.Behind.{added-at}
 use Rattle.speed_model.specs.Blocks.{block_bytes}
 use Rattle.speed_model.specs.Stored.{speed_ring}
 use Rattle.speed_store.proofs.ring.add_block.Goals as goal
+use Rattle.gated_ring.proofs.AddedAs.{added_as}
+use Rattle.std.specs.Prelude.{is_err}
 
 pub add-requires-clause-writable : goal.add-requires-clause-writable
 add-requires-clause-writable g c =
@@ -29,10 +31,22 @@ returns-clause-newest g c =
     let new = (g.M.Medium.state c.add.new.medium).image in
     let bytes = block_bytes c.args.block.now in
     let index = c.in_ok-index.index in
-    let all : IfSome (g.M.Medium.state c.args.unit.now).image (λ x. IfSome (g.M.Medium.state c.add.new.medium).image (IsAdded speed_ring (block_bytes c.args.block.now) x)) = search rules in
+    let does = added_as c.blocks-2.ensures c.write_block.ensures.bytes c.in_ok-index.ensures.alters in
+    let all : IfSome old (λ x. IfSome new (IsAdded speed_ring bytes x)) = does.done in
     if_told old (λ x. PointsInside speed_ring x → IfSome new (IsAtPointer speed_ring c.in_ok-index.index)) (λ x was points.
     let same : c.in_ok-index.index ≡ taken speed_ring x =
     at_image (λ (x : List ℕ). PointsInside speed_ring x → c.in_ok-index.index ≡ taken speed_ring x) was
-    (subst (λ (r : Shape). IfSome (g.M.Medium.state c.args.unit.now).image (λ x. PointsInside r x → c.in_ok-index.index ≡ taken r x)) c.blocks-2.ensures c.in_ok-index.ensures.index) points in
+    (subst (λ (r : Shape). IfSome (g.M.Medium.state c.args.unit.now).image (λ x. PointsInside r x → c.in_ok-index.index ≡ taken r x)) c.blocks-2.ensures c.in_ok-index.ensures.took.is) points in
     from_told new (IsAdded speed_ring bytes x) (IsAtPointer speed_ring c.in_ok-index.index) (at_image (λ (x : List ℕ). IfSome new (IsAdded speed_ring bytes x)) was all)
     (λ y is added. added-at speed_ring bytes index x y points same added))
+
+pub returns-in_err-index-clause-alters : goal.returns-in_err-index-clause-alters
+returns-in_err-index-clause-alters g c =
+    let failed : is_err c.from_residual.result ≡ true = search rules in
+    alters_as c.from_residual.result failed (added_as c.blocks-2.ensures c.write_block.ensures.bytes c.in_err-index.ensures.alters)
+
+pub returns-clause-alters : goal.returns-clause-alters
+returns-clause-alters g c = added_as c.blocks-2.ensures c.write_block.ensures.bytes c.in_ok-index.ensures.alters
+
+pub returns-clause-below : goal.returns-clause-below
+returns-clause-below g c = subst (λ (r : Shape). c.in_ok-index.index < r.count) c.blocks-2.ensures c.in_ok-index.ensures.took.below

@@ -1,9 +1,12 @@
-use Rattle.std.proofs.Common.{◌≤◌, ◌+◌, IfSome, sym, subst, arith}
+use Rattle.std.proofs.Common.{rules, ◌≡◌, ◌<◌, ◌≤◌, ◌+◌, IfSome, true, sym, subst, arith}
 use Rattle.tach_media.specs.Medium.{LiesInside}
 use Rattle.tach_media.proofs.Ranges.{lies_part}
+use Rattle.tach_media.proofs.Runs.{alters_as}
 use Rattle.gated_ring.specs.Ring.{Shape, IsAtPointer, size_of}
 use Rattle.gated_ring.specs.Change.{adding_writes}
 use Rattle.speed_store.proofs.ring.add_block_behind.Goals as goal
+use Rattle.gated_ring.proofs.AddedAs.{added_as}
+use Rattle.std.specs.Prelude.{is_err}
 
 pub add_behind-requires-clause-writable : goal.add_behind-requires-clause-writable
 add_behind-requires-clause-writable g c =
@@ -24,4 +27,15 @@ returns-clause-writes g c =
 
 pub returns-clause-newest : goal.returns-clause-newest
 returns-clause-newest g c =
-    subst (λ (r : Shape). IfSome (g.M.Medium.state c.add_behind.new.medium).image (IsAtPointer r c.in_ok-index.index)) c.blocks-2.ensures c.in_ok-index.ensures.at_pointer
+    subst (λ (r : Shape). IfSome (g.M.Medium.state c.add_behind.new.medium).image (IsAtPointer r c.in_ok-index.index)) c.blocks-2.ensures c.in_ok-index.ensures.took.newest
+
+pub returns-in_err-index-clause-alters : goal.returns-in_err-index-clause-alters
+returns-in_err-index-clause-alters g c =
+    let failed : is_err c.from_residual.result ≡ true = search rules in
+    alters_as c.from_residual.result failed (added_as c.blocks-2.ensures c.write_block.ensures.bytes c.in_err-index.ensures.alters)
+
+pub returns-clause-alters : goal.returns-clause-alters
+returns-clause-alters g c = added_as c.blocks-2.ensures c.write_block.ensures.bytes c.in_ok-index.ensures.alters
+
+pub returns-clause-below : goal.returns-clause-below
+returns-clause-below g c = subst (λ (r : Shape). c.in_ok-index.index < r.count) c.blocks-2.ensures c.in_ok-index.ensures.took.below

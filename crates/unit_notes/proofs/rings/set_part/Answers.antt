@@ -22,4 +22,4 @@ pub set_small-requires-clause-apart : goal.set_small-requires-clause-apart
 set_small-requires-clause-apart g c = shape_behind_gate c.insertions.result insertion_ring c.insertions.ensures insertions_inside c.args.offset (length c.args.bytes.now) c.requires.behind
 
 pub returns-clause-moments : goal.returns-clause-moments
-returns-clause-moments g c = subst (λ (s : Shape). LeavesOnly (g.M.Medium.state c.args.unit.now) (g.M.Medium.state c.set_small.new.medium) (OrUnwritten (IsSet s c.args.index c.args.offset c.args.bytes.now))) c.insertions.ensures c.set_small.ensures.moments
+returns-clause-moments g c = subst (λ (s : Shape). LeavesOnly (g.M.Medium.state c.args.unit.now) (g.M.Medium.state c.set_small.new.medium) (OrUnwritten (IsSet s c.args.index c.args.offset c.args.bytes.now))) c.insertions.ensures c.set_small.ensures.alters.moments

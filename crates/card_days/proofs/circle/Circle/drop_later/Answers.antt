@@ -1,4 +1,5 @@
-use Rattle.std.proofs.Common.{◌≡◌, ◌+◌, List, [], inl, false, IfSome, arith, sym, ◌∙◌}
+use Rattle.std.proofs.lemmas.Grind.{common_steps}
+use Rattle.std.proofs.Common.{◌≡◌, ◌+◌, List, [], inl, false, IfSome, arith, sym, ◌∙◌, rules}
 use Rattle.tach_media.specs.Medium.{Reads}
 use Rattle.tach_media.proofs.Runs.{goes_on, at_image, where_told, told_too, cause_after}
 use Rattle.card_model.specs.Days.{Day}
@@ -50,26 +51,52 @@ loop-later-preserved g c =
       later = c.is_later-later-in-loop-later.ensures;
     }
 
-pub returns-else-count-lt-DAYS_MOST-clause-trimmed : goal.returns-else-count-lt-DAYS_MOST-clause-trimmed
-returns-else-count-lt-DAYS_MOST-clause-trimmed g c =
-    let r = c.args.self.now in
-    let date = c.args.date in
-    let i = c.loop-later.count in
-    let inv = c.loop-later.invariant in
-    where_told (g.M.Medium.state c.args.medium.now).image _ (IsTrimmed r date) (λ x y was is.
-    ends_trimmed r date i x y (at_image (IsTrimming r date i x) is (at_image (λ x. IfSome (g.M.Medium.state c.loop-later.medium).image (IsTrimming r date i x)) was inv.made))
-    (λ days kept h s k. too_many r inv.shape date i x (omega (arith, c.requires.fits, (g.met.M.Medium.coherent c.args.medium.now).sized x was)) c.if-count-lt-DAYS_MOST.false days kept h s))
+pub returns-else-count-lt-DAYS_MOST-clause-dropped : goal.returns-else-count-lt-DAYS_MOST-clause-dropped
+returns-else-count-lt-DAYS_MOST-clause-dropped g c = record {
+  trimmed =
+      let r = c.args.self.now in
+      let date = c.args.date in
+      let i = c.loop-later.count in
+      let inv = c.loop-later.invariant in
+      where_told (g.M.Medium.state c.args.medium.now).image _ (IsTrimmed r date) (λ x y was is.
+      ends_trimmed r date i x y (at_image (IsTrimming r date i x) is (at_image (λ x. IfSome (g.M.Medium.state c.loop-later.medium).image (IsTrimming r date i x)) was inv.made))
+      (λ days kept h s k. too_many r inv.shape date i x (omega (arith, c.requires.fits, (g.met.M.Medium.coherent c.args.medium.now).sized x was)) c.if-count-lt-DAYS_MOST.false days kept h s));
+  settled = first_of (search rules, grind (arith, common_steps));
+  drops =
+      let inv = c.loop-later.invariant in
+      if_told (g.M.Medium.state c.args.medium.now).image _ (λ x was days h.
+      let now = told_too (g.M.Medium.state c.args.medium.now).image (g.M.Medium.state c.loop-later.medium).image x (sym inv.moments.tells) was in
+      omega (
+        arith,
+        inv.most,
+        drops_few c.args.self.now c.args.date c.loop-later.count x now.0
+            (at_image (IsTrimming c.args.self.now c.args.date c.loop-later.count x) now.1 (at_image (λ x. IfSome (g.M.Medium.state c.loop-later.medium).image (IsTrimming c.args.self.now c.args.date c.loop-later.count x)) was inv.made)) days h,
+      ));
+}
 
-pub returns-after-loop-later-clause-trimmed : goal.returns-after-loop-later-clause-trimmed
-returns-after-loop-later-clause-trimmed g c =
-    let r = c.args.self.now in
-    let date = c.args.date in
-    let i = c.loop-later.count in
-    let inv = c.loop-later.invariant in
-    let later = later_told (g.M.Medium.state c.loop-later.medium).image r inv.shape (λ x is. omega (arith, c.requires.fits, inv.moments.size, (g.met.M.Medium.coherent c.loop-later.medium).sized x is)) c.loop-later.rear date c.loop-later.later inv.later inv.known in
-    where_told (g.M.Medium.state c.args.medium.now).image _ (IsTrimmed r date) (λ x y was is.
-    ends_trimmed r date i x y (at_image (IsTrimming r date i x) is (at_image (λ x. IfSome (g.M.Medium.state c.loop-later.medium).image (IsTrimming r date i x)) was inv.made))
-    (λ days kept h s k. sym (at_image (λ y. (days : List Day) → HoldsDays r y days → c.loop-later.later ≡ newest_later date days) is later kept k) ∙ c.loop-later-test.false))
+pub returns-after-loop-later-clause-dropped : goal.returns-after-loop-later-clause-dropped
+returns-after-loop-later-clause-dropped g c = record {
+  trimmed =
+      let r = c.args.self.now in
+      let date = c.args.date in
+      let i = c.loop-later.count in
+      let inv = c.loop-later.invariant in
+      let later = later_told (g.M.Medium.state c.loop-later.medium).image r inv.shape (λ x is. omega (arith, c.requires.fits, inv.moments.size, (g.met.M.Medium.coherent c.loop-later.medium).sized x is)) c.loop-later.rear date c.loop-later.later inv.later inv.known in
+      where_told (g.M.Medium.state c.args.medium.now).image _ (IsTrimmed r date) (λ x y was is.
+      ends_trimmed r date i x y (at_image (IsTrimming r date i x) is (at_image (λ x. IfSome (g.M.Medium.state c.loop-later.medium).image (IsTrimming r date i x)) was inv.made))
+      (λ days kept h s k. sym (at_image (λ y. (days : List Day) → HoldsDays r y days → c.loop-later.later ≡ newest_later date days) is later kept k) ∙ c.loop-later-test.false));
+  settled = first_of (search rules, grind (arith, common_steps));
+  drops =
+      let inv = c.loop-later.invariant in
+      if_told (g.M.Medium.state c.args.medium.now).image _ (λ x was days h.
+      let now = told_too (g.M.Medium.state c.args.medium.now).image (g.M.Medium.state c.loop-later.medium).image x (sym inv.moments.tells) was in
+      omega (
+        arith,
+        inv.most,
+        drops_few c.args.self.now c.args.date c.loop-later.count x now.0
+            (at_image (IsTrimming c.args.self.now c.args.date c.loop-later.count x) now.1 (at_image (λ x. IfSome (g.M.Medium.state c.loop-later.medium).image (IsTrimming c.args.self.now c.args.date c.loop-later.count x)) was inv.made)) days h,
+      ));
+}
 
 pub returns-in_err-rear-2-clause-empty : goal.returns-in_err-rear-2-clause-empty
 returns-in_err-rear-2-clause-empty g c =
@@ -96,32 +123,8 @@ returns-in_err-rear-2-clause-writes g c =
           (at_image (IsTrimming c.args.self.now c.args.date c.loop-later.count x) now.1 (at_image (λ x. IfSome (g.M.Medium.state c.loop-later.medium).image (IsTrimming c.args.self.now c.args.date c.loop-later.count x)) was inv.made)) days h,
     ))
 
-pub returns-else-count-lt-DAYS_MOST-clause-drops : goal.returns-else-count-lt-DAYS_MOST-clause-drops
-returns-else-count-lt-DAYS_MOST-clause-drops g c =
-    let inv = c.loop-later.invariant in
-    if_told (g.M.Medium.state c.args.medium.now).image _ (λ x was days h.
-    let now = told_too (g.M.Medium.state c.args.medium.now).image (g.M.Medium.state c.loop-later.medium).image x (sym inv.moments.tells) was in
-    omega (
-      arith,
-      inv.most,
-      drops_few c.args.self.now c.args.date c.loop-later.count x now.0
-          (at_image (IsTrimming c.args.self.now c.args.date c.loop-later.count x) now.1 (at_image (λ x. IfSome (g.M.Medium.state c.loop-later.medium).image (IsTrimming c.args.self.now c.args.date c.loop-later.count x)) was inv.made)) days h,
-    ))
-
 pub returns-else-count-lt-DAYS_MOST-clause-writes : goal.returns-else-count-lt-DAYS_MOST-clause-writes
-returns-else-count-lt-DAYS_MOST-clause-writes g c = from_told (g.M.Medium.state c.args.medium.now).image _ _ (returns-else-count-lt-DAYS_MOST-clause-drops g c) (λ x was few days h. omega (arith, few days h))
-
-pub returns-after-loop-later-clause-drops : goal.returns-after-loop-later-clause-drops
-returns-after-loop-later-clause-drops g c =
-    let inv = c.loop-later.invariant in
-    if_told (g.M.Medium.state c.args.medium.now).image _ (λ x was days h.
-    let now = told_too (g.M.Medium.state c.args.medium.now).image (g.M.Medium.state c.loop-later.medium).image x (sym inv.moments.tells) was in
-    omega (
-      arith,
-      inv.most,
-      drops_few c.args.self.now c.args.date c.loop-later.count x now.0
-          (at_image (IsTrimming c.args.self.now c.args.date c.loop-later.count x) now.1 (at_image (λ x. IfSome (g.M.Medium.state c.loop-later.medium).image (IsTrimming c.args.self.now c.args.date c.loop-later.count x)) was inv.made)) days h,
-    ))
+returns-else-count-lt-DAYS_MOST-clause-writes g c = from_told (g.M.Medium.state c.args.medium.now).image _ _ (returns-else-count-lt-DAYS_MOST-clause-dropped g c).drops (λ x was few days h. omega (arith, few days h))
 
 pub returns-after-loop-later-clause-writes : goal.returns-after-loop-later-clause-writes
-returns-after-loop-later-clause-writes g c = from_told (g.M.Medium.state c.args.medium.now).image _ _ (returns-after-loop-later-clause-drops g c) (λ x was few days h. omega (arith, few days h))
+returns-after-loop-later-clause-writes g c = from_told (g.M.Medium.state c.args.medium.now).image _ _ (returns-after-loop-later-clause-dropped g c).drops (λ x was few days h. omega (arith, few days h))

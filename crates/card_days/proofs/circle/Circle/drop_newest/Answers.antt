@@ -1,4 +1,5 @@
-use Rattle.std.proofs.Common.{◌≡◌, ◌+◌, ◌%◌, ◌≤◌, List, ℕ, length, arith, sym, ap, ◌∙◌, subst}
+use Rattle.std.proofs.lemmas.Grind.{common_steps}
+use Rattle.std.proofs.Common.{◌≡◌, ◌+◌, ◌%◌, ◌≤◌, List, ℕ, length, arith, sym, ap, ◌∙◌, subst, rules}
 use Rattle.tach_media.specs.Medium.{put, bytes_at}
 use Rattle.tach_media.proofs.Runs.{weaken, goes_same, at_image, where_told, turned_into, on_ok}
 use Rattle.card_model.specs.Bytes.{number, two_bytes}
@@ -49,26 +50,31 @@ returns-in_err-put_newest-clause-moments g c =
     while_one r c.requires.shape x inside v.newest known.newest c.requires.lies.newest (λ pointer same. c.if-rear.false (known.oldest pointer ∙ sym same))
     c.day_len-len.result c.back-newest.result (λ even most. c.day_len-len.ensures.same (ap (λ (k : ℕ). k % 2) before ∙ even) (omega (arith, before, most)) ∙ before) c.back-newest.ensures.place c.back-newest.ensures.pointer d part)
 
-pub rear_at-requires-clause-oldest : goal.rear_at-requires-clause-oldest
-rear_at-requires-clause-oldest g c =
-    let r = c.args.self.now in
-    let v = c.args.rear in
-    told_put (g.M.Medium.state c.args.medium.now).image _ (put (r.base + 2) (two_bytes c.back-newest.result)) (IsRear r v) (λ x. IsPointer r.size (oldest_pointer r x) → v.oldest ≡ oldest_pointer r x) c.in_ok-put_newest.ensures.written c.requires.known (λ x was known.
-    oldest_then r c.requires.shape x (omega (arith, c.requires.fits, (g.met.M.Medium.coherent c.args.medium.now).sized x was)) v known c.back-newest.result)
+pub rear_at-requires-clause-ends : goal.rear_at-requires-clause-ends
+rear_at-requires-clause-ends g c = record {
+  start = first_of (search rules, grind (arith, common_steps));
+  end = first_of (search rules, grind (arith, common_steps));
+  oldest_is =
+      let r = c.args.self.now in
+      let v = c.args.rear in
+      told_put (g.M.Medium.state c.args.medium.now).image _ (put (r.base + 2) (two_bytes c.back-newest.result)) (IsRear r v) (λ x. IsPointer r.size (oldest_pointer r x) → v.oldest ≡ oldest_pointer r x) c.in_ok-put_newest.ensures.written c.requires.known (λ x was known.
+      oldest_then r c.requires.shape x (omega (arith, c.requires.fits, (g.met.M.Medium.coherent c.args.medium.now).sized x was)) v known c.back-newest.result);
+  newest_is =
+      let r = c.args.self.now in
+      let v = c.args.rear in
+      told_put (g.M.Medium.state c.args.medium.now).image _ (put (r.base + 2) (two_bytes c.back-newest.result)) (IsRear r v) (λ x. IsPointer r.size (newest_pointer r x) → c.back-newest.result ≡ newest_pointer r x) c.in_ok-put_newest.ensures.written c.requires.known (λ x was known pointer.
+      newest_then r c.requires.shape x (omega (arith, c.requires.fits, (g.met.M.Medium.coherent c.args.medium.now).sized x was)) v known c.back-newest.result);
+}
 
-pub rear_at-requires-clause-newest : goal.rear_at-requires-clause-newest
-rear_at-requires-clause-newest g c =
-    let r = c.args.self.now in
-    let v = c.args.rear in
-    told_put (g.M.Medium.state c.args.medium.now).image _ (put (r.base + 2) (two_bytes c.back-newest.result)) (IsRear r v) (λ x. IsPointer r.size (newest_pointer r x) → c.back-newest.result ≡ newest_pointer r x) c.in_ok-put_newest.ensures.written c.requires.known (λ x was known pointer.
-    newest_then r c.requires.shape x (omega (arith, c.requires.fits, (g.met.M.Medium.coherent c.args.medium.now).sized x was)) v known c.back-newest.result)
-
-pub rear_at-requires-clause-bytes : goal.rear_at-requires-clause-bytes
-rear_at-requires-clause-bytes g c =
-    let r = c.args.self.now in
-    let v = c.args.rear in
-    told_put (g.M.Medium.state c.args.medium.now).image _ (put (r.base + 2) (two_bytes c.back-newest.result)) (IsRear r v) (IsBlock r v.block) c.in_ok-put_newest.ensures.written c.requires.known (λ x was known.
-    block_then r c.requires.shape x (omega (arith, c.requires.fits, (g.met.M.Medium.coherent c.args.medium.now).sized x was)) v known c.back-newest.result)
+pub rear_at-requires-clause-block : goal.rear_at-requires-clause-block
+rear_at-requires-clause-block g c = record {
+  inside = first_of (search rules, grind (arith, common_steps));
+  bytes =
+      let r = c.args.self.now in
+      let v = c.args.rear in
+      told_put (g.M.Medium.state c.args.medium.now).image _ (put (r.base + 2) (two_bytes c.back-newest.result)) (IsRear r v) (IsBlock r v.block) c.in_ok-put_newest.ensures.written c.requires.known (λ x was known.
+      block_then r c.requires.shape x (omega (arith, c.requires.fits, (g.met.M.Medium.coherent c.args.medium.now).sized x was)) v known c.back-newest.result);
+}
 
 pub returns-clause-shortened : goal.returns-clause-shortened
 returns-clause-shortened g c =

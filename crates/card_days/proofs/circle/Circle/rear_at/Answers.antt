@@ -14,8 +14,8 @@ returns-clause-known g c =
     let inside : r.base + (4 + r.size) ≤ length x = omega (arith, c.requires.fits, (g.met.M.Medium.coherent c.args.medium.now).sized x was) in
     let bytes : IsBlock r b x = at_image (IsBlock r b) was c.in_ok-block.ensures.bytes in
     record {
-      oldest = at_image (λ x. IsPointer r.size (oldest_pointer r x) → c.args.oldest ≡ oldest_pointer r x) was c.requires.oldest;
-      newest = at_image (λ x. IsPointer r.size (newest_pointer r x) → c.args.newest ≡ newest_pointer r x) was c.requires.newest;
-      head = in_block r c.requires.shape x inside b c.head-head.result c.args.newest (omega (arith, c.if-size-newest-lt12.false, c.size.ensures.size, c.requires.end.below)) c.in_ok-block.ensures.from c.in_ok-block.ensures.to bytes c.head-head.ensures;
+      oldest = at_image (λ x. IsPointer r.size (oldest_pointer r x) → c.args.oldest ≡ oldest_pointer r x) was c.requires.ends.oldest_is;
+      newest = at_image (λ x. IsPointer r.size (newest_pointer r x) → c.args.newest ≡ newest_pointer r x) was c.requires.ends.newest_is;
+      head = in_block r c.requires.shape x inside b c.head-head.result c.args.newest (omega (arith, c.if-size-newest-lt12.false, c.size.ensures.size, c.requires.ends.end.below)) c.in_ok-block.ensures.from c.in_ok-block.ensures.to bytes c.head-head.ensures;
       block = bytes;
     })

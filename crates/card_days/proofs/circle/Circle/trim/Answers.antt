@@ -23,7 +23,7 @@ returns-clause-moments g c =
     let first = weaken c.drop_later.ensures.moments (λ x d was step. while_dropping r m x d (subst (λ (k : ℕ). IsTrimming r k 0 x d) c.first_second.ensures step)) in
     goes_on first c.cut.ensures.moments (λ x y d was is step.
     while_cutting r m x y (subst (λ (k : ℕ). IsTrimmed r k x y) c.first_second.ensures
-    (at_image (IsTrimmed r c.first_second.result x) is (at_image (λ x. IfSome (g.M.Medium.state c.drop_later.new.medium).image (IsTrimmed r c.first_second.result x)) was c.in_ok-drop_later.ensures.trimmed))) d step)
+    (at_image (IsTrimmed r c.first_second.result x) is (at_image (λ x. IfSome (g.M.Medium.state c.drop_later.new.medium).image (IsTrimmed r c.first_second.result x)) was c.in_ok-drop_later.ensures.dropped.trimmed))) d step)
 
 pub returns-clause-trimmed : goal.returns-clause-trimmed
 returns-clause-trimmed g c =
@@ -31,14 +31,14 @@ returns-clause-trimmed g c =
     let m = c.args.minute in
     on_ok_weaker c.cut.result (λ made.
     through (g.M.Medium.state c.args.medium.now).image (g.M.Medium.state c.drop_later.new.medium).image _ (IsTrimmed r c.first_second.result) (IsCutLast r m) (IsTrim r m) c.drop_later.ensures.moments.tells
-    c.in_ok-drop_later.ensures.trimmed made (λ x y z was first step. trim_made r m x y (subst (λ (k : ℕ). IsTrimmed r k x y) c.first_second.ensures first) z step)) c.cut.ensures.cut
+    c.in_ok-drop_later.ensures.dropped.trimmed made (λ x y z was first step. trim_made r m x y (subst (λ (k : ℕ). IsTrimmed r k x y) c.first_second.ensures first) z step)) c.cut.ensures.cut
 
 pub returns-clause-settled : goal.returns-clause-settled
 returns-clause-settled g c = on_ok_weaker c.cut.result (λ settled. if_told (g.M.Medium.state c.args.medium.now).image _ (λ x was.
-    settled_after c.args.self.now c.in_ok-drop_later.ensures.settled settled x was)) c.cut.ensures.settled
+    settled_after c.args.self.now c.in_ok-drop_later.ensures.dropped.settled settled x was)) c.cut.ensures.settled
 
 pub returns-clause-still : goal.returns-clause-still
-returns-clause-still g c = on_ok_weaker c.cut.result (λ settled. still_after c.args.self.now c.in_ok-drop_later.ensures.settled settled) c.cut.ensures.settled
+returns-clause-still g c = on_ok_weaker c.cut.result (λ settled. still_after c.args.self.now c.in_ok-drop_later.ensures.dropped.settled settled) c.cut.ensures.settled
 
 pub returns-clause-empty : goal.returns-clause-empty
 returns-clause-empty g c =
@@ -51,5 +51,5 @@ returns-in_err-drop_later-clause-writes g c = from_told (g.M.Medium.state c.args
     omega (arith, few days h, ap (λ (k : ℕ). length (until k days)) c.first_second.ensures))
 
 pub returns-clause-writes : goal.returns-clause-writes
-returns-clause-writes g c = from_told (g.M.Medium.state c.args.medium.now).image _ _ c.in_ok-drop_later.ensures.drops (λ x was few days h.
+returns-clause-writes g c = from_told (g.M.Medium.state c.args.medium.now).image _ _ c.in_ok-drop_later.ensures.dropped.drops (λ x was few days h.
     omega (arith, few days h, c.cut.ensures.most, ap (λ (k : ℕ). length (until k days)) c.first_second.ensures))

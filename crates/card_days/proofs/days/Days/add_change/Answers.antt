@@ -1,5 +1,7 @@
-use Rattle.std.proofs.Common.{◌≡◌, ℕ, ◌+◌, ◌<◌, List, arith, ap, sym, refl, ◌∙◌, subst}
-use Rattle.tach_media.proofs.Runs.{weaken, at_image, where_told, turned_into}
+use Rattle.std.proofs.lemmas.Grind.{common_steps}
+use Rattle.std.proofs.Common.{◌≡◌, ℕ, ◌+◌, ◌<◌, List, arith, ap, sym, refl, ◌∙◌, subst, rules, true}
+use Rattle.tach_media.proofs.Runs.{weaken, at_image, where_told, turned_into, alters_failed}
+use Rattle.std.specs.Prelude.{is_err}
 use Rattle.tach_media.specs.Plan.{put_all}
 use Rattle.card_model.specs.Image.{StringShape}
 use Rattle.card_days.specs.declared.head.Tail.{Tail}
@@ -13,11 +15,15 @@ use Rattle.card_days.proofs.days.Days.add_change.Goals as goal
 abbrev hold : StringShape → Tail → Held
 hold r t = record { shape = r; tail = t }
 
-pub returns-in_err-used-clause-moments : goal.returns-in_err-used-clause-moments
-returns-in_err-used-clause-moments g c =
-    let is : IsInBounds c.args.self.now = subst (λ (h : Held). IsInBounds h) c.self.view_is c.self.invariant in
+pub returns-in_err-used-clause-alters : goal.returns-in_err-used-clause-alters
+returns-in_err-used-clause-alters g c =
+    let failed : is_err c.from_residual.result ≡ true = search rules in
+    alters_failed c.from_residual.result failed
+    (let is : IsInBounds c.args.self.now = subst (λ (h : Held). IsInBounds h) c.self.view_is c.self.invariant in
     weaken c.in_err-used.ensures.puts.leaves (λ x d was part.
-    changing_known c.args.self.now is c.args.word x (omega (arith, c.requires.fits, (g.met.M.Medium.coherent c.args.medium.now).sized x was)) d part)
+    changing_known c.args.self.now is c.args.word x (omega (arith, c.requires.fits, (g.met.M.Medium.coherent c.args.medium.now).sized x was)) d part))
+    c.in_err-used.ensures.puts.cause
+    (omega (arith, c.in_err-used.ensures.puts.clock))
 
 pub returns-in_err-used-clause-writes : goal.returns-in_err-used-clause-writes
 returns-in_err-used-clause-writes g c =
@@ -25,11 +31,23 @@ returns-in_err-used-clause-writes g c =
     from_told (g.M.Medium.state c.args.medium.now).image _ _ c.in_err-used.ensures.exact (λ x was exact days k.
     omega (arith, exact, change_count c.args.self.now is c.args.word x (omega (arith, c.requires.fits, (g.met.M.Medium.coherent c.args.medium.now).sized x was)) days k))
 
-pub returns-clause-moments : goal.returns-clause-moments
-returns-clause-moments g c =
-    let is : IsInBounds c.args.self.now = subst (λ (h : Held). IsInBounds h) c.self.view_is c.self.invariant in
-    weaken c.in_ok-used.ensures.puts.leaves (λ x d was part.
-    changing_known c.args.self.now is c.args.word x (omega (arith, c.requires.fits, (g.met.M.Medium.coherent c.args.medium.now).sized x was)) d part)
+pub returns-clause-alters : goal.returns-clause-alters
+returns-clause-alters g c = record {
+  done =
+      let v = c.args.self.now in
+      let is : IsInBounds c.args.self.now = subst (λ (h : Held). IsInBounds h) c.self.view_is c.self.invariant in
+      where_told (g.M.Medium.state c.args.medium.now).image _ (IfKnown v (IsChanged v.shape c.args.word)) (λ x y was now.
+      let y_is : y ≡ put_all (change_pieces v c.args.word x) x = turned_into (λ x. put_all (change_pieces v c.args.word x) x) (c.in_ok-used.ensures.puts.written refl) was now in
+      subst (λ (l : List ℕ). IfKnown v (IsChanged v.shape c.args.word) x l) (sym y_is)
+      (changed_known v is c.args.word x (omega (arith, c.requires.fits, (g.met.M.Medium.coherent c.args.medium.now).sized x was))));
+  moments =
+      let is : IsInBounds c.args.self.now = subst (λ (h : Held). IsInBounds h) c.self.view_is c.self.invariant in
+      weaken c.in_ok-used.ensures.puts.leaves (λ x d was part.
+      changing_known c.args.self.now is c.args.word x (omega (arith, c.requires.fits, (g.met.M.Medium.coherent c.args.medium.now).sized x was)) d part);
+  settled = first_of (search rules, grind (arith, common_steps));
+  cause = first_of (search rules, grind (arith, common_steps));
+  most = first_of (search rules, grind (arith, common_steps));
+}
 
 pub returns-clause-writes : goal.returns-clause-writes
 returns-clause-writes g c =
@@ -37,37 +55,29 @@ returns-clause-writes g c =
     from_told (g.M.Medium.state c.args.medium.now).image _ _ c.in_ok-used.ensures.exact (λ x was exact days k.
     omega (arith, exact, change_count c.args.self.now is c.args.word x (omega (arith, c.requires.fits, (g.met.M.Medium.coherent c.args.medium.now).sized x was)) days k))
 
-pub returns-clause-changed : goal.returns-clause-changed
-returns-clause-changed g c =
-    let v = c.args.self.now in
-    let is : IsInBounds c.args.self.now = subst (λ (h : Held). IsInBounds h) c.self.view_is c.self.invariant in
-    where_told (g.M.Medium.state c.args.medium.now).image _ (IfKnown v (IsChanged v.shape c.args.word)) (λ x y was now.
-    let y_is : y ≡ put_all (change_pieces v c.args.word x) x = turned_into (λ x. put_all (change_pieces v c.args.word x) x) (c.in_ok-used.ensures.puts.written refl) was now in
-    subst (λ (l : List ℕ). IfKnown v (IsChanged v.shape c.args.word) x l) (sym y_is)
-    (changed_known v is c.args.word x (omega (arith, c.requires.fits, (g.met.M.Medium.coherent c.args.medium.now).sized x was))))
-
-pub returns-clause-knows : goal.returns-clause-knows
-returns-clause-knows g c =
-    let v = c.args.self.now in
-    let w = c.args.word in
-    let is : IsInBounds c.args.self.now = subst (λ (h : Held). IsInBounds h) c.self.view_is c.self.invariant in
-    let used = c.in_ok-used.used in
-    let next_is : hold c.self.inside.circle c.with_word-self-inside.result ≡ hold v.shape (tail_more v.tail w used) =
-    ap (λ (t : Tail). hold c.self.inside.circle t) c.with_word-self-inside.ensures.tail ∙ ap (λ (h : Held). hold h.shape (tail_more h.tail w used)) c.self.view_is in
-    where_told (g.M.Medium.state c.args.medium.now).image _ (KnowsChanged v (hold c.self.inside.circle c.with_word-self-inside.result) w) (λ x y was now.
-    let y_is : y ≡ put_all (change_pieces v w x) x = turned_into (λ x. put_all (change_pieces v w x) x) (c.in_ok-used.ensures.puts.written refl) was now in
-    subst (λ (l : List ℕ). KnowsChanged v (hold c.self.inside.circle c.with_word-self-inside.result) w x l) (sym y_is)
-    (changed_knows v is w x (omega (arith, c.requires.fits, (g.met.M.Medium.coherent c.args.medium.now).sized x was)) (hold c.self.inside.circle c.with_word-self-inside.result) used next_is
-    (at_image (λ x. used ≡ left_in v 2 x v.tail.used + 2) was c.in_ok-used.ensures.used)))
-
-pub returns-clause-cleared : goal.returns-clause-cleared
-returns-clause-cleared g c =
-    let v = c.args.self.now in
-    let is : IsInBounds c.args.self.now = subst (λ (h : Held). IsInBounds h) c.self.view_is c.self.invariant in
-    where_told (g.M.Medium.state c.args.medium.now).image _ (ClearsChanged v c.args.word) (λ x y was now.
-    let y_is : y ≡ put_all (change_pieces v c.args.word x) x = turned_into (λ x. put_all (change_pieces v c.args.word x) x) (c.in_ok-used.ensures.puts.written refl) was now in
-    subst (λ (l : List ℕ). ClearsChanged v c.args.word x l) (sym y_is)
-    (changed_clears v is c.args.word x (omega (arith, c.requires.fits, (g.met.M.Medium.coherent c.args.medium.now).sized x was))))
+pub returns-clause-added : goal.returns-clause-added
+returns-clause-added g c = record {
+  knows =
+      let v = c.args.self.now in
+      let w = c.args.word in
+      let is : IsInBounds c.args.self.now = subst (λ (h : Held). IsInBounds h) c.self.view_is c.self.invariant in
+      let used = c.in_ok-used.used in
+      let next_is : hold c.self.inside.circle c.with_word-self-inside.result ≡ hold v.shape (tail_more v.tail w used) =
+      ap (λ (t : Tail). hold c.self.inside.circle t) c.with_word-self-inside.ensures.tail ∙ ap (λ (h : Held). hold h.shape (tail_more h.tail w used)) c.self.view_is in
+      where_told (g.M.Medium.state c.args.medium.now).image _ (KnowsChanged v (hold c.self.inside.circle c.with_word-self-inside.result) w) (λ x y was now.
+      let y_is : y ≡ put_all (change_pieces v w x) x = turned_into (λ x. put_all (change_pieces v w x) x) (c.in_ok-used.ensures.puts.written refl) was now in
+      subst (λ (l : List ℕ). KnowsChanged v (hold c.self.inside.circle c.with_word-self-inside.result) w x l) (sym y_is)
+      (changed_knows v is w x (omega (arith, c.requires.fits, (g.met.M.Medium.coherent c.args.medium.now).sized x was)) (hold c.self.inside.circle c.with_word-self-inside.result) used next_is
+      (at_image (λ x. used ≡ left_in v 2 x v.tail.used + 2) was c.in_ok-used.ensures.used)));
+  cleared =
+      let v = c.args.self.now in
+      let is : IsInBounds c.args.self.now = subst (λ (h : Held). IsInBounds h) c.self.view_is c.self.invariant in
+      where_told (g.M.Medium.state c.args.medium.now).image _ (ClearsChanged v c.args.word) (λ x y was now.
+      let y_is : y ≡ put_all (change_pieces v c.args.word x) x = turned_into (λ x. put_all (change_pieces v c.args.word x) x) (c.in_ok-used.ensures.puts.written refl) was now in
+      subst (λ (l : List ℕ). ClearsChanged v c.args.word x l) (sym y_is)
+      (changed_clears v is c.args.word x (omega (arith, c.requires.fits, (g.met.M.Medium.coherent c.args.medium.now).sized x was))));
+  used = first_of (search rules, grind (arith, common_steps));
+}
 
 pub returns-clause-ends : goal.returns-clause-ends
 returns-clause-ends g c =

@@ -28,7 +28,7 @@ returns-in-Some-clause-part g c =
     (subst (λ (u : Session). DoesPart old new (is_err r) (IsPartDone u t (TakesSome (Some c.in-Some.word)) (with_some u.application.activity (Some c.in-Some.word))) (IsPartMoment u (TakesSome (Some c.in-Some.word)) (IsAdding u.application.activity (Some c.in-Some.word)))) c.self.view_is
     (add_part s t c.self.invariant (days_else i.application i.days i.vehicles i.newest i.vehicle i.registration i.minute i.odometer s refl c.add_change.new.self)
     old new (is_err r) (subst (λ (p : Application). MayKeep p old) (ap (λ (u : Session). u.application) (sym c.self.view_is)) c.requires.card) (g.met.M.Medium.coherent c.args.port.now) c.in-Some.word
-    e.shape (λ fine. ok_gives r e.changed fine) (λ fine. ok_gives r e.knows fine) e.moments e.cause))
+    e.shape (λ fine. ok_gives r e.alters.done fine) (λ fine. (ok_gives r e.added fine).knows) e.alters.moments e.alters.cause))
 
 pub returns-in-None-clause-part : goal.returns-in-None-clause-part
 returns-in-None-clause-part g c =
@@ -44,7 +44,7 @@ pub returns-in-Some-clause-none : goal.returns-in-Some-clause-none
 returns-in-Some-clause-none g c = λ none. absurd (none_some (sym none ∙ c.in-Some.is))
 
 pub returns-in-Some-clause-few : goal.returns-in-Some-clause-few
-returns-in-Some-clause-few g c = omega (arith, c.add_change.ensures.most, one_drop c.self.inside.days.shape.size c.self.inside.days.tail.used c.add_change.ensures.held.most)
+returns-in-Some-clause-few g c = omega (arith, c.add_change.ensures.alters.most, one_drop c.self.inside.days.shape.size c.self.inside.days.tail.used c.add_change.ensures.held.most)
 
 pub returns-in-None-clause-none : goal.returns-in-None-clause-none
 returns-in-None-clause-none g c = λ none. (refl, refl)

@@ -31,10 +31,10 @@ returns-clause-part g c =
     (subst (λ (u : Session). DoesPart old new (is_err r) (IsPartDone u t (TakesSome (Some w)) (with_some u.application.activity (Some w))) (IsPartMoment u (TakesSome (Some w)) (IsAdding u.application.activity (Some w)))) c.self.view_is
     (add_part s t c.self.invariant (days_else i.application i.days i.vehicles i.newest i.vehicle i.registration i.minute i.odometer s refl c.add_change.new.self)
     old new (is_err r) (subst (λ (p : Application). MayKeep p old) (ap (λ (u : Session). u.application) (sym c.self.view_is)) c.requires.card) (g.met.M.Medium.coherent c.args.port.now) w
-    e.shape (λ fine. ok_gives r e.changed fine) (λ fine. ok_gives r e.knows fine) e.moments e.cause))
+    e.shape (λ fine. ok_gives r e.alters.done fine) (λ fine. (ok_gives r e.added fine).knows) e.alters.moments e.alters.cause))
 
 pub returns-clause-most : goal.returns-clause-most
-returns-clause-most g c = omega (arith, c.add_change.ensures.most, one_drop c.self.inside.days.shape.size c.self.inside.days.tail.used c.add_change.ensures.held.most)
+returns-clause-most g c = omega (arith, c.add_change.ensures.alters.most, one_drop c.self.inside.days.shape.size c.self.inside.days.tail.used c.add_change.ensures.held.most)
 
 pub returns-clause-ends : goal.returns-clause-ends
 returns-clause-ends g c =

@@ -37,7 +37,7 @@ returns-then-entry-eq0-clause-part g c =
     (from_with s t c.self.invariant (days_else i.application i.days i.vehicles i.newest i.vehicle i.registration i.minute i.odometer s refl c.begin_day.new.self)
     old new (is_err r) (subst (λ (p : Application). MayKeep p old) (ap (λ (u : Session). u.application) (sym c.self.view_is)) c.requires.card) (g.met.M.Medium.coherent c.args.port.now) e.minute (manual_word e)
     (c.manual_word-word.result ∷ []) (from_alone e.minute (manual_word e) (minute_is e) c.manual_word-word.result c.manual_word-word.ensures c.if-entry-eq0.true) c.date_of.result c.date_of.ensures
-    d.shape (λ fine. ok_gives r d.begun fine) (λ fine. ok_gives r d.knows fine) d.moments d.cause)
+    d.shape (λ fine. ok_gives r d.alters.done fine) (λ fine. (ok_gives r d.began fine).knows) d.alters.moments d.alters.cause)
 
 pub returns-else-entry-eq0-clause-part : goal.returns-else-entry-eq0-clause-part
 returns-else-entry-eq0-clause-part g c =
@@ -53,13 +53,13 @@ returns-else-entry-eq0-clause-part g c =
     (from_with s t c.self.invariant (days_else i.application i.days i.vehicles i.newest i.vehicle i.registration i.minute i.odometer s refl c.begin_day-else-entry-eq0.new.self)
     old new (is_err r) (subst (λ (p : Application). MayKeep p old) (ap (λ (u : Session). u.application) (sym c.self.view_is)) c.requires.card) (g.met.M.Medium.coherent c.args.port.now) e.minute (manual_word e)
     (c.bare_word.result ∷ c.manual_word-word.result ∷ []) (from_behind e.minute (manual_word e) (minute_is e) c.bare_word.result c.manual_word-word.result c.bare_word.ensures c.manual_word-word.ensures c.if-entry-eq0.false) c.date_of.result c.date_of.ensures
-    d.shape (λ fine. ok_gives r d.begun fine) (λ fine. ok_gives r d.knows fine) d.moments d.cause)
+    d.shape (λ fine. ok_gives r d.alters.done fine) (λ fine. (ok_gives r d.began fine).knows) d.alters.moments d.alters.cause)
 
 pub returns-then-entry-eq0-clause-most : goal.returns-then-entry-eq0-clause-most
-returns-then-entry-eq0-clause-most g c = omega (arith, c.begin_day.ensures.most, few_drops c.self.inside.days.shape.size c.self.inside.days.tail.used 14)
+returns-then-entry-eq0-clause-most g c = omega (arith, c.begin_day.ensures.alters.most, few_drops c.self.inside.days.shape.size c.self.inside.days.tail.used 14)
 
 pub returns-else-entry-eq0-clause-most : goal.returns-else-entry-eq0-clause-most
-returns-else-entry-eq0-clause-most g c = omega (arith, c.begin_day-else-entry-eq0.ensures.most, few_drops c.self.inside.days.shape.size c.self.inside.days.tail.used 16)
+returns-else-entry-eq0-clause-most g c = omega (arith, c.begin_day-else-entry-eq0.ensures.alters.most, few_drops c.self.inside.days.shape.size c.self.inside.days.tail.used 16)
 
 pub returns-then-entry-eq0-clause-ends : goal.returns-then-entry-eq0-clause-ends
 returns-then-entry-eq0-clause-ends g c =

@@ -33,4 +33,4 @@ returns-clause-part g c =
     subst (λ (u : Session). DoesPart old new (is_err r) (IsPartDone u t AnyBook (with_cut c.args.minute)) (IsPartMoment u AnyBook (IsCutting c.args.minute))) c.self.view_is
     (cut_part s t c.self.invariant (days_else i.application i.days i.vehicles i.newest i.vehicle i.registration i.minute i.odometer s refl c.trim.new.self)
     old new (is_err r) (subst (λ (p : Application). MayKeep p old) (ap (λ (u : Session). u.application) (sym c.self.view_is)) c.requires.card) (g.met.M.Medium.coherent c.args.port.now)
-    c.args.minute e.shape (λ fine. ok_gives r e.trimmed fine) (λ fine. ok_gives r e.knows fine) e.moments e.cause)
+    c.args.minute e.shape (λ fine. (ok_gives r e.cut fine).is) (λ fine. (ok_gives r e.cut fine).knows) e.moments e.cause)

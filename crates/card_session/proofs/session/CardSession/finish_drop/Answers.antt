@@ -26,4 +26,4 @@ returns-clause-part g c =
     subst (λ (u : Session). DoesPart old new (is_err r) (IsPartDone u t AnyBook (λ b. b)) (IsPartMoment u AnyBook IsBook)) c.self.view_is
     (still_part s t c.self.invariant (days_else i.application i.days i.vehicles i.newest i.vehicle i.registration i.minute i.odometer s refl c.finish_drop.new.self)
     old new (is_err r) (subst (λ (p : Application). MayKeep p old) (ap (λ (u : Session). u.application) (sym c.self.view_is)) c.requires.card) (g.met.M.Medium.coherent c.args.port.now)
-    e.kept (λ fine. ok_gives r e.same fine) (λ fine. ok_gives r e.knows fine) e.moments e.cause)
+    e.kept (λ fine. (ok_gives r e.ended fine).same) (λ fine. (ok_gives r e.ended fine).knows) e.moments e.cause)

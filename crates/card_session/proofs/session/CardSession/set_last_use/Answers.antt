@@ -43,7 +43,7 @@ returns-in_err-set_small-clause-part g c =
     let old = g.M.Medium.state c.args.port.now in
     failed_part s t _ AnyBook (with_last_use c.args.seconds) (with_last_use c.args.seconds) (IsSettingUse c.args.seconds) (IsSettingUse c.args.seconds)
     (set_with s t value (record { application = refl; days = refl; registration = refl; minute = refl; odometer = refl }) old (g.M.Medium.state c.set_small.new.medium) true c.requires.card (g.met.M.Medium.coherent c.args.port.now) c.args.index 10 c.write_time.new.out u c.requires.newest refl refl
-    (λ l len. ap (λ (b : List ℕ). vehicle_of (put 10 b l)) c.write_time.ensures.bytes ∙ vehicle_used l c.args.seconds len (omega (arith, c.requires.last))) c.self.inside.vehicles (c.self.invariant.vehicles ∙ ap (λ (s : Session). vehicle_ring s.application) c.self.view_is) (λ fine. absurd (cc)) e.moments e.cause) failed (λ b ds v any q. q)
+    (λ l len. ap (λ (b : List ℕ). vehicle_of (put 10 b l)) c.write_time.ensures.bytes ∙ vehicle_used l c.args.seconds len (omega (arith, c.requires.last))) c.self.inside.vehicles (c.self.invariant.vehicles ∙ ap (λ (s : Session). vehicle_ring s.application) c.self.view_is) (λ fine. absurd (cc)) e.alters.moments e.alters.cause) failed (λ b ds v any q. q)
 
 pub returns-clause-part : goal.returns-clause-part
 returns-clause-part g c =
@@ -55,4 +55,4 @@ returns-clause-part g c =
     let old = g.M.Medium.state c.args.port.now in
     set_with s _ value (ring_else i.application i.days i.vehicles i.newest i.vehicle i.registration i.minute i.odometer s c.self.view_is c.set_small.new.self i.newest (Some c.used.result)) old (g.M.Medium.state c.set_small.new.medium) false c.requires.card (g.met.M.Medium.coherent c.args.port.now) c.args.index 10 c.write_time.new.out u c.requires.newest
     (ap (λ (t : Session). t.newest) c.self.view_is) (ap (λ (v : Vehicle). Some v) c.used.ensures ∙ ap (option_map u) (sym c.requires.vehicle))
-    (λ l len. ap (λ (b : List ℕ). vehicle_of (put 10 b l)) c.write_time.ensures.bytes ∙ vehicle_used l c.args.seconds len (omega (arith, c.requires.last))) c.self.inside.vehicles (c.self.invariant.vehicles ∙ ap (λ (s : Session). vehicle_ring s.application) c.self.view_is) (λ fine. e.set) e.moments e.cause
+    (λ l len. ap (λ (b : List ℕ). vehicle_of (put 10 b l)) c.write_time.ensures.bytes ∙ vehicle_used l c.args.seconds len (omega (arith, c.requires.last))) c.self.inside.vehicles (c.self.invariant.vehicles ∙ ap (λ (s : Session). vehicle_ring s.application) c.self.view_is) (λ fine. e.alters.done) e.alters.moments e.alters.cause

@@ -38,4 +38,4 @@ returns-clause-part g c =
     let r = c.set_small.result in
     let old = g.M.Medium.state c.args.port.now in
     set_with s (used_session c.args.seconds s) value (record { application = refl; days = refl; registration = refl; minute = refl; odometer = refl }) old (g.M.Medium.state c.set_small.new.medium) (is_err r) c.requires.card (g.met.M.Medium.coherent c.args.port.now) c.args.index 10 c.write_time.new.out (used c.args.seconds) c.requires.newest refl refl
-    (λ l len. ap (λ (b : List ℕ). vehicle_of (put 10 b l)) c.write_time.ensures.bytes ∙ vehicle_used l c.args.seconds len c.requires.fits) c.self.inside.vehicles (c.self.invariant.vehicles ∙ ap (λ (s : Session). vehicle_ring s.application) c.self.view_is) (λ fine. ok_gives r e.set fine) e.moments e.cause
+    (λ l len. ap (λ (b : List ℕ). vehicle_of (put 10 b l)) c.write_time.ensures.bytes ∙ vehicle_used l c.args.seconds len c.requires.fits) c.self.inside.vehicles (c.self.invariant.vehicles ∙ ap (λ (s : Session). vehicle_ring s.application) c.self.view_is) (λ fine. ok_gives r e.alters.done fine) e.alters.moments e.alters.cause

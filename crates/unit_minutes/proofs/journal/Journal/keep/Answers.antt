@@ -12,9 +12,6 @@ use Rattle.unit_minutes.proofs.journal.Journal.keep.Goals as goal
 pub write_minute-requires-clause-later : goal.write_minute-requires-clause-later
 write_minute-requires-clause-later g c = subst (λ (m : Coming). c.args.self.now.kept < m.minute) (sym c.coming_of.ensures.coming) c.requires.later
 
-pub returns-clause-notes : goal.returns-clause-notes
-returns-clause-notes g c = subst (λ (m : Coming). OnOk c.write_minute.result ((c.write_minute.new.self.kept ≡ m.minute) × (c.write_minute.new.self.odometer ≡ m.odometer))) c.coming_of.ensures.coming c.write_minute.ensures.kept
-
 pub returns-clause-puts : goal.returns-clause-puts
 returns-clause-puts g c =
     let j = c.args.self.now in
@@ -33,24 +30,21 @@ returns-clause-words g c =
     _ _ _ (unit_sized (g.met.M.Medium.coherent c.args.unit.now) q.unit) q.agrees (returns-clause-puts g c)
 
 pub returns-clause-kept : goal.returns-clause-kept
-returns-clause-kept g c =
-    let q = c.requires in
-    on_ok c.write_minute.result (keep_kept c.args.self.now c.write_minute.ensures.shape c.args.kept.now (subst IsComing c.coming_of.ensures.coming c.coming_of.ensures.fits) q.later
-    _ _ _ (unit_sized (g.met.M.Medium.coherent c.args.unit.now) q.unit) q.agrees (returns-clause-puts g c))
-
-pub returns-clause-days : goal.returns-clause-days
-returns-clause-days g c =
-    let q = c.requires in
-    on_ok c.write_minute.result (keep_days c.args.self.now c.write_minute.ensures.shape c.args.kept.now (subst IsComing c.coming_of.ensures.coming c.coming_of.ensures.fits) q.later
-    _ _ _ (unit_sized (g.met.M.Medium.coherent c.args.unit.now) q.unit) q.agrees (returns-clause-puts g c))
-
-pub returns-clause-agrees : goal.returns-clause-agrees
-returns-clause-agrees g c =
-    let q = c.requires in
-    let j = c.args.self.now in
-    on_ok c.write_minute.result (λ fine. keep_agrees j c.write_minute.ensures.shape c.args.kept.now (subst IsComing c.coming_of.ensures.coming c.coming_of.ensures.fits) q.later
-    _ _ _ (unit_sized (g.met.M.Medium.coherent c.args.unit.now) q.unit) q.agrees (returns-clause-puts g c) fine c.write_minute.new.self
-    (subst (λ (m : Coming). IfSome (g.M.Medium.state c.args.unit.now).image (λ x. c.write_minute.new.self ≡ notes_after j m x)) c.coming_of.ensures.coming (ok_gives c.write_minute.result c.write_minute.ensures.notes fine)))
-
-pub returns-clause-settled : goal.returns-clause-settled
-returns-clause-settled g c = on_ok c.write_minute.result (λ fine. settled_now c.write_minute.ensures.puts fine (omega arith))
+returns-clause-kept g c = on_ok c.write_minute.result (λ fine. record {
+  notes = ok_gives c.write_minute.result (subst (λ (m : Coming). OnOk c.write_minute.result ((c.write_minute.new.self.kept ≡ m.minute) × (c.write_minute.new.self.odometer ≡ m.odometer))) c.coming_of.ensures.coming c.write_minute.ensures.kept) fine;
+  agrees =
+      let q = c.requires in
+      let j = c.args.self.now in
+      keep_agrees j c.write_minute.ensures.shape c.args.kept.now (subst IsComing c.coming_of.ensures.coming c.coming_of.ensures.fits) q.later
+      _ _ _ (unit_sized (g.met.M.Medium.coherent c.args.unit.now) q.unit) q.agrees (returns-clause-puts g c) fine c.write_minute.new.self
+      (subst (λ (m : Coming). IfSome (g.M.Medium.state c.args.unit.now).image (λ x. c.write_minute.new.self ≡ notes_after j m x)) c.coming_of.ensures.coming (ok_gives c.write_minute.result c.write_minute.ensures.notes fine));
+  kept =
+      let q = c.requires in
+      keep_kept c.args.self.now c.write_minute.ensures.shape c.args.kept.now (subst IsComing c.coming_of.ensures.coming c.coming_of.ensures.fits) q.later
+      _ _ _ (unit_sized (g.met.M.Medium.coherent c.args.unit.now) q.unit) q.agrees (returns-clause-puts g c) fine;
+  days =
+      let q = c.requires in
+      keep_days c.args.self.now c.write_minute.ensures.shape c.args.kept.now (subst IsComing c.coming_of.ensures.coming c.coming_of.ensures.fits) q.later
+      _ _ _ (unit_sized (g.met.M.Medium.coherent c.args.unit.now) q.unit) q.agrees (returns-clause-puts g c) fine;
+  settled = settled_now c.write_minute.ensures.puts fine (omega arith);
+})

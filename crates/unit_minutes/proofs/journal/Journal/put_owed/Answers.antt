@@ -8,22 +8,21 @@ use Rattle.unit_owed.specs.Rows.{entry_word, putting, HasRow, OwedRowHas}
 use Rattle.unit_minutes.proofs.OwedBeside.{still_agrees, told_after}
 use Rattle.unit_minutes.proofs.journal.Journal.put_owed.Goals as goal
 
-pub returns-clause-agrees : goal.returns-clause-agrees
-returns-clause-agrees g c = on_ok c.put_owed.result (λ fine. still_agrees c.args.self.now (g.M.Medium.state c.args.unit.now).image (g.M.Medium.state c.put_owed.new.unit).image _ _
-    (c.put_owed.ensures.puts.written fine) c.requires.agrees (ok_gives c.put_owed.result c.put_owed.ensures.put fine) (λ x y is. is.putting.outside))
-
 pub returns-clause-put : goal.returns-clause-put
-returns-clause-put g c = subst (λ (n : List ℕ). OnOk c.put_owed.result (IfSome (g.M.Medium.state c.args.unit.now).image (λ x. IfSome (g.M.Medium.state c.put_owed.new.unit).image (OwedRowHas n c.args.entry.now x)))) c.write_card_number.ensures.bytes c.put_owed.ensures.put
-
-pub returns-clause-row : goal.returns-clause-row
-returns-clause-row g c =
-    let number = card_number_bytes c.args.number.now in
-    let old = (g.M.Medium.state c.args.unit.now).image in
-    let new = (g.M.Medium.state c.put_owed.new.unit).image in
-    on_ok c.put_owed.result (λ fine.
-    told_after old new (HasRow number) (OwedRowHas number c.args.entry.now) (HasRow number) c.put_owed.ensures.moments.tells c.requires.row
-    (ok_gives c.put_owed.result (subst (λ (n : List ℕ). OnOk c.put_owed.result (IfSome old (λ x. IfSome new (OwedRowHas n c.args.entry.now x)))) c.write_card_number.ensures.bytes c.put_owed.ensures.put) fine)
-    (λ x y has is. (has.0, is.putting.indices number ∙ has.1)))
+returns-clause-put g c = on_ok c.put_owed.result (λ fine. record {
+  agrees = still_agrees c.args.self.now (g.M.Medium.state c.args.unit.now).image (g.M.Medium.state c.put_owed.new.unit).image _ _
+      (c.put_owed.ensures.puts.written fine) c.requires.agrees (ok_gives c.put_owed.result c.put_owed.ensures.put fine) (λ x y is. is.putting.outside);
+  row =
+      let number = card_number_bytes c.args.number.now in
+      let old = (g.M.Medium.state c.args.unit.now).image in
+      let new = (g.M.Medium.state c.put_owed.new.unit).image in
+      told_after old new (HasRow number) (OwedRowHas number c.args.entry.now) (HasRow number) c.put_owed.ensures.moments.tells c.requires.row
+      (ok_gives c.put_owed.result (subst (λ (n : List ℕ). OnOk c.put_owed.result (IfSome old (λ x. IfSome new (OwedRowHas n c.args.entry.now x)))) c.write_card_number.ensures.bytes c.put_owed.ensures.put) fine)
+      (λ x y has is. (has.0, is.putting.indices number ∙ has.1));
+  wrote = ok_gives c.put_owed.result c.put_owed.ensures.wrote fine;
+  put = ok_gives c.put_owed.result (subst (λ (n : List ℕ). OnOk c.put_owed.result (IfSome (g.M.Medium.state c.args.unit.now).image (λ x. IfSome (g.M.Medium.state c.put_owed.new.unit).image (OwedRowHas n c.args.entry.now x)))) c.write_card_number.ensures.bytes c.put_owed.ensures.put) fine;
+  settled = ok_gives c.put_owed.result c.put_owed.ensures.settled fine;
+})
 
 pub returns-clause-puts : goal.returns-clause-puts
 returns-clause-puts g c =

@@ -32,7 +32,13 @@ plan_entry-requires g c =
       lit< tt,
       (
         c.in_ok-room.ensures.below,
-        (omega arith, (omega arith, (omega arith, (omega arith, (omega arith, (omega (arith, c.turning-plan.ensures.length), (omega arith, omega (arith, c.in_ok-room.ensures.below)))))))),
+        (
+          omega arith,
+          (
+            record { gate = omega arith; width = omega arith; short = omega arith; at_once = omega arith },
+            record { room = omega (arith, c.turning-plan.ensures.length); from = omega arith; end = omega (arith, c.in_ok-room.ensures.below) },
+          ),
+        ),
       ),
     )
 
