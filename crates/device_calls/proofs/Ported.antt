@@ -92,7 +92,7 @@ module _ (a b : Application) (m n : GName) (X Y : State) where
       }
 
   pub port_cause : {failed : Bool} → HasCause (port_state a (lent m X)) (port_state b (lent n Y)) failed → HasCause X Y failed
-  port_cause cause = record { works = cause.works; broken = cause.broken; already = cause.already; faults = cause.faults; fault = cause.fault; breakdowns = cause.breakdowns; breaks = cause.breaks; unbroken = cause.unbroken; once = cause.once }
+  port_cause cause = record { works = cause.works; broken = cause.broken; already = cause.already; faults = cause.faults; fault = cause.fault; breakdowns = cause.breakdowns; breaks = cause.breaks; unbroken = cause.unbroken; once = cause.once; tells = record { later = cause.tells.later; told = cause.tells.told } }
 
   pub port_reads : {failed : Bool} → b ≡ a → Reads (port_state a (lent m X)) (port_state b (lent n Y)) failed → Reads X Y failed
   port_reads same reads = record { same = reads.same; leaves = port_leaves same reads.leaves; clock = reads.clock; cause = port_cause reads.cause }

@@ -1,6 +1,6 @@
 -- What the calls on one device each leave: the unit, its rules, its images, and a card, each in a record (profile).
-use Rattle.std.specs.Prelude.{ℕ, ◌++◌, ◌/◌, ◌<◌, ◌^◌, ◌∷◌, ◌≡◌, ◌≤◌, Bool, IfOk, IfSome, List, None, OnErr, OnOk}
-use Rattle.std.specs.Prelude.{Option, Result, Some, [], false, is_err, is_some, option_to_list, suc, true, ◌+◌, ◌⊎◌}
+use Rattle.std.specs.Prelude.{ℕ, ◌/◌, ◌<◌, ◌^◌, ◌∷◌, ◌≡◌, ◌≤◌, Bool, IfOk, IfSome, List, None, OnErr, OnOk}
+use Rattle.std.specs.Prelude.{Option, Result, Some, [], false, is_err, is_some, option_to_list, true, ◌+◌, ◌⊎◌}
 use Rattle.std.specs.Prelude.{IsTrue, ◌==◌, ◌||◌, ◌≢◌}
 use Rattle.activity_codec.specs.declared.entries.Entry.{Entry}
 use Rattle.card_by_hand.specs.First.{IsFirstKeeping, IsFirstKept}
@@ -8,9 +8,6 @@ use Rattle.card_by_hand.specs.Wider.{with_hands}
 use Rattle.card_commands.specs.Ports.{IsPort}
 use Rattle.card_layout.specs.declared.command.CardState.{CardState}
 use Rattle.card_layout.specs.declared.files.Application.{Application}
-use Rattle.unit_rule.specs.card_retention.Expected.{Counted, with_entry}
-use Rattle.unit_rule.specs.card_retention.Shown.{Bound}
-use Rattle.card_session.specs.Overwriting.{and_entry}
 use Rattle.card_session.specs.Sessions.{IsSession, Session}
 use Rattle.card_session.specs.declared.session.Kept.{Kept}
 use Rattle.card_session.specs.declared.words.TheConstants.{LATEST_MINUTE}
@@ -42,7 +39,8 @@ use Rattle.unit_rule.specs.Marks.{UnitFollowsBook}
 use Rattle.unit_rule.specs.Odometer.{HasTravelled, odometer_after, odometer_by}
 use Rattle.unit_rule.specs.Rule.{IsCards, Started, once_mended}
 use Rattle.device_calls.specs.Entering.{IsAsked, IsInTime, unit_failed}
-use Rattle.device_calls.specs.OnCard.{Anything, CardMayTake, SessionKnowsCard, hands_for}
+use Rattle.device_calls.specs.OnCard.{Anything, hands_for}
+use Rattle.device_calls.specs.Minute.{Carry, KnowsCarried, MayTake, and_kept}
 use Rattle.device_calls.specs.Rule.{Both, CardHolds, CardRests, IsCommitted, IsHeldMended, IsHeldUp, IsKeptUp}
 use Rattle.device_calls.specs.Rule.{IsRowTaken, IsTakenUp, card_seen, number_of, opened, unit_seen}
 use Rattle.device_calls.specs.Travel.{HasGone}
@@ -50,7 +48,7 @@ use Rattle.device_calls.specs.declared.entering.Entered.{Entered}
 use Rattle.device_calls.specs.declared.entering.NotEntered.{NotEntered}
 use Rattle.card_session.specs.card_days.Steps.{IsIdle}
 use Rattle.card_layout.specs.Application.{IsApplication}
-use Rattle.card_session.specs.Inserting.{AreOwed, MayInsert}
+pub use Rattle.card_session.specs.Inserting.{CardMayBePutIn, MayBePutIn}
 use Rattle.card_validity.specs.Judged.{TellsSizes}
 use Rattle.unit_rule.specs.card_model.declared.lengths.TheConstants.{DAYS_MOST}
 use Rattle.card_files.specs.declared.card_event.CardEvent.{CardEvent}
@@ -262,16 +260,14 @@ pub record KeepsOnCard (result : Result (Unit {0}) Failed) (kept : Kept) (old ne
 -- not fail the next entry may come
 pub record StringGoesOn (result : Result (Unit {0}) Failed) (kept : Kept) (old new : Session) (hands : Holding)
     (X Y : State) : Type 0 where
-  pub shown : (slack : Bound) (covered from : ℕ) (c : Counted) (all : List Entry)
-      → LeavesOnly X Y (λ x y. CardMayTake old slack covered from c all (hands_for hands kept.entry.minute) kept.entry x
-      → IsFirstShown old.application slack covered c all (hands_for hands kept.entry.minute) kept.entry x y)
-  pub done : (slack : Bound) (covered from : ℕ) (c : Counted) (all : List Entry)
-      → OnOk result (IfSome X.image (λ x. IfSome Y.image
-      (λ y. CardMayTake old slack covered from c all (hands_for hands kept.entry.minute) kept.entry x
-      → IsDone old.application slack covered (with_hands covered c (hands_for hands kept.entry.minute)) all kept.entry x
-      y × SessionKnowsCard new (and_entry slack kept.entry) covered (suc kept.entry.minute)
-      (with_entry covered (with_hands covered c (hands_for hands kept.entry.minute)) kept.entry)
-      (all ++ kept.entry ∷ []) y)))
+  pub shown : (w : Carry) → LeavesOnly X Y (λ x y. MayTake old w (hands_for hands kept.entry.minute) kept.entry x
+      → IsFirstShown old.application w.slack w.covered w.counted w.all (hands_for hands kept.entry.minute)
+      kept.entry x y)
+  pub done : (w : Carry) → OnOk result (IfSome X.image (λ x. IfSome Y.image
+      (λ y. MayTake old w (hands_for hands kept.entry.minute) kept.entry x
+      → IsDone old.application w.slack w.covered
+      (with_hands w.covered w.counted (hands_for hands kept.entry.minute)) w.all kept.entry x y
+      × KnowsCarried new (and_kept w (hands_for hands kept.entry.minute) kept.entry) y)))
 
 -- THE CARD STANDS behind it: a port may be made over it again, and a stop leaves it as it is; it failed exactly where
 -- that was answered
@@ -320,19 +316,6 @@ pub record UnitAnswersIfCalled (writes : ℕ) (failed : Bool) (U V : State) : Ty
   pub tells : is_some V.image ≡ is_some U.image
   pub cause : HasCause U V failed ⊎ ((failed ≡ false) × IsIdle U V)
   pub most : V.clock ≤ U.clock + writes
-
--- A CARD MAY BE PUT IN by these sizes: they are of the formats, a session may be opened on it, and it tells them
-pub record CardMayBePutIn (app : Application) (x : State) : Type 0 where
-  pub sizes : IsApplication app
-  pub card : MayInsert app x
-  pub told : IfSome x.image (TellsSizes app)
-
--- AND AT THIS SECOND, at this odometer, with these entries owed: they are within the bounds of the formats
-pub record MayBePutIn (now odometer : ℕ) (entries : List Entry) : Type 0 where
-  pub some : 1 ≤ now
-  pub last : now / 60 < LATEST_MINUTE
-  pub fits : odometer < 2 ^ 24
-  pub owed : AreOwed now entries
 
 -- THE CARD IS WRITTEN as one that is put in: only where it told of no later time, and so many writes at most
 pub record IsPutIn (app : Application) (now : ℕ) (X Y : State) : Type 0 where

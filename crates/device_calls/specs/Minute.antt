@@ -1,7 +1,7 @@
 -- A minute is kept by the unit and both cards (profile): what is carried from one minute to the next, and what a minute
 -- says.
 use Rattle.std.specs.Prelude.{◌≡◌, ◌⊎◌, ℕ, suc, ◌<◌, ◌≤◌, Option, None, IfSome, List, [], ◌∷◌, ◌++◌, length}
-use Rattle.std.specs.Prelude.{option_to_list}
+use Rattle.std.specs.Prelude.{option_to_list, is_some, true}
 use Rattle.activity_codec.specs.declared.entries.Entry.{Entry}
 use Rattle.activity_codec.specs.declared.entries.Manual.{Manual}
 use Rattle.trace_model.specs.declared.Card.{Card}
@@ -14,6 +14,7 @@ use Rattle.card_session.specs.Overwriting.{BeginsBehind, and_entry}
 use Rattle.card_by_hand.specs.First.{AreHandsOf, IsShutAt}
 use Rattle.card_by_hand.specs.Wider.{with_hands}
 use Rattle.unit_rule.specs.card_string.Carried.{IsFresh}
+use Rattle.hand_model.specs.Holding.{Holding}
 use Rattle.unit_minutes.specs.declared.kept.KeptMinute.{KeptMinute}
 use Rattle.unit_minutes.specs.Kept.{kept_minute}
 use Rattle.unit_rule.specs.log_model.declared.lines.Mark.{Mark}
@@ -25,7 +26,7 @@ use Rattle.unit_rule.specs.device_rule.Rules.{Standing, Out, In, Torn, IsPresent
 use Rattle.unit_rule.specs.Rule.{Started, once_mended, IsCards}
 use Rattle.unit_rule.specs.Marks.{UnitFollowsBook}
 use Rattle.device_calls.specs.Rule.{Both, opened, number_of, CardHolds, CardRests}
-use Rattle.device_calls.specs.OnCard.{SessionKnowsCard}
+use Rattle.device_calls.specs.OnCard.{SessionKnowsCard, CardMayTake, hands_for}
 
 -- What minutes are kept over: how it all began, from where on a minute may come, the history, and the marks.
 pub record Known : Type 0 where
@@ -111,6 +112,26 @@ and_kept w hands e =
       counted = with_entry w.covered (with_hands w.covered w.counted hands) e;
       all = w.all ++ e ∷ [];
     }
+
+-- the session knows the card, and its string is carried so
+abbrev pub KnowsCarried : Session → Carry → List ℕ → Type 0
+KnowsCarried t w x = SessionKnowsCard t w.slack w.covered w.from w.counted w.all x
+
+-- and this entry may come, with these entries by hand before it
+abbrev pub MayTake : Session → Carry → List Manual → Entry → List ℕ → Type 0
+MayTake t w hands e x = CardMayTake t w.slack w.covered w.from w.counted w.all hands e x
+
+-- BY THE RULES AN ENTRY MAY BE KEPT on a card that came into its slot at this second: the unit tells its image and
+-- follows its book, in which no minute is begun; the card sits in its slot and owes this entry alone, which lies behind
+-- the words at the card's start; and it may come, with the entries by hand of its day that the session holds.
+pub record MayKeepByRules (k : Known) (which : Card) (time : ℕ) (w : Carry) (session : Session) (held : Holding)
+    (e : Entry) (unit card : State) : Type 0 where
+  pub tells : is_some unit.image ≡ true
+  pub holds : UnitFollowsBook k.started k.due k.book k.marks unit
+  pub none : k.book.maybe ≡ None
+  pub owed : CardHolds k.both which k.book (In time session.minute) [] (e ∷ []) unit card
+  pub late : (opened k.both which).start.word < e.minute
+  pub takes : IfSome card.image (MayTake session w (hands_for held e.minute) e)
 
 -- the day of each entry that may come, where it is new, is later than that of the end mark, or none so far is as late
 abbrev pub IsClear : Session → Carry → List ℕ → Type 0

@@ -1,5 +1,5 @@
 -- What a card that a session knows must be for a keep, and how it stands after it (profile).
-use Rattle.std.specs.Prelude.{◌≡◌, ◌⊎◌, ℕ, ◌/◌, ◌<◌, ◌≤◌, Bool, false, true, List, [], length}
+use Rattle.std.specs.Prelude.{◌≡◌, ◌⊎◌, ℕ, ◌+◌, ◌*◌, ◌/◌, ◌<◌, ◌≤◌, Bool, false, true, List, [], length}
 use Rattle.activity_codec.specs.declared.entries.Entry.{Entry}
 use Rattle.activity_codec.specs.declared.entries.Manual.{Manual}
 use Rattle.trace_model.specs.declared.Card.{Card}
@@ -54,6 +54,10 @@ pub record IsSittingSince (s : Session) (image : List ℕ) (h : Hands) (has : Li
 -- the entries by hand that a session's keep of a minute writes
 abbrev pub hands_for : Holding → (minute : ℕ) → List Manual
 hands_for held minute = of_day (minute / 1440) held.entries
+
+-- A KEEP BEGINS so many writes on its card at most: 17, and 4 for each entry by hand before it
+abbrev pub keep_writes : List Manual → ℕ
+keep_writes hands = 17 + 4 * length hands
 
 -- After a minute's entry was kept on the card nothing is owed to it; where that failed it is torn out, and what it has
 -- or has not of the minute is owed to it.

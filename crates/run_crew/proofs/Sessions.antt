@@ -12,7 +12,7 @@ use Rattle.run_crew.specs.declared.cards.Cards.{Cards}
 use Rattle.run_crew.specs.Cards.{known_of, session_of, with_session, with_number, IsKnown}
 use Rattle.activity_codec.specs.declared.entries.Manual.{Manual}
 use Rattle.hand_model.specs.Holding.{Holding, LieBetween, first_of, begun_by}
-use Rattle.run_crew.specs.Cabin.{AnswersTo, SeatAnswers, AreTwo, IsBehind, IsReadyFor, HoldsBy, HoldsHands, MayKeepAt, EndedStands}
+use Rattle.run_crew.specs.Cabin.{AnswersTo, SeatAnswers, AreTwo, IsBehind, CanKeepNext, HoldsBy, HoldsHands, MayKeepAt, EndedStands}
 use Rattle.card_slots.specs.declared.seats.Ended.{Ended}
 
 -- ---- two cards are one or not
@@ -174,7 +174,7 @@ may_by from m a None is le late h = record {
   once = λ n begun. absurd (cc);
 }
 
-pub ready_for : (from m : ℕ) (cards : Cards) → from ≤ m → ((c : Card) → IfSome (session_of cards c) (HoldsHands from)) → (o : Option Card) → IsBehind cards m o → IsReadyFor cards m o
+pub ready_for : (from m : ℕ) (cards : Cards) → from ≤ m → ((c : Card) → IfSome (session_of cards c) (HoldsHands from)) → (o : Option Card) → IsBehind cards m o → CanKeepNext cards m o
 ready_for from m cards le holds None behind = tt
 ready_for from m cards le holds (Some c) behind = by (session_of cards c) (holds c) behind
   where

@@ -127,8 +127,8 @@ pub record MayKeepAt (minute : ℕ) (a : Accepted) : Type 0 where
   pub once : (first : ℕ) → a.held.begun ≡ Some first → a.held.entries ≡ []
 
 -- so can that of a card that was present, if it has one
-abbrev pub IsReadyFor : Cards → (minute : ℕ) → Option Card → Type 0
-IsReadyFor cards minute present = IfSome present (λ card. IfSome (session_of cards card) (MayKeepAt minute))
+abbrev pub CanKeepNext : Cards → (minute : ℕ) → Option Card → Type 0
+CanKeepNext cards minute present = IfSome present (λ card. IfSome (session_of cards card) (MayKeepAt minute))
 
 -- a minute that has ended: its cards are two, and can keep it where it is none of those before `from`
 pub record EndedStands (from before : ℕ) (cards : Cards) (ended : Ended) : Type 0 where
@@ -169,6 +169,6 @@ pub record KnowsEnded (from to : ℕ) (slots : Kept) : Type 0 where
 
 -- who was present in a minute: two cards at most, and each that has a session can keep it
 pub record MayBeKept (cards : Cards) (minute : ℕ) (present : Present) : Type 0 where
-  pub driver : IsReadyFor cards minute present.driver
-  pub codriver : IsReadyFor cards minute present.codriver
+  pub driver : CanKeepNext cards minute present.driver
+  pub codriver : CanKeepNext cards minute present.codriver
   pub apart : AreTwo present.driver present.codriver

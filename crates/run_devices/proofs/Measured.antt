@@ -1,10 +1,11 @@
 -- The vehicle entries of a card are measured: over calls one after another, and at each moment of a keep, a closing and an insertion.
-use Rattle.std.proofs.Common.{◌≡◌, ◌∙◌, ◌⊎◌, inl, inr, ⊎_elim, ℕ, ◌+◌, ◌<◌, ◌≤◌, Option, Some, None, IfSome, List, [], ◌∷◌, Contains, length, refl, sym, ap, subst, arith}
-use Rattle.std.proofs.lemmas.List.Elements.{Contains-push}
+use Rattle.std.proofs.Common.{◌≡◌, ◌∙◌, ◌⊎◌, inl, inr, ⊎_elim, ℕ, ◌+◌, ◌/◌, ◌<◌, ◌≤◌, Bool, true, false, cond, Option, Some, None, List, [], IfSome, ◌∷◌, Contains, filter, length, nat_le, refl, sym, ap, subst, arith}
+use Rattle.std.specs.Prelude.{◌&&◌}
+use Rattle.std.proofs.lemmas.Bool.Decides.{nat_tests}
+use Rattle.std.proofs.lemmas.List.Elements.{All-weaker, filter_passes}
 use Rattle.device_calls.specs.activity_codec.declared.values.Activity.{Activity}
 use Rattle.device_calls.specs.activity_codec.declared.entries.Entry.{Entry}
-use Rattle.tach_media.specs.Medium.{State, IsCoherent, LeavesOnly, SameOutside, bytes_at}
-use Rattle.tach_media.proofs.Runs.{at_image}
+use Rattle.tach_media.specs.Medium.{State, SameOutside, bytes_at}
 use Rattle.device_calls.specs.tacho_types.declared.numbers.Odometer.{Odometer}
 use Rattle.device_calls.specs.tacho_types.declared.texts.Registration.{Registration}
 use Rattle.tach_media.proofs.card_layout.Images.{part_after, part_before}
@@ -16,19 +17,28 @@ use Rattle.device_calls.specs.card_files.Noting.{IsNotingEvent, IsEventNoted}
 use Rattle.device_calls.specs.card_files.Rings.{event_ring}
 use Rattle.device_calls.specs.card_files.declared.vehicle.Vehicle.{Vehicle}
 use Rattle.device_calls.proofs.card_files.Sets.{set_inside}
-use Rattle.device_calls.specs.gated_ring.Ring.{place_of as entry_place, size_of as ring_size}
+use Rattle.device_calls.specs.gated_ring.Ring.{PointsInside, place_of as entry_place, size_of as ring_size}
 use Rattle.device_calls.proofs.gated_ring.Places.{place_high}
-use Rattle.device_calls.specs.card_image.Beside.{HaveSameVehicles}
-use Rattle.device_calls.specs.card_image.Fields.{file, place_ring, vehicle_ring}
+use Rattle.device_calls.specs.card_image.Beside.{HaveSameDays, HaveSameVehicles}
+use Rattle.device_calls.specs.card_image.Fields.{file, card_number, day_string, end_mark, place_ring, session_time, vehicle_ring}
 use Rattle.device_calls.specs.card_session.Vehicles.{Vehicles}
 use Rattle.device_calls.specs.card_session.Books.{used, measured, begun_vehicle}
-use Rattle.device_calls.specs.card_session.Sessions.{Session, IsSession, book_of}
+use Rattle.device_calls.specs.card_session.Sessions.{Session, book_of}
 use Rattle.device_calls.specs.card_session.Cards.{IsCardKeeping, IsCardClosing}
-use Rattle.device_calls.specs.card_session.Inserting.{IsCardInserting}
+use Rattle.device_calls.specs.card_session.Inserting.{Follow, IsCardInserting}
 use Rattle.device_calls.proofs.card_session.OnCard.{ring_shape}
 use Rattle.device_calls.proofs.card_session.Round.{vehicles_same}
+use Rattle.device_calls.specs.unit_model.Image.{last_kept}
+use Rattle.device_calls.specs.unit_owed.Owed.{row_view}
+use Rattle.device_calls.specs.device_rule.Views.{counts, is_session}
+use Rattle.device_calls.proofs.device_rule.OwedView.{owed-seen}
+use Rattle.device_calls.specs.Entering.{owed_on}
+use Rattle.device_calls.proofs.card_string.MadeSince.{on_same, on_then, on_close, on_insert}
+use Rattle.device_calls.proofs.card_string.SameBook.{same_book}
 use Rattle.run_devices.specs.Registered.{RingIn, AreIn, HasOne, SomeIs}
-use Rattle.run_devices.specs.Measured.{GoesOnFrom, IsMeasured, AreMeasured, vehicles_by, GoesMeasured, MeasuresOn}
+use Rattle.run_devices.specs.Measured.{GoesOnFrom, IsMeasured, AreMeasured, vehicles_by, GoesMeasured, MeasuresOn, MakesOn}
+use Rattle.run_promise.proofs.OwedRises.{rise-filter, view-rises}
+use Rattle.run_devices.proofs.Power.{follow-of}
 use Rattle.run_devices.proofs.Entries.{keep-is, close-is, close-points, inserting-is, inserting-points, points-by}
 
 -- ---- entries of a card
@@ -144,41 +154,47 @@ module _ (Is : ℕ → Type 0) (old : Vehicles) where
   begun-so : (registration : Registration) (odometer : ℕ) → Is odometer → (minute : ℕ) (counter : List ℕ) → IsMeasured Is old (begun_vehicle registration odometer minute counter)
   begun-so registration odometer here minute counter = record { begins = inl here; ends = inl here }
 
+-- an image is measured by another, whatever it is made of
+abbrev pub MeasuresOneOf : Application → (Is : ℕ → Type 0) → (x y : List ℕ) → Type 0
+MeasuresOneOf app Is x y = PointsInside (vehicle_ring app) x → PointsInside (vehicle_ring app) y × AreMeasured Is (vehicles_by app x) (vehicles_by app y)
+
 module _ (app : Application) (Is : ℕ → Type 0) where
   -- no call
   pub goes-itself : (x : List ℕ) → GoesMeasured app Is x x
-  goes-itself x points = (points, measured-itself Is (vehicles_by app x))
+  goes-itself x points = (points, measured-itself Is (vehicles_by app x), on_same app x x refl)
 
   -- calls one after another
   pub goes-then : (x y z : List ℕ) → GoesMeasured app Is x y → GoesMeasured app Is y z → GoesMeasured app Is x z
   goes-then x y z first next points =
       let one = first points in
       let two = next one.0 in
-      (two.0, measured-then Is (vehicles_by app x) (vehicles_by app y) (vehicles_by app z) one.1 two.1)
+      (two.0, measured-then Is (vehicles_by app x) (vehicles_by app y) (vehicles_by app z) one.1 two.1, on_then app x y z one.2 two.2)
 
   -- with more values
   pub goes-more : (Now : ℕ → Type 0) → ((n : ℕ) → Is n → Now n) → (x y : List ℕ) → GoesMeasured app Is x y → GoesMeasured app Now x y
   goes-more Now more x y goes points =
       let one = goes points in
-      (one.0, measured-more Is Now more (vehicles_by app x) (vehicles_by app y) one.1)
+      (one.0, measured-more Is Now more (vehicles_by app x) (vehicles_by app y) one.1, one.2)
 
-  -- what leaves the bytes of the entries
-  pub bytes-go : IsApplication app → (x y : List ℕ) → HaveSameVehicles app x y → GoesMeasured app Is x y
+  -- what leaves the bytes of the days and of the entries
+  pub bytes-go : IsApplication app → (x y : List ℕ) → HaveSameDays app x y → HaveSameVehicles app x y → GoesMeasured app Is x y
   unfolding book_of
-  bytes-go sound x y same points = (points-by app sound x y points same, measured-same Is (vehicles_by app x) (vehicles_by app y) (vehicles_same app (ring_shape app sound) x y same points))
+  bytes-go sound x y days same points =
+      (points-by app sound x y points same, measured-same Is (vehicles_by app x) (vehicles_by app y) (vehicles_same app (ring_shape app sound) x y same points), on_same app x y (same_book app sound x y points days same))
 
   -- an insertion
-  pub inserting-goes : IsApplication app → (registration : Registration) → length registration.0 ≡ 15 → (odometer : ℕ) → Is odometer → (owed : List Entry) (now : ℕ) (x y : List ℕ) → image_size_of app ≤ length x → IsCardInserting app registration odometer owed now x y → GoesMeasured app Is x y
-  inserting-goes sound registration long odometer here owed now x y fits inserting points =
+  pub inserting-goes : IsApplication app → (registration : Registration) → length registration.0 ≡ 15 → (odometer : ℕ) → Is odometer → (owed : List Entry) → Follow 1439 owed → (now : ℕ) (x y : List ℕ) → image_size_of app ≤ length x → IsCardInserting app registration odometer owed now x y → GoesMeasured app Is x y
+  inserting-goes sound registration long odometer here owed ordered now x y fits inserting points =
       let old : Vehicles = vehicles_by app x in (
         inserting-points app sound registration long now x fits odometer owed y inserting,
         inserting-is (IsMeasured Is old) (used-so Is old) app sound registration long now x fits (measured-itself Is old) odometer (measured-so Is old odometer here) (begun-so Is old registration odometer here) owed y inserting,
+        on_insert app sound registration long odometer now owed ordered x y fits inserting,
       )
 
 module _ (Is : ℕ → Type 0) where
   -- a keep
-  pub keep-goes : (s : Session) (e : Entry) (odometer : ℕ) (x y : List ℕ) → Is odometer → IsCardKeeping s e odometer x y → GoesMeasured s.application Is x y
-  keep-goes s e odometer x y here keeping points =
+  pub keep-measures : (s : Session) (e : Entry) (odometer : ℕ) (x y : List ℕ) → Is odometer → IsCardKeeping s e odometer x y → MeasuresOneOf s.application Is x y
+  keep-measures s e odometer x y here keeping points =
       let old : Vehicles = vehicles_by s.application x in
       (keeping.card.points, keep-is (IsMeasured Is old) (used-so Is old) s e odometer (measured-so Is old odometer here) (begun-so Is old s.registration odometer here) x y (measured-itself Is old) keeping)
 
@@ -186,13 +202,45 @@ module _ (Is : ℕ → Type 0) where
   pub close-goes : (s : Session) (act : Activity) (x y : List ℕ) → IsApplication s.application → image_size_of s.application ≤ length x → IsCardClosing s act x y → GoesMeasured s.application Is x y
   close-goes s act x y sound fits closing points =
       let old : Vehicles = vehicles_by s.application x in
-      (close-points s act x y sound fits closing, close-is (IsMeasured Is old) (used-so Is old) s act x y sound fits (measured-itself Is old) closing)
+      (close-points s act x y sound fits closing, close-is (IsMeasured Is old) (used-so Is old) s act x y sound fits (measured-itself Is old) closing, on_close s act x y sound fits closing)
+
+-- ---- WHAT A UNIT OWES to a card follows the first day: only its later minutes count
+not-first : (first rest : Bool) → (first && rest) ≡ true → first ≡ true
+not-first true rest is = refl
+not-first false rest is = is
+
+pub owed-follows : (app : Application) (u x : List ℕ) → Follow 1439 (owed_on app u x)
+owed-follows app u x = subst (Follow 1439) (sym (owed-seen u (card_number app x) (session_time app x) (end_mark app x))) (go (is_session (row_view (card_number app x) u).session (session_time app x)))
+  where
+    cells : List Entry
+    cells = (row_view (card_number app x) u).cells
+
+    counted : Entry → Bool
+    counted e = counts (session_time app x / 60) (end_mark app x) (last_kept u) e.minute
+
+    late : (m : ℕ) → counts (session_time app x / 60) (end_mark app x) (last_kept u) m ≡ true → 1439 < m
+    late m is =
+        let first : nat_le 1440 m ≡ true = not-first (nat_le 1440 m) _ is in
+        grind (arith, nat_tests)
+
+    go : (s : Bool) → Follow 1439 (cond s (filter counted cells) [])
+    go true = follow-of 1439 (filter counted cells) (rise-filter counted cells (view-rises (card_number app x) u))
+        (All-weaker (λ (e : Entry). counted e ≡ true) (λ e. 1439 < e.minute) (λ e is. late e.minute is) (filter counted cells) (filter_passes counted cells))
+    go false = tt
 
 -- ---- events and places lie beside them
 
 events-first : (app : Application) → place_of app (file 0x0502) + size_of app (file 0x0502) ≤ (vehicle_ring app).base
 unfolding files_of
 events-first app = omega arith
+
+events-before : (app : Application) → place_of app (file 0x0502) + size_of app (file 0x0502) ≤ (day_string app).base
+unfolding files_of
+events-before app = omega arith
+
+days-behind : (app : Application) → (day_string app).base + (4 + (day_string app).size) ≤ (place_ring app).base
+unfolding files_of
+days-behind app = omega arith
 
 places-behind : (app : Application) → (vehicle_ring app).base + ring_size (vehicle_ring app) ≤ (place_ring app).base
 unfolding files_of
@@ -202,6 +250,22 @@ module _ (app : Application) (x c : List ℕ) where
   event-beside : (kind i : ℕ) → i < (event_ring app kind).count → SameOutside (entry_place (event_ring app kind) i) (event_ring app kind).width x c → HaveSameVehicles app x c
   event-beside kind i below outside =
       part_after (entry_place (event_ring app kind) i) (event_ring app kind).width (vehicle_ring app).base (ring_size (vehicle_ring app)) x c outside (omega (arith, place_high (event_ring app kind) i below, set_inside app kind, events-first app))
+
+  event-beside_days : (kind i : ℕ) → i < (event_ring app kind).count → SameOutside (entry_place (event_ring app kind) i) (event_ring app kind).width x c → HaveSameDays app x c
+  event-beside_days kind i below outside =
+      part_after (entry_place (event_ring app kind) i) (event_ring app kind).width (day_string app).base (4 + (day_string app).size) x c outside (omega (arith, place_high (event_ring app kind) i below, set_inside app kind, events-before app))
+
+  pub event-days : (e : CardEvent) → IsNotingEvent app e x c → HaveSameDays app x c
+  event-days e noting = ⊎_elim
+      (λ same. ap (λ (l : List ℕ). bytes_at l (day_string app).base (4 + (day_string app).size)) same)
+      (λ changed. ⊎_elim (λ absent. event-beside_days e.kind noting.place noting.takes.below absent.outside) (λ replaced. event-beside_days e.kind noting.place noting.takes.below replaced.outside) changed)
+      noting.entry
+
+  pub noted-days : (e : CardEvent) → IsEventNoted app e x c → HaveSameDays app x c
+  noted-days e noted = event-beside_days e.kind noted.place noted.takes.below noted.entry.outside
+
+  pub place-days : SameOutside (place_ring app).base (ring_size (place_ring app)) x c → HaveSameDays app x c
+  place-days outside = part_before (place_ring app).base (ring_size (place_ring app)) (day_string app).base (4 + (day_string app).size) x c outside (days-behind app)
 
   -- an event that is noted, and a moment of that
   pub event-vehicles : (e : CardEvent) → IsNotingEvent app e x c → HaveSameVehicles app x c
@@ -234,14 +298,23 @@ module _ (app : Application) (values : List ℕ) where
       let was = is y left in
       (was.0, was.1, goes-more app (λ n. Contains values n) (λ n. Contains now n) more was.0 y was.2)
 
--- a keep
-pub keeping-measures : (app : Application) (X Y : State) → IsCoherent X → (s : Session) (e : Entry) (odometer : ℕ) → s.application ≡ app → IfSome X.image (IsSession s) → LeavesOnly X Y (λ x y. IsSession s x → IsCardKeeping s e odometer x y) → MeasuresOn app (odometer ∷ []) X Y
-keeping-measures app X Y whole s e odometer sizes session run c left = ⊎_elim
-    (λ was. (c, was, goes-itself app (λ n. Contains (odometer ∷ []) n) c))
-    (λ one. (
-      one.0,
-      whole.is_left one.0 one.1,
-      subst (λ (a : Application). GoesMeasured a (λ n. Contains (odometer ∷ []) n) one.0 c) sizes
-          (keep-goes (λ n. Contains (odometer ∷ []) n) s e odometer one.0 c (Contains-push [] odometer) (one.2 (at_image (IsSession s) one.1 session))),
-    ))
-    (run.now c left)
+-- and its images are made of those before
+pub measures-makes : (app : Application) (values : List ℕ) (X Y : State) → MeasuresOn app values X Y → MakesOn app X Y
+measures-makes app values X Y is y left =
+    let was = is y left in
+    (was.0, was.1, λ points. let goes = was.2 points in (goes.0, goes.2))
+
+pub makes-self : (app : Application) (X : State) → MakesOn app X X
+makes-self app X y left = (y, left, λ points. (points, on_same app y y refl))
+
+pub makes-then : (app : Application) (X Y Z : State) → MakesOn app X Y → MakesOn app Y Z → MakesOn app X Z
+makes-then app X Y Z first next z left =
+    let behind = next z left in
+    let was = first behind.0 behind.1 in (
+      was.0,
+      was.1,
+      λ points.
+          let one = was.2 points in
+          let two = behind.2 one.0 in
+          (two.0, on_then app was.0 behind.0 z one.1 two.1),
+    )

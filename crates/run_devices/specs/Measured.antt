@@ -1,4 +1,5 @@
--- Of which odometer values the vehicle entries of a card tell (profile): over calls, whatever of them failed.
+-- Of which odometer values the vehicle entries of a card tell, and of which image one of it is made (profile): over
+-- calls, whatever of them failed.
 use Rattle.std.specs.Prelude.{◌≡◌, ◌⊎◌, ℕ, List, Contains}
 use Rattle.tach_media.specs.Medium.{State}
 use Rattle.tach_media.specs.card_layout.declared.files.Application.{Application}
@@ -7,6 +8,7 @@ use Rattle.device_calls.specs.gated_ring.Ring.{PointsInside}
 use Rattle.device_calls.specs.card_image.Fields.{vehicle_ring}
 use Rattle.device_calls.specs.card_session.Vehicles.{Vehicles}
 use Rattle.device_calls.specs.card_session.Sessions.{book_of}
+use Rattle.device_calls.specs.card_string.Deeds.{IsMadeOn}
 use Rattle.run_devices.specs.Registered.{AreIn, SomeIs}
 
 -- a vehicle entry goes on: it has the vehicle, the first use and the odometer at the begin of another
@@ -29,12 +31,19 @@ abbrev pub vehicles_by : Application → List ℕ → Vehicles
 vehicles_by app x = (book_of app x).vehicles
 
 -- AN IMAGE GOES ON FROM ANOTHER, by these sizes: where the pointer of its vehicle entries is an index it is one still,
--- and they are measured so
+-- they are measured so, and it is made of the other
 abbrev pub GoesMeasured : Application → (Is : ℕ → Type 0) → (x y : List ℕ) → Type 0
 GoesMeasured app Is x y = PointsInside (vehicle_ring app) x
-    → PointsInside (vehicle_ring app) y × AreMeasured Is (vehicles_by app x) (vehicles_by app y)
+    → PointsInside (vehicle_ring app) y × AreMeasured Is (vehicles_by app x) (vehicles_by app y) × IsMadeOn app x y
 
 -- CALLS MEASURE with these values: each image that a card may leave behind them goes on from one before, with no others
 abbrev pub MeasuresOn : Application → (values : List ℕ) → (old new : State) → Type 0
 MeasuresOn app values old new = (y : List ℕ) → new.may_leave y
     → (x : List ℕ) × old.may_leave x × GoesMeasured app (λ n. Contains values n) x y
+
+-- CALLS MAKE THE IMAGES OF A CARD: each that it may leave behind them is made of one before, where the pointer of the
+-- vehicle entries of that is an index, and then it is one still
+abbrev pub MakesOn : Application → (old new : State) → Type 0
+MakesOn app old new = (y : List ℕ) → new.may_leave y
+    → (x : List ℕ) × old.may_leave x
+    × (PointsInside (vehicle_ring app) x → PointsInside (vehicle_ring app) y × IsMadeOn app x y)

@@ -1,6 +1,6 @@
 -- The block of a minute that ends with some seconds, and what adding it leaves of a unit (profile).
 use Rattle.std.specs.Prelude.{◌≡◌, ◌⊎◌, ℕ, ◌+◌, ◌<◌, Bool, false, Option, Some, None, IfSome, option_to_list, List}
-use Rattle.std.specs.Prelude.{◌++◌}
+use Rattle.std.specs.Prelude.{◌++◌, true}
 use Rattle.tach_media.specs.Medium.{State, LeavesOnly}
 use Rattle.gated_ring.specs.Ring.{PointsInside, IsAtPointer}
 use Rattle.gated_ring.specs.Change.{IsAdding, IsAdded}
@@ -15,6 +15,7 @@ use Rattle.run_crew.specs.declared.cards.Crew.{Crew}
 use Rattle.run_events.specs.declared.watch.Ended.{Ended}
 use Rattle.run_events.specs.declared.watch.Watch.{Watch}
 use Rattle.run_events.specs.Noting.{AreNoted, AreBeingNoted, IsFed}
+use Rattle.unit_model.specs.Image.{IsUnit}
 
 -- THE NEWEST BLOCK IS KNOWN, where a span has added one: it stands at the pointer of the unit's ring, which is an index
 -- before that too
@@ -66,3 +67,9 @@ pub record IsWatchedOn (failed : Bool) (old new : Watch) (first n speed : ℕ) (
   pub noted : failed ≡ false → IfSome prior.image (λ x. IfSome unit.image (AreNotedBehind block ended x))
   pub moments : LeavesOnly prior unit (AreBeingNotedBehind block ended)
   pub speeds : CarriesBlock block failed prior unit
+
+-- THE UNIT MAY BE TOLD of seconds: it is one, and works; and the newest block is the one that is known
+pub record UnitMayBeTold (known : Option ℕ) (U : State) : Type 0 where
+  pub unit : IsUnit U
+  pub works : U.works ≡ true
+  pub newest : KnowsNewest known U

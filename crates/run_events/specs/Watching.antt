@@ -1,7 +1,7 @@
 -- The events of a power span with the cards of their seconds, and what is kept of them (Annex IB, section III.12;
 -- profile).
 use Rattle.std.specs.Prelude.{◌≡◌, ℕ, ◌<◌, Bool, not, ◌&&◌, Option, Some, None, option_map, List, [], ◌∷◌, fold, map}
-use Rattle.std.specs.Prelude.{nat_lt, is_some}
+use Rattle.std.specs.Prelude.{nat_lt, is_some, ◌+◌, ◌%◌, ◌≤◌, ◌^◌}
 use Rattle.std.specs.List.{filter_map, AllByRecursion}
 use Rattle.event_model.specs.declared.entries.Over.{Over}
 use Rattle.event_model.specs.declared.entries.Span.{Span}
@@ -110,3 +110,15 @@ bare_ended e = option_map {T = Span} {U = BareWith} (λ span. record { span = sp
 abbrev pub over_ended : Ended → Option OverWith
 over_ended e = option_map {T = Over} {U = OverWith} (λ over. record { over = over; begin = e.over_begin; end = e.end })
     e.over
+
+-- SECONDS OF ONE MINUTE, so many from this one on: there are some, behind the first minute; the formats can tell each
+pub record AreOfOneMinute (first n : ℕ) : Type 0 where
+  pub some : 0 < n
+  pub low : 60 ≤ first
+  pub minute : first % 60 + n ≤ 60
+  pub fits : first + n ≤ 2 ^ 32
+
+-- THE WATCH STANDS at a second: what it was fed are the seconds before it, and its limit of speed is that of its feed
+pub record WatchStands (w : Watch) (first : ℕ) : Type 0 where
+  pub limit : w.limit ≡ w.over.limit
+  pub watches : Watches w first

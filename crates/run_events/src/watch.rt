@@ -1,5 +1,5 @@
 //! The events of a power span as its seconds come: they are fed by runs, and noted where they have ended.
-ghost use Rattle.std.specs.Prelude.{◌≡◌, ◌≢◌, ℕ, ◌+◌, ◌%◌, ◌<◌, ◌≤◌, ◌^◌, true, Option, Some, None, [], IfSome, IfOk};
+ghost use Rattle.std.specs.Prelude.{◌≡◌, ◌≢◌, ℕ, ◌+◌, ◌<◌, ◌≤◌, ◌^◌, true, Some, None, [], IfSome, IfOk};
 ghost use Rattle.std.specs.Prelude.{OnOk, is_err, unwrap_or, if◌then◌else◌};
 ghost use Rattle.tach_media.specs.Medium.{HasCause, LeavesOnly};
 ghost use Rattle.unit_model.specs.Image.{IsUnit};
@@ -10,10 +10,10 @@ ghost use Rattle.speed_model.specs.declared.block.TheConstants.{BLOCK_SLOTS};
 ghost use Rattle.speed_model.specs.Blocks.{block_bytes};
 ghost use Rattle.speed_model.specs.Stored.{speed_ring};
 ghost use Rattle.speed_store.specs.Feeding as minute;
-ghost use Rattle.run_events.specs.Blocks.{KnowsNewest, IsBlockPut, IsPuttingBlock, IsWatchedOn};
-ghost use Rattle.run_crew.specs.declared.cards.Crew.{Crew};
+ghost use Rattle.run_events.specs.Blocks.{KnowsNewest, IsBlockPut, IsPuttingBlock, IsWatchedOn, UnitMayBeTold};
 ghost use Rattle.run_events.specs.Entries.{number_or_no_card};
 ghost use Rattle.run_events.specs.Watching.{WatchesSpan, Watches, WatchesEvents, is_bare_at, bare_ended, over_ended};
+ghost use Rattle.run_events.specs.Watching.{AreOfOneMinute, WatchStands};
 ghost use Rattle.run_events.specs.Noting.{IsBareNoted, IsNotingBare, IsFastNoted, IsNotingFast, AreNoted};
 ghost use Rattle.run_events.specs.Noting.{AreBeingNoted, IsFed};
 
@@ -97,15 +97,9 @@ impl Watch {
         crew: Crew,
         unit: &mut M,
     ) -> Result<(), Failed>
-        requires some { 0 < seconds.n }
-        requires low { 60 ≤ seconds.first }
-        requires minute { seconds.first % 60 + seconds.n ≤ 60 }
-        requires fits { seconds.first + seconds.n ≤ 2 ^ 32 }
-        requires limit { self.old.limit ≡ self.old.over.limit }
-        requires watches { Watches self.old seconds.first }
-        requires unit { IsUnit (M.state unit.old) }
-        requires works { (M.state unit.old).works ≡ true }
-        requires newest { KnowsNewest self.old.newest (M.state unit.old) }
+        requires seconds { AreOfOneMinute seconds.first seconds.n }
+        requires watch { WatchStands self.old seconds.first }
+        requires unit { UnitMayBeTold self.old.newest (M.state unit.old) }
         ensures newest { OnOk result (KnowsNewest self.new.newest (M.state unit.new)) }
         ensures watches { Watches self.new (seconds.first + seconds.n) }
         ensures limit { self.new.limit ≡ self.new.over.limit }

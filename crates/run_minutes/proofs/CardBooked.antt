@@ -15,7 +15,7 @@ use Rattle.device_calls.specs.card_commands.Ports.{IsPort}
 use Rattle.card_session.specs.declared.session.Kept.{Kept}
 use Rattle.card_session.specs.Sessions.{IsSession}
 use Rattle.activity_codec.specs.declared.entries.Manual.{Manual}
-use Rattle.hand_model.specs.Holding.{Holding, begun_by}
+use Rattle.hand_model.specs.Holding.{Holding, LieBetween, begun_by}
 use Rattle.hand_model.specs.Written.{Hands}
 use Rattle.device_calls.specs.card_by_hand.First.{IsFirstKept, IsFirstKeeping}
 use Rattle.device_calls.specs.OnCard.{hands_for}
@@ -26,7 +26,7 @@ use Rattle.run_devices.specs.device_rule.Rules.{Standing}
 use Rattle.run_crew.specs.declared.cards.Accepted.{Accepted}
 use Rattle.run_crew.specs.declared.cards.Cards.{Cards}
 use Rattle.run_crew.specs.Cards.{known_of, session_of, with_session}
-use Rattle.run_crew.specs.Cabin.{IsReadyFor, MayKeepAt}
+use Rattle.run_crew.specs.Cabin.{CanKeepNext, MayKeepAt}
 use Rattle.run_devices.specs.run_promise.Found.{Found, found_of}
 use Rattle.run_devices.specs.run_promise.Cards.{FirstKeep}
 use Rattle.run_minutes.specs.Keeping.{Still, Has, Fell, CardMayBeCalled, marks_by, held_in}
@@ -70,15 +70,20 @@ pub session-unset : (c : Card) (cards : Cards) → session_of cards c ≡ None �
 session-unset A cards gone = ap (λ (o : Option Accepted). record cards { a = record cards.a { accepted = o } }) (sym gone)
 session-unset B cards gone = ap (λ (o : Option Accepted). record cards { b = record cards.b { accepted = o } }) (sym gone)
 
+-- what entries lie between lies apart
+lie-apart : (after before : ℕ) (hands : List Manual) → LieBetween after before hands → after < before
+lie-apart after before [] lie = lie
+lie-apart after before (h ∷ hands) lie = let next = lie-apart h.minute before hands lie.1 in let first = lie.0 in omega (arith, first, next)
+
 -- a call on a card that has a session leaves what is known of its last use, and its events, and measures with its value alone
-timed-of : (f : Found) (c : Card) (b : Book) (z : Standing) (hd : Hands) (firsts : List FirstKeep) (ks : List ℕ) (marks : List Mark) (owes : List Entry) (a : Accepted) (U X Y : State) (by_hand : List Manual) (e : Entry) (odometer : ℕ) → IsCoherent X → CardOwing f c b z hd firsts ks marks owes (Some a) U X
+timed-of : (f : Found) (c : Card) (b : Book) (z : Standing) (hd : Hands) (firsts : List FirstKeep) (ks : List ℕ) (marks : List Mark) (owes : List Entry) (a : Accepted) (U X Y : State) (by_hand : List Manual) (e : Entry) (odometer : ℕ) → IsCoherent X → a.session.minute < e.minute → CardOwing f c b z hd firsts ks marks owes (Some a) U X
     → LeavesOnly X Y (λ x y. IsSession a.session x → IsFirstKeeping a.session by_hand e odometer x y) → StaysOn (found_of f c) (odometer ∷ []) X Y
-timed-of f c b z hd firsts ks marks owes a U X Y by_hand e odometer whole one run =
+timed-of f c b z hd firsts ks marks owes a U X Y by_hand e odometer whole late one run =
     let on = one.goes.goes.0 in (
       λ timed. keeping-timed (found_of f c).image (found_of f c).began X Y one.rule.dark.later whole timed a.session by_hand e odometer
           (if_told X.image (λ x. own_sizes x ≡ a.session.application) (λ x is. (one.held.now x (whole.is_left x is)).0 ∙ sym on.sizes)) on.session run,
       events-keeping (own_sizes (found_of f c).image) X Y whole a.session by_hand e odometer on.sizes on.session run,
-      first-measures (own_sizes (found_of f c).image) X Y whole a.session by_hand e odometer on.sizes on.session run,
+      first-measures (own_sizes (found_of f c).image) X Y whole a.session by_hand e odometer on.sizes late on.session run,
     )
 
 module _ (c : Card) (said : Kept) (cards : Cards) (U X : State) where
@@ -92,7 +97,7 @@ module _ (c : Card) (said : Kept) (cards : Cards) (U X : State) where
     subst (λ (o : Option Accepted). KeepsOn (found_of f c) (said ∷ []) o o X X) (sym gone) (does-none (own_sizes (found_of f c).image) X),
   )
 
-  module _ (behind : Cards) (Y : State) (chip : CardState) (a : Accepted) (unit : IsCoherent U) (whole : IsCoherent X) (after : IsCoherent Y) (some : session_of cards c ≡ Some a) (ready : CardMayBeCalled (known_of cards c) chip X) (may : IsReadyFor cards said.entry.minute (Some c))
+  module _ (behind : Cards) (Y : State) (chip : CardState) (a : Accepted) (unit : IsCoherent U) (whole : IsCoherent X) (after : IsCoherent Y) (some : session_of cards c ≡ Some a) (ready : CardMayBeCalled (known_of cards c) chip X) (may : CanKeepNext cards said.entry.minute (Some c))
       (run : LeavesOnly X Y (λ x y. IsSession a.session x → IsFirstKeeping a.session (hands_for a.held said.entry.minute) said.entry said.odometer.0 x y)) where
     abbrev m : ℕ
     m = said.entry.minute
@@ -111,6 +116,9 @@ module _ (c : Card) (said : Kept) (cards : Cards) (U X : State) where
     ready-now : MayKeepAt said.entry.minute a
     ready-now = subst (λ (o : Option Accepted). IfSome o (MayKeepAt said.entry.minute)) some may
 
+    late : a.session.minute < said.entry.minute
+    late = lie-apart a.session.minute said.entry.minute a.held.entries ready-now.lie
+
     -- its call failed
     pub booked-fell : session_of behind c ≡ None → BooksCard c said Fell cards behind U X Y
     booked-fell gone = λ f w found tells h none time valid present one.
@@ -118,7 +126,7 @@ module _ (c : Card) (said : Kept) (cards : Cards) (U X : State) where
           subst (λ (g : Holding). CardOwing f c w.book (standing_by Fell m (w.standing c)) (hands_by Fell g m (w.hands c)) (firsts_by Fell c g m (w.firsts c)) (w.brought c) (w.marks ++ marks_by Fell (Some c) m) [] (session_of behind c) U Y) (sym held-is)
               (subst (λ (o : Option Accepted). CardOwing f c w.book (standing_by Fell m (w.standing c)) (hands_by Fell a.held m (w.hands c)) (firsts_by Fell c a.held m (w.firsts c)) (w.brought c) (w.marks ++ marks_by Fell (Some c) m) [] o U Y) (sym gone)
               (card-fell f cards found c w.due w.book (w.standing c) (w.hands c) (w.firsts c) (w.brought c) w.marks a said.entry said.odometer.0 U X Y unit whole after tells h none valid present before fits ready-now run)),
-          timed-of f c w.book (w.standing c) (w.hands c) (w.firsts c) (w.brought c) w.marks (said.entry ∷ []) a U X Y (hands_for a.held m) said.entry said.odometer.0 whole before run,
+          timed-of f c w.book (w.standing c) (w.hands c) (w.firsts c) (w.brought c) w.marks (said.entry ∷ []) a U X Y (hands_for a.held m) said.entry said.odometer.0 whole late before run,
           subst (λ (o : Option Accepted). KeepsOn (found_of f c) (said ∷ []) o (session_of behind c) X Y) (sym some) (subst (λ (o : Option Accepted). KeepsOn (found_of f c) (said ∷ []) (Some a) o X Y) (sym gone) tt),
         )
 
@@ -132,7 +140,7 @@ module _ (c : Card) (said : Kept) (cards : Cards) (U X : State) where
               (subst (λ (o : Option Accepted). CardOwing f c w.book (standing_by (Has t n) m (w.standing c)) (hands_by (Has t n) a.held m (w.hands c)) (firsts_by (Has t n) c a.held m (w.firsts c)) (w.brought c) (w.marks ++ marks_by (Has t n) (Some c) m) [] o U Y) (sym is)
               (card-has f cards found c w.due w.book (w.standing c) (w.hands c) (w.firsts c) (w.brought c) w.marks a said.entry said.odometer.0 U X Y unit whole after tells h none valid present before fits ready-now run
               t works sizes vehicle at begun kept (settles time) wrote n clock)),
-          timed-of f c w.book (w.standing c) (w.hands c) (w.firsts c) (w.brought c) w.marks (said.entry ∷ []) a U X Y (hands_for a.held m) said.entry said.odometer.0 whole before run,
+          timed-of f c w.book (w.standing c) (w.hands c) (w.firsts c) (w.brought c) w.marks (said.entry ∷ []) a U X Y (hands_for a.held m) said.entry said.odometer.0 whole late before run,
           subst (λ (o : Option Accepted). KeepsOn (found_of f c) (said ∷ []) o (session_of behind c) X Y) (sym some)
               (subst (λ (o : Option Accepted). KeepsOn (found_of f c) (said ∷ []) (Some a) o X Y) (sym is)
               (keeps-has (found_of f c) said a t X Y before.goes.goes.0.sizes vehicle odometer begun whole after works run.tells before.goes.goes.0.session kept)),

@@ -1,6 +1,7 @@
 -- What holds of devices after any calls, from call to call.
 use Rattle.std.proofs.Common.{◌≡◌, ◌∙◌, ◌⊎◌, ℕ, ◌≤◌, Bool, true, false, inl, inr, refl, ⊎_elim, arith}
 use Rattle.tach_media.specs.Medium.{State, HasCause, Rose, revivable}
+use Rattle.tach_media.proofs.Runs.{broken_same, broken_then}
 use Rattle.run_devices.specs.safety_model.Safe.{Devices}
 use Rattle.run_devices.specs.run_promise.Between.{devices}
 use Rattle.run_events.specs.run_speeds.Speeds.{LeavesSpeeds}
@@ -11,7 +12,7 @@ use Rattle.run_minutes.specs.Later.{IsLater, AreAfter, AreLater}
 
 -- no call
 pub state-same : (s : State) → IsLater s s
-state-same s = record { clock = omega arith; faults = omega arith; breakdowns = omega arith; unbroken = inr refl }
+state-same s = record { clock = omega arith; faults = omega arith; breakdowns = omega arith; unbroken = inr refl; tells = broken_same s }
 
 rose-wider : (a b c d : ℕ) → a ≤ b → c ≤ d → Rose b c → Rose a d
 rose-wider a b c d low high rose = omega arith
@@ -35,6 +36,7 @@ state-then a b c first next =
       faults = omega (arith, f, g);
       breakdowns = omega (arith, m, n);
       unbroken = broken-then a.faults b.faults c.faults a.breakdowns b.breakdowns c.breakdowns f g first.unbroken next.unbroken;
+      tells = broken_then first.tells next.tells;
     }
 
 broken-by : (old new : State) (failed : Bool) → HasCause old new failed → Rose old.faults new.faults ⊎ (new.breakdowns ≡ old.breakdowns)
@@ -43,11 +45,11 @@ broken-by old new false cause = inr (cause.unbroken refl)
 
 -- calls that answered so
 pub state-by : (old new : State) (failed : Bool) → old.clock ≤ new.clock → HasCause old new failed → IsLater old new
-state-by old new failed clock cause = record { clock = clock; faults = cause.faults; breakdowns = cause.breakdowns; unbroken = broken-by old new failed cause }
+state-by old new failed clock cause = record { clock = clock; faults = cause.faults; breakdowns = cause.breakdowns; unbroken = broken-by old new failed cause; tells = cause.tells }
 
 -- and those before which the device was made to work again
 pub state-revived : (old new : State) (failed : Bool) → old.clock ≤ new.clock → HasCause (revivable old) new failed → IsLater old new
-state-revived old new failed clock cause = record { clock = clock; faults = cause.faults; breakdowns = cause.breakdowns; unbroken = broken-by (revivable old) new failed cause }
+state-revived old new failed clock cause = record { clock = clock; faults = cause.faults; breakdowns = cause.breakdowns; unbroken = broken-by (revivable old) new failed cause; tells = record { later = clock; told = cause.tells.told } }
 
 -- ---- the three
 

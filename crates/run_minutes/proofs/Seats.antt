@@ -11,7 +11,7 @@ use Rattle.card_session.specs.declared.session.Kept.{Kept}
 use Rattle.run_crew.specs.declared.cards.Accepted.{Accepted}
 use Rattle.run_crew.specs.declared.cards.Cards.{Cards}
 use Rattle.run_crew.specs.declared.cabin.Cabin.{Cabin}
-use Rattle.run_crew.specs.Cabin.{IsReadyFor, AreTwo, left_from, slot_with}
+use Rattle.run_crew.specs.Cabin.{CanKeepNext, AreTwo, left_from, slot_with}
 use Rattle.run_minutes.specs.declared.keeper.Keeper.{Keeper}
 use Rattle.run_minutes.specs.Keeping.{AreEmptied, GoesOnFrom, SessionsGoOn, Fate, Still, Has, Fell, IsFateOf, cabin_by, session_at}
 
@@ -82,7 +82,7 @@ brought-sessions fate present kept second k v goes is = subst (λ (q : Keeper). 
 
 -- ---- the other card of a minute can keep it still
 
-pub other-ready : (o p : Option Card) → AreTwo o p → (fate : Fate) (second : ℕ) (cabin : Cabin) (m : ℕ) → IsReadyFor cabin.cards m p → IsReadyFor (cabin_by fate o second cabin).cards m p
+pub other-ready : (o p : Option Card) → AreTwo o p → (fate : Fate) (second : ℕ) (cabin : Cabin) (m : ℕ) → CanKeepNext cabin.cards m p → CanKeepNext (cabin_by fate o second cabin).cards m p
 other-ready None p two Still second cabin m h = h
 other-ready None p two (Has accepted clock) second cabin m h = h
 other-ready None p two Fell second cabin m h = h

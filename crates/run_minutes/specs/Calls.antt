@@ -8,7 +8,7 @@ use Rattle.card_session.specs.declared.words.TheConstants.{LATEST_MINUTE}
 use Rattle.unit_notes.specs.event_model.declared.kinds.TheConstants.{CARD_FAULT}
 use Rattle.log_model.specs.declared.lines.Break.{Break}
 use Rattle.log_model.specs.declared.lines.Mark.{Mark}
-use Rattle.run_crew.specs.Cabin.{IsReadyFor, crew_of, torn_out, AreTwo}
+use Rattle.run_crew.specs.Cabin.{CanKeepNext, crew_of, torn_out, AreTwo}
 use Rattle.run_crew.specs.Cards.{known_of}
 use Rattle.run_outcome.specs.Lines.{Listed}
 use Rattle.tach_media.specs.Medium.{HasBroken, HasCause, LeavesOnly, State}
@@ -68,7 +68,7 @@ pub record NotesTear (result : Result (Unit {0}) Failed) (at : Moment) (new : Ke
 -- the formats, the call comes no earlier than the slots' minute, and there is room for its mark and for a tear
 pub record MayBring (present : Option Card) (kept : Kept) (at : Moment) (k : Keeper) (marks : Listed Mark)
     (breaks : Listed Break) : Type 0 where
-  pub behind : IsReadyFor k.cabin.cards kept.entry.minute present
+  pub behind : CanKeepNext k.cabin.cards kept.entry.minute present
   pub first : 1440 ≤ kept.entry.minute
   pub last : kept.entry.minute ≤ LATEST_MINUTE
   pub fits : kept.odometer.0 < 2 ^ 24

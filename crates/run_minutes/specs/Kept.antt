@@ -1,5 +1,5 @@
 -- What the keeping of minutes asks of a recorder, and what it does (profile).
-use Rattle.std.specs.Prelude.{◌≡◌, ◌≢◌, ℕ, ◌+◌, ◌*◌, ◌/◌, ◌<◌, ◌≤◌, Bool, true, false, Option, IfSome, List, All}
+use Rattle.std.specs.Prelude.{◌≡◌, ◌≢◌, ℕ, ◌+◌, ◌*◌, ◌/◌, ◌<◌, ◌≤◌, Bool, true, false, Option, None, IfSome, List, All}
 use Rattle.std.specs.Prelude.{length, is_some}
 use Rattle.trace_model.specs.declared.Card.{Card}
 use Rattle.card_session.specs.declared.words.TheConstants.{LATEST_MINUTE}
@@ -38,7 +38,8 @@ pub record MayKeep (minute : KeptMinute) (present : Present) (at : Moment) (s : 
   pub marks : length s.marks.items + 3 ≤ s.marks.room
   pub breaks : length s.breaks.items + most_tears (cards_of s) ≤ s.breaks.room
 
--- IT WAS TO BE KEPT, and this came of it
+-- IT WAS TO BE KEPT, and this came of it: by value, and in the book over devices that tell. The unit's mark is of a
+-- moment in the call; where the unit failed before it had the minute, no write was begun on a card.
 pub record Keeps (minute : KeptMinute) (present : Present) (at : Moment) (failed : Bool) (s t : Stand) : Type 0 where
   pub round : Option Round
   pub is : IsMinute present minute at failed (told s) (told t) s.devices.card_a t.devices.card_a s.devices.card_b
@@ -47,6 +48,9 @@ pub record Keeps (minute : KeptMinute) (present : Present) (at : Moment) (failed
       → BooksMinute present minute failed round (told s) (told t) s.devices t.devices
   pub noted : NotesFaults failed (last_faults present at round s.keeper.cabin) s.devices.unit t.devices.unit
   pub last : failed ≡ false → t.keeper.journal.kept ≡ minute.minute
+  pub clock : IfSome round (λ r. (s.devices.unit.clock ≤ r.clock) × (r.clock ≤ t.devices.unit.clock))
+  pub spared : round ≡ None → (t.devices.card_a.clock ≡ s.devices.card_a.clock)
+      × (t.devices.card_b.clock ≡ s.devices.card_b.clock)
   pub marks : length t.marks.items ≤ length s.marks.items + 3
   pub stands : (from : ℕ) (leaving : Option Card) → from ≤ minute.minute + 1 → CabinIsSound from leaving s.keeper.cabin
       → CabinIsSound (minute.minute + 1) leaving t.keeper.cabin

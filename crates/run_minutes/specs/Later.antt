@@ -1,6 +1,6 @@
 -- What holds of devices after any calls, whatever they tell (profile).
 use Rattle.std.specs.Prelude.{◌≡◌, ◌⊎◌, ◌≤◌, ◌<◌, ◌+◌, ◌&&◌, ℕ, not, Option, List, length, filter}
-use Rattle.tach_media.specs.Medium.{State, Rose, last_count}
+use Rattle.tach_media.specs.Medium.{State, KeepsBroken, Rose, last_count}
 use Rattle.log_model.specs.declared.lines.Break.{Break}
 use Rattle.log_model.specs.Causes.{is_cut, has_failed}
 use Rattle.run_devices.specs.safety_model.Safe.{Devices}
@@ -9,12 +9,14 @@ use Rattle.run_crew.specs.declared.cards.Accepted.{Accepted}
 use Rattle.run_crew.specs.declared.cards.Cards.{Cards}
 use Rattle.run_minutes.specs.Keeping.{tears_of}
 
--- A DEVICE AFTER SOME CALLS: neither its clock nor a count has fallen, and it broke down only where a call failed.
+-- A DEVICE AFTER SOME CALLS: neither its clock nor a count has fallen, it broke down only where a call failed, and what
+-- it tells of earlier breakdowns has stayed.
 pub record IsLater (old new : State) : Type 0 where
   pub clock : old.clock ≤ new.clock
   pub faults : old.faults ≤ new.faults
   pub breakdowns : old.breakdowns ≤ new.breakdowns
   pub unbroken : Rose old.faults new.faults ⊎ (new.breakdowns ≡ old.breakdowns)
+  pub tells : KeepsBroken old new
 
 -- THE THREE DEVICES after some calls
 pub record AreAfter (old new : Devices) : Type 0 where

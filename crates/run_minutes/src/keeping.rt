@@ -6,7 +6,7 @@ ghost use Rattle.run_minutes.specs.Owing.{BooksPut, BooksOwed, TravelsOn};
 ghost use Rattle.run_minutes.specs.Kept.{IsAbsent, MayKeep, Keeps};
 ghost use Rattle.run_minutes.specs.Stand.{UnitStands, StandsAfter, CallsOnly, standing};
 ghost use Rattle.run_minutes.specs.Stand.{KeepingGoesWithin, UnitGoesWithin};
-ghost use Rattle.run_minutes.specs.Writes.{minute_most};
+ghost use Rattle.run_minutes.specs.Writes.{minute_most, minute_unit_most};
 ghost use Rattle.run_devices.specs.run_promise.Between.{devices};
 ghost use Rattle.run_minutes.specs.Calls.{Acknowledges, MayAcknowledge};
 
@@ -150,7 +150,7 @@ impl Keeper {
             (standing self.new outcome.new.marks outcome.new.breaks (M.state unit.new) (C.state card_a.new)
             (D.state card_b.new) (C.card card_a.new) (D.card card_b.new)) }
         ensures only { outcome.new ≡ record outcome.old { marks = outcome.new.marks; breaks = outcome.new.breaks } }
-        ensures goes { KeepingGoesWithin 26 minute_most
+        ensures goes { KeepingGoesWithin minute_unit_most minute_most
             (standing self.old outcome.old.marks outcome.old.breaks (M.state unit.old) (C.state card_a.old)
             (D.state card_b.old) (C.card card_a.old) (D.card card_b.old))
             (standing self.new outcome.new.marks outcome.new.breaks (M.state unit.new) (C.state card_a.new)

@@ -5,7 +5,7 @@ ghost use Rattle.run_minutes.specs.Keeping.{DevicesMayBeCalled};
 ghost use Rattle.run_minutes.specs.Minutes.{odometer_by, kept_of};
 ghost use Rattle.run_minutes.specs.Kept.{MayKeepAll, KeepsAll};
 ghost use Rattle.run_minutes.specs.Stand.{StandsAfter, AreBare, standing, KeepingGoesWithin};
-ghost use Rattle.run_minutes.specs.Writes.{minute_most};
+ghost use Rattle.run_minutes.specs.Writes.{minute_most, minute_unit_most};
 
 use crate::keeper::{Keeper, Moment};
 use crate::keeping::MinuteSaid;
@@ -84,7 +84,7 @@ impl Keeper {
             (standing self.new outcome.new.marks outcome.new.breaks (M.state unit.new) (C.state card_a.new)
             (D.state card_b.new) (C.card card_a.new) (D.card card_b.new)) }
         ensures only { outcome.new ≡ record outcome.old { marks = outcome.new.marks; breaks = outcome.new.breaks } }
-        ensures goes { KeepingGoesWithin (26 * length minutes.entry.decided.now)
+        ensures goes { KeepingGoesWithin (minute_unit_most * length minutes.entry.decided.now)
             (minute_most * length minutes.entry.decided.now)
             (standing self.old outcome.old.marks outcome.old.breaks (M.state unit.old) (C.state card_a.old)
             (D.state card_b.old) (C.card card_a.old) (D.card card_b.old))

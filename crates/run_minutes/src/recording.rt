@@ -2,7 +2,7 @@
 ghost use Rattle.std.specs.Prelude.{◌*◌, length, is_err, ◌≡◌};
 ghost use Rattle.run_minutes.specs.Kept.{IsAbsent, MayKeep, Keeps, MayKeepAll, KeepsAll};
 ghost use Rattle.run_minutes.specs.Stand.{IsReadyFor, StandsAfter, AreBare, CallsOnly, KeepingGoesWithin};
-ghost use Rattle.run_minutes.specs.Writes.{minute_most};
+ghost use Rattle.run_minutes.specs.Writes.{minute_most, minute_unit_most};
 
 use crate::keeper::Moment;
 use crate::keeping::MinuteSaid;
@@ -32,7 +32,7 @@ impl<U: Medium, C: Chip> Recorder<U, C> {
             (⟦<Self as Stands>⟧.stand self.old) (⟦<Self as Stands>⟧.stand self.new) }
         ensures only { self.new.outcome
             ≡ record self.old.outcome { marks = self.new.outcome.marks; breaks = self.new.outcome.breaks } }
-        ensures goes { KeepingGoesWithin 26 minute_most (⟦<Self as Stands>⟧.stand self.old)
+        ensures goes { KeepingGoesWithin minute_unit_most minute_most (⟦<Self as Stands>⟧.stand self.old)
             (⟦<Self as Stands>⟧.stand self.new) }
         ensures kept { Keeps minute.now present at (is_err result)
             (⟦<Self as Stands>⟧.stand self.old) (⟦<Self as Stands>⟧.stand self.new) }
@@ -65,7 +65,7 @@ impl<U: Medium, C: Chip> Recorder<U, C> {
             (⟦<Self as Stands>⟧.stand self.old) (⟦<Self as Stands>⟧.stand self.new) }
         ensures only { self.new.outcome
             ≡ record self.old.outcome { marks = self.new.outcome.marks; breaks = self.new.outcome.breaks } }
-        ensures goes { KeepingGoesWithin (26 * length decided.now) (minute_most * length decided.now)
+        ensures goes { KeepingGoesWithin (minute_unit_most * length decided.now) (minute_most * length decided.now)
             (⟦<Self as Stands>⟧.stand self.old) (⟦<Self as Stands>⟧.stand self.new) }
         ensures kept { KeepsAll decided.now at (is_err result)
             (⟦<Self as Stands>⟧.stand self.old) (⟦<Self as Stands>⟧.stand self.new) }

@@ -1,6 +1,6 @@
 -- Why the opening of a run is refused, and that it leaves the devices as they were (profile).
 use Rattle.std.specs.Prelude.{◌≡◌, ◌⊎◌, ℕ, ◌/◌, ◌<◌, ◌≤◌, Some, IfSome}
-use Rattle.tach_media.specs.Medium.{State, LeavesOnly, Unchanged, Rose}
+use Rattle.tach_media.specs.Medium.{State, LeavesOnly, Unchanged, KeepsBroken, Rose}
 use Rattle.run_model.specs.declared.Device.{Device}
 use Rattle.run_model.specs.declared.Device.TheVariants.{Unit as Recorder, CardA, CardB}
 use Rattle.unit_model.specs.Image.{last_kept}
@@ -18,6 +18,7 @@ pub record IsAsItWas (old new : State) : Type 0 where
   pub faults : old.faults ≤ new.faults
   pub breakdowns : old.breakdowns ≤ new.breakdowns
   pub unbroken : Rose old.faults new.faults ⊎ (new.breakdowns ≡ old.breakdowns)
+  pub tells : KeepsBroken old new
 
 -- the faults of a device so far
 abbrev pub faults_of : Devices → Device → ℕ

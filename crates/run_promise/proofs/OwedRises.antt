@@ -94,7 +94,7 @@ row-rises : (o : Option OwedRow) → Rise (seen_row o).cells
 row-rises None = tt
 row-rises (Some r) = rise-fold [] (cell_entries 0 r.cells) tt (apart-cells 0 r.cells) (All-nil (λ (f : Entry). All (λ (e : Entry). f.minute ≢ e.minute) (cell_entries 0 r.cells)))
 
-view-rises : (number x : List ℕ) → Rise (row_view number x).cells
+pub view-rises : (number x : List ℕ) → Rise (row_view number x).cells
 unfolding row_view
 view-rises number x = row-rises (row_of number x)
 

@@ -1,6 +1,5 @@
-use Rattle.std.proofs.lemmas.Grind.{common_steps}
 use Rattle.std.specs.Prelude.{Err}
-use Rattle.std.proofs.Common.{sym, subst, refl, rules, arith}
+use Rattle.std.proofs.Common.{sym, subst, refl}
 use Rattle.card_session.specs.declared.insert.Inserted.{Inserted}
 use Rattle.device_calls.specs.declared.entering.NotEntered.{NotEntered}
 use Rattle.device_calls.specs.Entering.{IsInsertedWith}
@@ -12,24 +11,24 @@ use Rattle.device_calls.proofs.entering.insert_by.Goals as goal
 pub returns-in-Ok-clause-inserted : goal.returns-in-Ok-clause-inserted
 returns-in-Ok-clause-inserted g c =
     insert_done c.args.insertion.app c.args.insertion.registration c.args.insertion.odometer.0 c.args.insertion.time.0 c.args.owed.items c.args.look (g.C.Medium.state c.args.card.now) (g.C.Medium.state c.insert.new.port) _ (refl, refl)
-    c.in-Ok.ensures.accepted c.in-Ok.ensures.inserted c.in-Ok.ensures.replayed c.in-Ok.ensures.few c.in-Ok.ensures.session c.in-Ok.ensures.value c.in-Ok.ensures.moments (c.in-Ok.ensures.settled refl) c.in-Ok.ensures.cause
+    c.in-Ok.ensures.accepted.valid c.in-Ok.ensures.accepted.inserted c.in-Ok.ensures.accepted.replayed c.in-Ok.ensures.accepted.few c.in-Ok.ensures.accepted.session c.in-Ok.ensures.accepted.value c.in-Ok.ensures.leaves.moments (c.in-Ok.ensures.leaves.settled refl) c.in-Ok.ensures.leaves.cause
 
 pub returns-in-Err-clause-inserted : goal.returns-in-Err-clause-inserted
 returns-in-Err-clause-inserted g c =
     subst (λ (f : NotEntered). IsInsertedWith c.args.insertion.app c.args.insertion.registration c.args.insertion.odometer.0 c.args.insertion.time.0 c.args.owed.items c.args.look (g.C.Medium.state c.args.card.now) (g.C.Medium.state c.insert.new.port) (Err f)) (sym c.refused_by.ensures)
     (insert_refused c.args.insertion.app c.args.insertion.registration c.args.insertion.odometer.0 c.args.insertion.time.0 c.args.owed.items c.args.look (g.C.Medium.state c.args.card.now) (g.C.Medium.state c.insert.new.port) Inserted c.in-Err.fault
-    c.in-Err.ensures.bad c.in-Err.ensures.late c.in-Err.ensures.refused c.in-Err.ensures.refused_late c.in-Err.ensures.moments c.in-Err.ensures.cause)
+    c.in-Err.ensures.refused.bad c.in-Err.ensures.refused.late c.in-Err.ensures.refused.bad_reads c.in-Err.ensures.refused.late_reads c.in-Err.ensures.leaves.moments c.in-Err.ensures.leaves.cause)
 
 pub returns-in-Ok-clause-put : goal.returns-in-Ok-clause-put
 returns-in-Ok-clause-put g c = record {
-  leaves = weaken {R = Anything} c.in-Ok.ensures.moments (λ x y told k. tt);
-  in_time = c.in-Ok.ensures.in_time;
-  most = first_of (search rules, grind (arith, common_steps));
+  leaves = weaken {R = Anything} c.in-Ok.ensures.leaves.moments (λ x y told k. tt);
+  in_time = c.in-Ok.ensures.leaves.in_time;
+  most = c.in-Ok.ensures.leaves.most;
 }
 
 pub returns-in-Err-clause-put : goal.returns-in-Err-clause-put
 returns-in-Err-clause-put g c = record {
-  leaves = weaken {R = Anything} c.in-Err.ensures.moments (λ x y told k. tt);
-  in_time = c.in-Err.ensures.in_time;
-  most = first_of (search rules, grind (arith, common_steps));
+  leaves = weaken {R = Anything} c.in-Err.ensures.leaves.moments (λ x y told k. tt);
+  in_time = c.in-Err.ensures.leaves.in_time;
+  most = c.in-Err.ensures.leaves.most;
 }

@@ -19,22 +19,22 @@ returns-clause-keeps g c = record {
   };
   string = record {
     shown =
-        λ slack covered from count all.
-        weaken c.keep_with_hands.ensures.moments (λ x y told k ready. shown _ slack covered from count all (hands_for c.args.held.now c.args.kept.now.entry.minute) c.args.kept.now.entry c.args.kept.now.odometer.0
+        λ w.
+        weaken c.keep_with_hands.ensures.moments (λ x y told k ready. shown _ w.slack w.covered w.from w.counted w.all (hands_for c.args.held.now c.args.kept.now.entry.minute) c.args.kept.now.entry c.args.kept.now.odometer.0
         (hands-are c.args.session.now c.args.held.now c.args.kept.now.entry.minute c.requires.may.later) x y ready (k ready.carried.session));
     done =
-        λ slack covered from count all.
-        all-done _ _ slack covered from count all (hands_for c.args.held.now c.args.kept.now.entry.minute) c.args.kept.now.entry c.args.kept.now.odometer.0 (hands-are c.args.session.now c.args.held.now c.args.kept.now.entry.minute c.requires.may.later)
+        λ w.
+        all-done _ _ w.slack w.covered w.from w.counted w.all (hands_for c.args.held.now c.args.kept.now.entry.minute) c.args.kept.now.entry c.args.kept.now.odometer.0 (hands-are c.args.session.now c.args.held.now c.args.kept.now.entry.minute c.requires.may.later)
         c.keep_with_hands.ensures.same.0 _ _ _ c.keep_with_hands.ensures.kept;
   };
 }
 
 pub returns-clause-rule : goal.returns-clause-rule
-returns-clause-rule g c = λ r which s due b marks time slack covered from count all tells h none rule fresh ready.
+returns-clause-rule g c = λ k which time w may.
     let hands = hands_for c.args.held.now c.args.kept.now.entry.minute in
     let are = hands-are c.args.session.now c.args.held.now c.args.kept.now.entry.minute c.requires.may.later in
-    kept-torn r which s due b marks time _ slack covered from count all hands c.args.kept.now.entry c.args.kept.now.odometer.0 are (g.met.M.Medium.coherent c.args.unit.now) tells (g.met.C.Medium.coherent c.args.card.now) h none rule fresh ready c.keep_with_hands.ensures.moments _
-    (λ well. ends-on_card r which s due b marks time _ slack covered from count all hands c.args.kept.now.entry c.args.kept.now.odometer.0 are (g.met.M.Medium.coherent c.args.unit.now) tells (g.met.C.Medium.coherent c.args.card.now) h none rule fresh ready c.keep_with_hands.ensures.moments
+    kept-torn k.both which k.started k.due k.book k.marks time _ w.slack w.covered w.from w.counted w.all hands c.args.kept.now.entry c.args.kept.now.odometer.0 are (g.met.M.Medium.coherent c.args.unit.now) may.tells (g.met.C.Medium.coherent c.args.card.now) may.holds may.none may.owed may.late may.takes c.keep_with_hands.ensures.moments _
+    (λ well. ends-on_card k.both which k.started k.due k.book k.marks time _ w.slack w.covered w.from w.counted w.all hands c.args.kept.now.entry c.args.kept.now.odometer.0 are (g.met.M.Medium.coherent c.args.unit.now) may.tells (g.met.C.Medium.coherent c.args.card.now) may.holds may.none may.owed may.late may.takes c.keep_with_hands.ensures.moments
     _ (g.met.C.Medium.coherent c.keep_with_hands.new.port) (worked well c.keep_with_hands.ensures.cause).0 (worked well c.keep_with_hands.ensures.cause).1 c.keep_with_hands.ensures.same.0 (ok_gives _ c.keep_with_hands.ensures.last well).0 (ok_gives _ c.keep_with_hands.ensures.kept well))
 
 pub returns-clause-card : goal.returns-clause-card

@@ -7,7 +7,8 @@ use Rattle.card_by_hand.specs.First.{IsFirstKeeping}
 use Rattle.card_session.specs.Sessions.{MayKeep, IsSession}
 use Rattle.unit_rule.specs.card_string.Shows.{IsFirstShown}
 use Rattle.unit_rule.specs.device_rule.Rules.{In}
-use Rattle.device_calls.specs.OnCard.{CardMayTake, hands_for}
+use Rattle.device_calls.specs.Minute.{MayTake}
+use Rattle.device_calls.specs.OnCard.{hands_for}
 use Rattle.device_calls.specs.Rule.{CardHolds}
 use Rattle.device_calls.proofs.Ported.{may_keep_port, port_same, port_leaves, port_on}
 use Rattle.device_calls.proofs.on_card.keep_on_card.Goals as goal
@@ -39,20 +40,20 @@ returns-clause-keeps g c = record {
   };
   string = record {
     shown =
-        λ slack covered from count all.
+        λ w.
         let name = c.resume-port.result.chip.ghost_name in
         let after = c.keep_by.new.card.chip.ghost_name in
         let X = g.C.Chip.state c.resume-port.result.chip.now in
         let Y = g.C.Chip.state c.keep_by.new.card.chip.now in
         let was : g.C.Chip.state c.resume-port.result.chip.now ≡ g.C.Chip.state c.args.card.now = search rules in
         let same = port_same c.resume-port.result.application c.keep_by.new.card.application name after X Y c.keep_by.ensures.card.leaves in
-        let run = port_leaves c.resume-port.result.application c.keep_by.new.card.application name after X Y same (c.keep_by.ensures.keeps.string.shown slack covered from count all) in
+        let run = port_leaves c.resume-port.result.application c.keep_by.new.card.application name after X Y same (c.keep_by.ensures.keeps.string.shown w) in
         let shown = subst (λ (s : State). LeavesOnly s (g.C.Chip.state c.keep_by.new.card.chip.now)
-        (λ x y. CardMayTake c.args.session.now slack covered from count all (hands_for c.args.held.now c.args.kept.now.entry.minute) c.args.kept.now.entry x → IsFirstShown c.args.session.now.application slack covered count all (hands_for c.args.held.now c.args.kept.now.entry.minute) c.args.kept.now.entry x y)) was run in
+        (λ x y. MayTake c.args.session.now w (hands_for c.args.held.now c.args.kept.now.entry.minute) c.args.kept.now.entry x → IsFirstShown c.args.session.now.application w.slack w.covered w.counted w.all (hands_for c.args.held.now c.args.kept.now.entry.minute) c.args.kept.now.entry x y)) was run in
         search (rules, shown);
     done =
-        λ slack covered from count all.
-        let done = c.keep_by.ensures.keeps.string.done slack covered from count all in
+        λ w.
+        let done = c.keep_by.ensures.keeps.string.done w in
         search (rules, done);
   };
 }
@@ -65,16 +66,16 @@ returns-clause-card g c = record {
 }
 
 pub returns-clause-rule : goal.returns-clause-rule
-returns-clause-rule g c = λ r which s due b marks time slack covered from count all tells h none rule fresh ready.
+returns-clause-rule g c = λ k which time w may.
     let name = c.resume-port.result.chip.ghost_name in
     let after = c.keep_by.new.card.chip.ghost_name in
     let X = g.C.Chip.state c.resume-port.result.chip.now in
     let Y = g.C.Chip.state c.keep_by.new.card.chip.now in
     let was : g.C.Chip.state c.resume-port.result.chip.now ≡ g.C.Chip.state c.args.card.now = search rules in
-    let before = subst (λ (k : State). CardHolds r which b (In time c.args.session.now.minute) [] (c.args.kept.now.entry ∷ []) (g.M.Medium.state c.args.unit.now) k) (sym was) rule in
-    let able = subst (λ (k : State). IfSome k.image (CardMayTake c.args.session.now slack covered from count all (hands_for c.args.held.now c.args.kept.now.entry.minute) c.args.kept.now.entry)) (sym was) ready in
-    let on = port_on c.resume-port.result.application c.keep_by.new.card.application name after X Y r which b time c.args.kept.now.entry _ (g.M.Medium.state c.args.unit.now)
-    (c.keep_by.ensures.rule r which s due b marks time slack covered from count all tells h none before fresh able) in
+    let owed = subst (λ (z : State). CardHolds k.both which k.book (In time c.args.session.now.minute) [] (c.args.kept.now.entry ∷ []) (g.M.Medium.state c.args.unit.now) z) (sym was) may.owed in
+    let takes = subst (λ (z : State). IfSome z.image (MayTake c.args.session.now w (hands_for c.args.held.now c.args.kept.now.entry.minute) c.args.kept.now.entry)) (sym was) may.takes in
+    let on = port_on c.resume-port.result.application c.keep_by.new.card.application name after X Y k.both which k.book time c.args.kept.now.entry _ (g.M.Medium.state c.args.unit.now)
+    (c.keep_by.ensures.rule k which time w (record { tells = may.tells; holds = may.holds; none = may.none; owed = owed; late = may.late; takes = takes })) in
     search (rules, on)
 
 pub keep_by-requires-clause-may : goal.keep_by-requires-clause-may

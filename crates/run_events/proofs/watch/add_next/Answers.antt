@@ -23,4 +23,4 @@ returns-in-None-clause-newest g c =
     let new = (g.M.Medium.state c.add_block.new.unit).image in
     let points : IfSome old (PointsInside speed_ring) = subst (λ (o : Option ℕ). KnowsNewest o (g.M.Medium.state c.args.unit.now)) c.in-None.is c.requires.newest in
     ok-then c.add_block.result (λ index. IfSome old (λ x. PointsInside speed_ring x → IfSome new (IsAtPointer speed_ring index))) (λ index. IfSome new (IsAtPointer speed_ring index))
-    (λ index all. told-newest old new (IsAtPointer speed_ring index) c.add_block.ensures.moments.tells points all) c.add_block.ensures.newest
+    (λ index all. told-newest old new (IsAtPointer speed_ring index) c.add_block.ensures.alters.moments.tells points all) c.add_block.ensures.newest

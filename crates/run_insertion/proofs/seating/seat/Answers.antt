@@ -33,8 +33,8 @@ returns-clause-seated g c =
     let insertion = insertion_of c.args.seating.look e in (
       Some c.in_ok-entry.entry,
       record {
-        by = ((c.in_ok-entry.ensures.below, c.in_ok-entry.ensures.index), search rules, search rules);
-        notes = notes-then IsOnUnit IsComing (insertion-noted c.insertion_of.result insertion c.insertion_of.ensures (λ well. c.in_ok-entry.ensures.noted) c.note_insertion.ensures.moments)
+        by = ((c.in_ok-entry.ensures.took.below, c.in_ok-entry.ensures.took.is), search rules, search rules);
+        notes = notes-then IsOnUnit IsComing (insertion-noted c.insertion_of.result insertion c.insertion_of.ensures (λ well. c.in_ok-entry.ensures.alters.done) c.note_insertion.ensures.alters.moments)
             (row-noted-so c.args.seating.look.number e.at.second (known_of k.cabin.cards (other e.which)).number _ c.begin.result c.begin.ensures.leaves.begun c.begin.ensures.leaves.moments (search rules));
       },
     )
@@ -47,7 +47,7 @@ returns-in_err-entry-clause-seated g c =
     let failed : true ≡ is_err c.from_residual.result = search rules in
     subst (λ (b : Bool). (entry : Option ℕ) × IsSeated c.args.seating.look c.args.seating.session c.args.seating.row e b k k c.args.noted.now c.args.noted.now (g.M.Medium.state c.args.unit.now) (g.M.Medium.state c.note_insertion.new.unit) entry) failed (
       None,
-      record { by = (refl, refl, refl); notes = insertion-noted c.insertion_of.result insertion c.insertion_of.ensures (λ well. absurd (not_cut well)) c.note_insertion.ensures.moments },
+      record { by = (refl, refl, refl); notes = insertion-noted c.insertion_of.result insertion c.insertion_of.ensures (λ well. absurd (not_cut well)) c.note_insertion.ensures.alters.moments },
     )
 
 pub begin-requires-clause-row : goal.begin-requires-clause-row
@@ -71,7 +71,7 @@ returns-clause-booked g c = λ f w m.
     let X = g.C.Chip.state c.args.card.now in
     let Z = g.D.Chip.state c.args.others.now in
     let failed = is_err c.begin.result in
-    let booked = seat-carried f w k e c.args.seating.look c.args.seating.session c.args.seating.row c.in_ok-entry.entry c.args.noted.now U V W X Z m (g.met.M.Medium.coherent c.args.unit.now) (g.met.M.Medium.coherent c.note_insertion.new.unit) c.note_insertion.ensures.journal c.in_ok-entry.ensures.cause
+    let booked = seat-carried f w k e c.args.seating.look c.args.seating.session c.args.seating.row c.in_ok-entry.entry c.args.noted.now U V W X Z m (g.met.M.Medium.coherent c.args.unit.now) (g.met.M.Medium.coherent c.note_insertion.new.unit) c.note_insertion.ensures.journal c.in_ok-entry.ensures.alters.cause
     _ (search rules) failed c.begin.ensures.answers.goes.cause c.begin.ensures.answers.goes.tells c.begin.ensures.rules.holds c.begin.ensures.rules.mine c.begin.ensures.rules.others k.journal.kept in
     let kept : c.accept.new.self ≡ seated c.args.seating.look c.args.seating.session c.args.seating.row c.in_ok-entry.entry c.args.noted.now e k.cabin = search rules in
     subst (λ (b : Cabin). IsCarriedOn failed f (carried_row failed c.args.seating.session e k.journal.kept w) b.cards (arranged e.which W X Z)) (sym kept) booked
@@ -87,7 +87,7 @@ returns-in_err-entry-clause-booked g c = λ f w m.
     let failed : true ≡ is_err c.from_residual.result = search rules in
     subst (λ (b : Bool). IsCarriedOn b f (carried_row b c.args.seating.session e k.journal.kept w) k.cabin.cards (arranged e.which V X Z)) failed
     (noted-carried e.which f (with_brought e.which k.journal.kept w) k.cabin.cards U V X Z true m.found (g.met.M.Medium.coherent c.args.unit.now)
-    (brought-powered f w k.cabin.cards e.which U X Z m.found e.at.second c.args.seating.session.minute m.put.entered m.late m.powered k.journal.kept) c.note_insertion.ensures.journal c.in_err-entry.ensures.cause)
+    (brought-powered f w k.cabin.cards e.which U X Z m.found e.at.second c.args.seating.session.minute m.put.entered m.late m.powered k.journal.kept) c.note_insertion.ensures.journal c.in_err-entry.ensures.alters.cause)
 
 pub returns-clause-behind : goal.returns-clause-behind
 returns-clause-behind g c = record {
@@ -126,7 +126,7 @@ returns-in_err-entry-clause-behind g c = record {
 -- ---- its writes
 
 pub returns-in_err-entry-clause-most : goal.returns-in_err-entry-clause-most
-returns-in_err-entry-clause-most g c = let one = c.in_err-entry.ensures.most in omega (arith, one)
+returns-in_err-entry-clause-most g c = let one = c.in_err-entry.ensures.alters.most in omega (arith, one)
 
 pub returns-clause-most : goal.returns-clause-most
-returns-clause-most g c = let one = c.in_ok-entry.ensures.most in let last = c.begin.ensures.answers.most in omega (arith, one, last)
+returns-clause-most g c = let one = c.in_ok-entry.ensures.alters.most in let last = c.begin.ensures.answers.most in omega (arith, one, last)

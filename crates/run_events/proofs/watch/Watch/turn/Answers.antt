@@ -14,10 +14,10 @@ use Rattle.run_events.proofs.NoteSpeeds.{ended-leaves}
 use Rattle.run_events.proofs.watch.Watch.turn.Goals as goal
 
 pub feed-ended-requires-clause-watches : goal.feed-ended-requires-clause-watches
-feed-ended-requires-clause-watches g c = watches-with c.args.self.now c.feed-block.new.self c.args.seconds.first c.requires.watches.events
+feed-ended-requires-clause-watches g c = watches-with c.args.self.now c.feed-block.new.self c.args.seconds.first c.requires.watch.watches.events
 
 pub put_block-requires-clause-time : goal.put_block-requires-clause-time
-put_block-requires-clause-time g c = late-block c.feed-block.result (c.args.seconds.first + c.args.seconds.n) c.feed-block.ensures.time (omega (arith, c.requires.low, c.requires.some))
+put_block-requires-clause-time g c = late-block c.feed-block.result (c.args.seconds.first + c.args.seconds.n) c.feed-block.ensures.time (omega (arith, c.requires.seconds.low, c.requires.seconds.some))
 
 pub note_ended-requires-clause-works : goal.note_ended-requires-clause-works
 note_ended-requires-clause-works g c = c.in_ok-newest.ensures.cause.works
@@ -36,13 +36,13 @@ stands-then kept first n speed fed after h seconds stands = subst (λ (l : List 
 pub returns-in_err-newest-clause-watches : goal.returns-in_err-newest-clause-watches
 returns-in_err-newest-clause-watches g c = record {
   events = c.feed-ended.ensures.watches;
-  speeds = follows-then c.args.self.now.speeds c.args.seconds.first c.args.seconds.n c.args.seconds.speed c.feed-block.new.self c.feed-ended.new.self.speeds (c.feed-ended.ensures.speeds, c.feed-block.ensures.fed) c.requires.watches.speeds;
+  speeds = follows-then c.args.self.now.speeds c.args.seconds.first c.args.seconds.n c.args.seconds.speed c.feed-block.new.self c.feed-ended.new.self.speeds (c.feed-ended.ensures.speeds, c.feed-block.ensures.fed) c.requires.watch.watches.speeds;
 }
 
 pub returns-clause-watches : goal.returns-clause-watches
 returns-clause-watches g c = record {
   events = watches-newest c.feed-ended.new.self c.in_ok-newest.newest (c.args.seconds.first + c.args.seconds.n) c.feed-ended.ensures.watches;
-  speeds = follows-then c.args.self.now.speeds c.args.seconds.first c.args.seconds.n c.args.seconds.speed c.feed-block.new.self c.feed-ended.new.self.speeds (c.feed-ended.ensures.speeds, c.feed-block.ensures.fed) c.requires.watches.speeds;
+  speeds = follows-then c.args.self.now.speeds c.args.seconds.first c.args.seconds.n c.args.seconds.speed c.feed-block.new.self c.feed-ended.new.self.speeds (c.feed-ended.ensures.speeds, c.feed-block.ensures.fed) c.requires.watch.watches.speeds;
 }
 
 pub returns-in_err-newest-clause-watched : goal.returns-in_err-newest-clause-watched
@@ -94,7 +94,7 @@ pub returns-in_err-newest-clause-journal : goal.returns-in_err-newest-clause-jou
 returns-in_err-newest-clause-journal g c = c.in_err-newest.ensures.journal
 
 pub returns-clause-journal : goal.returns-clause-journal
-returns-clause-journal g c = journal-then (g.met.M.Medium.coherent c.args.unit.now) (g.met.M.Medium.coherent c.put_block.new.unit) c.requires.works c.put_block.ensures.journal c.note_ended.ensures.journal
+returns-clause-journal g c = journal-then (g.met.M.Medium.coherent c.args.unit.now) (g.met.M.Medium.coherent c.put_block.new.unit) c.requires.unit.works c.put_block.ensures.journal c.note_ended.ensures.journal
 
 pub returns-clause-cause : goal.returns-clause-cause
 returns-clause-cause g c = cause_after c.in_ok-newest.ensures.cause c.note_ended.ensures.cause
@@ -102,7 +102,7 @@ returns-clause-cause g c = cause_after c.in_ok-newest.ensures.cause c.note_ended
 -- ---- the newest block, behind all
 
 pub put_block-requires-clause-newest : goal.put_block-requires-clause-newest
-put_block-requires-clause-newest g c = subst (λ (o : Option ℕ). KnowsNewest o (g.M.Medium.state c.args.unit.now)) (sym c.feed-ended.ensures.newest) c.requires.newest
+put_block-requires-clause-newest g c = subst (λ (o : Option ℕ). KnowsNewest o (g.M.Medium.state c.args.unit.now)) (sym c.feed-ended.ensures.newest) c.requires.unit.newest
 
 pub returns-clause-newest : goal.returns-clause-newest
 returns-clause-newest g c =

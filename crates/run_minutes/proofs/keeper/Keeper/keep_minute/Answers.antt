@@ -6,7 +6,7 @@ use Rattle.card_session.specs.declared.session.Kept.{Kept}
 use Rattle.log_model.specs.declared.lines.Mark.{Mark}
 use Rattle.run_outcome.specs.Lines.{Listed}
 use Rattle.tach_media.proofs.Runs.{cause_after}
-use Rattle.run_crew.specs.Cabin.{CabinIsSound, IsReadyFor}
+use Rattle.run_crew.specs.Cabin.{CabinIsSound, CanKeepNext}
 use Rattle.run_minutes.specs.declared.keeper.Keeper.{Keeper}
 use Rattle.run_devices.specs.safety_model.Safe.{card_of}
 use Rattle.run_devices.specs.run_promise.Found.{found_of}
@@ -56,6 +56,8 @@ returns-in_err-acknowledge-clause-kept g c =
       books = λ says. λ f w start v leg may gone odometer time. (c.in_err-acknowledge.ensures.booked says f w start v leg (record { booked = may.booked; comes = may.comes }) gone odometer time.unit, timed-at f (m.odometer.0 ∷ []) U V X Y (devices V X Y) (λ card valid. stays-self (found_of f card) (m.odometer.0 ∷ []) (card_of (devices V X Y) card)), λ well. absurd (cc));
       noted = c.in_err-acknowledge.ensures.goes.all.quiet;
       last = λ well. absurd (cc);
+      clock = tt;
+      spared = λ none. (refl, refl);
       marks = omega (arith, few);
       stands = λ from leaving le h. subst (λ (q : Keeper). CabinIsSound (m.minute + 1) leaving q.cabin) (sym c.acknowledge.ensures.kept.keeper) (stands-later from (m.minute + 1) le leaving k.cabin h);
     })
@@ -106,7 +108,7 @@ bring-requires-clause-may g c = record {
       let o = c.args.said.present.driver in
       let m = c.args.said.minute.minute in
       let e : c.kept_in-driver.result.entry.minute ≡ m = ap (λ (q : Kept). q.entry.minute) c.kept_in-driver.ensures in
-      subst (λ (n : ℕ). IsReadyFor c.acknowledge.new.self.cabin.cards n o) (sym e) (subst (λ (q : Keeper). IsReadyFor q.cabin.cards m o) (sym c.acknowledge.ensures.kept.keeper) c.requires.may.kept.driver);
+      subst (λ (n : ℕ). CanKeepNext c.acknowledge.new.self.cabin.cards n o) (sym e) (subst (λ (q : Keeper). CanKeepNext q.cabin.cards m o) (sym c.acknowledge.ensures.kept.keeper) c.requires.may.kept.driver);
   first =
       let e : c.kept_in-driver.result.entry.minute ≡ c.args.said.minute.minute = ap (λ (q : Kept). q.entry.minute) c.kept_in-driver.ensures in
       let low : 1440 ≤ c.args.said.minute.minute = c.requires.may.low in
@@ -178,6 +180,8 @@ returns-in_err-bring-clause-kept g c =
           (brought-notes p.driver (kept_in m Driver) c.args.said.at true c.acknowledge.new.self c.bring.new.self c.acknowledge.new.marks c.bring.new.outcome.marks c.args.outcome.now.breaks c.bring.new.outcome.breaks was.0 U V X Y b
           (g.met.M.Medium.coherent c.acknowledge.new.unit) (g.met.M.Medium.coherent c.bring.new.unit) was.2 c.in_err-bring.ensures.stands.cause k.cabin (ap (λ (q : Keeper). q.cabin) c.acknowledge.ensures.kept.keeper));
       last = λ well. absurd (cc);
+      clock = (c.in_ok-acknowledge.ensures.goes.all.clock, c.bring.ensures.goes.keeping.all.later.unit.clock);
+      spared = λ none. absurd (cc);
       marks = omega (arith, one, here);
       stands = λ from leaving le h. subst (λ (n : ℕ). CabinIsSound (n + 1) leaving c.bring.new.self.cabin) same
           (c.bring.ensures.cabin from leaving (omega (arith, le, same)) (subst (λ (q : Keeper). CabinIsSound from leaving q.cabin) (sym c.acknowledge.ensures.kept.keeper) h));
@@ -229,9 +233,9 @@ bring-requires-2-clause-may g c = record {
       let m = c.args.said.minute.minute in
       let was = c.in_ok-bring.ensures.brought in
       let e : c.kept_in-codriver.result.entry.minute ≡ m = ap (λ (q : Kept). q.entry.minute) c.kept_in-codriver.ensures in
-      let first : IsReadyFor c.acknowledge.new.self.cabin.cards m p = subst (λ (q : Keeper). IsReadyFor q.cabin.cards m p) (sym c.acknowledge.ensures.kept.keeper) c.requires.may.kept.codriver in
-      subst (λ (n : ℕ). IsReadyFor c.bring.new.self.cabin.cards n p) (sym e)
-      (subst (λ (q : Keeper). IsReadyFor q.cabin.cards m p) (sym was.1.keeper) (other-ready o p c.requires.may.kept.apart was.0 c.args.said.at.second c.acknowledge.new.self.cabin m first));
+      let first : CanKeepNext c.acknowledge.new.self.cabin.cards m p = subst (λ (q : Keeper). CanKeepNext q.cabin.cards m p) (sym c.acknowledge.ensures.kept.keeper) c.requires.may.kept.codriver in
+      subst (λ (n : ℕ). CanKeepNext c.bring.new.self.cabin.cards n p) (sym e)
+      (subst (λ (q : Keeper). CanKeepNext q.cabin.cards m p) (sym was.1.keeper) (other-ready o p c.requires.may.kept.apart was.0 c.args.said.at.second c.acknowledge.new.self.cabin m first));
   first =
       let e : c.kept_in-codriver.result.entry.minute ≡ c.args.said.minute.minute = ap (λ (q : Kept). q.entry.minute) c.kept_in-codriver.ensures in
       let low : 1440 ≤ c.args.said.minute.minute = c.requires.may.low in
@@ -329,6 +333,8 @@ returns-clause-kept g c =
           (g.met.M.Medium.coherent c.bring.new.unit) (g.met.M.Medium.coherent c.bring-2.new.unit) is.2 c.bring-2.ensures.stands.cause (cabin_by was.0 p.driver c.args.said.at.second k.cabin)
           (ap (λ (q : Keeper). q.cabin) b.keeper ∙ ap (λ (q : Keeper). cabin_by was.0 p.driver c.args.said.at.second q.cabin) c.acknowledge.ensures.kept.keeper));
       last = λ well. ap (λ (q : Keeper). q.journal.kept) is.1.keeper ∙ ap (λ (q : Keeper). q.journal.kept) was.1.keeper ∙ notes.0;
+      clock = (c.in_ok-acknowledge.ensures.goes.all.clock, let first = c.bring.ensures.goes.keeping.all.later.unit.clock in let next = c.bring-2.ensures.goes.keeping.all.later.unit.clock in omega (arith, first, next));
+      spared = λ none. absurd (cc);
       marks = omega (arith, few, more, here);
       stands = λ from leaving le h.
           let first = subst (λ (n : ℕ). CabinIsSound (n + 1) leaving c.bring.new.self.cabin) e
