@@ -23,8 +23,8 @@ use Rattle.run_events.specs.gated_ring.Ring.{PointsInside, size_of as ring_size}
 use Rattle.card_files.specs.declared.card_event.CardEvent.{CardEvent}
 use Rattle.card_files.specs.Noting.{IsNotingEvent, IsPlaceNoted, IsNotingPlace}
 use Rattle.card_files.specs.Rings.{file, place_ring}
-use Rattle.hand_model.specs.card_image.Beside.{HaveSameVehicles}
-use Rattle.hand_model.specs.card_image.Fields.{file_bytes, vehicle_ring, current_use, session_time}
+use Rattle.hand_model.specs.card_image.Beside.{HaveSameDays, HaveSameVehicles}
+use Rattle.hand_model.specs.card_image.Fields.{file_bytes, day_string, vehicle_ring, current_use, session_time}
 use Rattle.hand_model.specs.card_image.Own.{own_sizes, IsOwnValid}
 use Rattle.device_calls.specs.card_session.Sessions.{IsSession}
 use Rattle.device_calls.specs.card_session.Cards.{IsCardClosing}
@@ -52,7 +52,7 @@ use Rattle.run_minutes.specs.run_devices.Sessions.{SessionGoes, IsNone}
 use Rattle.run_minutes.proofs.run_devices.CardUse.{note-use}
 use Rattle.run_minutes.proofs.run_devices.Sessions.{session-itself, session-then, session-same, session-more, file-session, close-session}
 use Rattle.run_minutes.proofs.run_devices.Holders.{event-places, closing-places}
-use Rattle.run_minutes.proofs.run_devices.Measured.{goes-itself, goes-then, goes-more, bytes-go, close-goes, event-vehicles, place-vehicles}
+use Rattle.run_minutes.proofs.run_devices.Measured.{goes-itself, goes-then, goes-more, bytes-go, close-goes, event-days, event-vehicles, place-days, place-vehicles}
 use Rattle.run_minutes.proofs.run_devices.Parts.{CardLit, parts-of}
 use Rattle.run_record.proofs.Seats.{this-or}
 use Rattle.run_outcome.specs.declared.outcome.Outcome.{Outcome}
@@ -263,7 +263,7 @@ closing-stays state o spans done s at waits rest run out c U V Z x y w whole siz
 -- no call
 pub places-self : (session : Option Accepted) (X : State) → LeavesPlaces session X X
 places-self None X = λ c left. left
-places-self (Some a) X = λ c left. (c, left, refl, refl, refl)
+places-self (Some a) X = λ c left. (c, left, refl, refl, refl, refl)
 
 -- by the session that a card has
 pub event-leaves : (c : Card) (cards : Cards) (app : Application) (event : CardEvent) (chip : CardState) (X Y : State) → IsCoherent X → CardMayBeCalled (known_of cards c) chip X → (known_of cards c).sizes ≡ Ok app → is_some (session_of cards c) ≡ true → LeavesOnly X Y (IsNotingEvent app event) → LeavesPlaces (session_of cards c) X Y
@@ -271,13 +271,14 @@ event-leaves c cards app event chip X Y whole ready told some run = by c some re
   where
     one : (a : Accepted) → app ≡ a.session.application → LeavesPlaces (Some a) X Y
     one a same y left = ⊎_elim
-        (λ was. (y, was, refl, refl, refl))
+        (λ was. (y, was, refl, refl, refl, refl))
         (λ here. (
           here.0,
           whole.is_left here.0 here.1,
           subst (λ (p : Application). file_bytes p 0x0506 y ≡ file_bytes p 0x0506 here.0) same (event-places app here.0 y event here.2),
           subst (λ (p : Application). HaveSameVehicles p here.0 y) same (event-vehicles app here.0 y event here.2),
           subst (λ (p : Application). current_use p y ≡ current_use p here.0) same (note-use app here.0 y (inl (event, here.2))),
+          subst (λ (p : Application). HaveSameDays p here.0 y) same (event-days app here.0 y event here.2),
         ))
         (run.now y left)
 
@@ -313,6 +314,7 @@ leaves-then (Some a) (Some b) X Y Z goes first next = λ c left.
       subst (λ (p : Application). file_bytes p 0x0506 c ≡ file_bytes p 0x0506 two.0) sizes two.2 ∙ one.2,
       subst (λ (p : Application). HaveSameVehicles p two.0 c) sizes two.3 ∙ one.3,
       subst (λ (p : Application). current_use p c ≡ current_use p two.0) sizes two.4 ∙ one.4,
+      subst (λ (p : Application). HaveSameDays p two.0 c) sizes two.5 ∙ one.5,
     )
   where
     alike : Some b ≡ Some a → b.session.application ≡ a.session.application
@@ -339,7 +341,8 @@ leave-go o spans done s at waits rest run out d e w leaves c valid = by (session
     by None is h = λ y left. (y, h y left, goes-itself (sizes_in o c) (IsReading spans) y)
     by (Some a) is h = λ y left.
         let was = h y left in
-        (was.0, was.1, bytes-go (sizes_in o c) (IsReading spans) sound was.0 y (subst (λ (app : Application). HaveSameVehicles app was.0 y) (session-sizes o done s at waits rest run out d w c valid a is) was.3))
+        let sizes = session-sizes o done s at waits rest run out d w c valid a is in
+        (was.0, was.1, bytes-go (sizes_in o c) (IsReading spans) sound was.0 y (subst (λ (app : Application). HaveSameDays app was.0 y) sizes was.5) (subst (λ (app : Application). HaveSameVehicles app was.0 y) sizes was.3))
 
 -- and their sessions
 leave-sessions : (o : Origin) (done : List TraceSecond) (s : TraceSecond) (at : Phase) (waits : List Visit) (rest : List Minute) (run : Run) (out : Outcome) (d e : Devices) → RunWithin o done s at waits rest run out d → LeavePlaces run.keeper.cabin.cards d e → SessionsGo o NoOtherComes d e
@@ -361,6 +364,13 @@ place-same : (app : Application) (entry : PlaceEntry) (x y : List ℕ) → (y �
 place-same app entry x y moment = ⊎_elim
     (λ same. ap (λ (l : List ℕ). bytes_at l (vehicle_ring app).base (ring_size (vehicle_ring app))) same)
     (λ noting. place-vehicles app x y noting.outside)
+    moment
+
+-- and its days
+place-same_days : (app : Application) (entry : PlaceEntry) (x y : List ℕ) → (y ≡ x) ⊎ IsNotingPlace app entry x y → HaveSameDays app x y
+place-same_days app entry x y moment = ⊎_elim
+    (λ same. ap (λ (l : List ℕ). bytes_at l (day_string app).base (4 + (day_string app).size)) same)
+    (λ noting. place-days app x y noting.outside)
     moment
 
 -- no call
@@ -390,11 +400,13 @@ place-go o spans done s at waits rest run out d e w card entry some call others 
         by : (q : Option Accepted) → session_of run.keeper.cabin.cards card ≡ q → is_some q ≡ true → ImagesGo spans (card_image o.recording card) (card_of d card) (card_of e card)
         by None is none = absurd (let wrong : false ≡ true = none in cc)
         by (Some a) is has = λ y left.
-            let was = call a is y left in (
+            let was = call a is y left in
+            let sizes = session-sizes o done s at waits rest run out d w card there a is in (
               was.0,
               was.1,
               bytes-go (sizes_in o card) (IsReading spans) sound was.0 y
-                  (subst (λ (app : Application). HaveSameVehicles app was.0 y) (session-sizes o done s at waits rest run out d w card there a is) (place-same a.session.application entry was.0 y was.2)),
+                  (subst (λ (app : Application). HaveSameDays app was.0 y) sizes (place-same_days a.session.application entry was.0 y was.2))
+                  (subst (λ (app : Application). HaveSameVehicles app was.0 y) sizes (place-same a.session.application entry was.0 y was.2)),
             )
 
 -- and their sessions are the same

@@ -125,13 +125,13 @@ module _ {U A0 B0 : State} {chip_a chip_b : CardState} (n speed begun : ℕ) (ol
   abbrev at : Moment
   at = late_moment old.next n begun
 
-  told-tears : TellsTears at (told_of T.fed before) (told_of T.between T.told)
+  pub told-tears : TellsTears at (told_of T.fed before) (told_of T.between T.told)
   told-tears = ⊎_elim
       (λ short. up-to-tells at T.decided true (told_of T.fed before) (told_of T.between T.told) short.1)
       (λ whole. kept-tells at T.decided (told_of T.fed before) (told_of T.between T.told) whole.0)
       T.kept.how
 
-  told-is : log_of T.told ≡ record (log_of before) { breaks = (log_of before).breaks ++ told-tears.lines }
+  pub told-is : log_of T.told ≡ record (log_of before) { breaks = (log_of before).breaks ++ told-tears.lines }
   told-is = ap log_of T.kept.outcome ∙ ap (λ (bs : List Break). record (log_of before) { breaks = bs }) told-tears.are
 
   -- THE LAST SECOND, once its actions are noted

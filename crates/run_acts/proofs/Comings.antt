@@ -32,7 +32,7 @@ use Rattle.run_note_record.proofs.Rings.{insertion_shape}
 use Rattle.run_minutes.specs.declared.keeper.Moment.{Moment}
 use Rattle.run_acts.specs.declared.run.Run.{Run}
 use Rattle.run_acts.specs.Acting.{Closing, Bare, Closed, Fell}
-use Rattle.run_acts.specs.Ringing.{Withdraws, ClosesRings, seating_of, odometer_of}
+use Rattle.run_acts.specs.Ringing.{WithdrawalStands, ClosesRings, seating_of, odometer_of}
 use Rattle.run_acts.specs.Comings.{VehicleTold, told_in, vehicles_in, TellsMore, TellMore}
 use Rattle.run_acts.proofs.KeptEvents.{as-long}
 
@@ -190,7 +190,7 @@ insertion-more index head U V full writes = λ y left.
     )
 
 -- a withdrawal is noted, or its insertion is gone
-withdrawal-more : (s : Seating) (second : ℕ) (odometer : Odometer) (U V : State) → IsCoherent V → IsUnit V → Withdraws false s second odometer U V → TellMore [] U V
+withdrawal-more : (s : Seating) (second : ℕ) (odometer : Odometer) (U V : State) → IsCoherent V → IsUnit V → WithdrawalStands false s second odometer U V → TellMore [] U V
 withdrawal-more s second odometer U V whole unit writes = λ y left.
     let w = writes y left in
     let long = as-long V whole unit y left in
@@ -213,5 +213,5 @@ closes-more Bare session at failed run U V whole unit span stands rings fine = l
 closes-more Closed None at failed run U V whole unit span stands rings fine = absurd rings
 closes-more Closed (Some a) at failed run U V whole unit span stands rings fine =
     withdrawal-more (seating_of run.noted a) at.second (odometer_of run span) U V whole unit
-    (subst (λ (b : Bool). Withdraws b (seating_of run.noted a) at.second (odometer_of run span) U V) fine (rings span stands))
+    (subst (λ (b : Bool). WithdrawalStands b (seating_of run.noted a) at.second (odometer_of run span) U V) fine (rings span stands))
 closes-more Fell session at failed run U V whole unit span stands rings fine = leaves-more U V rings

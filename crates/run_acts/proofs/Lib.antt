@@ -101,6 +101,8 @@ pub mod CardCourse
 pub mod CardBrings
 pub mod CardSeconds
 pub mod CardShown
+pub mod Stood
+pub mod TurnStood
 pub mod CardSecond
 pub mod CardGaps
 pub mod CardSure

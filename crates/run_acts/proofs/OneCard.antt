@@ -9,7 +9,7 @@ use Rattle.run_crew.specs.declared.cards.Cards.{Cards}
 use Rattle.device_calls.specs.safety_model.Safe.{Devices, card_of}
 use Rattle.tach_media.specs.declared.fault.Failed.{Failed}
 use Rattle.run_minutes.specs.Keeping.{HasLeftMore, CardMayBeCalled, HasItsRow, UnitMayBeCalled, SessionsGoOn}
-use Rattle.tach_media.specs.Medium.{IsCoherent, State, HasCause}
+use Rattle.tach_media.specs.Medium.{IsCoherent, State, HasCause, HasBroken}
 use Rattle.trace_model.specs.declared.Card.TheVariants.{A, B}
 use Rattle.run_crew.specs.declared.cards.Known.{Known}
 use Rattle.card_files.specs.card_layout.declared.files.TheConstants.{LARGEST_IMAGE}
@@ -128,6 +128,14 @@ calm-by B U V X Y Z mine = calm-of-b U V Z X Y mine
 pub keeps-by : (card : Card) (d : Devices) (U V X Y Z : State) → AreLeftMore d (arranged card U X Z) → AreLater d (arranged card U X Z) → HasLeftMore U V → HasLeftMore X Y → AreLeftMore d (arranged card V Y Z)
 keeps-by A d U V X Y Z keeps later unit mine = record { unit = left-after d.unit U V keeps.unit later.unit.clock unit; card_a = left-after d.card_a X Y keeps.card_a later.card_a.clock mine; card_b = keeps.card_b }
 keeps-by B d U V X Y Z keeps later unit mine = record { unit = left-after d.unit U V keeps.unit later.unit.clock unit; card_a = keeps.card_a; card_b = left-after d.card_b X Y keeps.card_b later.card_b.clock mine }
+
+-- this card broke down so often behind all, where it did in the last call
+broken-behind : (old mid new : State) (times : ℕ) → IsLater old mid → HasBroken mid new times → HasBroken old new times
+broken-behind old mid new times later broke = record { faults = omega (arith, later.faults, broke.faults); breakdowns = omega (arith, later.breakdowns, broke.breakdowns) }
+
+pub fell-by : (card : Card) (d : Devices) (U V X Y Z : State) {times : ℕ} → AreLater d (arranged card U X Z) → HasBroken X Y times → HasBroken (card_of d card) (card_of (arranged card V Y Z) card) times
+fell-by A d U V X Y Z {times} later broke = broken-behind d.card_a X Y times later.card_a broke
+fell-by B d U V X Y Z {times} later broke = broken-behind d.card_b X Y times later.card_b broke
 
 -- the other card is left as it was
 pub apart-by : (card : Card) (U V X Y Z : State) (other_ : Card) → same_card card other_ ≡ false → (y : List ℕ) → (card_of (arranged card V Y Z) other_).may_leave y → (card_of (arranged card U X Z) other_).may_leave y

@@ -43,7 +43,7 @@ use Rattle.run_acts.specs.declared.run.Run.{Run}
 use Rattle.run_acts.specs.Acting.{Closing, Bare, Closed, Fell, IsClosingOf, IsClosed, IsSettled, closed_cabin, closed_breaks, left_run, told_of}
 use Rattle.run_acts.specs.Recording.{log_of, values_of, RunWithin}
 use Rattle.run_acts.specs.RunRinged.{seats_of, RingsWithin, with_cut, RingsGoOn}
-use Rattle.run_acts.specs.Ringing.{seating_of, odometer_of, Withdraws, ClosesRings}
+use Rattle.run_acts.specs.Ringing.{seating_of, odometer_of, WithdrawalStands, ClosesRings}
 use Rattle.run_acts.proofs.CardPlaces.{tear-failed}
 use Rattle.run_acts.proofs.Leaving.{closed-sessions}
 use Rattle.run_acts.proofs.WithdrawnRecorded.{acting_at}
@@ -162,12 +162,12 @@ module _ (o : Origin) (done : List TraceSecond) (s : TraceSecond) (front rest : 
         ∙ sym (ap (λ (l : Listed Break). log_of (record told { breaks = l })) closed.told)
 
     -- the insertion stands where it stood, and the odometer is that of now
-    same-writes : (f : Bool) (x : Accepted) (went : WentOn (session_of run.keeper.cabin.cards c) x) → Withdraws f (seating_of between.noted x) s.number (odometer_of between (settled w.within.sp)) d.unit e.unit →
-        Withdraws f (seating_of run.noted went.was) s.number (record { 0 = odometer_by run.keeper.odometer (travelled_of w.within.sp) }) d.unit e.unit
+    same-writes : (f : Bool) (x : Accepted) (went : WentOn (session_of run.keeper.cabin.cards c) x) → WithdrawalStands f (seating_of between.noted x) s.number (odometer_of between (settled w.within.sp)) d.unit e.unit →
+        WithdrawalStands f (seating_of run.noted went.was) s.number (record { 0 = odometer_by run.keeper.odometer (travelled_of w.within.sp) }) d.unit e.unit
     same-writes f x went h =
-        subst (λ (q : Seating). Withdraws f q s.number (record { 0 = odometer_by run.keeper.odometer (travelled_of w.within.sp) }) d.unit e.unit)
+        subst (λ (q : Seating). WithdrawalStands f q s.number (record { 0 = odometer_by run.keeper.odometer (travelled_of w.within.sp) }) d.unit e.unit)
         (λ i. record { index = went.entry i; behind = noted-is i - went.noted i })
-        (subst (λ (b : ℕ). Withdraws f (seating_of between.noted x) s.number (record { 0 = odometer_by b (travelled_of w.within.sp) }) d.unit e.unit) told-tears.odometer h)
+        (subst (λ (b : ℕ). WithdrawalStands f (seating_of between.noted x) s.number (record { 0 = odometer_by b (travelled_of w.within.sp) }) d.unit e.unit) told-tears.odometer h)
 
     -- whether a tear of its slot was told, by its session before and behind the minutes
     module _ (stands_ : CountsSpan between.minutes (settled w.within.sp))

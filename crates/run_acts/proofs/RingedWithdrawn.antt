@@ -47,7 +47,7 @@ use Rattle.run_record.proofs.Seats.{this-or, seat-tells, answers-in}
 use Rattle.run_acts.specs.declared.run.Run.{Run}
 use Rattle.run_acts.specs.Recording.{log_of, values_of, RunWithin}
 use Rattle.run_acts.specs.RunRinged.{seats_of, IsLastFrom, RingsWithin, with_cut}
-use Rattle.run_acts.specs.Ringing.{seating_of, Withdraws}
+use Rattle.run_acts.specs.Ringing.{seating_of, WithdrawalStands}
 use Rattle.run_acts.proofs.RingedLines.{AreTears}
 use Rattle.run_acts.proofs.RingedSecond.{odometer-here, goes-to, sits-then, is-cut, sits-cut, torn-cut, bare-there}
 
@@ -203,7 +203,7 @@ module _ (o : Origin) (done : List TraceSecond) (s : TraceSecond) (front rest : 
     x = record { card = card; accepted = Some (sits-some some-session).0 }
 
     pub withdrawn : (new : Run) → AreFewer (seats_of run) (seats_of new) → seats_of new card ≡ None → new.keeper.odometer ≡ run.keeper.odometer → new.noted ≡ run.noted → is_torn_in later s.number (In (suc (length front))) slot ≡ false →
-        Withdraws false (seating_of run.noted session) s.number odometer d.unit e.unit → Shuts o later (record { second = s.number; card = card }) e → RingsWithin o done s w.within.b.run.log (front ++ a ∷ []) new later spans t e
+        WithdrawalStands false (seating_of run.noted session) s.number odometer d.unit e.unit → Shuts o later (record { second = s.number; card = card }) e → RingsWithin o done s w.within.b.run.log (front ++ a ∷ []) new later spans t e
     withdrawn new fewer gone same noted untorn writes shuts = record {
       base = subst (λ (b : ℕ). IsLastFrom b (with_second spans b t)) (sym same) rings.base;
       counted = counted-on new noted;
@@ -239,5 +239,5 @@ module _ (o : Origin) (done : List TraceSecond) (s : TraceSecond) (front rest : 
               broken-noted session has (subst (λ (q : Option Accepted). IfSome q (λ r. r.entry < insertion_ring.count)) has entries) stays (none-written (seating_of run.noted session) time odometer d e leaves)
 
   pub cut-writes : (session : Accepted) → session_of run.keeper.cabin.cards card ≡ Some session → session.entry < insertion_ring.count → is_torn_in later s.number (In (suc (length front))) slot ≡ false →
-      Withdraws true (seating_of run.noted session) s.number odometer d.unit e.unit → RingedBehind o (done ++ s ∷ []) log_cut (suc s.number) (spans_cut spans run.keeper.odometer log_cut done s) nobody e
+      WithdrawalStands true (seating_of run.noted session) s.number odometer d.unit e.unit → RingedBehind o (done ++ s ∷ []) log_cut (suc s.number) (spans_cut spans run.keeper.odometer log_cut done s) nobody e
   cut-writes session has entry untorn writes = broken-noted session has entry (torn-alike ∙ untorn) writes

@@ -28,7 +28,7 @@ use Rattle.run_acts.specs.Turning.{late_moment, told_of}
 use Rattle.run_acts.specs.Faults.{NotesSettling, EndsTo, NotesKeeping, NotesTurn}
 use Rattle.run_acts.proofs.KeptEvents.{as-long, tells-long}
 use Rattle.run_acts.specs.Acting.{Closing, Bare, Closed, Fell}
-use Rattle.run_acts.specs.Ringing.{AddsPlace, Withdraws, ClosesRings}
+use Rattle.run_acts.specs.Ringing.{AddsPlace, WithdrawalStands, ClosesRings}
 
 -- ---- one call after another
 
@@ -94,18 +94,18 @@ module _ (head : List ℕ) (U V W : State) (before : IsCoherent U) (behind : IsC
 -- ---- a withdrawal
 
 -- so many were added since that it is gone
-pub withdrawal-gone : (s : Seating) (second : ℕ) (odometer : Odometer) (U : State) → insertion_ring.count ≤ s.behind → Withdraws false s second odometer U U
+pub withdrawal-gone : (s : Seating) (second : ℕ) (odometer : Odometer) (U : State) → insertion_ring.count ≤ s.behind → WithdrawalStands false s second odometer U U
 withdrawal-gone s second odometer U most = none-written (IsWithdrawnAt s (record { 0 = second }) odometer) U (λ x. inr (same-rings x, most))
 
 pub withdrawal-noted : (s : Seating) (second : ℕ) (odometer : Odometer) (failed : Bool) (U V : State) → IsCoherent U → IsCoherent V → is_some U.image ≡ true → s.behind + 1 ≤ insertion_ring.count →
-    (failed ≡ false → IfSome U.image (λ x. IfSome V.image (IsWithdrawn s.index (record { 0 = second }) odometer x))) → LeavesOnly U V (IsWithdrawing s.index (record { 0 = second }) odometer) → V.works ≡ not failed → Withdraws failed s second odometer U V
+    (failed ≡ false → IfSome U.image (λ x. IfSome V.image (IsWithdrawn s.index (record { 0 = second }) odometer x))) → LeavesOnly U V (IsWithdrawing s.index (record { 0 = second }) odometer) → V.works ≡ not failed → WithdrawalStands failed s second odometer U V
 withdrawal-noted s second odometer false U V before behind tells there noted moments works =
     writes-weaken (IsWithdrawn s.index (record { 0 = second }) odometer) (IsWithdrawnAt s (record { 0 = second }) odometer) U V (λ p q h. inl (h, omega (arith, there)))
     (call-done U V before behind (IsWithdrawn s.index (record { 0 = second }) odometer) tells (noted refl) works)
 withdrawal-noted s second odometer true U V before behind tells there noted moments works =
     call-broken U V before behind (IsWithdrawing s.index (record { 0 = second }) odometer) (MayBeWithdrawn s (record { 0 = second }) odometer) moments (λ x. inl (inl refl, omega (arith, there))) (λ x c h. inl (h, omega (arith, there)))
 
-pub withdraws-behind : (failed : Bool) (s : Seating) (second : ℕ) (odometer : Odometer) (U V W : State) → LeavesRings U V → Withdraws failed s second odometer V W → Withdraws failed s second odometer U W
+pub withdraws-behind : (failed : Bool) (s : Seating) (second : ℕ) (odometer : Odometer) (U V W : State) → LeavesRings U V → WithdrawalStands failed s second odometer V W → WithdrawalStands failed s second odometer U W
 withdraws-behind false s second odometer U V W a b = leaves-writes (IsWithdrawnAt s (record { 0 = second }) odometer) U V W a b
 withdraws-behind true s second odometer U V W a b = leaves-writes (MayBeWithdrawn s (record { 0 = second }) odometer) U V W a b
 

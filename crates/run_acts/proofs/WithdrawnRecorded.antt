@@ -61,6 +61,7 @@ use Rattle.run_acts.proofs.RingedLines.{SatIn}
 use Rattle.run_minutes.specs.Later.{IsCalm}
 use Rattle.run_acts.proofs.Closed.{closed-recorded, closed-evented}
 use Rattle.run_acts.specs.RunCards.{StillShow, CardsSettling, PlacesSettling}
+use Rattle.run_acts.specs.Stood.{LetStand, StandsSettling}
 use Rattle.run_acts.proofs.CardStays.{closing-still}
 use Rattle.unit_notes.specs.note_model.Odometer.{SpanFrom}
 use Rattle.run_events.specs.run_rings.Spans.{with_second}
@@ -266,6 +267,10 @@ module _ (o : Origin) (done : List TraceSecond) (s : TraceSecond) (front rest : 
   pub settled-places : (e : Devices) → PlacesSettling decided (acting_at s.number (suc (length front))) (left_run slot s.number run) between before d e → HaveTime e → (spans : List SpanFrom) (t : ToldSecond) →
       AreSpansNow done s w.within.b.run.log spans run.keeper.odometer t → CardsStay o (with_second spans run.keeper.odometer t) d e
   settled-places e settles time spans t now = settles o done s (length front) [] refl gone time spans t (subst (λ (b : Beginning). AreSpansNow done s b.run.log spans run.keeper.odometer t) (sym left.goes.began) now)
+
+  -- what stood on them stands
+  pub settled-stands : (e : Devices) → StandsSettling decided (acting_at s.number (suc (length front))) (left_run slot s.number run) between before d e → HaveTime e → LetStand o d e
+  settled-stands e settles time = settles o done s (length front) [] refl gone time
 
   pub closed-places : {C : Type 0} (state : C → State) (U V Z : State) (x y : C) → IsCoherent (state x) → LARGEST_IMAGE ≤ (state x).size →
       IfSome (session_of between.keeper.cabin.cards c) (λ s. (act : Activity) × LeavesOnly (state x) (state y) (λ i n. IsSession s.session i → IsCardClosing s.session act i n)) → (session_of between.keeper.cabin.cards c ≡ None → y ≡ x) →

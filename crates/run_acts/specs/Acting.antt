@@ -5,7 +5,7 @@ use Rattle.activity_codec.specs.declared.values.Slot.{Slot}
 use Rattle.trace_model.specs.declared.Card.{Card}
 use Rattle.unit_model.specs.minute_model.declared.Minute.{Minute}
 use Rattle.unit_model.specs.minute_model.Span.{Span, settled, decided_in}
-use Rattle.minute_rules.specs.Kept.{CountsSpan}
+use Rattle.minute_rules.specs.Kept.{CountsSpan, Kept as Minutes}
 use Rattle.log_model.specs.declared.lines.Break.{Break}
 use Rattle.log_model.specs.declared.lines.Break.TheVariants.{Tear}
 use Rattle.run_crew.specs.card_slots.Calls.{seat_in}
@@ -25,12 +25,17 @@ use Rattle.run_acts.specs.Power.{with_cabin}
 abbrev pub told_of : Run → Outcome → KeepingState
 told_of run o = record { keeper = run.keeper; marks = o.marks; breaks = o.breaks }
 
+-- THESE MINUTES ARE DECIDED as a second settles what these stand for, and were not before
+abbrev pub SettlingDecides : Minutes → List Minute → Type 0
+SettlingDecides minutes decided = (span : Span) → CountsSpan minutes span
+    → decided_in (settled span) ≡ decided_in span ++ decided
+
 -- THE MINUTES BEFORE THIS ONE ARE DECIDED AND KEPT, up to the first that fails
 pub record IsSettled (at : Moment) (failed : Bool) (old new : Run) (before after : Outcome) : Type 0 where
   pub only : new ≡ record old { minutes = new.minutes; keeper = new.keeper }
   pub minutes : (span : Span) → CountsSpan old.minutes span → CountsSpan new.minutes (settled span)
   pub decided : List Minute
-  pub given : (span : Span) → CountsSpan old.minutes span → decided_in (settled span) ≡ decided_in span ++ decided
+  pub given : SettlingDecides old.minutes decided
   pub kept : AreKeptUpTo decided at failed (told_of old before) (told_of new after)
   pub outcome : after ≡ record before { marks = after.marks; breaks = after.breaks }
 

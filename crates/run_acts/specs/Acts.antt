@@ -1,5 +1,5 @@
 -- What the actions of a second and its turn leave of a run and of its devices, each in a few records (profile).
-use Rattle.std.specs.Prelude.{ℕ, ◌++◌, ◌+◌, ◌/◌, ◌∷◌, ◌≡◌, ◌≤◌, Bool, IfSome, List, None, OnOk, Option, Result, Some}
+use Rattle.std.specs.Prelude.{ℕ, ◌+◌, ◌/◌, ◌∷◌, ◌≡◌, ◌≤◌, Bool, IfSome, List, None, OnOk, Option, Result, Some}
 use Rattle.std.specs.Prelude.{[], false, is_err, is_some, length, not, true, ◌<◌, ◌*◌, ◌≢◌}
 use Rattle.activity_codec.specs.declared.values.Activity.{Activity}
 use Rattle.activity_codec.specs.declared.values.Slot.{Slot}
@@ -11,9 +11,7 @@ use Rattle.device_calls.specs.CardNotes.{IsNote}
 use Rattle.unit_notes.specs.event_model.Spans.{gap_of}
 use Rattle.log_model.specs.Log.{In}
 use Rattle.log_model.specs.declared.lines.Break.{Break}
-use Rattle.unit_model.specs.minute_model.Span.{Span, decided_in, settled}
 use Rattle.unit_model.specs.minute_model.declared.Minute.{Minute}
-use Rattle.minute_rules.specs.Kept.{CountsSpan}
 use Rattle.run_crew.specs.Cabin.{CabinIsSound, number_of_seat}
 use Rattle.run_crew.specs.Cards.{known_of, session_of}
 use Rattle.run_crew.specs.declared.cards.Accepted.{Accepted}
@@ -40,7 +38,7 @@ use Rattle.unit_model.specs.Image.{IsUnit}
 use Rattle.unit_notes.specs.Journal.{LeavesJournal}
 use Rattle.unit_notes.specs.declared.unit_event.UnitEvent.{UnitEvent}
 use Rattle.run_acts.specs.Acting.{Closed, Closing, IsClosed, IsNotedIn, IsNotedOn, IsPlaced, IsWithdrawn, closed_falls}
-use Rattle.run_acts.specs.Acting.{falls_by, left_run, now_moment, told_of}
+use Rattle.run_acts.specs.Acting.{IsBareIn, SettlingDecides, falls_by, left_run, now_moment, told_of}
 use Rattle.run_acts.specs.ActsEvented.{EventsPlace, EventsWithdrawal, NoteLeaves}
 use Rattle.run_acts.specs.Behind.{BooksWithdrawn}
 use Rattle.run_acts.specs.Booked.{IsBookedTurn}
@@ -48,37 +46,40 @@ use Rattle.run_acts.specs.CardNotes.{LeavePlaces, LeavesPlaces, NotesOn, NotesOn
 use Rattle.run_acts.specs.CardWrites.{MayTakePlace, PlaceOn, ShutsSo, WithdrawsShut}
 use Rattle.run_acts.specs.Evented.{EventsLitTurn}
 use Rattle.run_acts.specs.Faults.{NotesTurn}
-use Rattle.run_acts.specs.Going.{CanBeCut, RunHasPowerAllSeated}
+use Rattle.run_acts.specs.Going.{CanBeCut, RunHasPower, RunHasPowerAllSeated}
 use Rattle.run_acts.specs.NotedEvents.{NotesEvents}
 use Rattle.run_acts.specs.Noting.{AreGapEvents, GapReach, IsGapNoted, IsNoteRecorded, IsPlaceRecorded, NotesClosing}
 use Rattle.run_acts.specs.Noting.{NotesFall, NotesPlace, NotesWithdrawing}
 use Rattle.run_acts.specs.Power.{is_lit, passed}
 use Rattle.run_acts.specs.Recording.{RecordsAction, RecordsTurn}
 use Rattle.run_acts.specs.Ringing.{ClosesSo, WithdrawsSo, WritesPlace}
-use Rattle.run_acts.specs.Room.{falls_of}
+use Rattle.run_acts.specs.Room.{falls_of, TakesNone}
 use Rattle.run_acts.specs.RunCards.{CardsPlace, CardsTurn, CardsWithdrawal}
 use Rattle.run_acts.specs.RunRinged.{RingsGap, RingsPlace, RingsTurn, RingsWithdrawal}
 use Rattle.run_acts.specs.Speeds.{BringsBlock, SpeedsTurn}
 use Rattle.run_acts.specs.Stays.{ClosesOnCard}
+use Rattle.run_acts.specs.Stood.{StandsPlace, StandsTurn, StandsWithdrawal}
 use Rattle.run_acts.specs.Turning.{IsLitTurn, IsTurnOf}
 use Rattle.run_acts.specs.declared.run.Run.{Run}
 use Rattle.unit_notes.specs.event_model.declared.kinds.TheConstants.{POWER_INTERRUPTION}
 use Rattle.run_events.specs.message_model.Records.{insertion_ring}
 use Rattle.unit_model.specs.declared.layout.TheConstants.{HIGHEST_ODOMETER}
 
--- THE CARD OF A SLOT WAS TO BE WITHDRAWN: what became of it, and nothing else has changed
+-- THE CARD OF A SLOT WAS TO BE WITHDRAWN: what became of it, and nothing else has changed; of the room for lines it
+-- takes no more than marks of the minutes that waited, and a break of each card that falls
 pub record Withdraws (slot : Slot) (at : Moment) (failed : Bool) (old new : Run) (before after : Outcome) : Type 0 where
   pub card : IsWithdrawn (card_in (seat_in old.keeper.cabin.slots.seats slot)) slot at failed old new before after
   pub run : new ≡ record old { minutes = new.minutes; keeper = new.keeper }
   pub outcome : after ≡ record before { marks = after.marks; breaks = after.breaks }
+  pub takes : TakesNone old new before after
 
 -- WHAT THAT LEAVES ON THE DEVICES: the book behind it, the faults that are noted, the entry of its insertion, and the
--- last words of the card
+-- last words of the card, or that it broke down in that
 pub record LeavesWithdrawn (slot : Slot) (at : Moment) (failed : Bool) (old new : Run) (before after : Outcome)
     (d e : Devices) : Type 0 where
   pub booked : (card : Card) → card_in (seat_in old.keeper.cabin.slots.seats slot) ≡ Some card
       → (decided : List Minute) × (reach : Reach) × (closing : Option Closing) × (between : KeepingState)
-      × ((span : Span) → CountsSpan old.minutes span → decided_in (settled span) ≡ decided_in span ++ decided)
+      × SettlingDecides old.minutes decided
       × IsReach decided at (not (is_some closing)) (told_of (left_run slot at.second old) before) between reach
       × BooksWithdrawn card decided failed reach closing (told_of (left_run slot at.second old) before)
       (told_of new after) d e
@@ -98,6 +99,7 @@ pub record PromisesWithdrawal (slot : Slot) (at : Moment) (failed : Bool) (old n
   pub evented : EventsWithdrawal slot at failed old new before after d e
   pub ringed : RingsWithdrawal slot at failed old new before after d e
   pub cards : CardsWithdrawal slot at failed old before after d e
+  pub stands : StandsWithdrawal slot at old before d e
 
 -- WHATEVER HAS FAILED, power can be lost then; and the unit failed exactly where that was answered
 pub record IsHeldBehind (failed : Bool) (new : Run) (d e : Devices) (chip_a chip_b : CardState) : Type 0 where
@@ -110,6 +112,20 @@ pub record RunStandsBehind (result : Result (Unit {0}) Failed) (new : Run) (d e 
     : Type 0 where
   pub held : IsHeldBehind (is_err result) new d e chip_a chip_b
   pub going : OnOk result (RunHasPowerAllSeated (new.next / 60) new e.unit chip_a chip_b e.card_a e.card_b)
+
+-- HOW IT STANDS BEHIND A SETTLING: whatever has failed, power can be lost then; where the unit did not fail, whoever
+-- was leaving is leaving still, with power; no minute is owed, and where it did not fail a card without a session sits
+-- as it sat
+pub record RunStandsSettled (result : Result (Unit {0}) Failed) (old new : Run) (d e : Devices)
+    (chip_a chip_b chip_a_new chip_b_new : CardState) : Type 0 where
+  pub held : IsHeldBehind (is_err result) new d e chip_a_new chip_b_new
+  pub going : (leaving : Option Card)
+      → RunHasPower leaving (old.next / 60) old d.unit chip_a chip_b d.card_a d.card_b
+      → OnOk result (RunHasPower leaving (new.next / 60) new e.unit chip_a_new chip_b_new e.card_a e.card_b)
+  pub none : new.minutes.owing ≡ 0
+  pub bare : is_err result ≡ false → (slot : Slot) → IsBareIn old.keeper.cabin slot
+      → (seat_in new.keeper.cabin.slots.seats slot ≡ seat_in old.keeper.cabin.slots.seats slot)
+      × IsBareIn new.keeper.cabin slot
 
 -- ALL GOES ON: no clock and no count of a device falls, none breaks down but in a call that failed, and no card without
 -- the line of a tear; the detailed speed stays, and breaks are only added; and so many writes at most were begun
@@ -148,6 +164,7 @@ pub record PromisesPlace (slot : Slot) (entry : PlaceEntry) (at : Moment) (faile
   pub evented : EventsPlace slot at failed old new before after d e
   pub ringed : RingsPlace slot entry at failed old new before after d e
   pub cards : CardsPlace slot at failed old before after d e
+  pub stands : StandsPlace slot at old before d e
 
 -- THE INTERRUPTION OF POWER WAS TO BE NOTED: how far it came, and nothing else has changed; a tear more is a card less
 pub record NotesGap (kept : ℕ) (failed : Bool) (old new : Run) (before after : Listed Break) : Type 0 where
@@ -215,6 +232,7 @@ pub record PromisesTurn (n speed begun : ℕ) (old new : Run) (before after : Ou
   pub ringed : RingsTurn n speed begun old new before after d e
   pub cards : CardsTurn n speed begun old new before after d e
   pub speeds : SpeedsTurn n speed begun old new before after d e
+  pub stands : StandsTurn n speed begun old before after d e
 
 -- ALL GOES ON over them, and the unit broke down where the power is lost, and nowhere else; and so many writes at most
 -- were begun

@@ -3,7 +3,7 @@ use Rattle.std.specs.Prelude.{◌≡◌, ℕ, ◌||◌, Bool, not, Option, Some,
 use Rattle.trace_model.specs.declared.Card.{Card}
 use Rattle.tach_media.specs.Medium.{State}
 use Rattle.tacho_types.specs.declared.texts.Registration.{Registration}
-use Rattle.hand_model.specs.card_image.Beside.{HaveSameVehicles}
+use Rattle.hand_model.specs.card_image.Beside.{HaveSameDays, HaveSameVehicles}
 use Rattle.hand_model.specs.card_image.Fields.{file_bytes, current_use}
 use Rattle.card_files.specs.declared.card_event.CardEvent.{CardEvent}
 use Rattle.unit_notes.specs.event_model.declared.entries.Span.{Span}
@@ -46,8 +46,8 @@ gap_on (Some span) registration = record {
 
 -- ---- the places
 
--- CALLS LEAVE THE PLACES of a card, its vehicle entries and its current use: without a session it may leave no image
--- that it might not have left before; else each has those of one before
+-- CALLS LEAVE THE PLACES of a card, its vehicle entries, its current use and its days: without a session it may leave
+-- no image that it might not have left before; else each has those of one before
 abbrev pub LeavesPlaces : (session : Option Accepted) → (card card_after : State) → Type 0
 LeavesPlaces None card card_after = (c : List ℕ) → card_after.may_leave c → card.may_leave c
 LeavesPlaces (Some a) card card_after = (c : List ℕ) → card_after.may_leave c
@@ -55,6 +55,7 @@ LeavesPlaces (Some a) card card_after = (c : List ℕ) → card_after.may_leave 
     × (file_bytes a.session.application 0x0506 c ≡ file_bytes a.session.application 0x0506 x)
     × HaveSameVehicles a.session.application x c
     × (current_use a.session.application c ≡ current_use a.session.application x)
+    × HaveSameDays a.session.application x c
 
 -- so they do of each card
 abbrev pub LeavePlaces : Cards → (d e : Devices) → Type 0

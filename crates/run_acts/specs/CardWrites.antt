@@ -1,10 +1,10 @@
 -- What an action writes on the card that it is about (profile): a place stands on it, and a card that is withdrawn is
 -- closed.
-use Rattle.std.specs.Prelude.{◌≡◌, ◌⊎◌, ◌++◌, ℕ, Bool, true, false, Option, Some, None, IfSome, List}
+use Rattle.std.specs.Prelude.{◌≡◌, ◌⊎◌, ℕ, Bool, true, false, Option, Some, None, IfSome, List}
 use Rattle.activity_codec.specs.declared.values.Activity.{Activity}
 use Rattle.activity_codec.specs.declared.values.Slot.{Slot}
 use Rattle.trace_model.specs.declared.Card.{Card}
-use Rattle.tach_media.specs.Medium.{State}
+use Rattle.tach_media.specs.Medium.{State, HasBroken}
 use Rattle.tacho_types.specs.declared.places.PlaceEntry.{PlaceEntry}
 use Rattle.card_files.specs.card_layout.declared.files.Application.{Application}
 use Rattle.hand_model.specs.card_image.Own.{IsOwnValid}
@@ -15,7 +15,7 @@ use Rattle.device_calls.specs.card_session.Cards.{IsCardClosed}
 use Rattle.run_events.specs.gated_ring.Ring.{PointsInside}
 use Rattle.log_model.specs.declared.lines.Break.{Break}
 use Rattle.unit_model.specs.minute_model.declared.Minute.{Minute}
-use Rattle.unit_model.specs.minute_model.Span.{Span, settled, decided_in, activity_next}
+use Rattle.unit_model.specs.minute_model.Span.{Span, activity_next}
 use Rattle.minute_rules.specs.Kept.{CountsSpan}
 use Rattle.device_calls.specs.run_unit_course.Legs.{Travel}
 use Rattle.device_calls.specs.unit_rule.Odometer.{HasTravelled, odometer_after}
@@ -32,6 +32,7 @@ use Rattle.run_minutes.specs.Books.{HaveTime}
 use Rattle.run_minutes.specs.Decided.{MayBookAll}
 use Rattle.run_acts.specs.declared.run.Run.{Run}
 use Rattle.run_acts.specs.Acting.{Closing, Bare, Closed, Fell, IsSettled, IsClosed, IsClosedBehind, left_run, told_of}
+use Rattle.run_acts.specs.Acting.{SettlingDecides}
 
 -- ---- a place
 
@@ -92,16 +93,17 @@ ShutsThen card decided t session act d e = (f : Found) (w : RunLedger) (start : 
     → IsShut session act (card_of e card)
 
 -- A WITHDRAWN CARD: its slot is left, the minutes before are kept, and then the session that it has still is closed,
--- with what is selected for the next second
+-- with what is selected for the next second; or the card fell in that, and broke down
 pub record ShutsBehind (card : Card) (slot : Slot) (at : Moment) (old new : Run) (before after : Outcome)
     (d e : Devices) : Type 0 where
   pub behind : IsClosedBehind card slot at old new before after
   pub decided : List Minute
-  pub given : (span : Span) → CountsSpan old.minutes span → decided_in (settled span) ≡ decided_in span ++ decided
+  pub given : SettlingDecides old.minutes decided
   pub act : Activity
   pub selected : (span : Span) → CountsSpan behind.between.minutes span → act ≡ activity_next slot span
   pub shut : behind.closing ≡ Closed → ShutsThen card decided (told_of (left_run slot at.second old) before)
       (session_of behind.between.keeper.cabin.cards card) act d e
+  pub fell : behind.closing ≡ Fell → HasBroken (card_of d card) (card_of e card) 1
 
 -- or the unit failed in these minutes
 abbrev pub WithdrawsShut : Card → Slot → Moment → (failed : Bool) → (old new : Run) → (before after : Outcome)

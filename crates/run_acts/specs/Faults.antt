@@ -1,10 +1,8 @@
 -- What the keeping of minutes, and what has ended with a second, note on the unit (Annex IB, section III.12; the
 -- moments: profile).
-use Rattle.std.specs.Prelude.{◌≡◌, ◌⊎◌, ℕ, Bool, true, false, List, ◌++◌}
+use Rattle.std.specs.Prelude.{◌≡◌, ◌⊎◌, ℕ, Bool, true, false, List}
 use Rattle.tach_media.specs.Medium.{State}
 use Rattle.unit_model.specs.minute_model.declared.Minute.{Minute}
-use Rattle.unit_model.specs.minute_model.Span.{Span, settled, decided_in}
-use Rattle.minute_rules.specs.Kept.{CountsSpan}
 use Rattle.run_crew.specs.Cabin.{crew_of}
 use Rattle.run_events.specs.declared.watch.Ended.{Ended}
 use Rattle.run_events.specs.Noting.{AreNoted, AreBeingNoted, IsFed}
@@ -14,13 +12,14 @@ use Rattle.run_minutes.specs.Minutes.{Reach, IsReach}
 use Rattle.run_minutes.specs.Faults.{faults_to, TellsFaults, NotesFaults}
 use Rattle.run_acts.specs.declared.run.Run.{Run}
 use Rattle.run_acts.specs.Booked.{IsTurnReach}
+use Rattle.run_acts.specs.Acting.{SettlingDecides}
 use Rattle.run_acts.specs.Turning.{IsLitTurn, late_moment, told_of}
 
 -- A SETTLING NOTES the faults of the cards that were torn out as its minutes were kept.
 abbrev pub NotesSettling : Moment → (failed : Bool) → (old new : Run) → (before after : Outcome)
     → (unit unit_after : State) → Type 0
 NotesSettling at failed old new before after unit unit_after = (decided : List Minute)
-    × ((span : Span) → CountsSpan old.minutes span → decided_in (settled span) ≡ decided_in span ++ decided)
+    × SettlingDecides old.minutes decided
     × (reach : Reach) × IsReach decided at failed (told_of old before) (told_of new after) reach
     × NotesFaults failed (faults_to old.keeper at reach (told_of old before)) unit unit_after
 

@@ -1,14 +1,10 @@
 -- What the keeping of decided minutes does within a run: in a settling, and in a turn (profile).
-use Rattle.std.specs.Prelude.{◌≡◌, ℕ, ◌+◌, ◌*◌, ◌%◌, ◌<◌, ◌≤◌, ◌^◌, ◌++◌, Bool, false, Option, List, All, length}
-use Rattle.activity_codec.specs.declared.values.Slot.{Slot}
+use Rattle.std.specs.Prelude.{◌≡◌, ℕ, ◌+◌, ◌*◌, ◌%◌, ◌<◌, ◌≤◌, ◌^◌, Bool, false, Option, List, All, length}
 use Rattle.trace_model.specs.declared.Card.{Card}
-use Rattle.tach_media.specs.Medium.{State, HasCause}
+use Rattle.tach_media.specs.Medium.{State}
 use Rattle.card_files.specs.card_layout.declared.command.CardState.{CardState}
 use Rattle.unit_model.specs.minute_model.declared.Minute.{Minute}
-use Rattle.unit_model.specs.minute_model.Span.{Span, settled, decided_in}
-use Rattle.minute_rules.specs.Kept.{CountsSpan}
 use Rattle.device_calls.specs.safety_model.Safe.{Devices}
-use Rattle.run_crew.specs.card_slots.Calls.{seat_in}
 use Rattle.run_crew.specs.Cabin.{CabinIsSound}
 use Rattle.run_events.specs.Watching.{Watches}
 use Rattle.run_events.specs.Blocks.{KnowsNewest}
@@ -19,7 +15,7 @@ use Rattle.run_minutes.specs.Decided.{BooksAll}
 use Rattle.run_minutes.specs.Faults.{faults_to, NotesFaults}
 use Rattle.run_minutes.specs.Stand.{Stand, standing}
 use Rattle.run_acts.specs.declared.run.Run.{Run}
-use Rattle.run_acts.specs.Acting.{IsBareIn}
+use Rattle.run_acts.specs.Acting.{SettlingDecides}
 use Rattle.run_acts.specs.Settling.{RecordsSettling}
 use Rattle.run_acts.specs.Turning.{IsKeptInTurn, told_of}
 use Rattle.run_acts.specs.Booked.{IsTurnReach, BooksTurn}
@@ -27,6 +23,7 @@ use Rattle.run_acts.specs.Faults.{NotesKeeping}
 use Rattle.run_acts.specs.Speeds.{BringsBlock}
 use Rattle.run_acts.specs.Evented.{EventsSettling}
 use Rattle.run_acts.specs.RunCards.{CardsSettling, PlacesSettling}
+use Rattle.run_acts.specs.Stood.{StandsSettling}
 
 -- HOW A RUN STANDS: its keeper, its lines and its devices
 abbrev pub acting : Run → Outcome → (unit card_a card_b : State) → (chip_a chip_b : CardState) → Stand
@@ -40,7 +37,7 @@ acting run out unit card_a card_b chip_a chip_b = standing run.keeper out.marks 
 pub record KeepsSettled (at : Moment) (failed : Bool) (old new : Run) (before after : Outcome) (d e : Devices) : Type
     0 where
   pub decided : List Minute
-  pub given : (span : Span) → CountsSpan old.minutes span → decided_in (settled span) ≡ decided_in span ++ decided
+  pub given : SettlingDecides old.minutes decided
   pub reach : Reach
   pub is : IsReach decided at failed (told_of old before) (told_of new after) reach
   pub books : BooksAll decided failed reach (told_of old before) (told_of new after) d e
@@ -49,14 +46,7 @@ pub record KeepsSettled (at : Moment) (failed : Bool) (old new : Run) (before af
   pub evented : EventsSettling decided at failed old new before after d e
   pub cards : CardsSettling decided at old new before d e
   pub places : PlacesSettling decided at old new before d e
-
--- BEHIND IT no minute is owed; where it did not fail a card without a session sits as it sat
-pub record IsBehindSettling (failed : Bool) (old new : Run) (unit unit_after : State) : Type 0 where
-  pub none : new.minutes.owing ≡ 0
-  pub bare : failed ≡ false → (slot : Slot) → IsBareIn old.keeper.cabin slot
-      → (seat_in new.keeper.cabin.slots.seats slot ≡ seat_in old.keeper.cabin.slots.seats slot)
-      × IsBareIn new.keeper.cabin slot
-  pub cause : HasCause unit unit_after failed
+  pub stands : StandsSettling decided at old new before d e
 
 -- ---- a turn
 

@@ -26,11 +26,13 @@ pub mod RunRinged
 pub mod CardNotes
 pub mod OnCards
 pub mod RunCards
+pub mod Stood
 pub mod Keepings
 pub mod Acts
 pub mod CardWrites
 pub mod Closings
 pub mod Comings
+pub mod Writes
 pub mod Words
 pub mod Truths
 pub mod Owed

@@ -12,8 +12,6 @@ use Rattle.unit_notes.specs.declared.unit_event.UnitEvent.{UnitEvent}
 use Rattle.run_acts.specs.NotedEvents.{NotesEvents}
 use Rattle.tach_media.specs.Medium.{State}
 use Rattle.unit_model.specs.minute_model.declared.Minute.{Minute}
-use Rattle.unit_model.specs.minute_model.Span.{Span as Minutes, settled, decided_in}
-use Rattle.minute_rules.specs.Kept.{CountsSpan}
 use Rattle.run_events.specs.Shown.{SaysNothing}
 use Rattle.run_minutes.specs.Minutes.{Reach, IsReach}
 use Rattle.run_minutes.specs.Faults.{faults_to}
@@ -34,6 +32,7 @@ use Rattle.run_minutes.specs.run_promise.Origin.{Origin}
 use Rattle.run_record.specs.Taking.{fallen}
 use Rattle.run_acts.specs.declared.run.Run.{Run}
 use Rattle.run_acts.specs.Acting.{IsNotedIn, IsNotedOn, Closing, Bare, Closed, Fell, IsClosed, told_of, left_run}
+use Rattle.run_acts.specs.Acting.{SettlingDecides}
 use Rattle.run_acts.specs.Behind.{IsPoweredOrOff}
 use Rattle.run_acts.specs.Recording.{RunWithin, ComesPower, GoesOnOrFails, RecordsAction}
 
@@ -123,7 +122,7 @@ NotesPlace (Some card) slot at failed old new breaks after d e =
 abbrev pub SettlesThese : Moment → (failed : Bool) → (old new : Run) → (before after : Outcome) → List UnitEvent
     → Type 0
 SettlesThese at failed old new before after vs = (decided : List Minute)
-    × ((span : Minutes) → CountsSpan old.minutes span → decided_in (settled span) ≡ decided_in span ++ decided)
+    × SettlingDecides old.minutes decided
     × (reach : Reach) × IsReach decided at failed (told_of old before) (told_of new after) reach
     × (vs ≡ faults_to old.keeper at reach (told_of old before))
 

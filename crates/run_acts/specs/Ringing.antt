@@ -57,14 +57,16 @@ abbrev pub odometer_of : Run → Span → Odometer
 odometer_of run span = record { 0 = odometer_by run.keeper.odometer (travelled_of span) }
 
 -- a withdrawal stands in the entry of its insertion, where that is there; or the unit failed in that
-abbrev pub Withdraws : (failed : Bool) → Seating → (second : ℕ) → Odometer → (old new : State) → Type 0
-Withdraws false s second odometer old new = WritesImages (IsWithdrawnAt s (record { 0 = second }) odometer) old new
-Withdraws true s second odometer old new = WritesImages (MayBeWithdrawn s (record { 0 = second }) odometer) old new
+abbrev pub WithdrawalStands : (failed : Bool) → Seating → (second : ℕ) → Odometer → (old new : State) → Type 0
+WithdrawalStands false s second odometer old new =
+    WritesImages (IsWithdrawnAt s (record { 0 = second }) odometer) old new
+WithdrawalStands true s second odometer old new =
+    WritesImages (MayBeWithdrawn s (record { 0 = second }) odometer) old new
 
 -- A WITHDRAWAL IS NOTED, with the odometer of now
 abbrev pub WritesWithdrawal : Seating → (second : ℕ) → (failed : Bool) → Run → (old new : State) → Type 0
 WritesWithdrawal s second failed run old new = (span : Span) → CountsSpan run.minutes span
-    → Withdraws failed s second (odometer_of run span) old new
+    → WithdrawalStands failed s second (odometer_of run span) old new
 
 -- the session of a card that has left its slot is closed, and its withdrawal is noted; or it had none, or fell
 abbrev pub ClosesRings : Closing → Option Accepted → Moment → (failed : Bool) → Run → (old new : State) → Type 0

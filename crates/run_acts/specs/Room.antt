@@ -85,3 +85,15 @@ pub record Takes (found put_in turned_away : ℕ) (old new : Run) (before after 
       ≤ length before.breaks.items + falls_of old.keeper.cabin + put_in
   pub finds : length after.finds.items ≤ length before.finds.items + found
   pub refused : length after.refused.items ≤ length before.refused.items + turned_away
+
+-- it takes no find, puts no card in and refuses nothing
+abbrev pub TakesNone : (old new : Run) → (before after : Outcome) → Type 0
+TakesNone old new before after = Takes 0 0 0 old new before after
+
+-- it takes a find at most
+abbrev pub TakesFind : (old new : Run) → (before after : Outcome) → Type 0
+TakesFind old new before after = Takes 1 0 0 old new before after
+
+-- it takes a find at most, and puts in a card at most
+abbrev pub TakesCard : (old new : Run) → (before after : Outcome) → Type 0
+TakesCard old new before after = Takes 1 1 0 old new before after

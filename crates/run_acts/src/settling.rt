@@ -1,12 +1,12 @@
 //! The minutes before that of an action are decided and kept.
-ghost use Rattle.std.specs.Prelude.{◌≡◌, ◌/◌, Option, OnOk, is_err};
-ghost use Rattle.trace_model.specs.declared.Card.{Card};
+ghost use Rattle.std.specs.Prelude.{◌≡◌, is_err};
 ghost use Rattle.run_minutes.specs.run_promise.Between.{devices};
-ghost use Rattle.run_acts.specs.Going.{CanBeCut, RunHasPower, MaySettle};
-ghost use Rattle.run_acts.specs.Room.{Takes};
+ghost use Rattle.run_acts.specs.Going.{MaySettle};
+ghost use Rattle.run_acts.specs.Room.{TakesNone};
 ghost use Rattle.run_acts.specs.Acting.{IsSettled};
-ghost use Rattle.run_acts.specs.Keepings.{acting, KeepsSettled, IsBehindSettling};
-ghost use Rattle.run_acts.specs.Acts.{SettlingGoes, HasRoomToSettle};
+ghost use Rattle.run_acts.specs.Keepings.{acting, KeepsSettled};
+ghost use Rattle.run_acts.specs.Acts.{SettlingGoes, HasRoomToSettle, RunStandsSettled};
+ghost use Rattle.run_acts.specs.Writes.{settle_unit_most, settle_card_most};
 
 use crate::run::Run;
 use run_minutes::{MinutesDecided, Moment};
@@ -34,17 +34,12 @@ pub fn settle<M: Medium, C: Chip, D: Chip>(
     ensures keeps { KeepsSettled at (is_err result) run.old run.new outcome.old outcome.new
         (devices (M.state unit.old) (C.state card_a.old) (D.state card_b.old))
         (devices (M.state unit.new) (C.state card_a.new) (D.state card_b.new)) }
-    ensures held { CanBeCut (run.new.next / 60) run.new (M.state unit.new) (C.card card_a.new) (D.card card_b.new)
-        (C.state card_a.new) (D.state card_b.new) }
-    ensures going { (leaving : Option Card)
-        → RunHasPower leaving (run.old.next / 60) run.old (M.state unit.old) (C.card card_a.old) (D.card card_b.old)
-        (C.state card_a.old) (D.state card_b.old)
-        → OnOk result (RunHasPower leaving (run.new.next / 60) run.new (M.state unit.new) (C.card card_a.new)
-        (D.card card_b.new)
-        (C.state card_a.new) (D.state card_b.new)) }
-    ensures behind { IsBehindSettling (is_err result) run.old run.new (M.state unit.old) (M.state unit.new) }
-    ensures takes { Takes 0 0 0 run.old run.new outcome.old outcome.new }
-    ensures goes { SettlingGoes 78 294
+    ensures stands { RunStandsSettled result run.old run.new
+        (devices (M.state unit.old) (C.state card_a.old) (D.state card_b.old))
+        (devices (M.state unit.new) (C.state card_a.new) (D.state card_b.new))
+        (C.card card_a.old) (D.card card_b.old) (C.card card_a.new) (D.card card_b.new) }
+    ensures takes { TakesNone run.old run.new outcome.old outcome.new }
+    ensures goes { SettlingGoes settle_unit_most settle_card_most
         (acting run.old outcome.old (M.state unit.old) (C.state card_a.old) (D.state card_b.old) (C.card card_a.old)
         (D.card card_b.old))
         (acting run.new outcome.new (M.state unit.new) (C.state card_a.new) (D.state card_b.new) (C.card card_a.new)

@@ -1,6 +1,6 @@
 //! Seconds of one minute at one speed.
 ghost use Rattle.std.specs.Prelude.{◌≡◌, ℕ, ◌+◌, ◌*◌, false, length, is_err};
-ghost use Rattle.run_minutes.specs.Writes.{WroteAtMost, minute_most};
+ghost use Rattle.run_minutes.specs.Writes.{WroteAtMost, minute_most, minute_unit_most};
 ghost use Rattle.run_minutes.specs.Keeping.{DevicesMayBeCalled};
 ghost use Rattle.run_acts.specs.declared.run.Power.TheVariants.{Lit};
 ghost use Rattle.run_acts.specs.Power.{is_lit, passed};
@@ -12,6 +12,7 @@ ghost use Rattle.run_minutes.specs.Kept.{MayKeepAll};
 ghost use Rattle.run_minutes.specs.Stand.{StandsAfter, KeepingGoes, AreBare};
 ghost use Rattle.run_acts.specs.Keepings.{acting, MayWatch, KeepsTurn};
 ghost use Rattle.run_acts.specs.Acts.{LeavesLit, LeavesTurned, LitTurns, PromisesTurn, TurnGoes, Turns};
+ghost use Rattle.run_acts.specs.Writes.{turn_unit_most, settle_card_most};
 
 use crate::feeding::feed;
 use crate::run::Run;
@@ -61,7 +62,7 @@ pub fn turn<M: Medium, C: Chip, D: Chip>(
     ensures room { (left offs insertions actions : ℕ)
         → HasRoomWithin run.old outcome.old (stretch.n + left) offs insertions actions
         → HasRoom run.new outcome.new left offs insertions actions }
-    ensures goes { TurnGoes 93 294 outcome.old.breaks.items outcome.new.breaks.items
+    ensures goes { TurnGoes turn_unit_most settle_card_most outcome.old.breaks.items outcome.new.breaks.items
         (devices (M.state unit.old) (C.state card_a.old) (D.state card_b.old))
         (devices (M.state unit.new) (C.state card_a.new) (D.state card_b.new)) }
 {
@@ -97,7 +98,7 @@ fn lit_turn<M: Medium, C: Chip, D: Chip>(
     ensures room { (left offs insertions actions : ℕ)
         → HasRoomWithin run.old outcome.old (stretch.n + left) offs insertions actions
         → HasRoom (passed stretch.n stretch.begun run.new) outcome.new left offs insertions actions }
-    ensures goes { TurnGoes 93 294 outcome.old.breaks.items outcome.new.breaks.items
+    ensures goes { TurnGoes turn_unit_most settle_card_most outcome.old.breaks.items outcome.new.breaks.items
         (devices (M.state unit.old) (C.state card_a.old) (D.state card_b.old))
         (devices (M.state unit.new) (C.state card_a.new) (D.state card_b.new)) }
 {
@@ -156,7 +157,7 @@ fn keep_turn<M: Medium, C: Chip, D: Chip>(
         (D.card card_b.old))
         (acting run.new outcome.new (M.state unit.new) (C.state card_a.new) (D.state card_b.new) (C.card card_a.new)
         (D.card card_b.new)) }
-    ensures most { WroteAtMost (26 * length turned.entry.decided.now + 15)
+    ensures most { WroteAtMost (minute_unit_most * length turned.entry.decided.now + 15)
         (minute_most * length turned.entry.decided.now)
         (devices (M.state unit.old) (C.state card_a.old) (D.state card_b.old))
         (devices (M.state unit.new) (C.state card_a.new) (D.state card_b.new)) }

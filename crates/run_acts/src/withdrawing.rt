@@ -12,13 +12,14 @@ ghost use Rattle.run_crew.specs.Cabin.{CabinIsSound};
 ghost use Rattle.run_events.specs.run_speeds.Speeds.{LeavesSpeeds};
 ghost use Rattle.run_minutes.specs.Keeping.{UnitMayBeCalled, with_lines};
 ghost use Rattle.run_acts.specs.Going.{IsActing};
-ghost use Rattle.run_acts.specs.Room.{falls_of, Takes};
+ghost use Rattle.run_acts.specs.Room.{falls_of};
 ghost use Rattle.run_minutes.specs.run_promise.Between.{devices};
 ghost use Rattle.run_acts.specs.Acting.{pulled_run, pulled_breaks};
 ghost use Rattle.run_acts.specs.Noting.{SaysNoMore};
 ghost use Rattle.run_acts.specs.Ringing.{WritesWithdrawal};
 ghost use Rattle.run_acts.specs.Acts.{AllGoOn, LeavesWithdrawn, PromisesWithdrawal, RunStandsBehind};
 ghost use Rattle.run_acts.specs.Acts.{ClosesSession, Withdraws, MayClose};
+ghost use Rattle.run_acts.specs.Writes.{withdraw_unit_most, withdraw_card_most};
 
 use crate::run::Run;
 use crate::settling::settle;
@@ -43,7 +44,8 @@ pub struct Withdrawal {
     pub at: Moment,
 }
 
-/// The card of a slot is withdrawn: what that settles is kept first, and then its session is closed.
+/// The card of a slot is withdrawn: what that settles is kept first, and then its session is closed. Where the slot is
+/// empty nothing is done, and no device is called.
 ///
 /// # Errors
 ///
@@ -61,6 +63,8 @@ pub fn withdraw<M: Medium, C: Chip, D: Chip>(
     requires at { withdrawal.at.second ≡ run.old.next }
     requires marks { length outcome.old.marks.items + 3 * run.old.minutes.owing ≤ outcome.old.marks.room }
     requires breaks { length outcome.old.breaks.items + falls_of run.old.keeper.cabin ≤ outcome.old.breaks.room }
+    ensures empty { card_in (seat_in run.old.keeper.cabin.slots.seats withdrawal.slot) ≡ None
+        → (unit.new ≡ unit.old) × (card_a.new ≡ card_a.old) × (card_b.new ≡ card_b.old) }
     ensures withdrawn { Withdraws withdrawal.slot withdrawal.at
         (is_err result) run.old run.new outcome.old outcome.new }
     ensures leaves { LeavesWithdrawn withdrawal.slot withdrawal.at
@@ -76,8 +80,7 @@ pub fn withdraw<M: Medium, C: Chip, D: Chip>(
         (devices (M.state unit.old) (C.state card_a.old) (D.state card_b.old))
         (devices (M.state unit.new) (C.state card_a.new) (D.state card_b.new))
         (C.card card_a.new) (D.card card_b.new) }
-    ensures takes { Takes 0 0 0 run.old run.new outcome.old outcome.new }
-    ensures goes { AllGoOn 82 302 outcome.old.breaks.items outcome.new.breaks.items
+    ensures goes { AllGoOn withdraw_unit_most withdraw_card_most outcome.old.breaks.items outcome.new.breaks.items
         (devices (M.state unit.old) (C.state card_a.old) (D.state card_b.old))
         (devices (M.state unit.new) (C.state card_a.new) (D.state card_b.new)) }
 {

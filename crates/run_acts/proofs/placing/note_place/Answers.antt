@@ -59,6 +59,8 @@ use Rattle.run_acts.proofs.RingedPlace.{IsThere, who-enters, place-goes}
 use Rattle.run_acts.specs.CardNotes.{NotesOn, NotesOnCards}
 use Rattle.run_acts.proofs.CardNotes.{on-none, both-cards}
 use Rattle.run_acts.proofs.CardActs.{place-cards}
+use Rattle.run_acts.specs.Stood.{StandsPlace}
+use Rattle.run_acts.proofs.Stood.{stand-itself, place-stands, cards-stand}
 use Rattle.run_acts.specs.CardWrites.{MayHavePlace, MayTakePlace, PlaceOn}
 use Rattle.tacho_types.specs.declared.places.PlaceEntry.{PlaceEntry}
 use Rattle.run_minutes.specs.declared.keeper.Moment.{Moment}
@@ -96,14 +98,14 @@ module _ (g : Over) (c : In_ok-note_place g) where
   some-of card is = numbered-session c.args.run.now.keeper.cabin.cards (seat_in c.args.run.now.keeper.cabin.slots.seats c.args.place.slot) card c.in-Some-number_in.number (seat-of card is) numbered
 
   ready-then : UnitMayBeCalled c.args.run.now.keeper (g.M.Medium.state c.note_place.new.unit)
-  ready-then = noted-ready (g.met.M.Medium.coherent c.args.unit.now) (g.met.M.Medium.coherent c.note_place.new.unit) c.note_place.ensures.journal c.args.run.now.keeper c.requires.acting.going.ready.unit_ready c.in_ok-note_place.ensures.cause.works
+  ready-then = noted-ready (g.met.M.Medium.coherent c.args.unit.now) (g.met.M.Medium.coherent c.note_place.new.unit) c.note_place.ensures.journal c.args.run.now.keeper c.requires.acting.going.ready.unit_ready c.in_ok-note_place.ensures.alters.cause.works
 
   quiet : NotesEvents [] false first middle
-  quiet = quiet-any (g.M.Medium.state c.args.unit.now) (g.M.Medium.state c.note_place.new.unit) (g.C.Chip.state c.args.card_a.now) (g.D.Chip.state c.args.card_b.now) (g.C.Chip.state c.args.card_a.now) (g.D.Chip.state c.args.card_b.now) false (says-of (g.M.Medium.state c.args.unit.now) (g.M.Medium.state c.note_place.new.unit) (g.met.M.Medium.coherent c.args.unit.now) (IsAdding unit_place_ring (unit_place_bytes c.in-Some-number_in.number c.args.place.entry)) (adding-nothing (unit_place_bytes c.in-Some-number_in.number c.args.place.entry)) c.in_ok-note_place.ensures.moments)
+  quiet = quiet-any (g.M.Medium.state c.args.unit.now) (g.M.Medium.state c.note_place.new.unit) (g.C.Chip.state c.args.card_a.now) (g.D.Chip.state c.args.card_b.now) (g.C.Chip.state c.args.card_a.now) (g.D.Chip.state c.args.card_b.now) false (says-of (g.M.Medium.state c.args.unit.now) (g.M.Medium.state c.note_place.new.unit) (g.met.M.Medium.coherent c.args.unit.now) (IsAdding unit_place_ring (unit_place_bytes c.in-Some-number_in.number c.args.place.entry)) (adding-nothing (unit_place_bytes c.in-Some-number_in.number c.args.place.entry)) c.in_ok-note_place.ensures.alters.moments)
 
   later-noted : AreLater first middle
-  later-noted = later-of-unit (g.M.Medium.state c.args.unit.now) (g.M.Medium.state c.note_place.new.unit) (g.C.Chip.state c.args.card_a.now) (g.D.Chip.state c.args.card_b.now) (state-by (g.M.Medium.state c.args.unit.now) (g.M.Medium.state c.note_place.new.unit) _ c.note_place.ensures.journal.later c.note_place.ensures.cause)
-      (place-leaves (unit_place_bytes c.in-Some-number_in.number c.args.place.entry) (g.M.Medium.state c.args.unit.now) (g.M.Medium.state c.note_place.new.unit) (g.met.M.Medium.coherent c.args.unit.now) c.note_place.ensures.moments)
+  later-noted = later-of-unit (g.M.Medium.state c.args.unit.now) (g.M.Medium.state c.note_place.new.unit) (g.C.Chip.state c.args.card_a.now) (g.D.Chip.state c.args.card_b.now) (state-by (g.M.Medium.state c.args.unit.now) (g.M.Medium.state c.note_place.new.unit) _ c.note_place.ensures.journal.later c.note_place.ensures.alters.cause)
+      (place-leaves (unit_place_bytes c.in-Some-number_in.number c.args.place.entry) (g.M.Medium.state c.args.unit.now) (g.M.Medium.state c.note_place.new.unit) (g.met.M.Medium.coherent c.args.unit.now) c.note_place.ensures.alters.moments)
 
 pub note_place_in-requires-clause-may : goal.note_place_in-requires-clause-may
 note_place_in-requires-clause-may g c = record {
@@ -182,7 +184,7 @@ module _ (g : Over) (c : In_ok-note_place g) (k : OneCard c.in-Some.card (g.C.Ch
   writes tells =
       let n = c.in_ok-note_place.ensures in
       subst (λ (o : Option FullCardNumber). WritesPlace o c.args.place.entry (is_err k.result) (g.M.Medium.state c.args.unit.now) k.unit) (sym (numbered g c))
-      (place-then (unit_place_bytes c.in-Some-number_in.number c.args.place.entry) (g.M.Medium.state c.args.unit.now) (g.M.Medium.state c.note_place.new.unit) k.unit (g.met.M.Medium.coherent c.args.unit.now) (g.met.M.Medium.coherent c.note_place.new.unit) tells c.note_place.ensures.moments (is_err k.result) n.noted n.cause.works e.shows.rings)
+      (place-then (unit_place_bytes c.in-Some-number_in.number c.args.place.entry) (g.M.Medium.state c.args.unit.now) (g.M.Medium.state c.note_place.new.unit) k.unit (g.met.M.Medium.coherent c.args.unit.now) (g.met.M.Medium.coherent c.note_place.new.unit) tells c.note_place.ensures.alters.moments (is_err k.result) n.alters.done n.alters.cause.works e.shows.rings)
 
   later : AreLater (first g c) last
   later =
@@ -231,6 +233,17 @@ module _ (g : Over) (c : In_ok-note_place g) (k : OneCard c.in-Some.card (g.C.Ch
       ))
       (λ j apart. apart-by k.which (g.M.Medium.state c.args.unit.now) k.unit (k.state k.before) (k.state k.after) k.beside j apart))
 
+  stands_ : StandsPlace c.args.place.slot c.args.place.at c.args.run.now c.args.breaks.now (first g c) last
+  stands_ =
+      subst (λ (m : Devices). StandsPlace c.args.place.slot c.args.place.at c.args.run.now c.args.breaks.now m last) (sym (k.beside_it (g.M.Medium.state c.args.unit.now)))
+      (place-stands c.args.place.slot c.args.place.entry c.args.place.at c.args.run.now c.args.breaks.now start last k.which some
+      (subst (λ (m : Devices). AreLeftMore m last) (k.beside_it (g.M.Medium.state c.args.unit.now)) keeps)
+      (λ a at_.
+      subst (λ (x : State). MayHavePlace a.session.application c.args.place.entry (card_of start k.which) x) (card-is k.which k.unit (k.state k.after) k.beside)
+      (subst (λ (x : State). MayHavePlace a.session.application c.args.place.entry x (k.state k.after)) (card-is k.which (g.M.Medium.state c.args.unit.now) (k.state k.before) k.beside)
+      (subst (λ (q : Option Accepted). MayTakePlace q c.args.place.entry (k.state k.before) (k.state k.after)) at_ e.shows.places)))
+      (λ j apart. apart-by k.which (g.M.Medium.state c.args.unit.now) k.unit (k.state k.before) (k.state k.after) k.beside j apart))
+
   on-card : (card : Card) → card_in (seat_in c.args.run.now.keeper.cabin.slots.seats c.args.place.slot) ≡ Some card → PlaceOn (session_of c.args.run.now.keeper.cabin.cards card) (session_of k.new.keeper.cabin.cards card) (is_err k.result) c.args.place.entry (card_of (first g c) card) (card_of last card)
   on-card card there =
       let is : k.which ≡ card = (let mine = seat in cc) in
@@ -250,8 +263,8 @@ module _ (g : Over) (c : In_ok-note_place g) (k : OneCard c.in-Some.card (g.C.Ch
     behind-unit : RunGoesOn o done s (In c.args.place.at.begun) [] c.args.run.now (record before { breaks = c.args.breaks.now }) (middle g c) on-unit.goes.within.b
     behind-unit =
         let lit = c.requires.acting.going in
-        unit-recorded o done s c.args.place.at.begun c.args.run.now (record before { breaks = c.args.breaks.now }) (g.M.Medium.state c.args.unit.now) (g.M.Medium.state c.note_place.new.unit) (g.C.Chip.state c.args.card_a.now) (g.D.Chip.state c.args.card_b.now) (g.met.M.Medium.coherent c.args.unit.now) c.note_place.ensures.journal lit.span lit.stands lit.next on-unit.goes false c.in_ok-note_place.ensures.cause
-        (λ fine. place-more (unit_place_bytes c.in-Some-number_in.number c.args.place.entry) (g.M.Medium.state c.args.unit.now) (g.M.Medium.state c.note_place.new.unit) (g.met.M.Medium.coherent c.args.unit.now) c.note_place.ensures.moments)
+        unit-recorded o done s c.args.place.at.begun c.args.run.now (record before { breaks = c.args.breaks.now }) (g.M.Medium.state c.args.unit.now) (g.M.Medium.state c.note_place.new.unit) (g.C.Chip.state c.args.card_a.now) (g.D.Chip.state c.args.card_b.now) (g.met.M.Medium.coherent c.args.unit.now) c.note_place.ensures.journal lit.span lit.stands lit.next on-unit.goes false c.in_ok-note_place.ensures.alters.cause
+        (λ fine. place-more (unit_place_bytes c.in-Some-number_in.number c.args.place.entry) (g.M.Medium.state c.args.unit.now) (g.M.Medium.state c.note_place.new.unit) (g.met.M.Medium.coherent c.args.unit.now) c.note_place.ensures.alters.moments)
 
     not-first : In c.args.place.at.begun ≡ In 0 → ComesPower done (record before { breaks = c.args.breaks.now })
     not-first zeroth = absurd (let none : c.args.place.at.begun ≡ 0 = cc in omega (arith, none, n))
@@ -285,7 +298,7 @@ module _ (g : Over) (c : In_ok-note_place g) (k : OneCard c.in-Some.card (g.C.Ch
         let now_first : EventedNow o done s on-unit.goes.within.b.run Acting (log_of (record before { breaks = c.args.breaks.now })) (first g c) = subst (λ (b : Beginning). EventedNow o done s b.run Acting (log_of (record before { breaks = c.args.breaks.now })) (first g c)) (sym on-unit.began)
         (subst (λ (l : Listed Break). EventedNow o done s w.within.b.run Acting (log_of (record before { breaks = l })) (first g c)) is events_) in
         let now_second : EventedNow o done s behind-unit.goes.within.b.run Acting (log_of (record before { breaks = c.args.breaks.now })) (middle g c) = subst (λ (b : Beginning). EventedNow o done s b.run Acting (log_of (record before { breaks = c.args.breaks.now })) (middle g c)) (sym behind-unit.began)
-        (unit-evented o done s begun c.args.run.now (record before { breaks = c.args.breaks.now }) (g.M.Medium.state c.args.unit.now) (g.M.Medium.state c.note_place.new.unit) (g.C.Chip.state c.args.card_a.now) (g.D.Chip.state c.args.card_b.now) (g.met.M.Medium.coherent c.args.unit.now) c.note_place.ensures.journal lit.span lit.stands lit.next on-unit.goes rest left false c.in_ok-note_place.ensures.cause (quiet g c) now_first) in
+        (unit-evented o done s begun c.args.run.now (record before { breaks = c.args.breaks.now }) (g.M.Medium.state c.args.unit.now) (g.M.Medium.state c.note_place.new.unit) (g.C.Chip.state c.args.card_a.now) (g.D.Chip.state c.args.card_b.now) (g.met.M.Medium.coherent c.args.unit.now) c.note_place.ensures.journal lit.span lit.stands lit.next on-unit.goes rest left false c.in_ok-note_place.ensures.alters.cause (quiet g c) now_first) in
         let fell : f.fell ≡ e.noted.0 = same-fell k.which c.args.place.slot c.args.place.at c.args.run.now k.new c.args.breaks.now k.breaks f.fell e.noted.0 f.noted e.noted.1 in
         let notes : NotesEvents (fall_events e.noted.0 c.args.place.at.second k.new) (is_err k.result) (middle g c) last = subst (λ (b : Bool). NotesEvents (fall_events b c.args.place.at.second k.new) (is_err k.result) (middle g c) last) fell (notes-fall f.fell f.notes) in
         let goes : Goes (middle g c) = subst Goes (sym (k.beside_it (g.M.Medium.state c.note_place.new.unit)))
@@ -373,6 +386,7 @@ returns-in_default-clause-promises g c = record {
       let lit = c.requires.acting.going in
       no-entering cabin.cards (seat_in cabin.slots.seats c.args.place.slot) (who-enters (ungiven_of lit.span) cabin lit.cabin c.args.place.slot speed ending country region allowed)
       (no-number cabin.cards (seat_in cabin.slots.seats c.args.place.slot) c.card.result c.card.ensures c.in_default.not-Some);
+  stands = λ late ending country region speed before is o done s here front rest are n allowed w time. stand-itself o (devices (g.M.Medium.state c.args.unit.now) (g.C.Chip.state c.args.card_a.now) (g.D.Chip.state c.args.card_b.now));
 }
 
 pub returns-in_default-clause-behind : goal.returns-in_default-clause-behind
@@ -448,6 +462,7 @@ returns-in_default-number_in-clause-promises g c = record {
       let lit = c.requires.acting.going in
       no-entering cabin.cards (seat_in cabin.slots.seats c.args.place.slot) (who-enters (ungiven_of lit.span) cabin lit.cabin c.args.place.slot speed ending country region allowed)
       (sym c.number_in.ensures ∙ none-there c.number_in.result c.in_default-number_in.not-Some);
+  stands = λ late ending country region speed before is o done s here front rest are n allowed w time. stand-itself o (devices (g.M.Medium.state c.args.unit.now) (g.C.Chip.state c.args.card_a.now) (g.D.Chip.state c.args.card_b.now));
 }
 
 pub returns-in_default-number_in-clause-behind : goal.returns-in_default-number_in-clause-behind
@@ -500,7 +515,7 @@ returns-in_err-note_place-clause-leaves g c = record {
       let B0 = g.D.Chip.state c.args.card_b.now in
       let there : card_in (seat_in run.keeper.cabin.slots.seats c.args.place.slot) ≡ Some c.in-Some.card = cc in
       let failed : true ≡ is_err c.from_residual.result = search rules in
-      let ring = says-of U V (g.met.M.Medium.coherent c.args.unit.now) (IsAdding unit_place_ring (unit_place_bytes c.in-Some-number_in.number c.args.place.entry)) (adding-nothing (unit_place_bytes c.in-Some-number_in.number c.args.place.entry)) c.in_err-note_place.ensures.moments in
+      let ring = says-of U V (g.met.M.Medium.coherent c.args.unit.now) (IsAdding unit_place_ring (unit_place_bytes c.in-Some-number_in.number c.args.place.entry)) (adding-nothing (unit_place_bytes c.in-Some-number_in.number c.args.place.entry)) c.in_err-note_place.ensures.alters.moments in
       subst (λ (b : Bool). NotesPlace (card_in (seat_in run.keeper.cabin.slots.seats c.args.place.slot)) c.args.place.slot c.args.place.at b run run c.args.breaks.now c.args.breaks.now (devices U A0 B0) (devices V A0 B0)) failed
       (subst (λ (q : Option Card). NotesPlace q c.args.place.slot c.args.place.at true run run c.args.breaks.now c.args.breaks.now (devices U A0 B0) (devices V A0 B0)) (sym there) (inl (refl, refl, refl, quiet-any U V A0 B0 A0 B0 true ring)));
   rings =
@@ -513,7 +528,7 @@ returns-in_err-note_place-clause-leaves g c = record {
       let failed : true ≡ is_err c.from_residual.result = search rules in
       subst (λ (q : Bool). WritesPlace (number_of_seat run.keeper.cabin.cards (seat_in run.keeper.cabin.slots.seats c.args.place.slot)) c.args.place.entry q U V) failed
       (subst (λ (o : Option FullCardNumber). WritesPlace o c.args.place.entry true U V) (sym told)
-      (place-broken (unit_place_bytes number c.args.place.entry) U V V (g.met.M.Medium.coherent c.args.unit.now) (g.met.M.Medium.coherent c.note_place.new.unit) tells c.note_place.ensures.moments));
+      (place-broken (unit_place_bytes number c.args.place.entry) U V V (g.met.M.Medium.coherent c.args.unit.now) (g.met.M.Medium.coherent c.note_place.new.unit) tells c.note_place.ensures.alters.moments));
 }
 
 pub returns-in_err-note_place-clause-promises : goal.returns-in_err-note_place-clause-promises
@@ -529,8 +544,8 @@ returns-in_err-note_place-clause-promises g c = record {
       let failed : true ≡ is_err c.from_residual.result = search rules in
       let w1 = place-first o done s c.args.place.slot ending country region c.args.place.at.begun speed run before c.args.breaks.now (devices U A0 B0) is now front rest are n allowed w in
       subst (λ (q : Bool). GoesOnOrFails q o done s (In c.args.place.at.begun) [] run (record before { breaks = c.args.breaks.now }) (devices V A0 B0) w.within.b) failed
-      (unit-recorded o done s c.args.place.at.begun run (record before { breaks = c.args.breaks.now }) U V A0 B0 (g.met.M.Medium.coherent c.args.unit.now) c.note_place.ensures.journal lit.span lit.stands lit.next w1.goes true c.in_err-note_place.ensures.cause
-      (λ fine. place-more (unit_place_bytes c.in-Some-number_in.number c.args.place.entry) (g.M.Medium.state c.args.unit.now) (g.M.Medium.state c.note_place.new.unit) (g.met.M.Medium.coherent c.args.unit.now) c.note_place.ensures.moments));
+      (unit-recorded o done s c.args.place.at.begun run (record before { breaks = c.args.breaks.now }) U V A0 B0 (g.met.M.Medium.coherent c.args.unit.now) c.note_place.ensures.journal lit.span lit.stands lit.next w1.goes true c.in_err-note_place.ensures.alters.cause
+      (λ fine. place-more (unit_place_bytes c.in-Some-number_in.number c.args.place.entry) (g.M.Medium.state c.args.unit.now) (g.M.Medium.state c.note_place.new.unit) (g.met.M.Medium.coherent c.args.unit.now) c.note_place.ensures.alters.moments));
   evented =
       λ late ending country region speed before is o done s now front rest are n allowed w events time.
       let run = c.args.run.now in
@@ -543,13 +558,13 @@ returns-in_err-note_place-clause-promises g c = record {
       let out : Outcome = record before { breaks = c.args.breaks.now } in
       let failed : true ≡ is_err c.from_residual.result = search rules in
       let left = left-over front rest (Place c.args.place.slot ending country region) s begun n are in
-      let ring = says-of U V (g.met.M.Medium.coherent c.args.unit.now) (IsAdding unit_place_ring (unit_place_bytes c.in-Some-number_in.number c.args.place.entry)) (adding-nothing (unit_place_bytes c.in-Some-number_in.number c.args.place.entry)) c.in_err-note_place.ensures.moments in
+      let ring = says-of U V (g.met.M.Medium.coherent c.args.unit.now) (IsAdding unit_place_ring (unit_place_bytes c.in-Some-number_in.number c.args.place.entry)) (adding-nothing (unit_place_bytes c.in-Some-number_in.number c.args.place.entry)) c.in_err-note_place.ensures.alters.moments in
       let w1 = place-first o done s c.args.place.slot ending country region begun speed run before c.args.breaks.now (devices U A0 B0) is now front rest are n allowed w in
       let first : EventedNow o done s w1.goes.within.b.run Acting (log_of out) (devices U A0 B0) = subst (λ (b : Beginning). EventedNow o done s b.run Acting (log_of out) (devices U A0 B0)) (sym w1.began)
       (subst (λ (l : Listed Break). EventedNow o done s w.within.b.run Acting (log_of (record before { breaks = l })) (devices U A0 B0)) is events) in
       subst (λ (q : Bool). EventsGoOn q o done s w.within.b.run (In begun) Acting (log_of out) (devices V A0 B0)) failed
       (subst (λ (b : Beginning). EventsGoOn true o done s b.run (In begun) Acting (log_of out) (devices V A0 B0)) w1.began
-      (unit-evented o done s begun run out U V A0 B0 (g.met.M.Medium.coherent c.args.unit.now) c.note_place.ensures.journal lit.span lit.stands lit.next w1.goes rest left true c.in_err-note_place.ensures.cause (quiet-any U V A0 B0 A0 B0 true ring) first));
+      (unit-evented o done s begun run out U V A0 B0 (g.met.M.Medium.coherent c.args.unit.now) c.note_place.ensures.journal lit.span lit.stands lit.next w1.goes rest left true c.in_err-note_place.ensures.alters.cause (quiet-any U V A0 B0 A0 B0 true ring) first));
   ringed =
       let run = c.args.run.now in
       let lit = c.requires.acting.going in
@@ -585,6 +600,13 @@ returns-in_err-note_place-clause-promises g c = record {
       let none : breaks ≡ with_lines [] breaks = ap (λ (bs : List Break). record breaks { items = bs }) (sym (append-nil breaks.items)) in
       place-cards c.args.place.slot c.args.place.at (is_err c.from_residual.result) false run run breaks breaks (devices U A0 B0) (devices V A0 B0) c.requires.at none ((returns-in_err-note_place-clause-leaves g c).card_events)
       (record { unit = c.note_place.ensures.journal.keeps; card_a = λ t x le at. at; card_b = λ t x le at. at });
+  stands =
+      let run = c.args.run.now in
+      let U = g.M.Medium.state c.args.unit.now in
+      let V = g.M.Medium.state c.note_place.new.unit in
+      let A0 = g.C.Chip.state c.args.card_a.now in
+      let B0 = g.D.Chip.state c.args.card_b.now in
+      cards-stand c.args.place.slot c.args.place.at run c.args.breaks.now U V A0 B0 c.note_place.ensures.journal.keeps;
 }
 
 pub returns-in_err-note_place-clause-behind : goal.returns-in_err-note_place-clause-behind
@@ -594,7 +616,7 @@ returns-in_err-note_place-clause-behind g c = record {
         held = record { is_unit = unit-stays c.note_place.ensures.journal c.requires.acting.held.is_unit; odometer = c.requires.acting.held.odometer; minute = c.requires.acting.held.minute; card_a = c.requires.acting.held.card_a; card_b = c.requires.acting.held.card_b; stand = c.requires.acting.held.stand };
         cause =
             let failed : true ≡ is_err c.from_residual.result = search rules in
-            subst (λ (f : Bool). HasCause (g.M.Medium.state c.args.unit.now) (g.M.Medium.state c.note_place.new.unit) f) failed c.in_err-note_place.ensures.cause;
+            subst (λ (f : Bool). HasCause (g.M.Medium.state c.args.unit.now) (g.M.Medium.state c.note_place.new.unit) f) failed c.in_err-note_place.ensures.alters.cause;
       };
   going = first_of (search rules, grind (arith, common_steps));
 }
@@ -602,11 +624,11 @@ returns-in_err-note_place-clause-behind g c = record {
 pub returns-in_err-note_place-clause-goes : goal.returns-in_err-note_place-clause-goes
 returns-in_err-note_place-clause-goes g c = record {
   later =
-      later-of-unit (g.M.Medium.state c.args.unit.now) (g.M.Medium.state c.note_place.new.unit) (g.C.Chip.state c.args.card_a.now) (g.D.Chip.state c.args.card_b.now) (state-by (g.M.Medium.state c.args.unit.now) (g.M.Medium.state c.note_place.new.unit) _ c.note_place.ensures.journal.later c.note_place.ensures.cause)
-      (place-leaves (unit_place_bytes c.in-Some-number_in.number c.args.place.entry) (g.M.Medium.state c.args.unit.now) (g.M.Medium.state c.note_place.new.unit) (g.met.M.Medium.coherent c.args.unit.now) c.note_place.ensures.moments);
+      later-of-unit (g.M.Medium.state c.args.unit.now) (g.M.Medium.state c.note_place.new.unit) (g.C.Chip.state c.args.card_a.now) (g.D.Chip.state c.args.card_b.now) (state-by (g.M.Medium.state c.args.unit.now) (g.M.Medium.state c.note_place.new.unit) _ c.note_place.ensures.journal.later c.note_place.ensures.alters.cause)
+      (place-leaves (unit_place_bytes c.in-Some-number_in.number c.args.place.entry) (g.M.Medium.state c.args.unit.now) (g.M.Medium.state c.note_place.new.unit) (g.met.M.Medium.coherent c.args.unit.now) c.note_place.ensures.alters.moments);
   calm = calm-of-unit (g.M.Medium.state c.args.unit.now) (g.M.Medium.state c.note_place.new.unit) (g.C.Chip.state c.args.card_a.now) (g.D.Chip.state c.args.card_b.now);
   more = omega arith;
-  most = record { unit = (let one = c.in_err-note_place.ensures.most in omega (arith, one)); card_a = omega arith; card_b = omega arith };
+  most = record { unit = (let one = c.in_err-note_place.ensures.alters.most in omega (arith, one)); card_a = omega arith; card_b = omega arith };
 }
 
 -- ---- card a, and card b
@@ -618,7 +640,7 @@ returns-in-A-clause-behind g c = record {
         held =
             let e = c.note_place_in.ensures in
             held-noted A c.args.place.slot c.args.place.at c.args.run.now c.note_place_in.new.run c.args.breaks.now c.note_place_in.new.breaks c.note_place_in.ensures.noted.0 c.note_place_in.ensures.noted.1 (g.M.Medium.state c.args.unit.now) (g.M.Medium.state c.note_place_in.new.unit) (g.C.Chip.state c.args.card_a.now) (g.C.Chip.state c.note_place_in.new.card) (g.D.Chip.state c.args.card_b.now) (g.C.Chip.card c.args.card_a.now) (g.C.Chip.card c.note_place_in.new.card) (g.D.Chip.card c.args.card_b.now) c.requires.at c.requires.acting.held e.behind.unit e.behind.card e.behind.size e.stands;
-        cause = cause_after c.in_ok-note_place.ensures.cause c.note_place_in.ensures.behind.cause;
+        cause = cause_after c.in_ok-note_place.ensures.alters.cause c.note_place_in.ensures.behind.cause;
       };
   going =
       let e = c.note_place_in.ensures in
@@ -647,6 +669,7 @@ returns-in-A-clause-promises g c = record {
   evented = λ late ending country region speed before is o done s now front rest are n allowed w events time. evented g (noted-first-a g c) (side-a g c) c.note_place_in.ensures late ending country region speed before is o done s now front rest are n allowed w events;
   ringed = ringed g (noted-first-a g c) (side-a g c) c.note_place_in.ensures;
   cards = shown g (noted-first-a g c) (side-a g c) c.note_place_in.ensures;
+  stands = stands_ g (noted-first-a g c) (side-a g c) c.note_place_in.ensures;
 }
 
 pub returns-in-A-clause-goes : goal.returns-in-A-clause-goes
@@ -655,7 +678,7 @@ returns-in-A-clause-goes g c = record {
   calm = calm g (noted-first-a g c) (side-a g c) c.note_place_in.ensures;
   more = more-noted A c.args.place.slot c.args.place.at c.args.run.now c.note_place_in.new.run c.args.breaks.now c.note_place_in.new.breaks c.note_place_in.ensures.noted.0 c.note_place_in.ensures.noted.1;
   most =
-      let one = c.in_ok-note_place.ensures.most in
+      let one = c.in_ok-note_place.ensures.alters.most in
       let next = c.note_place_in.ensures.most in
       record {
         unit = (let a = next.0 in omega (arith, one, a));
@@ -671,7 +694,7 @@ returns-in-B-clause-behind g c = record {
         held =
             let e = c.note_place_in-in-B.ensures in
             held-noted B c.args.place.slot c.args.place.at c.args.run.now c.note_place_in-in-B.new.run c.args.breaks.now c.note_place_in-in-B.new.breaks c.note_place_in-in-B.ensures.noted.0 c.note_place_in-in-B.ensures.noted.1 (g.M.Medium.state c.args.unit.now) (g.M.Medium.state c.note_place_in-in-B.new.unit) (g.D.Chip.state c.args.card_b.now) (g.D.Chip.state c.note_place_in-in-B.new.card) (g.C.Chip.state c.args.card_a.now) (g.D.Chip.card c.args.card_b.now) (g.D.Chip.card c.note_place_in-in-B.new.card) (g.C.Chip.card c.args.card_a.now) c.requires.at c.requires.acting.held e.behind.unit e.behind.card e.behind.size e.stands;
-        cause = cause_after c.in_ok-note_place.ensures.cause c.note_place_in-in-B.ensures.behind.cause;
+        cause = cause_after c.in_ok-note_place.ensures.alters.cause c.note_place_in-in-B.ensures.behind.cause;
       };
   going =
       let e = c.note_place_in-in-B.ensures in
@@ -700,6 +723,7 @@ returns-in-B-clause-promises g c = record {
   evented = λ late ending country region speed before is o done s now front rest are n allowed w events time. evented g (noted-first-b g c) (side-b g c) c.note_place_in-in-B.ensures late ending country region speed before is o done s now front rest are n allowed w events;
   ringed = ringed g (noted-first-b g c) (side-b g c) c.note_place_in-in-B.ensures;
   cards = shown g (noted-first-b g c) (side-b g c) c.note_place_in-in-B.ensures;
+  stands = stands_ g (noted-first-b g c) (side-b g c) c.note_place_in-in-B.ensures;
 }
 
 pub returns-in-B-clause-goes : goal.returns-in-B-clause-goes
@@ -708,7 +732,7 @@ returns-in-B-clause-goes g c = record {
   calm = calm g (noted-first-b g c) (side-b g c) c.note_place_in-in-B.ensures;
   more = more-noted B c.args.place.slot c.args.place.at c.args.run.now c.note_place_in-in-B.new.run c.args.breaks.now c.note_place_in-in-B.new.breaks c.note_place_in-in-B.ensures.noted.0 c.note_place_in-in-B.ensures.noted.1;
   most =
-      let one = c.in_ok-note_place.ensures.most in
+      let one = c.in_ok-note_place.ensures.alters.most in
       let next = c.note_place_in-in-B.ensures.most in
       record {
         unit = (let a = next.0 in omega (arith, one, a));

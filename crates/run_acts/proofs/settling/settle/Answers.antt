@@ -1,4 +1,4 @@
-use Rattle.std.proofs.Common.{suc, ◌≡◌, ℕ, ◌*◌, ◌/◌, ◌≤◌, None, length, refl, ap, arith, subst, sym}
+use Rattle.std.proofs.Common.{suc, ◌≡◌, ℕ, ◌*◌, ◌/◌, ◌≤◌, None, [], length, refl, ap, arith, subst, sym}
 use Rattle.std.specs.Prelude.{is_err}
 use Rattle.tach_media.proofs.Runs.{on_ok}
 use Rattle.unit_model.specs.minute_model.Span.{ungiven_of, settled}
@@ -16,7 +16,7 @@ use Rattle.run_acts.proofs.Kept.{given-ended, given-rows, kept-going, seats-less
 use Rattle.run_acts.specs.Acting.{told_of}
 use Rattle.run_acts.proofs.Settled.{settled-ungiven, settled-later, settled-most, settled-decides}
 use Rattle.run_acts.proofs.Bare.{all-bare}
-use Rattle.run_acts.proofs.GoesOn.{kept-devices}
+use Rattle.run_acts.proofs.GoesOn.{kept-devices, settled-left}
 use Rattle.run_outcome.specs.declared.outcome.Outcome.{Outcome}
 use Rattle.run_events.proofs.Newest.{knows-left}
 use Rattle.run_acts.proofs.Ringing.{settling-leaves}
@@ -27,6 +27,8 @@ use Rattle.device_calls.specs.safety_model.Safe.{Devices}
 use Rattle.run_minutes.specs.run_promise.Between.{devices}
 use Rattle.run_acts.proofs.CardStays.{timed-still}
 use Rattle.run_acts.proofs.CardPlaces.{timed-stays}
+use Rattle.run_acts.proofs.RingedSecond.{more-left}
+use Rattle.run_acts.proofs.Stood.{timed-let}
 use Rattle.run_acts.proofs.Readings.{values-read}
 use Rattle.run_acts.proofs.Due.{Decides}
 use Rattle.run_acts.specs.Devices.{DevicesGoOn}
@@ -130,54 +132,56 @@ returns-clause-keeps g c =
       places = λ o done s n waits here r time spans t now.
           timed-stays o r.origin (odometers_of old.keeper items) (first g c) (last g c) (its o done s (suc n) waits (omega arith) here r time).1 (with_second spans old.keeper.odometer t)
           (values-read o done s (In (suc n)) waits None items (values_of (settled_run c.settle-decided.new.self old) c.args.outcome.now) (first g c) r.within spans old.keeper.odometer t now old.keeper refl);
+      stands = λ o done s n waits here r time. timed-let o r.origin (odometers_of old.keeper items) (first g c) (last g c) (its o done s (suc n) waits (omega arith) here r time).1
+          (more-left o (first g c) (last g c) (r.within.powered.lit.unit.unit_holds [] []).later r.within.there.clocks (settled-left c.keep_all.ensures.goes.keeping));
     })
 
-pub returns-clause-behind : goal.returns-clause-behind
-returns-clause-behind g c =
-    let h = c.requires.may.going in
-    let now = c.settle-decided.ensures.settled h.1.span h.1.stands in
-    let is = owing-is c.settle-decided.new.self (settled h.1.span) now in
-    let at = settled-ungiven h.0 (c.args.run.now.next / 60) c.args.run.now h.1 in
-    let end = h.1.next in
-    let t = told_of c.args.run.now c.args.outcome.now in
-    let u : KeepingState = record { keeper = c.keep_all.new.self; marks = c.keep_all.new.outcome.marks; breaks = c.keep_all.new.outcome.breaks } in
-    record {
-      none = omega (arith, is, at, end);
-      bare = λ well slot free.
-          let kept : AreKept c.args.at c.as_slice.result.now t u = (rw well at c.keep_all.ensures.kept).kept in
-          let stays = all-bare c.args.at c.as_slice.result.now t u slot kept free in
-          (stays.seat, stays.bare);
-      cause = c.keep_all.ensures.stands.cause;
-    }
-
-pub returns-clause-held : goal.returns-clause-held
-returns-clause-held g c =
-    let h = c.requires.may.going in
-    let e = c.keep_all.ensures in
-    let d = decided g (goal.at.returns-clause-held g c).After-as_slice in
-    let later = settled-later h.0 (c.args.run.now.next / 60) c.args.run.now h.1 in
-    let next : ℕ = ungiven_of (settled h.1.span) in
-    record {
-      is_unit = e.stands.unit;
-      odometer = let same = e.goes.keeping.odometer in let most = c.requires.may.held.odometer in omega (arith, same, most);
-      minute = let le = e.stands.minute in let at = c.requires.at in omega (arith, le, at);
-      card_a = record { port = e.stands.card_a.port; size = let same = e.goes.keeping.card_a.size in let size = c.requires.may.held.card_a.size in omega (arith, same, size) };
-      card_b = record { port = e.stands.card_b.port; size = let same = e.goes.keeping.card_b.size in let size = c.requires.may.held.card_b.size in omega (arith, same, size) };
-      stand = (next, h.0, e.kept.stands (ungiven_of h.1.span) h.0 (rw c.as_slice.ensures.value d.from) h.1.cabin next later (rw c.as_slice.ensures.value d.last));
-    }
-
-pub returns-clause-going : goal.returns-clause-going
-returns-clause-going g c = λ leaving h.
-    on_ok c.keep_all.result (λ well.
-    let e = c.keep_all.ensures in
-    let b = rw c.as_slice.ensures.value at e.kept in
-    let old = c.args.run.now in
-    let items = c.settle-decided.result.items in
-    let new : Run = record old { minutes = c.settle-decided.new.self; keeper = c.keep_all.new.self } in
-    let d = settled-decides leaving (old.next / 60) old h items c.requires.may.small (c.settle-decided.ensures.given h.span h.stands) in
-    kept-going leaving (old.next / 60) old new h (settled h.span) items d (c.settle-decided.ensures.settled h.span h.stands) h.next refl (settled-later leaving (old.next / 60) old h) (settled-most leaving (old.next / 60) old h)
-    (e.stands.ready well) (e.stands.rows well) e.goes.keeping.past (b.last well) b.stands e.goes.keeping.sessions refl h.watches h.limit
-    (knows-left old.watch.newest (g.M.Medium.state c.args.unit.now) (g.M.Medium.state c.keep_all.new.unit) (g.met.M.Medium.coherent c.args.unit.now) (g.met.M.Medium.coherent c.keep_all.new.unit) h.ready.unit_ready.works e.goes.speeds h.newest))
+pub returns-clause-stands : goal.returns-clause-stands
+returns-clause-stands g c = record {
+  held =
+      record {
+        held =
+            let h = c.requires.may.going in
+            let e = c.keep_all.ensures in
+            let d = decided g (goal.at.returns-clause-stands g c).After-as_slice in
+            let later = settled-later h.0 (c.args.run.now.next / 60) c.args.run.now h.1 in
+            let next : ℕ = ungiven_of (settled h.1.span) in
+            record {
+              is_unit = e.stands.unit;
+              odometer = let same = e.goes.keeping.odometer in let most = c.requires.may.held.odometer in omega (arith, same, most);
+              minute = let le = e.stands.minute in let at = c.requires.at in omega (arith, le, at);
+              card_a = record { port = e.stands.card_a.port; size = let same = e.goes.keeping.card_a.size in let size = c.requires.may.held.card_a.size in omega (arith, same, size) };
+              card_b = record { port = e.stands.card_b.port; size = let same = e.goes.keeping.card_b.size in let size = c.requires.may.held.card_b.size in omega (arith, same, size) };
+              stand = (next, h.0, e.kept.stands (ungiven_of h.1.span) h.0 (rw c.as_slice.ensures.value d.from) h.1.cabin next later (rw c.as_slice.ensures.value d.last));
+            };
+        cause = c.keep_all.ensures.stands.cause;
+      };
+  going = λ leaving h.
+      on_ok c.keep_all.result (λ well.
+      let e = c.keep_all.ensures in
+      let b = rw c.as_slice.ensures.value at e.kept in
+      let old = c.args.run.now in
+      let items = c.settle-decided.result.items in
+      let new : Run = record old { minutes = c.settle-decided.new.self; keeper = c.keep_all.new.self } in
+      let d = settled-decides leaving (old.next / 60) old h items c.requires.may.small (c.settle-decided.ensures.given h.span h.stands) in
+      kept-going leaving (old.next / 60) old new h (settled h.span) items d (c.settle-decided.ensures.settled h.span h.stands) h.next refl (settled-later leaving (old.next / 60) old h) (settled-most leaving (old.next / 60) old h)
+      (e.stands.ready well) (e.stands.rows well) e.goes.keeping.past (b.last well) b.stands e.goes.keeping.sessions refl h.watches h.limit
+      (knows-left old.watch.newest (g.M.Medium.state c.args.unit.now) (g.M.Medium.state c.keep_all.new.unit) (g.met.M.Medium.coherent c.args.unit.now) (g.met.M.Medium.coherent c.keep_all.new.unit) h.ready.unit_ready.works e.goes.speeds h.newest));
+  none =
+      let h = c.requires.may.going in
+      let now = c.settle-decided.ensures.settled h.1.span h.1.stands in
+      let is = owing-is c.settle-decided.new.self (settled h.1.span) now in
+      let at = settled-ungiven h.0 (c.args.run.now.next / 60) c.args.run.now h.1 in
+      let end = h.1.next in
+      omega (arith, is, at, end);
+  bare =
+      let t = told_of c.args.run.now c.args.outcome.now in
+      let u : KeepingState = record { keeper = c.keep_all.new.self; marks = c.keep_all.new.outcome.marks; breaks = c.keep_all.new.outcome.breaks } in
+      λ well slot free.
+      let kept : AreKept c.args.at c.as_slice.result.now t u = (rw well at c.keep_all.ensures.kept).kept in
+      let stays = all-bare c.args.at c.as_slice.result.now t u slot kept free in
+      (stays.seat, stays.bare);
+}
 
 pub returns-clause-takes : goal.returns-clause-takes
 returns-clause-takes g c =

@@ -26,34 +26,27 @@ keep_all-requires-clause-ready g c = c.requires.ready
 pub keep_all-requires-clause-may : goal.keep_all-requires-clause-may
 keep_all-requires-clause-may g c = c.requires.may
 
-pub turn-requires-clause-some : goal.turn-requires-clause-some
-turn-requires-clause-some g c = c.requires.watch.some
+pub turn-requires-clause-seconds : goal.turn-requires-clause-seconds
+turn-requires-clause-seconds g c = record {
+  some = c.requires.watch.some;
+  low = c.requires.watch.low;
+  minute = c.requires.watch.within;
+  fits = c.requires.watch.fits;
+}
 
-pub turn-requires-clause-low : goal.turn-requires-clause-low
-turn-requires-clause-low g c = c.requires.watch.low
-
-pub turn-requires-clause-minute : goal.turn-requires-clause-minute
-turn-requires-clause-minute g c = c.requires.watch.within
-
-pub turn-requires-clause-fits : goal.turn-requires-clause-fits
-turn-requires-clause-fits g c = c.requires.watch.fits
-
-pub turn-requires-clause-limit : goal.turn-requires-clause-limit
-turn-requires-clause-limit g c = c.requires.watch.limit
-
-pub turn-requires-clause-watches : goal.turn-requires-clause-watches
-turn-requires-clause-watches g c = c.requires.watch.watches
+pub turn-requires-clause-watch : goal.turn-requires-clause-watch
+turn-requires-clause-watch g c = record {
+  limit = c.requires.watch.limit;
+  watches = c.requires.watch.watches;
+}
 
 -- the keeping of minutes leaves the blocks of detailed speed
-pub turn-requires-clause-newest : goal.turn-requires-clause-newest
-turn-requires-clause-newest g c =
-    knows-left c.args.run.now.watch.newest (g.M.Medium.state c.args.unit.now) (g.M.Medium.state c.keep_all.new.unit) (g.met.M.Medium.coherent c.args.unit.now) (g.met.M.Medium.coherent c.keep_all.new.unit) c.requires.ready.unit_ready.works c.in_ok-keep_all.ensures.goes.speeds c.requires.watch.newest
-
 pub turn-requires-clause-unit : goal.turn-requires-clause-unit
-turn-requires-clause-unit g c = c.in_ok-keep_all.ensures.stands.unit
-
-pub turn-requires-clause-works : goal.turn-requires-clause-works
-turn-requires-clause-works g c = (c.in_ok-keep_all.ensures.stands.ready refl).unit_ready.works
+turn-requires-clause-unit g c = record {
+  unit = c.in_ok-keep_all.ensures.stands.unit;
+  works = (c.in_ok-keep_all.ensures.stands.ready refl).unit_ready.works;
+  newest = knows-left c.args.run.now.watch.newest (g.M.Medium.state c.args.unit.now) (g.M.Medium.state c.keep_all.new.unit) (g.met.M.Medium.coherent c.args.unit.now) (g.met.M.Medium.coherent c.keep_all.new.unit) c.requires.ready.unit_ready.works c.in_ok-keep_all.ensures.goes.speeds c.requires.watch.newest;
+}
 
 -- ---- the minutes are kept, and what had ended is noted
 

@@ -31,6 +31,8 @@ use Rattle.run_acts.specs.RunCards.{CardsAtBy}
 use Rattle.run_acts.specs.Speeds.{SpeedsBehind, SpeedsInBy}
 use Rattle.run_acts.proofs.SpeedsTurn.{dark-speeds, seconds-speeds}
 use Rattle.run_acts.proofs.CardTurn.{dark-cards, seconds-shown}
+use Rattle.run_acts.proofs.TurnStood.{seconds-stand}
+use Rattle.run_acts.proofs.Stood.{stand-itself, tells-self}
 use Rattle.run_minutes.proofs.Calm.{calm-same}
 use Rattle.run_minutes.proofs.Writes.{wrote-none}
 use Rattle.run_acts.proofs.turning.turn.Goals as goal
@@ -176,6 +178,10 @@ returns-then-not-is_lit-clause-promises g c = record {
       let r : SpeedsInBy false o done s c.args.stretch.begun run before d = subst (λ (b : Bool). SpeedsInBy b o done s c.args.stretch.begun run before d) dark there in
       subst (λ (x : Run). SpeedsBehind o (done ++ s ∷ driven (c.args.stretch.n - 1) (s.number + 1) c.args.stretch.speed []) x before d) (sym c.pass.ensures)
       (dark-speeds c.args.stretch.n c.args.stretch.speed c.args.stretch.begun run before d c.requires.stretch.some c.requires.stretch.minute o done s now r.0 r.1);
+  stands =
+      λ o done s now actions none within time.
+      let d : Devices = devices (g.M.Medium.state c.args.unit.now) (g.C.Chip.state c.args.card_a.now) (g.D.Chip.state c.args.card_b.now) in
+      (stand-itself o d, tells-self (log_of c.args.outcome.now) done);
 }
 
 pub returns-then-not-is_lit-clause-goes : goal.returns-then-not-is_lit-clause-goes
@@ -266,6 +272,19 @@ returns-clause-promises g c = record {
       subst (λ (x : Run). SpeedsBehind o (done ++ s ∷ driven (c.args.stretch.n - 1) (s.number + 1) c.args.stretch.speed []) x after e) (sym c.pass-2.ensures)
       (seconds-speeds c.args.stretch.n c.args.stretch.speed c.args.stretch.begun run c.lit_turn.new.run before after d e (c.requires.going.lit lit) r.0.lit c.requires.stretch.some c.requires.stretch.minute c.requires.stretch.small c.lit_turn.ensures.leaves.booked c.lit_turn.ensures.leaves.block
       o done s now actions (λ more. none (omega (arith, more))) r.0 time r.1 r.2);
+  stands =
+      λ o done s now actions none within time.
+      let run = c.args.run.now in
+      let before = c.args.outcome.now in
+      let after = c.lit_turn.new.outcome in
+      let d : Devices = devices (g.M.Medium.state c.args.unit.now) (g.C.Chip.state c.args.card_a.now) (g.D.Chip.state c.args.card_b.now) in
+      let e : Devices = devices (g.M.Medium.state c.lit_turn.new.unit) (g.C.Chip.state c.lit_turn.new.card_a) (g.D.Chip.state c.lit_turn.new.card_b) in
+      let lit : is_lit run.power ≡ true = sym c.is_lit.ensures ∙ c.if-not-is_lit.false in
+      let r : RunWithin o done s (In c.args.stretch.begun) [] [] run before d = subst (λ (b : Bool). InSecondBy b o done s c.args.stretch.begun run before d) lit within in
+      let low : 0 < run.next = let first = c.requires.going.low in omega (arith, first) in
+      let there : RunWithin o done s (In (length s.actions)) [] [] run before d = subst (λ (k : ℕ). RunWithin o done s (In k) [] [] run before d) (sym actions) r in
+      seconds-stand c.args.stretch.n c.args.stretch.speed c.args.stretch.begun run c.lit_turn.new.run before after d e (c.requires.going.lit lit) there.lit c.requires.stretch.some c.requires.stretch.minute c.requires.stretch.small low c.lit_turn.ensures.leaves.booked
+      o done s now actions (λ more. none (omega (arith, more))) there time;
 }
 
 pub returns-clause-goes : goal.returns-clause-goes

@@ -7,7 +7,7 @@ use Rattle.tach_media.proofs.Runs.{ok_gives}
 use Rattle.tacho_types.specs.declared.numbers.Odometer.{Odometer}
 use Rattle.run_events.specs.message_model.Records.{insertion_ring}
 use Rattle.run_note_record.specs.Ringed.{Seating}
-use Rattle.run_acts.specs.Ringing.{odometer_of, Withdraws}
+use Rattle.run_acts.specs.Ringing.{odometer_of, WithdrawalStands}
 use Rattle.run_acts.proofs.Ringing.{withdrawal-gone, withdrawal-noted}
 use Rattle.run_events.proofs.run_speeds.Leaving.{leaves-none}
 use Rattle.run_events.proofs.NoteSpeeds.{withdrawal-leaves}
@@ -49,7 +49,7 @@ returns-clause-rings g c = λ tells span stands.
     let o : Odometer = c.odometer_now-odometer.result in
     let make : ℕ → Odometer = λ (n : ℕ). record { 0 = n } in
     let is : o ≡ odometer_of c.args.run.now span = ap make (c.odometer_now-odometer.ensures.value span stands) in
-    subst (λ (q : Odometer). Withdraws (is_err c.note_withdrawal.result) s c.args.at.second q U V) is
+    subst (λ (q : Odometer). WithdrawalStands (is_err c.note_withdrawal.result) s c.args.at.second q U V) is
     (withdrawal-noted s c.args.at.second o (is_err c.note_withdrawal.result) U V (g.met.M.Medium.coherent c.args.unit.now) (g.met.M.Medium.coherent c.note_withdrawal.new.unit) tells few
     (λ fine. ok_gives c.note_withdrawal.result c.note_withdrawal.ensures.noted fine) c.note_withdrawal.ensures.moments c.note_withdrawal.ensures.cause.works)
 

@@ -29,14 +29,14 @@ use Rattle.run_acts.proofs.GoesOn.{settled-left, settled-later, settled-noted}
 use Rattle.run_acts.proofs.Torn.{tears-without}
 use Rattle.run_acts.specs.Behind.{BooksWithdrawn}
 use Rattle.run_acts.proofs.Withdrawn.{withdrawn-cut, withdrawn-closed, time-before}
-use Rattle.run_acts.specs.Acting.{Closing, told_of, IsSettled, IsWithdrawn, closed_cabin, closed_breaks, left_run, IsClosed}
+use Rattle.run_acts.specs.Acting.{Closing, told_of, IsSettled, IsWithdrawn, closed_cabin, closed_breaks, closed_falls, left_run, IsClosed}
 use Rattle.run_acts.proofs.Leaving.{left-going, left-held, left-falls, closed-falls}
 use Rattle.run_acts.proofs.Cabins.{cabin-only}
 use Rattle.log_model.specs.Log.{In}
 use Rattle.run_acts.specs.Recording.{RunFails, GoesOnOrFails, log_of, IsNow, RunWithin}
 use Rattle.run_acts.specs.Settling.{RecordsSettling}
 use Rattle.run_acts.proofs.Asked.{withdraws-one}
-use Rattle.run_acts.proofs.WithdrawnRecorded.{acting_at, moment-is, settling-cut, closing-recorded, settled-evented, closing-evented, untorn-then, sat-there, settled-still, settled-places, closed-places, closed-still, closed-shuts}
+use Rattle.run_acts.proofs.WithdrawnRecorded.{acting_at, moment-is, settling-cut, closing-recorded, settled-evented, closing-evented, untorn-then, sat-there, settled-still, settled-places, settled-stands, closed-places, closed-still, closed-shuts}
 use Rattle.run_events.specs.run_rings.Spans.{with_second}
 use Rattle.run_note_record.specs.OnCards.{CardsGo}
 use Rattle.run_note_record.specs.Sessions.{EndsIf}
@@ -69,9 +69,11 @@ use Rattle.run_acts.proofs.SettledRecorded.{same-ungiven}
 use Rattle.run_acts.proofs.RingedSecond.{more-left}
 use Rattle.run_acts.proofs.RingedClosed.{settling-ringed, closing-ringed, gone-told}
 use Rattle.run_acts.specs.RunCards.{CardsSettling, PlacesSettling, StillShow, CardsGoOn, CardsIn}
+use Rattle.run_acts.specs.Stood.{LetStand, StandsSettling}
+use Rattle.run_acts.proofs.Stood.{let-left, vehicles-make}
 use Rattle.run_acts.proofs.CardStays.{shows-then}
 use Rattle.run_acts.proofs.CardActs.{TellsLines, settled-lines, closed-lines, quiet-goes}
-use Rattle.run_acts.specs.CardWrites.{ClosesCard, ShutsThen, ShutsBehind, WithdrawsShut, IsShut}
+use Rattle.run_acts.specs.CardWrites.{ClosesCard, ShutsThen, WithdrawsShut, IsShut}
 use Rattle.run_acts.proofs.CardWrites.{withdrawn-shut}
 use Rattle.run_minutes.proofs.Calm.{calm-same, calm-then}
 use Rattle.trace_model.specs.declared.Action.{Action}
@@ -82,7 +84,7 @@ use Rattle.card_files.specs.card_layout.declared.command.CardState.{CardState}
 use Rattle.run_note_record.specs.EventsSoFar.{EventedNow}
 use Rattle.run_minutes.specs.run_promise.Beside.{HaveLeftMore}
 use Rattle.run_minutes.specs.Books.{HaveTime}
-use Rattle.run_acts.proofs.OneCard.{OneCard, calm-by, keeps-by, later-by, unit-is, card-is, none-there, on_a, on_b, held-closed, going-closed}
+use Rattle.run_acts.proofs.OneCard.{OneCard, calm-by, keeps-by, later-by, fell-by, unit-is, card-is, none-there, on_a, on_b, held-closed, going-closed}
 use Rattle.run_minutes.specs.run_promise.Origin.{Origin}
 use Rattle.unit_notes.specs.note_model.Odometer.{SpanFrom}
 use Rattle.trace_model.specs.Trace.{TraceSecond}
@@ -139,7 +141,7 @@ module _ (g : Over) (c : In_ok-settle g) where
 
   going-with : (card : Card) → c.in-Some.card ≡ card → RunHasPower (Some card) (c.settle.new.run.next / 60) c.settle.new.run (g.M.Medium.state c.settle.new.unit) (g.C.Chip.card c.settle.new.card_a) (g.D.Chip.card c.settle.new.card_b) (g.C.Chip.state c.settle.new.card_a) (g.D.Chip.state c.settle.new.card_b)
   going-with card is =
-      c.in_ok-settle.ensures.going (Some card)
+      c.in_ok-settle.ensures.stands.going (Some card)
       (left-lit c.args.withdrawal.slot card c.args.withdrawal.at.second c.args.run.now c.leave.new.self c.requires.acting.going c.leave.ensures.kept (λ from h. c.leave.ensures.stands from card (seat-of card is) h))
 
   at-then : c.args.withdrawal.at.second ≡ c.settle.new.run.next
@@ -163,15 +165,6 @@ module _ (g : Over) (c : In_ok-settle g) where
 
   settled-first : IsSettled c.args.withdrawal.at false (left_run c.args.withdrawal.slot c.args.withdrawal.at.second c.args.run.now) c.settle.new.run c.args.outcome.now c.settle.new.outcome
   settled-first = left-there (λ m run. IsSettled m false run c.settle.new.run c.args.outcome.now c.settle.new.outcome) c.args.withdrawal.slot c.args.withdrawal.at c.args.withdrawal.at c.args.run.now c.leave.new.self c.leave.ensures.kept refl c.in_ok-settle.ensures.settled
-
-pub returns-in_err-settle-clause-takes : goal.returns-in_err-settle-clause-takes
-returns-in_err-settle-clause-takes g c =
-    let run = c.args.run.now in
-    let t = c.settle.ensures.takes in
-    let left : falls_of c.leave.new.self ≡ falls_of (with_slot_left c.args.withdrawal.slot c.args.withdrawal.at.second run.keeper.cabin) = ap falls_of c.leave.ensures.kept in
-    let less = left-falls c.args.withdrawal.slot c.args.withdrawal.at.second run.keeper.cabin in
-    let b = t.breaks in
-    record { rooms = t.rooms; marks = t.marks; breaks = omega (arith, b, left, less); finds = t.finds; refused = t.refused }
 
 pub close-requires-clause-ready : goal.close-requires-clause-ready
 close-requires-clause-ready g c = (going-with g (goal.at.close-requires-clause-ready g c).In_ok-settle A c.in-A.is).ready.unit_ready
@@ -324,6 +317,11 @@ module _ (g : Over) (c : In_ok-settle g) (k : OneCard c.in-Some.card (g.C.Chip.s
             subst (λ (x : State). IsShut (session_of c.settle.new.run.keeper.cabin.cards k.which) n.act x) (card-is k.which k.unit (k.state k.after) k.beside)
             (withdrawn-shut k.which (g.M.Medium.state c.settle.new.unit) k.unit (k.state k.before) (k.state k.after) k.beside closes.writes.journal closes.goes.later.clock n.closing b.decided c.args.withdrawal.at (told_of (with_cabin c.leave.new.self c.args.run.now) c.args.outcome.now) (told_of c.settle.new.run c.settle.new.outcome) first_ n.act n.closes b.reach b.is books
             how f w start t may gone stored time valid));
+        fell = λ is.
+            let same = same-closing k.which c.args.withdrawal.slot c.args.withdrawal.at c.settle.new.run k.new c.settle.new.outcome.breaks k.breaks n.closing closes.closed.0 n.closed closes.closed.1 in
+            let one : closed_falls closes.closed.0 ≡ 1 = sym same ∙ ap closed_falls is in
+            fell-by k.which first_ (g.M.Medium.state c.settle.new.unit) k.unit (k.state k.before) (k.state k.after) k.beside (subst (λ (m : Devices). AreLater first_ m) (k.beside_it (g.M.Medium.state c.settle.new.unit)) (settled-later c.settle.ensures.goes.keeping c.settle.ensures.goes.speeds))
+            (subst (λ (x : ℕ). HasBroken (k.state k.before) (k.state k.after) x) one closes.closed.2);
       }))
 
   events : NotesWithdrawing (card_in (seat_in c.args.run.now.keeper.cabin.slots.seats c.args.withdrawal.slot)) c.args.withdrawal.slot c.args.withdrawal.at (is_err k.result) c.args.run.now k.new c.args.outcome.now told first_ last
@@ -433,6 +431,17 @@ module _ (g : Over) (c : In_ok-settle g) (k : OneCard c.in-Some.card (g.C.Chip.s
         shows-then o first_ between last (settled-still o done s front rest c.args.withdrawal.slot are speed now.speed_is k.which c.args.run.now c.settle.new.run c.args.outcome.now c.settle.new.outcome first_ w seat allowed (ungiven_of c.requires.acting.going.span) c.requires.acting.going.cabin minutes v.decided (v.given w.within.sp w.within.minutes) between settles time-then)
         (closed-still o done s front rest c.args.withdrawal.slot are speed now.speed_is k.which c.args.run.now c.settle.new.run c.args.outcome.now c.settle.new.outcome first_ w seat allowed (ungiven_of c.requires.acting.going.span) c.requires.acting.going.cabin minutes r.decided (r.given w.within.sp w.within.minutes) k.state (g.M.Medium.state c.settle.new.unit) k.unit k.beside k.before k.after k.whole k.size closes.shows.left bare records time-then)
 
+    -- what stood on the cards stands
+    stands_ : LetStand o first_ last
+    stands_ =
+        let r = c.in_ok-settle.ensures.keeps in
+        let settles =
+        left-there (λ m run. StandsSettling r.decided m run c.settle.new.run c.args.outcome.now first_ between) c.args.withdrawal.slot c.args.withdrawal.at (acting_at s.number (suc (length front))) c.args.run.now c.leave.new.self c.leave.ensures.kept moment
+        (subst (λ (m : Devices). StandsSettling r.decided c.args.withdrawal.at (with_cabin c.leave.new.self c.args.run.now) c.settle.new.run c.args.outcome.now first_ m) (k.beside_it (g.M.Medium.state c.settle.new.unit)) r.stands) in
+        let kept_all = settled-stands o done s front rest c.args.withdrawal.slot are speed now.speed_is k.which c.args.run.now c.settle.new.run c.args.outcome.now c.settle.new.outcome first_ w seat allowed (ungiven_of c.requires.acting.going.span) c.requires.acting.going.cabin minutes r.decided (r.given w.within.sp w.within.minutes) between settles time-then in
+        let closed_all = closed-places o done s front rest c.args.withdrawal.slot are speed now.speed_is k.which c.args.run.now c.settle.new.run c.args.outcome.now c.settle.new.outcome first_ w seat allowed (ungiven_of c.requires.acting.going.span) c.requires.acting.going.cabin minutes r.decided (r.given w.within.sp w.within.minutes) k.state (g.M.Medium.state c.settle.new.unit) k.unit k.beside k.before k.after k.whole k.size closes.shows.left bare records time-then [] in
+        let-left o first_ between last left kept_all.made (vehicles-make o [] between last closed_all.vehicles)
+
     cards_ : CardsIn o done s w.within.b.run.log front (log_of c.args.outcome.now) first_ → CardsGoOn (is_err k.result) o done s w.within.b.run.log (front ++ Withdraw c.args.withdrawal.slot ∷ []) (log_of told) last
     cards_ before =
         let n_ = closes.closed in
@@ -471,7 +480,7 @@ module _ (g : Over) (c : After-close g) where
 
   abbrev side-a : OneCard kept-a.in-Some.card (g.C.Chip.state c.settle.new.card_a) (g.D.Chip.state c.settle.new.card_b)
   side-a =
-      on_a g.C.Chip.state g.C.Chip.card g.met.C.Chip.coherent c.settle.new.card_a c.close.new.card c.settle.ensures.held.card_a.size (g.D.Chip.state c.settle.new.card_b) (g.M.Medium.state c.close.new.unit) (g.met.M.Medium.coherent c.close.new.unit) c.close.new.run c.close.new.breaks c.close.result
+      on_a g.C.Chip.state g.C.Chip.card g.met.C.Chip.coherent c.settle.new.card_a c.close.new.card c.settle.ensures.stands.held.held.card_a.size (g.D.Chip.state c.settle.new.card_b) (g.M.Medium.state c.close.new.unit) (g.met.M.Medium.coherent c.close.new.unit) c.close.new.run c.close.new.breaks c.close.result
       kept-a.in-Some.card c.in-A.is
 
 module _ (g : Over) (c : After-close-in-B g) where
@@ -480,7 +489,7 @@ module _ (g : Over) (c : After-close-in-B g) where
 
   abbrev side-b : OneCard kept-b.in-Some.card (g.C.Chip.state c.settle.new.card_a) (g.D.Chip.state c.settle.new.card_b)
   side-b =
-      on_b g.D.Chip.state g.D.Chip.card g.met.D.Chip.coherent c.settle.new.card_b c.close-in-B.new.card c.settle.ensures.held.card_b.size (g.C.Chip.state c.settle.new.card_a) (g.M.Medium.state c.close-in-B.new.unit) (g.met.M.Medium.coherent c.close-in-B.new.unit) c.close-in-B.new.run c.close-in-B.new.breaks c.close-in-B.result
+      on_b g.D.Chip.state g.D.Chip.card g.met.D.Chip.coherent c.settle.new.card_b c.close-in-B.new.card c.settle.ensures.stands.held.held.card_b.size (g.C.Chip.state c.settle.new.card_a) (g.M.Medium.state c.close-in-B.new.unit) (g.met.M.Medium.coherent c.close-in-B.new.unit) c.close-in-B.new.run c.close-in-B.new.breaks c.close-in-B.result
       kept-b.in-Some.card c.in-B.is
 
 -- ---- there is none in the slot
@@ -494,7 +503,11 @@ returns-in_default-clause-withdrawn g c = record {
   card = subst (λ (q : Option Card). IsWithdrawn q c.args.withdrawal.slot c.args.withdrawal.at false c.args.run.now c.args.run.now c.args.outcome.now c.args.outcome.now) (sym (none-in g c)) (refl, refl);
   run = refl;
   outcome = refl;
+  takes = record { rooms = (refl, refl, refl, refl); marks = omega arith; breaks = omega arith; finds = omega arith; refused = omega arith };
 }
+
+pub returns-in_default-clause-empty : goal.returns-in_default-clause-empty
+returns-in_default-clause-empty g c = λ none. (refl, refl, refl)
 
 pub returns-in_default-clause-leaves : goal.returns-in_default-clause-leaves
 returns-in_default-clause-leaves g c = record {
@@ -526,6 +539,7 @@ returns-in_default-clause-promises g c = record {
   cards =
       λ late speed o done s now front rest are n allowed vehicle w cards time.
       absurd (withdraws-one c.args.run.now.keeper.cabin.slots.seats c.args.withdrawal.slot speed allowed (none-in g c));
+  stands = λ late speed o done s now front rest are n allowed w time. absurd (withdraws-one c.args.run.now.keeper.cabin.slots.seats c.args.withdrawal.slot speed allowed (none-in g c));
 }
 
 pub returns-in_default-clause-behind : goal.returns-in_default-clause-behind
@@ -603,6 +617,11 @@ module _ (g : Over) (c : After-from_residual g) where
         cut-left spans t rings (ungiven_of lit.span) lit.cabin low (entry-of c.args.run.now.noted (session_of c.args.run.now.keeper.cabin.cards card) (lit.entries card)) stay
         (settling-leaves c.args.withdrawal.at true (with_cabin c.leave.new.self c.args.run.now) c.settle.new.run c.args.outcome.now c.settle.new.outcome (g.M.Medium.state c.args.unit.now) (g.M.Medium.state c.settle.new.unit) (settled-noted c.in_err-settle.ensures.keeps)))
 
+    cut-stands : LetStand o start end
+    cut-stands =
+        let v = c.in_err-settle.ensures.keeps in
+        settled-stands o done s front rest c.args.withdrawal.slot are speed now.speed_is c.in-Some.card c.args.run.now c.settle.new.run c.args.outcome.now c.settle.new.outcome start w seat-left allowed (ungiven_of c.requires.acting.going.span) c.requires.acting.going.cabin (c.in_err-settle.ensures.settled.minutes w.within.sp w.within.minutes) v.decided (v.given w.within.sp w.within.minutes) end (left-there (λ m run. StandsSettling v.decided m run c.settle.new.run c.args.outcome.now start end) c.args.withdrawal.slot c.args.withdrawal.at (acting_at s.number (suc (length front))) c.args.run.now c.leave.new.self c.leave.ensures.kept at-moment v.stands) time
+
     cut-cards : CardsIn o done s w.within.b.run.log front (log_of c.args.outcome.now) start → CardsGoOn (is_err c.from_residual.result) o done s w.within.b.run.log (front ++ Withdraw c.args.withdrawal.slot ∷ []) (log_of c.settle.new.outcome) end
     cut-cards cards =
         let v = c.in_err-settle.ensures.keeps in
@@ -618,7 +637,17 @@ returns-in_err-settle-clause-withdrawn g c = record {
       (inl (sym (failed g c), cut-first g c));
   run = c.settle.ensures.settled.only;
   outcome = c.settle.ensures.settled.outcome;
+  takes =
+      let run = c.args.run.now in
+      let t = c.settle.ensures.takes in
+      let left : falls_of c.leave.new.self ≡ falls_of (with_slot_left c.args.withdrawal.slot c.args.withdrawal.at.second run.keeper.cabin) = ap falls_of c.leave.ensures.kept in
+      let less = left-falls c.args.withdrawal.slot c.args.withdrawal.at.second run.keeper.cabin in
+      let b = t.breaks in
+      record { rooms = t.rooms; marks = t.marks; breaks = omega (arith, b, left, less); finds = t.finds; refused = t.refused };
 }
+
+pub returns-in_err-settle-clause-empty : goal.returns-in_err-settle-clause-empty
+returns-in_err-settle-clause-empty g c = λ none. absurd (let wrong : None ≡ Some c.in-Some.card = sym none ∙ seat-left g c in cc)
 
 pub returns-in_err-settle-clause-leaves : goal.returns-in_err-settle-clause-leaves
 returns-in_err-settle-clause-leaves g c = record {
@@ -656,14 +685,15 @@ returns-in_err-settle-clause-promises g c = record {
   evented = λ late speed o done s now front rest are n allowed w events time. cut-evented g c late speed o done s now front rest are n allowed w time events;
   ringed = λ late speed o done s now front rest are n allowed w spans t rings time. cut-ringed g c late speed o done s now front rest are n allowed w time spans t rings;
   cards = λ late speed o done s now front rest are n allowed vehicle w cards time. cut-cards g c late speed o done s now front rest are n allowed w time cards;
+  stands = λ late speed o done s now front rest are n allowed w time. cut-stands g c late speed o done s now front rest are n allowed w time;
 }
 
 pub returns-in_err-settle-clause-behind : goal.returns-in_err-settle-clause-behind
 returns-in_err-settle-clause-behind g c = record {
   held =
       record {
-        held = c.settle.ensures.held;
-        cause = subst (λ (b : Bool). HasCause (g.M.Medium.state c.args.unit.now) (g.M.Medium.state c.settle.new.unit) b) (failed g c) c.in_err-settle.ensures.behind.cause;
+        held = c.settle.ensures.stands.held.held;
+        cause = subst (λ (b : Bool). HasCause (g.M.Medium.state c.args.unit.now) (g.M.Medium.state c.settle.new.unit) b) (failed g c) c.in_err-settle.ensures.stands.held.cause;
       };
   going = on_ok c.from_residual.result (λ well. absurd (let bad : true ≡ false = (failed g c) ∙ well in cc));
 }
@@ -687,8 +717,8 @@ returns-in-A-clause-behind g c = record {
             let going = going-with g (kept-a g c) A c.in-A.is in
             held-closed A c.args.withdrawal.slot c.args.withdrawal.at c.settle.new.run c.close.new.run c.settle.new.outcome.breaks c.close.new.breaks e.closed.0 e.closed.1 (g.M.Medium.state c.settle.new.unit) (g.M.Medium.state c.close.new.unit) (g.C.Chip.state c.settle.new.card_a) (g.C.Chip.state c.close.new.card) (g.D.Chip.state c.settle.new.card_b)
             (g.C.Chip.card c.settle.new.card_a) (g.C.Chip.card c.close.new.card) (g.D.Chip.card c.settle.new.card_b)
-            (at-then g (kept-a g c)) c.settle.ensures.held e.behind.unit e.behind.card e.behind.size (ungiven_of going.span, None, e.stands (ungiven_of going.span) going.cabin);
-        cause = cause_after c.in_ok-settle.ensures.behind.cause c.close.ensures.closes.behind.cause;
+            (at-then g (kept-a g c)) c.settle.ensures.stands.held.held e.behind.unit e.behind.card e.behind.size (ungiven_of going.span, None, e.stands (ungiven_of going.span) going.cabin);
+        cause = cause_after c.in_ok-settle.ensures.stands.held.cause c.close.ensures.closes.behind.cause;
       };
   going =
       let e = c.close.ensures.closes in
@@ -700,14 +730,15 @@ returns-in-A-clause-behind g c = record {
       (knows-left c.settle.new.run.watch.newest (g.M.Medium.state c.settle.new.unit) (g.M.Medium.state c.close.new.unit) (g.met.M.Medium.coherent c.settle.new.unit) (g.met.M.Medium.coherent c.close.new.unit) going.ready.unit_ready.works e.writes.speeds));
 }
 
-pub returns-in-A-clause-takes : goal.returns-in-A-clause-takes
-returns-in-A-clause-takes g c = takes g (kept-a g c) (side-a g c) c.close.ensures.closes c.close.ensures.bare
+pub returns-in-A-clause-empty : goal.returns-in-A-clause-empty
+returns-in-A-clause-empty g c = λ none. absurd (let wrong : None ≡ Some A = sym none ∙ seat-of g (kept-a g c) A c.in-A.is in cc)
 
 pub returns-in-A-clause-withdrawn : goal.returns-in-A-clause-withdrawn
 returns-in-A-clause-withdrawn g c = record {
   card = withdrawn g (kept-a g c) (side-a g c) c.close.ensures.closes c.close.ensures.bare;
   run = only g (kept-a g c) (side-a g c) c.close.ensures.closes c.close.ensures.bare;
   outcome = rest_ g (kept-a g c) (side-a g c) c.close.ensures.closes c.close.ensures.bare;
+  takes = takes g (kept-a g c) (side-a g c) c.close.ensures.closes c.close.ensures.bare;
 }
 
 pub returns-in-A-clause-leaves : goal.returns-in-A-clause-leaves
@@ -724,6 +755,7 @@ returns-in-A-clause-promises g c = record {
   evented = λ late speed o done s now front rest are n allowed w events time. evented g (kept-a g c) (side-a g c) c.close.ensures.closes c.close.ensures.bare late speed o done s now front rest are n allowed w time events;
   ringed = λ late speed o done s now front rest are n allowed w spans t rings time. ringed g (kept-a g c) (side-a g c) c.close.ensures.closes c.close.ensures.bare late speed o done s now front rest are n allowed w time spans t rings;
   cards = λ late speed o done s now front rest are n allowed vehicle w cards time. cards_ g (kept-a g c) (side-a g c) c.close.ensures.closes c.close.ensures.bare late speed o done s now front rest are n allowed w time cards;
+  stands = λ late speed o done s now front rest are n allowed w time. stands_ g (kept-a g c) (side-a g c) c.close.ensures.closes c.close.ensures.bare late speed o done s now front rest are n allowed w time;
 }
 
 pub returns-in-A-clause-goes : goal.returns-in-A-clause-goes
@@ -750,8 +782,8 @@ returns-in-B-clause-behind g c = record {
             let going = going-with g (kept-b g c) B c.in-B.is in
             held-closed B c.args.withdrawal.slot c.args.withdrawal.at c.settle.new.run c.close-in-B.new.run c.settle.new.outcome.breaks c.close-in-B.new.breaks e.closed.0 e.closed.1 (g.M.Medium.state c.settle.new.unit) (g.M.Medium.state c.close-in-B.new.unit) (g.D.Chip.state c.settle.new.card_b) (g.D.Chip.state c.close-in-B.new.card) (g.C.Chip.state c.settle.new.card_a)
             (g.D.Chip.card c.settle.new.card_b) (g.D.Chip.card c.close-in-B.new.card) (g.C.Chip.card c.settle.new.card_a)
-            (at-then g (kept-b g c)) c.settle.ensures.held e.behind.unit e.behind.card e.behind.size (ungiven_of going.span, None, e.stands (ungiven_of going.span) going.cabin);
-        cause = cause_after c.in_ok-settle.ensures.behind.cause c.close-in-B.ensures.closes.behind.cause;
+            (at-then g (kept-b g c)) c.settle.ensures.stands.held.held e.behind.unit e.behind.card e.behind.size (ungiven_of going.span, None, e.stands (ungiven_of going.span) going.cabin);
+        cause = cause_after c.in_ok-settle.ensures.stands.held.cause c.close-in-B.ensures.closes.behind.cause;
       };
   going =
       let e = c.close-in-B.ensures.closes in
@@ -763,14 +795,15 @@ returns-in-B-clause-behind g c = record {
       (knows-left c.settle.new.run.watch.newest (g.M.Medium.state c.settle.new.unit) (g.M.Medium.state c.close-in-B.new.unit) (g.met.M.Medium.coherent c.settle.new.unit) (g.met.M.Medium.coherent c.close-in-B.new.unit) going.ready.unit_ready.works e.writes.speeds));
 }
 
-pub returns-in-B-clause-takes : goal.returns-in-B-clause-takes
-returns-in-B-clause-takes g c = takes g (kept-b g c) (side-b g c) c.close-in-B.ensures.closes c.close-in-B.ensures.bare
+pub returns-in-B-clause-empty : goal.returns-in-B-clause-empty
+returns-in-B-clause-empty g c = λ none. absurd (let wrong : None ≡ Some B = sym none ∙ seat-of g (kept-b g c) B c.in-B.is in cc)
 
 pub returns-in-B-clause-withdrawn : goal.returns-in-B-clause-withdrawn
 returns-in-B-clause-withdrawn g c = record {
   card = withdrawn g (kept-b g c) (side-b g c) c.close-in-B.ensures.closes c.close-in-B.ensures.bare;
   run = only g (kept-b g c) (side-b g c) c.close-in-B.ensures.closes c.close-in-B.ensures.bare;
   outcome = rest_ g (kept-b g c) (side-b g c) c.close-in-B.ensures.closes c.close-in-B.ensures.bare;
+  takes = takes g (kept-b g c) (side-b g c) c.close-in-B.ensures.closes c.close-in-B.ensures.bare;
 }
 
 pub returns-in-B-clause-leaves : goal.returns-in-B-clause-leaves
@@ -787,6 +820,7 @@ returns-in-B-clause-promises g c = record {
   evented = λ late speed o done s now front rest are n allowed w events time. evented g (kept-b g c) (side-b g c) c.close-in-B.ensures.closes c.close-in-B.ensures.bare late speed o done s now front rest are n allowed w time events;
   ringed = λ late speed o done s now front rest are n allowed w spans t rings time. ringed g (kept-b g c) (side-b g c) c.close-in-B.ensures.closes c.close-in-B.ensures.bare late speed o done s now front rest are n allowed w time spans t rings;
   cards = λ late speed o done s now front rest are n allowed vehicle w cards time. cards_ g (kept-b g c) (side-b g c) c.close-in-B.ensures.closes c.close-in-B.ensures.bare late speed o done s now front rest are n allowed w time cards;
+  stands = λ late speed o done s now front rest are n allowed w time. stands_ g (kept-b g c) (side-b g c) c.close-in-B.ensures.closes c.close-in-B.ensures.bare late speed o done s now front rest are n allowed w time;
 }
 
 pub returns-in-B-clause-goes : goal.returns-in-B-clause-goes
