@@ -25,7 +25,8 @@ use Rattle.run_acts.specs.Stays.{Stay, Shown, after_stay, sits_in, as_noted, Are
 use Rattle.run_acts.proofs.SeatsThen.{sits-in-one}
 use Rattle.unit_minutes.specs.unit_model.Image.{odometer_at}
 use Rattle.device_calls.specs.safety_model.Recording.{Recording, brought, start_of}
-use Rattle.recorder_with_cards.specs.Stays.{IsClosedSo, IsCountedSo, IsAcknowledgedSo}
+use Rattle.run_acts.specs.Stood.{IsClosedSo, IsCountedSo}
+use Rattle.recorder_with_cards.specs.Stays.{IsAcknowledgedSo}
 use Rattle.run_acts.specs.Owed.{IsOwed}
 
 -- none is leaving then

@@ -19,7 +19,7 @@ use Rattle.device_calls.specs.safety_model.Safe.{Devices, card_of, breakdowns_of
 use Rattle.recorder_with_cards.specs.Breakdowns.{BreakdownsAreTold, BreakdownsAreCounted}
 
 -- a count below its last value rose by so many at least
-rose-low : (n before now : ℕ) → RoseBy n before now → now < 2 ^ 64 - 1 → before + n ≤ now
+pub rose-low : (n before now : ℕ) → RoseBy n before now → now < 2 ^ 64 - 1 → before + n ≤ now
 rose-low n before now (inl rose) low = rose
 rose-low n before now (inr last) low = absurd (omega (arith, low, last))
 
@@ -70,7 +70,7 @@ both-cards (B ∷ cs) =
     omega (arith, rest, first, other)
 
 -- so the tears that failed calls made are those of the one card and of the other
-tears-of : (log : RunLog) (told : List ToldSecond) → ((slot : Slot) → in_the_slot slot (flat_map places (tears true log)) ≡ in_the_slot slot (torn_of told))
+pub tears-of : (log : RunLog) (told : List ToldSecond) → ((slot : Slot) → in_the_slot slot (flat_map places (tears true log)) ≡ in_the_slot slot (torn_of told))
     → length (tears true log) ≡ length (filter (same_card A) (cards_torn told)) + length (filter (same_card B) (cards_torn told))
 tears-of log told same =
     let lines = tear-places log log.breaks in

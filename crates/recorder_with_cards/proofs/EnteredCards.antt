@@ -58,6 +58,8 @@ use Rattle.run_acts.proofs.CardStays.{valid-found}
 use Rattle.run_acts.proofs.EnteredFacts.{mine, mine-back, each, now-is, card-tells, card-began, card-run, unit-told, left}
 use Rattle.run_acts.proofs.RingedLines.{phase_at, tear-told}
 use Rattle.recorder_with_cards.specs.JudgedRings.{TellsHere}
+use Rattle.tach_media.specs.card_layout.declared.files.TheConstants.{LARGEST_IMAGE}
+use Rattle.recorder_with_cards.proofs.EnteredMade.{judged-makes}
 use Rattle.recorder_with_cards.specs.JudgedCards.{NotesNone, IsSureHere, once_torn, BringsNow, uses_then, IsJudgedOnCards}
 use Rattle.recorder_with_cards.proofs.EnteredAdds.{log_with}
 use Rattle.recorder_with_cards.proofs.EnteredLines.{TellsOf, verdicts_of, ending-tells, ending-here, tells-same}
@@ -210,7 +212,7 @@ same-self B = refl
 module _ (o : Origin) (done : List TraceSecond) (s : TraceSecond) (n : ℕ) (waits fewer : List Visit) (e : Entering) (k : Keeper) (out : Outcome) (unfound next_ begun : ℕ) (minutes : Kept) (U X Z : State) (w : RecordInSecond o done s (In n) waits None [] (values_with k out unfound next_ begun minutes) (arranged e.which U X Z)) (m : MayJudge o done s n waits fewer e k out unfound next_ begun minutes U X Z w)
     (origin : IsOrigin o) (vehicle : k.memory.registration ≡ vehicle_in o) (moves : s.speed ≡ e.speed)
     (failed : Bool) (k' : Keeper) (noted noted' : ℕ) (out' : Outcome) (W Y : State) (way : Way) (g : HasGone e failed k k' noted noted' out out' U W X Y Z way) (sound : AreSound U W X Y) (works : IsSitting (ending_of way) → Y.works ≡ true)
-    (stay : AllStay o (marked out.marks.items (truths_within o w.b.run.log done s)) s.number (log_of out) (notes_within w.b done s (In n) (log_of out)) k.memory.registration k.cabin (arranged e.which U X Z)) where
+    (stay : AllStay o (marked out.marks.items (truths_within o w.b.run.log done s)) s.number (log_of out) (notes_within w.b done s (In n) (log_of out)) k.memory.registration k.cabin (arranged e.which U X Z)) (fits : LARGEST_IMAGE ≤ X.size) where
   second : e.at.second ≡ s.number
   second = now-is o done s n waits fewer e k out unfound next_ begun minutes U X Z w m
 
@@ -501,4 +503,5 @@ module _ (o : Origin) (done : List TraceSecond) (s : TraceSecond) (n : ℕ) (wai
     same = λ x is. tells-same (log_of out) (log_of out') s.number x e.slot (verdicts_of (ending_of way) e) w.moment.up_to.uncut
         (subst (λ (y : ℕ). TellsOf (log_of out) (log_of out') s.number y e.slot (verdicts_of (ending_of way) e)) is tells);
     left = more;
+    made = judged-makes o done s n waits fewer e k out unfound next_ begun minutes U X Z w m origin failed k' noted noted' out' W Y way g sound fits;
   }

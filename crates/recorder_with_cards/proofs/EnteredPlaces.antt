@@ -46,7 +46,7 @@ use Rattle.run_minutes.specs.run_devices.Told.{arranged}
 use Rattle.run_minutes.proofs.run_devices.Parts.{told-one}
 use Rattle.run_minutes.specs.run_devices.Measured.{GoesMeasured}
 use Rattle.run_minutes.proofs.run_devices.Holders.{event-places, noted-places, card-places}
-use Rattle.run_minutes.proofs.run_devices.Measured.{goes-itself, goes-then, bytes-go, inserting-goes, event-vehicles, noted-vehicles}
+use Rattle.run_minutes.proofs.run_devices.Measured.{goes-itself, goes-then, bytes-go, inserting-goes, owed-follows, event-days, event-vehicles, noted-days, noted-vehicles}
 use Rattle.run_minutes.specs.run_devices.Sessions.{SessionGoes, IsNoneOr}
 use Rattle.run_minutes.proofs.run_devices.Sessions.{session-itself, session-then, session-more, inserting-session, inserted-session, event-session, noted-session}
 use Rattle.run_outcome.specs.declared.outcome.Outcome.{Outcome}
@@ -210,19 +210,19 @@ module _ (app : Application) where
 
 module _ (app : Application) (good : IsApplication app) (Is : ℕ → Type 0) (registration : Registration) (named : length registration.0 ≡ 15) (e : Entering) (here : Is e.odometer.0) (unit : List ℕ) where
   put-goes : (x z : List ℕ) → image_size_of app ≤ length x → IsCardInserting app registration e.odometer.0 (owed_on app unit x) e.at.second x z → GoesMeasured app Is x z
-  put-goes x z fits moment = inserting-goes app Is good registration named e.odometer.0 here (owed_on app unit x) e.at.second x z fits moment
+  put-goes x z fits moment = inserting-goes app Is good registration named e.odometer.0 here (owed_on app unit x) (owed-follows app unit x) e.at.second x z fits moment
 
-  coming-goes : (notes : List CardNote) (x c : List ℕ) → image_size_of app ≤ length x → AreBeingDone (IsOnCard app registration e unit) (IsComingOnCard app registration e unit) notes x c → GoesMeasured app Is x c
+  pub coming-goes : (notes : List CardNote) (x c : List ℕ) → image_size_of app ≤ length x → AreBeingDone (IsOnCard app registration e unit) (IsComingOnCard app registration e unit) notes x c → GoesMeasured app Is x c
   coming-goes [] x c fits h = absurd h
   coming-goes (PutIn ∷ notes) x c fits (inl moment) = put-goes x c fits moment
-  coming-goes (Shows event ∷ notes) x c fits (inl moment) = bytes-go app Is good x c (event-vehicles app x c event moment)
+  coming-goes (Shows event ∷ notes) x c fits (inl moment) = bytes-go app Is good x c (event-days app x c event moment) (event-vehicles app x c event moment)
   coming-goes (PutIn ∷ notes) x c fits (inr (z, done, rest)) =
       let moment = inserted_moment app registration e.odometer.0 e.at.second (owed_on app unit x) x z done in
       let same = (inserting_keeps app registration e.odometer.0 e.at.second (owed_on app unit x) named x z (omega (arith, fits, use_inside app)) moment).1 in
       goes-then app Is x z c (put-goes x z fits moment) (coming-goes notes z c (omega (arith, fits, same)) rest)
   coming-goes (Shows event ∷ notes) x c fits (inr (z, done, rest)) =
       let same = done.entry.outside.same_length in
-      goes-then app Is x z c (bytes-go app Is good x z (noted-vehicles app x z event done)) (coming-goes notes z c (omega (arith, fits, same)) rest)
+      goes-then app Is x z c (bytes-go app Is good x z (noted-days app x z event done) (noted-vehicles app x z event done)) (coming-goes notes z c (omega (arith, fits, same)) rest)
 
 -- ---- and its session
 

@@ -1,4 +1,6 @@
 pub mod Again
+pub mod Growing
+pub mod Moments
 pub mod EnteredSpeeds
 pub mod EnteredRings
 pub mod EnteredTold
@@ -11,6 +13,7 @@ pub mod EnteredBefore
 pub mod EnteredLines
 pub mod EnteredRinged
 pub mod EnteredPlaces
+pub mod EnteredMade
 pub mod JudgedSessions
 pub mod RingsHere
 pub mod SettledLines
@@ -80,10 +83,13 @@ pub mod WokenCards
 pub mod GapCards
 pub mod GapOnCard
 pub mod WakesCards
+pub mod WakesStood
 pub mod GapShown
 pub mod OffCards
 pub mod SpeedsSoFar
 pub mod SpeedsUnlit
+pub mod FreshStood
+pub mod StoodSeconds
 pub mod SecondsCards
 pub mod SlotLines
 pub mod Time

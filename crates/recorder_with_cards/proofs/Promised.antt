@@ -10,7 +10,7 @@ use Rattle.tach_media.specs.card_layout.declared.files.Fid.{Fid}
 use Rattle.tach_media.specs.card_layout.Application.{IsApplication}
 use Rattle.tach_media.proofs.card_layout.Sizes.{largest_image}
 use Rattle.device_calls.specs.card_model.Days.{AreDays}
-use Rattle.device_calls.specs.card_image.Fields.{card_days, vehicle_ring}
+use Rattle.device_calls.specs.card_image.Fields.{card_days}
 use Rattle.device_calls.specs.card_image.Own.{own_view, own_sizes, own_number, own_covered, own_bad_file, IsOwnValid}
 use Rattle.device_calls.proofs.card_validity.Copies.{place_shape}
 use Rattle.unit_minutes.specs.gated_ring.Ring.{PointsInside}
@@ -19,6 +19,7 @@ use Rattle.device_calls.specs.Times.{IsTimed}
 use Rattle.tach_media.specs.card_layout.declared.command.CardState.{CardState}
 use Rattle.tacho_types.specs.declared.card_number.FullCardNumber.{FullCardNumber}
 use Rattle.tacho_types.specs.CardNumber.{card_number_bytes, card_number_of}
+use Rattle.log_model.specs.declared.lines.Break.{Break}
 use Rattle.log_model.specs.Log.{RunLog, is_accepting}
 use Rattle.log_model.specs.Course.{went}
 use Rattle.log_model.specs.Spans.{spans_of}
@@ -61,7 +62,7 @@ use Rattle.run_minutes.specs.run_devices.Told.{AreFoundCards, CardHoldsStringUnp
 use Rattle.run_minutes.proofs.run_devices.Known.{word-covered}
 use Rattle.run_minutes.proofs.run_devices.Opened.{opened-wait, opened-powerless}
 use Rattle.run_minutes.specs.run_promise.Origin.{Origin, rule_of, start_at}
-use Rattle.run_minutes.specs.run_promise.Ends.{HandsBeside, EndsRun}
+use Rattle.run_minutes.specs.run_promise.Ends.{HandsBeside, EndsRun, recording_by}
 use Rattle.run_minutes.specs.run_promise.Seconds.{empty_log}
 use Rattle.run_minutes.proofs.run_promise.RecordEnds.{ends-run}
 use Rattle.device_calls.specs.event_model.Events.{Seen, seen_of}
@@ -102,7 +103,7 @@ use Rattle.run_acts.proofs.StayUses.{shown-use}
 use Rattle.run_acts.proofs.CardSeconds.{accepted-met}
 use Rattle.run_acts.proofs.CardSure.{start-shown}
 use Rattle.run_acts.proofs.Numbers.{own-long, vehicle-long}
-use Rattle.recorder_with_cards.specs.Carded.{RunCarded}
+use Rattle.recorder_with_cards.specs.Carded.{RunCarded, RunMoments}
 use Rattle.recorder_with_cards.specs.Ends.{BeginAs, recorded_with, recording_of, opened_with, origin_of, MayRecord, EndsTrace}
 use Rattle.recorder_with_cards.specs.Side.{ShowTheSide}
 use Rattle.recorder_with_cards.proofs.Again.{begins-anew}
@@ -123,6 +124,9 @@ use Rattle.run_acts.specs.Truths.{Truths, truths_of, marked}
 use Rattle.run_acts.proofs.ToldLines.{OfOne, told-of}
 use Rattle.run_acts.proofs.SeatsThen.{same-itself}
 use Rattle.recorder_with_cards.specs.Stays.{NothingFailedOn}
+use Rattle.run_acts.proofs.run_note_record.Exact.{failed_cut, failed_tear}
+use Rattle.run_acts.specs.Stood.{StoodExactly}
+use Rattle.recorder_with_cards.proofs.FreshStood.{own-vehicles, only-both, begins-stood}
 use Rattle.recorder_with_cards.proofs.AtEnd.{noted-at-end, sits-at-end, words-so, odometers-so, owes-so, acknowledged-so}
 use Rattle.run_minutes.specs.run_promise.Whole.{IsUntorn}
 use Rattle.run_acts.specs.run_crew.Cabin.{CabinIsSound}
@@ -193,17 +197,6 @@ own-points : (x : List ℕ) → IsOwnValid x → PointsInside (places_in x) x
 unfolding own_bad_file
 own-points x valid = pointer-passes (places_in x) x (valid-passes (own_sizes x) x valid).places
 
--- and so is that of its vehicle entries
-own-vehicles : (x : List ℕ) → IsOwnValid x → PointsInside (vehicle_ring (own_sizes x)) x
-unfolding own_bad_file
-own-vehicles x valid = pointer-passes (vehicle_ring (own_sizes x)) x (valid-passes (own_sizes x) x valid).vehicles
-
--- only a valid card has some of the one, and only a valid one some of the other
-only-both : {P Q R S : Type 0} → P ⊎ R → Q ⊎ R → (R → S) → (P × Q) ⊎ S
-only-both (inl p) (inl q) same = inl (p, q)
-only-both (inl p) (inr valid) same = inr (same valid)
-only-both (inr valid) q same = inr (same valid)
-
 -- the comings of cards with these images are those with images that are the same
 merged-by : (comings : List Coming) (vehicle : Registration) (one other : List Stay) (a b now_a now_b : List ℕ) → a ≡ now_a → b ≡ now_b → AreMerged comings (comings_on vehicle a one) (comings_on vehicle b other) → AreMerged comings (comings_on vehicle now_a one) (comings_on vehicle now_b other)
 merged-by comings vehicle one other a b now_a now_b first second h =
@@ -253,9 +246,9 @@ module _ (x a b : List ℕ) (start : ℕ) (items : List Item) (began now : Devic
       ends-run o done (progress v supply h.book) h.travel v.marks v.stops (carried v h.due h.book h.standing h.brought h.hands h.firsts) began now h.recorded (found-by r0 done v.log (found_in r0 began) began found)
       (is-carried done v (carried v h.due h.book h.standing h.brought h.hands h.firsts) supply h.held) refl refl h.beside (hands-beside done supply v h found) unit_whole card_whole decodes refl
 
-  pub promised : (run : Run) (out : Outcome) (carded : RunCarded o (seconds_of start items) run out now) → (run.power ≡ Lit → (low : ℕ) × CabinIsSound low None run.keeper.cabin) → IsCoherent now.unit → ((c : Card) → IsCoherent (card_of now c)) → MayRecord x a b start → IsFound r0 (found_in r0 began) began →
+  pub promised : (run : Run) (out : Outcome) (carded : RunCarded o (seconds_of start items) run out now) → RunMoments o (seconds_of start items) out now → (run.power ≡ Lit → (low : ℕ) × CabinIsSound low None run.keeper.cabin) → IsCoherent now.unit → ((c : Card) → IsCoherent (card_of now c)) → MayRecord x a b start → IsFound r0 (found_in r0 began) began →
       EndsTrace x a b start items out began now
-  promised run out carded sits unit_whole card_whole may found = record {
+  promised run out carded timely sits unit_whole card_whole may found = record {
     may = may;
     ends = let safe = run-ends.safe in record run-ends { safe = record safe { unit = unit-last.0 } };
     side = shows;
@@ -265,37 +258,41 @@ module _ (x a b : List ℕ) (start : ℕ) (items : List Item) (began now : Devic
         let all = stays-at k.0 k.1 in
         let told = told-own k.0 k.1 c k.2 in
         record {
-          stays = all.stays c;
-          since = all.since c;
-          others = told.others;
-          only = own-only k.0 k.1 c k.2;
-          judged = told.merged;
-          entered = all.entered c k.2;
-          theirs = told.theirs;
-          verdicts = own-verdicts k.0 k.1 c k.2;
-          shows = own-shows k.0 k.1 c k.2;
-          closed = own-closed k.0 k.1 c k.2;
-          words = words-so r (all.stays c) (all.hold c k.2).0;
+          exact = record {
+            stays = all.stays c;
+            since = all.since c;
+            others = told.others;
+            only = own-only k.0 k.1 c k.2;
+            judged = told.merged;
+            entered = all.entered c k.2;
+            theirs = told.theirs;
+            verdicts = own-verdicts k.0 k.1 c k.2;
+            shows = own-shows k.0 k.1 c k.2;
+            closed = own-closed k.0 k.1 c k.2;
+            words = words-so r (all.stays c) (all.hold c k.2).0;
+            odometers = odometers-so r (all.stays c) (all.hold c k.2).0;
+          };
           acknowledged = acknowledged-so k.0 (truths_of o (log_of out) (seconds_of start items)) out.marks.items c (vehicle_of x) (own_sizes (found_of o.found c).image).activity (all.stays c) (start_shown (found_of o.found c).image) (all.hold c k.2).1;
-          odometers = odometers-so r (all.stays c) (all.hold c k.2).0;
         };
     both = λ none.
         let all = stays-at Both none in
         record {
           own = λ c. record {
-            stays = all.stays c;
-            since = all.since c;
-            others = (told-own Both none c refl).others;
-            only = own-only Both none c refl;
-            judged = (told-own Both none c refl).merged;
-            entered = all.entered c refl;
-            theirs = (told-own Both none c refl).theirs;
-            verdicts = own-verdicts Both none c refl;
-            shows = own-shows Both none c refl;
-            closed = own-closed Both none c refl;
-            words = words-so r (all.stays c) (all.hold c refl).0;
+            exact = record {
+              stays = all.stays c;
+              since = all.since c;
+              others = (told-own Both none c refl).others;
+              only = own-only Both none c refl;
+              judged = (told-own Both none c refl).merged;
+              entered = all.entered c refl;
+              theirs = (told-own Both none c refl).theirs;
+              verdicts = own-verdicts Both none c refl;
+              shows = own-shows Both none c refl;
+              closed = own-closed Both none c refl;
+              words = words-so r (all.stays c) (all.hold c refl).0;
+              odometers = odometers-so r (all.stays c) (all.hold c refl).0;
+            };
             acknowledged = acknowledged-so Both (truths_of o (log_of out) (seconds_of start items)) out.marks.items c (vehicle_of x) (own_sizes (found_of o.found c).image).activity (all.stays c) (start_shown (found_of o.found c).image) (all.hold c refl).1;
-            odometers = odometers-so r (all.stays c) (all.hold c refl).0;
           };
           judged = all.judged;
           owes = λ c. owes-as c (all.stays c)
@@ -308,12 +305,14 @@ module _ (x a b : List ℕ) (start : ℕ) (items : List Item) (began now : Devic
             tells = all.befores.tells;
           };
         };
+    stood = λ c valid. stood-as c (begins-stood o (seconds_of start items) run out now h sits card_whole carded.past c (subst IsOwnValid (images c) valid)).0;
     rows = λ y left.
         let hr = h.evented.recorded.recorded in
         keeps-rows x a b y ((is-carried (seconds_of start items) (values_of run out) (carried (values_of run out) hr.due hr.book hr.standing hr.brought hr.hands hr.firsts) h.evented.recorded.supply hr.held).unit.rows y left);
     kept = end-kept o ss run out now h.evented.recorded h.spans h.ringed.spans_are h.stored;
     speeds = carded.speeds.blocks;
     again = begins-anew r out.marks.items began now run-ends.safe may.numbers;
+    timely = timely.moments;
     last = unit-last.1;
     dense = record {
       insertions = λ dense y left. (h.ringed.ringed.insertions (insertions-inside x may.decodes) y left).shows.carries.dense dense;
@@ -347,6 +346,11 @@ module _ (x a b : List ℕ) (start : ℕ) (items : List Item) (began now : Devic
 
       images : (c : Card) → card_image r c ≡ card_image o.recording c
       images = both (λ c. card_image r c ≡ card_image o.recording c) refl refl
+
+      -- what stands hangs on the image of the card at the start, and on seconds and log
+      stood-as : (c : Card) → StoodExactly (recording_by o (seconds_of start items) (log_of out)) c (found_of o.found c).began (card_of now c) → StoodExactly r c (card_of began c).clock (card_of now c)
+      stood-as A s = record { front = s.front; rest = s.rest; are = s.are; told = s.told; tells = s.tells; image = s.image; exact = s.exact; was = s.was; stands = s.stands; until = s.until }
+      stood-as B s = record { front = s.front; rest = s.rest; are = s.are; told = s.told; tells = s.tells; image = s.image; exact = s.exact; was = s.was; stands = s.stands; until = s.until }
 
       of_image : (c : Card) → (found_of o.found c).image ≡ card_image r c
       of_image c = found.image c ∙ sym (images c)
@@ -702,6 +706,7 @@ module _ (x a b : List ℕ) (start : ℕ) (began now : Devices) (opened : Opened
         shows = subst (λ (seen : List Seen). ShowsOn c (vehicle_in first-o) (images_in first-o now c) [] (card_image first-o.recording c) (log_of out) (met_behind (log_of out) [] seen) (card_of now c)) (sym (no-seen (log_of out)))
             (start-shown c (vehicle_in first-o) (images_in first-o now c) (card_image first-o.recording c) (log_of out) (card_of now c) (λ y left. only c y ((whole c).counts_now (found_of f c).began y (there.clocks c) left)));
       };
+      past = λ c valid. inl (ap (λ (bs : List Break). filter failed_cut bs) breaks, ap (λ (bs : List Break). filter failed_tear bs) breaks);
       speeds = record {
         watched = λ on. absurd (let bad : Due ≡ Lit = sym due ∙ on in cc);
         blocks = λ ring.

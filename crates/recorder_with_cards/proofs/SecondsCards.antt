@@ -35,6 +35,8 @@ use Rattle.run_acts.specs.Recording.{log_of, values_of, Supplies, RunRecorded}
 use Rattle.run_acts.specs.Turning.{IsTurnOf, IsLitTurn, cut_where, told_of, late_moment}
 use Rattle.run_acts.specs.RunRinged.{RunRinged, InSecondRinged}
 use Rattle.run_acts.specs.RunCards.{vehicle_in, CardsBehind, CardsIn, CardsAtBy}
+use Rattle.run_acts.specs.Stood.{HaveStoodBehind}
+use Rattle.recorder_with_cards.proofs.StoodSeconds.{dark-stood, off-stood}
 use Rattle.run_acts.proofs.CardEnds.{IsLater, second-begins, plain-second, plain-same}
 use Rattle.run_acts.proofs.CardUses.{untold-to}
 use Rattle.recorder_with_cards.specs.Carded.{RunCarded, InSecondCardedBy, InSecondCarded}
@@ -147,6 +149,9 @@ module _ (o : Origin) (done : List TraceSecond) (old : Run) (before : Outcome) (
         cards = subst (λ (q : Outcome). CardsBehind o (done ++ driven (suc n) old.next speed actions) (log_of q) d) (sym told)
             (subst (λ (l : RunLog). CardsBehind o (done ++ driven (suc n) old.next speed actions) l d) (sym (log-dark before old.next actions))
             (lost-behind speed actions (by_slots before.refused.items ++ refused_dark old.next actions) supply none.1 n fits));
+        past = subst (λ (q : Outcome). HaveStoodBehind o (done ++ driven (suc n) old.next speed actions) (log_of q) d) (sym told)
+            (subst (λ (l : RunLog). HaveStoodBehind o (done ++ driven (suc n) old.next speed actions) l d) (sym (log-dark before old.next actions))
+            (dark-stood o done (driven (suc n) old.next speed actions) (log_of before) (record (log_of before) { refused = by_slots before.refused.items ++ refused_dark old.next actions }) d refl refl h.past));
         speeds = dark-behind o done old before d r h.speeds (suc n) speed begun actions some none fits new after is told;
       }
 
@@ -157,6 +162,7 @@ module _ (o : Origin) (done : List TraceSecond) (old : Run) (before : Outcome) (
     ringed = off-ringed o done old before d h.ringed sits (suc n) some breaks told new is;
     vehicle = ap (λ (x : Run). x.keeper.memory.registration) is ∙ ap (λ (m : UnitFacts). m.registration) (off-memory (is_lit old.power) old) ∙ h.vehicle;
     cards = subst (λ (l : Listed Break). CardsBehind o (done ++ dark (suc n) old.next) (log_of (record before { breaks = l })) d) (sym told) (by old.power refl r.supply refl r.powers);
+    past = subst (λ (l : Listed Break). HaveStoodBehind o (done ++ dark (suc n) old.next) (log_of (record before { breaks = l })) d) (sym told) (past-by old.power refl r.supply refl r.powers);
     speeds = off-speeds o done old before d r h.speeds (suc n) breaks told new is;
   }
     where
@@ -182,6 +188,26 @@ module _ (o : Origin) (done : List TraceSecond) (old : Run) (before : Outcome) (
           subst (λ (x : Power). CardsBehind o (done ++ dark (suc n) old.next) (log_of (record before { breaks = with_lines (off_cut (is_lit x) (old.next - 1) old.begun) before.breaks })) d) (sym is_)
           (so q s at (subst (λ (x : Power). Supplies x s) is_ powers))
 
+      plain-past : HaveStoodBehind o (done ++ dark (suc n) old.next) (log_of (record before { breaks = with_lines [] before.breaks })) d
+      plain-past = subst (λ (l : Listed Break). HaveStoodBehind o (done ++ dark (suc n) old.next) (log_of (record before { breaks = l })) d) (no-lines before.breaks) (dark-stood o done (dark (suc n) old.next) (log_of before) (log_of before) d refl refl h.past)
+
+      past-so : (q : Power) (s : UnitPower) → r.supply ≡ s → Supplies q s → HaveStoodBehind o (done ++ dark (suc n) old.next) (log_of (record before { breaks = with_lines (off_cut (is_lit q) (old.next - 1) old.begun) before.breaks })) d
+      past-so Lit (IsLit []) at powers = absurd powers
+      past-so Lit (IsLit (t ∷ span)) at powers = off-stood o done p t span (with-supply (rule_of o) (start_at o) o.from (first_of o) done p (IsLit (t ∷ span)) at f) (dark (suc n) old.next) d h.past
+      past-so Lit IsDue at powers = absurd powers
+      past-so Lit IsLost at powers = absurd powers
+      past-so Due (IsLit span) at powers = absurd powers
+      past-so Due IsDue at powers = plain-past
+      past-so Due IsLost at powers = absurd powers
+      past-so Lost (IsLit span) at powers = absurd powers
+      past-so Lost IsDue at powers = absurd powers
+      past-so Lost IsLost at powers = plain-past
+
+      past-by : (q : Power) → old.power ≡ q → (s : UnitPower) → r.supply ≡ s → Supplies old.power s → HaveStoodBehind o (done ++ dark (suc n) old.next) (log_of (record before { breaks = with_lines (off_cut (is_lit old.power) (old.next - 1) old.begun) before.breaks })) d
+      past-by q is_ s at powers =
+          subst (λ (x : Power). HaveStoodBehind o (done ++ dark (suc n) old.next) (log_of (record before { breaks = with_lines (off_cut (is_lit x) (old.next - 1) old.begun) before.breaks })) d) (sym is_)
+          (past-so q s at (subst (λ (x : Power). Supplies x s) is_ powers))
+
 -- ---- behind all actions of a second seconds turn over
 
 at-turn : (o : Origin) (done : List TraceSecond) (s : TraceSecond) (begun : ℕ) (run : Run) (out : Outcome) (d : Devices) → length s.actions ≡ begun → 0 < s.number → (b : Bool) → is_lit run.power ≡ b → InSecondCardedBy b o done s begun run out d →
@@ -200,12 +226,13 @@ at-turn o done s begun run out d many some false dark_ h = (in-ringed_cut o done
 
 pub turned-carded : {all : List TraceSecond} (o : Origin) (done : List TraceSecond) (s : TraceSecond) (n speed begun : ℕ) (old new : Run) (before after : Outcome) (d e : Devices) → length s.actions ≡ begun → 0 < s.number → InSecondCarded o done s begun old before d →
     IsTurnOf (is_lit old.power) n speed begun old new before after → (InSecondRinged o done s begun old before d → RunRinged o all new after e) → (CardsAtBy (is_lit old.power) o done s begun old before d → CardsBehind o all (log_of after) e) →
-    SpeedsBehind o all new after e → RunCarded o all new after e
-turned-carded o done s n speed begun old new before after d e many some h turned ringed cards speeds =
+    (RunRinged o all new after e → HaveStoodBehind o all (log_of after) e) → SpeedsBehind o all new after e → RunCarded o all new after e
+turned-carded o done s n speed begun old new before after d e many some h turned ringed cards past speeds =
     let at = at-turn o done s begun old before d many some (is_lit old.power) refl h in
     record {
       ringed = ringed at.0;
       vehicle = ap (λ (m : UnitFacts). m.registration) (turn-memory (is_lit old.power) n speed begun old new before after turned) ∙ at.1;
       cards = cards at.2;
+      past = past (ringed at.0);
       speeds = speeds;
     }

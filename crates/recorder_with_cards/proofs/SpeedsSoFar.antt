@@ -99,10 +99,10 @@ none-more u a b is = ([], is ∙ sym (append-nil a), tt)
 
 -- ---- WHAT STAYS of a run
 
-record StaysSo (old new : Run) : Type 0 where
-  watch : new.watch ≡ old.watch
-  power : new.power ≡ old.power
-  next : new.next ≡ old.next
+pub record StaysSo (old new : Run) : Type 0 where
+  pub watch : new.watch ≡ old.watch
+  pub power : new.power ≡ old.power
+  pub next : new.next ≡ old.next
 
 so-is : (old new : Run) → new ≡ old → StaysSo old new
 so-is old new is = record { watch = ap (λ (r : Run). r.watch) is; power = ap (λ (r : Run). r.power) is; next = ap (λ (r : Run). r.next) is }
@@ -171,17 +171,17 @@ then-gap kept speed failed old new before after reach vs is =
 -- ---- POWER COMES: a span begins, with no second yet
 
 -- nothing is kept of a minute yet
-abbrev IsFresh : Run → Type 0
+abbrev pub IsFresh : Run → Type 0
 IsFresh run = (next : ℕ) → minute.KeepsSpeedsOf run.watch.speeds [] next
 
 fresh-so : (old new : Run) → StaysSo old new → IsFresh old → IsFresh new
 fresh-so old new same fresh = λ next. subst (λ (w : Watch). minute.KeepsSpeedsOf w.speeds [] next) (sym same.watch) (fresh next)
 
-record GoesAwake (failed : Bool) (first : ℕ) (new : Run) (before after : Outcome) : Type 0 where
-  more : TellsMoreOf first before.breaks.items after.breaks.items
-  next : new.next ≡ first
-  lit : failed ≡ false → new.power ≡ Lit
-  fresh : failed ≡ false → IsFresh new
+pub record GoesAwake (failed : Bool) (first : ℕ) (new : Run) (before after : Outcome) : Type 0 where
+  pub more : TellsMoreOf first before.breaks.items after.breaks.items
+  pub next : new.next ≡ first
+  pub lit : failed ≡ false → new.power ≡ Lit
+  pub fresh : failed ≡ false → IsFresh new
 
 module _ (failed : Bool) (old mid new : Run) (before after : Outcome) (begun : HasBegunSpan old mid) where
   awake-by : GoesSo mid.next mid new before after → GoesAwake failed old.next new before after
@@ -192,7 +192,7 @@ module _ (failed : Bool) (old mid new : Run) (before after : Outcome) (begun : H
     fresh = λ fine. fresh-so mid new goes.1 begun.2.speeds;
   }
 
-goes-awake : (reach : WakeReach) (kept speed : ℕ) (failed : Bool) (old new : Run) (before after : Outcome) (vs : List UnitEvent) → AreWakingEvents reach kept speed failed old new before after vs → GoesAwake failed old.next new before after
+pub goes-awake : (reach : WakeReach) (kept speed : ℕ) (failed : Bool) (old new : Run) (before after : Outcome) (vs : List UnitEvent) → AreWakingEvents reach kept speed failed old new before after vs → GoesAwake failed old.next new before after
 goes-awake Unmended kept speed failed old new before after vs is = record {
   more = none-more old.next before.breaks.items after.breaks.items (ap (λ (o : Outcome). o.breaks.items) is.2);
   next = ap (λ (r : Run). r.next) is.1;
@@ -286,11 +286,11 @@ came-begun speed u old new before after d e here going comes = by (is_lit old.po
 
 -- ---- BEHIND SOME ACTIONS
 
-record ActedSo (u : ℕ) (old new : Run) (before after : Outcome) : Type 0 where
-  more : TellsMoreOf u before.breaks.items after.breaks.items
-  lit : is_lit new.power ≡ true → (is_lit old.power ≡ true) × (new.watch ≡ old.watch)
-  cut : is_lit new.power ≡ false → (is_lit old.power ≡ false) ⊎ (has_failed_in (log_of after) u ≡ true)
-  next : new.next ≡ old.next
+pub record ActedSo (u : ℕ) (old new : Run) (before after : Outcome) : Type 0 where
+  pub more : TellsMoreOf u before.breaks.items after.breaks.items
+  pub lit : is_lit new.power ≡ true → (is_lit old.power ≡ true) × (new.watch ≡ old.watch)
+  pub cut : is_lit new.power ≡ false → (is_lit old.power ≡ false) ⊎ (has_failed_in (log_of after) u ≡ true)
+  pub next : new.next ≡ old.next
 
 acted-none : (u : ℕ) (old new : Run) (before after : Outcome) → new ≡ old → after.breaks.items ≡ before.breaks.items → ActedSo u old new before after
 acted-none u old new before after is same = record {
@@ -342,12 +342,12 @@ action-so action begun speed old new before after true on is = by (stopped_in ol
     by None c = carried-so action begun speed old new before after on c
     by (Some fault) c = acted-none old.next old new before after c.0 (ap (λ (o : Outcome). o.breaks.items) c.1)
 
-item-so : (item : Item) (begun speed : ℕ) (old new : Run) (before after : Outcome) → IsItemActed item true (is_lit old.power) begun speed old new before after → ActedSo old.next old new before after
+pub item-so : (item : Item) (begun speed : ℕ) (old new : Run) (before after : Outcome) → IsItemActed item true (is_lit old.power) begun speed old new before after → ActedSo old.next old new before after
 item-so (Driven seconds driven) begun speed old new before after is = acted-none old.next old new before after is.0 (ap (λ (o : Outcome). o.breaks.items) is.1)
 item-so (Off seconds) begun speed old new before after is = acted-none old.next old new before after is.0 (ap (λ (o : Outcome). o.breaks.items) is.1)
 item-so (Act action) begun speed old new before after is = action-so action begun speed old new before after (is_lit old.power) refl is
 
-all-so : (speed number : ℕ) (items : List Item) (old new : Run) (before after : Outcome) → AreActed true speed number items old new before after → ActedSo old.next old new before after
+pub all-so : (speed number : ℕ) (items : List Item) (old new : Run) (before after : Outcome) → AreActed true speed number items old new before after → ActedSo old.next old new before after
 all-so speed number [] old new before after is = acted-none old.next old new before after is.0 (ap (λ (o : Outcome). o.breaks.items) is.1)
 all-so speed number (item ∷ items) old new before after is =
     let first = item-so item (min (number + 1) largest_number) speed old is.0 before is.1 is.2 in

@@ -12,6 +12,7 @@ use Rattle.run_acts.specs.Power.{has_power, is_lit}
 use Rattle.run_acts.specs.Recording.{RecordsAction}
 use Rattle.run_acts.specs.Room.{bare_count, bare_seats, HasRoom, falls_of}
 use Rattle.run_acts.specs.RunCards.{CardsAction}
+use Rattle.run_acts.specs.Stood.{StandsAction}
 use Rattle.run_acts.specs.RunRinged.{RingsAction}
 use Rattle.run_acts.specs.declared.run.Power.TheVariants.{Lit}
 use Rattle.run_acts.specs.declared.run.Run.{Run}
@@ -36,7 +37,7 @@ use Rattle.recorder_with_cards.specs.Accepting.{IsAccepted, IsAnew, IsEnteringNo
 use Rattle.recorder_with_cards.specs.Acting.{AreActed, IsActed, IsActedBy, IsDone, IsFine, IsItemActed, IsSelected}
 use Rattle.recorder_with_cards.specs.Acting.{StaysIn, refusal_lines, refused_by}
 use Rattle.recorder_with_cards.specs.Carded.{BeginsCarded, CardsActions, CardsItem, CardsMore, CardsSeconds}
-use Rattle.recorder_with_cards.specs.CardsWoken.{CardsPowering, CardsResuming}
+use Rattle.recorder_with_cards.specs.CardsWoken.{CardsPowering, CardsResuming, StandsResuming}
 use Rattle.recorder_with_cards.specs.EnteredRings.{IsJudgedRinging, RingsAnew, RingsDone, RingsInserting, RingsJudging}
 use Rattle.recorder_with_cards.specs.Judged.{EventsAnew, EventsJudged, JudgesAnew, JudgesSo}
 use Rattle.recorder_with_cards.specs.JudgedCards.{CardsAnew, CardsJudged}
@@ -138,6 +139,8 @@ pub record PromisesInsertion (slot : Slot) (card : Card) (at : Moment) (speed : 
       → RingsAction (Insert slot card) at.begun speed failed old new before after d e
   pub cards : at.late ≡ false → length before.marks.items + 3 * old.minutes.owing + MOST_OWED ≤ before.marks.room
       → CardsAction (Insert slot card) at.begun speed failed old before after d e
+  pub stands : at.late ≡ false → length before.marks.items + 3 * old.minutes.owing + MOST_OWED ≤ before.marks.room
+      → StandsAction (Insert slot card) at.begun speed old before d e
 
 -- and this is left
 pub record LeavesInserted (slot : Slot) (card : Card) (at : Moment) (speed : ℕ) (failed : Bool) (old new : Run)
@@ -161,6 +164,7 @@ pub record PromisesAction (action : Action) (begun speed : ℕ) (failed : Bool) 
   pub evented : EventsAction action begun speed failed old new before after d e
   pub ringed : RingsAction action begun speed failed old new before after d e
   pub cards : CardsAction action begun speed failed old before after d e
+  pub stands : StandsAction action begun speed old before d e
 
 -- and this is left
 pub record LeavesDone (action : Action) (at : Moment) (speed : ℕ) (failed : Bool) (old new : Run)
@@ -231,6 +235,8 @@ pub record PromisesResuming (kept speed : ℕ) (failed : Bool) (old new : Run) (
       → RingsResuming kept failed old new before after d e
   pub cards : length before.marks.items + MOST_OWED * bare_seats old.keeper.cabin.slots.seats ≤ before.marks.room
       → CardsResuming kept speed failed old new before after d e
+  pub stands : length before.marks.items + MOST_OWED * bare_seats old.keeper.cabin.slots.seats ≤ before.marks.room
+      → StandsResuming kept speed failed old new before after d e
 
 -- POWER IS BACK, or the unit is refused: it is the same second, and the run is awake
 pub record IsWoken (result : Result (Unit {0}) RunFault) (old new : Run) (before after : Outcome) : Type 0 where

@@ -19,6 +19,7 @@ use Rattle.run_acts.specs.RunCards.{vehicle_in, CardsBehind, CardsIn}
 use Rattle.run_acts.specs.run_note_record.Ringed.{notes_in}
 use Rattle.run_acts.specs.Truths.{truths_of, marked}
 use Rattle.run_acts.specs.Stays.{AllStay}
+use Rattle.run_acts.specs.Stood.{LetStand, TellsOn}
 use Rattle.recorder_with_cards.specs.Carded.{RunCarded, InSecondCarded}
 
 -- of a second that began by this log: they show what it has brought so far, with the interruption before it; or the
@@ -42,6 +43,19 @@ CardsResuming kept speed failed old new before after d e = (o : Origin) → IsOr
     → Evented o done v.log v.unfound v.next supply d → old.keeper.memory.limit ≡ limit_in o
     → old.keeper.memory.registration ≡ vehicle_in o → CardsBehind o done (log_of before) d →
     HaveTime e → CardsWoken failed (log_of before) o done s new (log_of after) e
+
+-- what stood on them stands, and the log tells the same of the seconds before
+abbrev pub StandsResuming : (kept speed : ℕ) → (failed : Bool) → (old new : Run) → (before after : Outcome)
+    → (d e : Devices) → Type 0
+StandsResuming kept speed failed old new before after d e = (o : Origin) → IsOrigin o
+    → (done : List TraceSecond) (s : TraceSecond) (supply : UnitPower) (v : Values)
+    → RecordBetweenSeconds o done supply v d
+    → AllStay o (marked v.marks (truths_of o v.log done)) 0 v.log (notes_in v.log done) old.keeper.memory.registration
+    v.cabin d → MayPower supply v.next →
+    s.number ≡ v.next → s.has_power ≡ true → s.speed ≡ speed → values_of old before ≡ read_values kept v
+    → Evented o done v.log v.unfound v.next supply d → old.keeper.memory.limit ≡ limit_in o
+    → old.keeper.memory.registration ≡ vehicle_in o → HaveTime e
+    → LetStand o d e × TellsOn (log_of before) (log_of after) done
 
 -- power is back, or was lost at once: no unit that tells its image is refused
 abbrev pub WokenCarded : Result (Unit {0}) RunFault → Origin → List TraceSecond → TraceSecond → Run → Outcome → Devices

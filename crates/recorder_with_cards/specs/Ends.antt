@@ -1,5 +1,5 @@
 -- What a run with cards promises, over devices that began with one image each (profile).
-use Rattle.std.specs.Prelude.{◌≢◌, ◌<◌, ◌/◌, ℕ, List, []}
+use Rattle.std.specs.Prelude.{◌≢◌, ◌<◌, ◌≤◌, ◌/◌, ℕ, List, [], length}
 use Rattle.trace_model.specs.declared.Item.{Item}
 use Rattle.trace_model.specs.Trace.{TraceSecond, seconds_of}
 use Rattle.log_model.specs.Log.{RunLog}
@@ -19,9 +19,12 @@ use Rattle.run_opening.specs.declared.fault.RunFault.{RunFault}
 use Rattle.run_outcome.specs.declared.outcome.Outcome.{Outcome}
 use Rattle.log_model.specs.declared.lines.Refused.{Refused}
 use Rattle.log_model.specs.ByHand.{stops}
+use Rattle.run_minutes.specs.Books.{HaveTime}
+use Rattle.run_acts.specs.Going.{largest_number}
 use Rattle.run_acts.specs.Recording.{log_of}
+use Rattle.recorder_with_cards.specs.Breakdowns.{BreakdownsAreCounted}
 use Rattle.recorder_with_cards.specs.Written.{AreWritten}
-use Rattle.recorder_with_cards.specs.Stays.{HaveTheirStays, HasAllStays}
+use Rattle.recorder_with_cards.specs.Stays.{HaveTheirStays, HasAllStays, HaveStoodExactly}
 use Rattle.recorder_with_cards.specs.Still.{StayDense, KeepTheirHolders, KeepTheirVehicles}
 use Rattle.recorder_with_cards.specs.Side.{ShowTheSide}
 use Rattle.recorder_with_cards.specs.KeptAfter.{TellsKept}
@@ -31,6 +34,7 @@ use Rattle.recorder_with_cards.specs.Measured.{MeasureTheirVehicles}
 use Rattle.recorder_with_cards.specs.Sessions.{TellTheirSessions}
 use Rattle.recorder_with_cards.specs.CardEvents.{ShowTheirEvents}
 use Rattle.recorder_with_cards.specs.Speeds.{CarriesItsSpeeds}
+use Rattle.recorder_with_cards.specs.Moments.{TellsInTime}
 
 -- each device began with this image alone
 pub record BeginAs (unit card_a card_b : List ℕ) (began : Devices) : Type 0 where
@@ -86,41 +90,67 @@ BeginsAgain began now = (unit card_a card_b : List ℕ) → now.unit.left_since 
     → now.card_a.left_since began.card_a.clock card_a → now.card_b.left_since began.card_b.clock card_b
     → (start : ℕ) → last_kept unit < start / 60 → MayRecord unit card_a card_b start
 
--- WHAT A RUN PROMISES that was recorded: it could begin (`may`); the crash-safety theorem, causes and completeness hold
--- of it (`ends`); every image that a stop may leave of the unit shows its auxiliary records: events and faults,
--- insertions with their withdrawals, places, and the odometer (`side`); every image of a card that was valid has been
--- written so (`written`), and of a card on which no call failed, where none on the unit did, each of these shows
--- exactly what its stays in the slots make of it, whatever the other card did (`stays`); where no call failed at all,
--- they are the stays of both by the lines of the log, with what was owed at each and the vehicle before it (`both`).
--- What was found kept after its cuts was so (`kept`), and the last-kept minute of each image of the unit is that of the
--- last minute which it shows (`last`). Rings that were dense stay dense (`dense`); each valid card stays
--- its holder's, with all that no call writes (`holders`), has no vehicle entry but of the unit's vehicle and of those
--- that it had (`vehicles`), with odometers that the vehicle had in the run or the card before it (`measures`), tells of
--- no session that was closed (`sessions`), and shows the places that were entered by it (`places`) and its events of
--- the run (`cards`). The owed rows of every image of the unit since the start stand as they stood, or were taken for
--- one of the two cards, and what is owed to any other card stays (`rows`). Where the ring of detailed speed was dense,
--- every image that a stop may leave of the unit carries the blocks of the run (`speeds`). And with whatever a stop
--- might have left a run may begin again (`again`).
+-- EACH DEVICE BEGAN WITH THIS IMAGE ALONE, no count of writes has come to its end, and the items can be told in numbers
+pub record IsTold (unit card_a card_b : List ℕ) (items : List Item) (began now : Devices) : Type 0 where
+  pub begins : BeginAs unit card_a card_b began
+  pub time : HaveTime now
+  pub few : length items ≤ largest_number
+
+-- WHAT A RUN PROMISES that was recorded. An image of a device is here each one that a stop may leave of it.
 pub record EndsTrace (unit card_a card_b : List ℕ) (start : ℕ) (items : List Item) (out : Outcome)
     (began now : Devices) : Type 0 where
+  -- it could begin
   pub may : MayRecord unit card_a card_b start
+  -- the crash-safety theorem, causes and completeness hold of it
   pub ends : EndsRun (recording_of unit card_a card_b start items out) out.marks.items began now
+  -- every image of the unit shows its auxiliary records: events and faults, insertions with their withdrawals, places,
+  -- and the odometer
   pub side : ShowTheSide (recording_of unit card_a card_b start items out) began now
+  -- every image of a card that was valid has been written so
   pub written : AreWritten (recording_of unit card_a card_b start items out) now
+  -- every image of a card on which no call failed, where none on the unit did, shows exactly what its stays in the
+  -- slots make of it, whatever the other card did
   pub stays : HaveTheirStays (recording_of unit card_a card_b start items out) out.marks.items began now
+  -- where no call failed at all, they are the stays of both by the lines of the log, with what was owed at each and the
+  -- vehicle before it
   pub both : HasAllStays (recording_of unit card_a card_b start items out) out.marks.items now
+  -- whatever failed, what each card showed before the minute of the first failed call was exactly its stays so far, and
+  -- stands
+  pub stood : HaveStoodExactly (recording_of unit card_a card_b start items out) began now
+  -- the owed rows of every image of the unit since the start stand as they stood, or were taken for one of the two
+  -- cards, and what is owed to any other card stays
   pub rows : (y : List ℕ) → now.unit.left_since began.unit.clock y → KeepsRows unit card_a card_b y
+  -- what was found kept after its cuts was so
   pub kept : TellsKept (recording_of unit card_a card_b start items out) began.unit.clock now.unit
+  -- the last-kept minute of each image of the unit is that of the last minute which it shows
   pub last : TellsLast (last_kept unit) ends.safe.unit
+  -- rings that were dense stay dense
   pub dense : StayDense (recording_of unit card_a card_b start items out) now
+  -- each valid card stays its holder's, with all that no call writes
   pub holders : KeepTheirHolders (recording_of unit card_a card_b start items out) began now
+  -- it has no vehicle entry but of the unit's vehicle and of those that it had
   pub vehicles : KeepTheirVehicles (recording_of unit card_a card_b start items out) began now
+  -- with odometers that the vehicle had in the run or the card before it
   pub measures : MeasureTheirVehicles (recording_of unit card_a card_b start items out) now
+  -- it tells of no session that was closed
   pub sessions : TellTheirSessions (recording_of unit card_a card_b start items out) now
+  -- it shows the places that were entered by it
   pub places : ShowTheirPlaces (recording_of unit card_a card_b start items out) now
+  -- and its events of the run
   pub cards : ShowTheirEvents (recording_of unit card_a card_b start items out) began now
+  -- where the ring of detailed speed was dense, every image of the unit carries the blocks of the run
   pub speeds : CarriesItsSpeeds (recording_of unit card_a card_b start items out) began now
+  -- with whatever a stop might have left a run may begin again
   pub again : BeginsAgain began now
+  -- no failed call is told later than in the second in which its device acknowledges the next minute: by then the run
+  -- was complete, and no device had broken down more often than was told
+  pub timely : TellsInTime (recording_of unit card_a card_b start items out) start out.marks.items began now
+
+-- A RUN THAT WAS RECORDED: it ends so, and each device has broken down just as often as it is told
+pub record RecordsTrace (unit card_a card_b : List ℕ) (start : ℕ) (items : List Item) (out : Outcome)
+    (began now : Devices) : Type 0 where
+  pub ends : EndsTrace unit card_a card_b start items out began now
+  pub counted : BreakdownsAreCounted (recording_of unit card_a card_b start items out) began now
 
 -- OR IT WAS KEPT FROM BEING RECORDED: by these images, or a call that has failed in the opening; each device is as it
 -- was.

@@ -16,6 +16,7 @@ use Rattle.device_calls.specs.safety_model.Safe.{Devices, card_of}
 use Rattle.run_minutes.specs.run_promise.Origin.{Origin}
 use Rattle.run_minutes.specs.run_promise.Beside.{HaveLeftMore}
 use Rattle.run_minutes.specs.run_promise.Whole.{NothingFailed}
+use Rattle.run_minutes.specs.run_devices.Measured.{MakesOn}
 use Rattle.run_minutes.specs.declared.keeper.Moment.{Moment}
 use Rattle.run_minutes.specs.Books.{HaveTime}
 use Rattle.run_outcome.specs.declared.outcome.Outcome.{Outcome}
@@ -77,6 +78,7 @@ pub record IsJudgedOnCards (failed : Bool) (o : Origin) (began : RunLog) (done :
   pub cut : cut_in (log_of after) s.number ≡ cut_in (log_of before) s.number
   pub same : (m : ℕ) → n ≡ suc m → TellSameTo (log_of before) (log_of after) s.number m
   pub left : HaveLeftMore o d e
+  pub made : (c : Card) → IsOwnValid (card_image o.recording c) → MakesOn (sizes_in o c) (card_of d c) (card_of e c)
 
 -- A CARD IS JUDGED that is the next.
 abbrev pub CardsJudged : Slot → Card → Moment → (speed : ℕ) → (failed : Bool) → (old : Run) → (before after : Outcome)

@@ -3,7 +3,7 @@ ghost use Rattle.std.specs.Prelude.{◌≡◌, ◌/◌, ◌<◌, ◌^◌, None, 
 ghost use Rattle.tach_media.specs.Medium.{HasCause};
 ghost use Rattle.run_minutes.specs.card_slots.Calls.{seat_in, card_in};
 ghost use Rattle.run_acts.specs.Going.{CanBeCut, RunHasPowerAllSeated, IsActing};
-ghost use Rattle.run_acts.specs.Room.{bare_count, Takes};
+ghost use Rattle.run_acts.specs.Room.{bare_count, Takes, TakesFind};
 ghost use Rattle.recorder_with_cards.specs.Accepting.{chip_a_of, chip_b_of, a_of, b_of};
 ghost use Rattle.run_minutes.specs.run_promise.Between.{devices};
 ghost use Rattle.run_minutes.specs.run_devices.Told.{arranged};
@@ -11,6 +11,7 @@ ghost use Rattle.run_acts.specs.Acts.{RunStandsBehind};
 ghost use Rattle.recorder_with_cards.specs.Acts.{AcceptsAnew, AcceptsHere, AcceptsIn, CardGoes, DevicesGo};
 ghost use Rattle.recorder_with_cards.specs.Acts.{LeavesAccepted, LeavesAnew, LeavesHere, PromisesAccepting};
 ghost use Rattle.recorder_with_cards.specs.Acts.{PromisesAnew, PromisesHere, MayAccept, MayJudgeAnew};
+ghost use Rattle.recorder_with_cards.specs.Writes.{accept_unit_most, accept_card_most};
 
 use activity_codec::Slot;
 use run_acts::Run;
@@ -64,7 +65,7 @@ pub(crate) fn accept_here<M: Medium, C: Chip, D: Chip>(
         (chip_b_of entering.which (C.card card.new) (D.card others.now))
         (a_of entering.which (C.state card.new) (D.state others.now))
         (b_of entering.which (C.state card.new) (D.state others.now))) }
-    ensures takes { Takes 1 0 0 run.old run.new outcome.old outcome.new }
+    ensures takes { TakesFind run.old run.new outcome.old outcome.new }
     // What a run promises goes on with it.
     ensures promises { PromisesHere entering (is_err result) run.old run.new outcome.old outcome.new
         (arranged entering.which (M.state unit.old) (C.state card.old) (D.state others.now))
@@ -73,7 +74,8 @@ pub(crate) fn accept_here<M: Medium, C: Chip, D: Chip>(
         (M.state unit.new)
         (arranged entering.which (M.state unit.old) (C.state card.old) (D.state others.now))
         (arranged entering.which (M.state unit.new) (C.state card.new) (D.state others.now)) }
-    ensures goes { CardGoes 24 1072 outcome.old.breaks.items outcome.new.breaks.items (M.state unit.old)
+    ensures goes { CardGoes accept_unit_most accept_card_most outcome.old.breaks.items outcome.new.breaks.items
+        (M.state unit.old)
         (M.state unit.new)
         (C.state card.old) (C.state card.new) }
     ensures cause { HasCause (M.state unit.old) (M.state unit.new) (is_err result) }
@@ -104,7 +106,7 @@ pub(crate) fn accept_in<M: Medium, C: Chip, D: Chip>(
         (devices (M.state unit.old) (C.state card_a.old) (D.state card_b.old))
         (devices (M.state unit.new) (C.state card_a.new) (D.state card_b.new))
         (C.card card_a.new) (D.card card_b.new) }
-    ensures takes { Takes 1 0 0 run.old run.new outcome.old outcome.new }
+    ensures takes { TakesFind run.old run.new outcome.old outcome.new }
     // What a run promises goes on with it.
     ensures promises { PromisesAccepting put.slot put.card put.at put.speed
         (is_err result) run.old run.new outcome.old outcome.new
@@ -114,7 +116,7 @@ pub(crate) fn accept_in<M: Medium, C: Chip, D: Chip>(
         (is_err result) run.old run.new outcome.old outcome.new
         (devices (M.state unit.old) (C.state card_a.old) (D.state card_b.old))
         (devices (M.state unit.new) (C.state card_a.new) (D.state card_b.new)) }
-    ensures goes { DevicesGo 24 1072 outcome.old.breaks.items outcome.new.breaks.items
+    ensures goes { DevicesGo accept_unit_most accept_card_most outcome.old.breaks.items outcome.new.breaks.items
         (devices (M.state unit.old) (C.state card_a.old) (D.state card_b.old))
         (devices (M.state unit.new) (C.state card_a.new) (D.state card_b.new)) }
 {
@@ -175,7 +177,7 @@ pub(crate) fn accept_anew<M: Medium, C: Chip, D: Chip>(
     ensures leaves { LeavesAnew anew.slot anew.at anew.speed (is_err result) run.old run.new outcome.old outcome.new
         (devices (M.state unit.old) (C.state card_a.old) (D.state card_b.old))
         (devices (M.state unit.new) (C.state card_a.new) (D.state card_b.new)) }
-    ensures goes { DevicesGo 24 1072 outcome.old.breaks.items outcome.new.breaks.items
+    ensures goes { DevicesGo accept_unit_most accept_card_most outcome.old.breaks.items outcome.new.breaks.items
         (devices (M.state unit.old) (C.state card_a.old) (D.state card_b.old))
         (devices (M.state unit.new) (C.state card_a.new) (D.state card_b.new)) }
 {

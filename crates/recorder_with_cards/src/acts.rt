@@ -22,6 +22,7 @@ ghost use Rattle.run_acts.specs.Acts.{AllGoOn, RunStandsBehind};
 ghost use Rattle.recorder_with_cards.specs.Acts.{ActGoes, ActsAll, ActsItem, ActsLit, ActsSo, CarriesOut, LeavesDone};
 ghost use Rattle.recorder_with_cards.specs.Acts.{PromisesAction, PromisesActions, PromisesAll, PromisesWithPower};
 ghost use Rattle.recorder_with_cards.specs.Acts.{AreAmong};
+ghost use Rattle.recorder_with_cards.specs.Writes.{action_unit_most, action_card_most};
 
 use crate::accepting::SlotCard;
 use crate::inserting::insert;
@@ -303,7 +304,7 @@ fn carry_out<M: Medium, C: Chip, D: Chip>(
         (devices (M.state unit.new) (C.state card_a.new) (D.state card_b.new)) }
     ensures still { CallsNone None deed.action
         → (unit.new ≡ unit.old) × (card_a.new ≡ card_a.old) × (card_b.new ≡ card_b.old) }
-    ensures goes { AllGoOn 102 1366 outcome.old.breaks.items outcome.new.breaks.items
+    ensures goes { AllGoOn action_unit_most action_card_most outcome.old.breaks.items outcome.new.breaks.items
         (devices (M.state unit.old) (C.state card_a.old) (D.state card_b.old))
         (devices (M.state unit.new) (C.state card_a.new) (D.state card_b.new)) }
     ensures behind { RunStandsBehind result run.new

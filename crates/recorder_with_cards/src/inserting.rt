@@ -1,10 +1,11 @@
 //! A card is put into a slot.
 ghost use Rattle.std.specs.Prelude.{is_err};
 ghost use Rattle.run_acts.specs.Going.{IsActing};
-ghost use Rattle.run_acts.specs.Room.{Takes};
+ghost use Rattle.run_acts.specs.Room.{TakesCard};
 ghost use Rattle.run_minutes.specs.run_promise.Between.{devices};
 ghost use Rattle.run_acts.specs.Acts.{RunStandsBehind};
 ghost use Rattle.recorder_with_cards.specs.Acts.{DevicesGo, Inserts, LeavesInserted, PromisesInsertion, MayInsertCard};
+ghost use Rattle.recorder_with_cards.specs.Writes.{action_unit_most, action_card_most};
 
 use crate::accepting::{SlotCard, accept_in};
 use run_acts::{Run, settle};
@@ -33,7 +34,7 @@ pub(crate) fn insert<M: Medium, C: Chip, D: Chip>(
         (devices (M.state unit.old) (C.state card_a.old) (D.state card_b.old))
         (devices (M.state unit.new) (C.state card_a.new) (D.state card_b.new))
         (C.card card_a.new) (D.card card_b.new) }
-    ensures takes { Takes 1 1 0 run.old run.new outcome.old outcome.new }
+    ensures takes { TakesCard run.old run.new outcome.old outcome.new }
     // What a run promises goes on with it.
     ensures promises { PromisesInsertion put.slot put.card put.at put.speed
         (is_err result) run.old run.new outcome.old outcome.new
@@ -43,7 +44,7 @@ pub(crate) fn insert<M: Medium, C: Chip, D: Chip>(
         (is_err result) run.old run.new outcome.old outcome.new
         (devices (M.state unit.old) (C.state card_a.old) (D.state card_b.old))
         (devices (M.state unit.new) (C.state card_a.new) (D.state card_b.new)) }
-    ensures goes { DevicesGo 102 1366 outcome.old.breaks.items outcome.new.breaks.items
+    ensures goes { DevicesGo action_unit_most action_card_most outcome.old.breaks.items outcome.new.breaks.items
         (devices (M.state unit.old) (C.state card_a.old) (D.state card_b.old))
         (devices (M.state unit.new) (C.state card_a.new) (D.state card_b.new)) }
 {

@@ -11,6 +11,7 @@ ghost use Rattle.run_minutes.specs.run_promise.Between.{devices};
 ghost use Rattle.run_acts.specs.Acts.{AllGoOn, RunStandsBehind};
 ghost use Rattle.recorder_with_cards.specs.Acts.{BeginsSecond, BreaksGo, IsWoken, PromisesResuming, PromisesSecond};
 ghost use Rattle.recorder_with_cards.specs.Acts.{PromisesWaking, Resumes, HasRoomFor, IsToldBy, MayWake};
+ghost use Rattle.recorder_with_cards.specs.Writes.{resume_unit_most, resume_card_most};
 
 use crate::accepting::{SlotAnew, accept_anew};
 use activity_codec::Slot;
@@ -55,7 +56,7 @@ pub(crate) fn begin_second<M: Medium, C: Chip, D: Chip>(
     ensures promises { PromisesSecond result speed run.old run.new outcome.old outcome.new
         (devices (M.state unit.old) (C.state card_a.old) (D.state card_b.old))
         (devices (M.state unit.new) (C.state card_a.new) (D.state card_b.new)) }
-    ensures goes { BreaksGo 94 2152 outcome.old.breaks.items outcome.new.breaks.items
+    ensures goes { BreaksGo resume_unit_most resume_card_most outcome.old.breaks.items outcome.new.breaks.items
         (devices (M.state unit.old) (C.state card_a.old) (D.state card_b.old))
         (devices (M.state unit.new) (C.state card_a.new) (D.state card_b.new)) }
 {
@@ -95,7 +96,7 @@ fn power_on<M: Medium, C: Chip, D: Chip>(
     ensures noted { OnOk result (NotesPowerOn speed run.old run.new outcome.old outcome.new
         (devices (M.state unit.old) (C.state card_a.old) (D.state card_b.old))
         (devices (M.state unit.new) (C.state card_a.new) (D.state card_b.new))) }
-    ensures goes { BreaksGo 94 2152 outcome.old.breaks.items outcome.new.breaks.items
+    ensures goes { BreaksGo resume_unit_most resume_card_most outcome.old.breaks.items outcome.new.breaks.items
         (devices (M.state unit.old) (C.state card_a.old) (D.state card_b.old))
         (devices (M.state unit.new) (C.state card_a.new) (D.state card_b.new)) }
 {
@@ -151,7 +152,7 @@ fn found<M: Medium, C: Chip, D: Chip>(
     ensures noted { OnOk result (NotesFound waking.journal.kept waking.speed run.old run.new outcome.old outcome.new
         (devices (M.state unit.old) (C.state card_a.old) (D.state card_b.old))
         (devices (M.state unit.new) (C.state card_a.new) (D.state card_b.new))) }
-    ensures goes { BreaksGo 94 2152 outcome.old.breaks.items outcome.new.breaks.items
+    ensures goes { BreaksGo resume_unit_most resume_card_most outcome.old.breaks.items outcome.new.breaks.items
         (devices (M.state unit.old) (C.state card_a.old) (D.state card_b.old))
         (devices (M.state unit.new) (C.state card_a.new) (D.state card_b.new)) }
 {
@@ -194,7 +195,7 @@ fn resume<M: Medium, C: Chip, D: Chip>(
     ensures noted { NotesWaking waking.journal.kept waking.speed (is_err result) run.old run.new outcome.old outcome.new
         (devices (M.state unit.old) (C.state card_a.old) (D.state card_b.old))
         (devices (M.state unit.new) (C.state card_a.new) (D.state card_b.new)) }
-    ensures goes { AllGoOn 94 2152 outcome.old.breaks.items outcome.new.breaks.items
+    ensures goes { AllGoOn resume_unit_most resume_card_most outcome.old.breaks.items outcome.new.breaks.items
         (devices (M.state unit.old) (C.state card_a.old) (D.state card_b.old))
         (devices (M.state unit.new) (C.state card_a.new) (D.state card_b.new)) }
 {

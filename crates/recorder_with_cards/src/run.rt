@@ -7,13 +7,11 @@ ghost use Rattle.tach_media.specs.card_layout.declared.files.TheConstants.{LARGE
 ghost use Rattle.unit_minutes.specs.unit_model.Image.{IsUnit};
 ghost use Rattle.run_outcome.specs.Room.{off_count, IsReserved};
 ghost use Rattle.run_minutes.specs.run_promise.Between.{devices};
-ghost use Rattle.run_minutes.specs.Books.{HaveTime};
-ghost use Rattle.run_acts.specs.Going.{largest_number, IsBetweenSeconds};
+ghost use Rattle.run_acts.specs.Going.{IsBetweenSeconds};
 ghost use Rattle.run_acts.specs.Room.{HasRoom};
 ghost use Rattle.recorder_with_cards.specs.Items.{between, insertions_in};
 ghost use Rattle.recorder_with_cards.specs.Recorded.{actions_in};
-ghost use Rattle.recorder_with_cards.specs.Breakdowns.{BreakdownsAreCounted};
-ghost use Rattle.recorder_with_cards.specs.Ends.{recording_of, BeginAs, EndsTrace, MayRecord, IsKeptFrom};
+ghost use Rattle.recorder_with_cards.specs.Ends.{BeginAs, IsTold, RecordsTrace, MayRecord, IsKeptFrom};
 ghost use Rattle.recorder_with_cards.specs.Gone.{first_waiting, has_seconds, HasGone, IsRefusedBy, TellsBreakdowns};
 ghost use Rattle.recorder_with_cards.specs.Acts.{ItemGoes, PromisesItem, AreAmong, MayGoOn, RunGoes};
 
@@ -31,7 +29,8 @@ use trace_text::{Item, Items, Trace};
 /// In the opening, before any write: `MediumFault` only where that device failed, `BadUnit` with the place of the first
 /// field that fails, `ClockBack` where the minute of the first second is not later than the last-kept minute, and
 /// `SameCard` where both cards are valid and have this number. Later only `BadUnit` and `ClockBack`, of a unit that is
-/// read anew at a power-on: no failed call is an error.
+/// read anew at a power-on: no failed call is an error. Over devices that tell their images (`fault`) there is no later
+/// one: each device is as it was.
 pub fn run_trace<U: Medium, C: Chip>(
     trace: &Trace,
     unit: &mut U,
@@ -44,12 +43,12 @@ pub fn run_trace<U: Medium, C: Chip>(
     requires unit { IsUnit (U.state unit.old) }
     requires card_a { LARGEST_IMAGE ≤ (C.state card_a.old).size }
     requires card_b { LARGEST_IMAGE ≤ (C.state card_b.old).size }
-    // THE CRASH-SAFETY THEOREM: over devices that began with these images alone all is recorded that a run promises.
+    // THE CRASH-SAFETY THEOREM: over devices that began with these images alone all is recorded that a run promises,
+    // and each has broken down just as often as it is told.
     ensures recorded { (x a b : List ℕ)
-        → BeginAs x a b (devices (U.state unit.old) (C.state card_a.old) (C.state card_b.old))
-        → HaveTime (devices (U.state unit.new) (C.state card_a.new) (C.state card_b.new))
-        → length trace.now.items ≤ largest_number
-        → OnOk result (EndsTrace x a b trace.now.start trace.now.items outcome.new
+        → IsTold x a b trace.now.items (devices (U.state unit.old) (C.state card_a.old) (C.state card_b.old))
+        (devices (U.state unit.new) (C.state card_a.new) (C.state card_b.new))
+        → OnOk result (RecordsTrace x a b trace.now.start trace.now.items outcome.new
         (devices (U.state unit.old) (C.state card_a.old) (C.state card_b.old))
         (devices (U.state unit.new) (C.state card_a.new) (C.state card_b.new))) }
     // A run that is recorded could begin, and what keeps one from being recorded is in these images, or a call has
@@ -58,9 +57,8 @@ pub fn run_trace<U: Medium, C: Chip>(
         → BeginAs x a b (devices (U.state unit.old) (C.state card_a.old) (C.state card_b.old))
         → OnOk result (MayRecord x a b trace.now.start) }
     ensures fault { (x a b : List ℕ)
-        → BeginAs x a b (devices (U.state unit.old) (C.state card_a.old) (C.state card_b.old))
-        → HaveTime (devices (U.state unit.new) (C.state card_a.new) (C.state card_b.new))
-        → length trace.now.items ≤ largest_number
+        → IsTold x a b trace.now.items (devices (U.state unit.old) (C.state card_a.old) (C.state card_b.old))
+        (devices (U.state unit.new) (C.state card_a.new) (C.state card_b.new))
         → IfErr result (λ fault. IsKeptFrom x a b trace.now.start
         (devices (U.state unit.old) (C.state card_a.old) (C.state card_b.old))
         (devices (U.state unit.new) (C.state card_a.new) (C.state card_b.new)) fault × (outcome.new ≡ outcome.old)) }
@@ -78,14 +76,6 @@ pub fn run_trace<U: Medium, C: Chip>(
     ensures breakdowns { TellsBreakdowns result outcome.new
         (devices (U.state unit.old) (C.state card_a.old) (C.state card_b.old))
         (devices (U.state unit.new) (C.state card_a.new) (C.state card_b.new)) }
-    // So each device has broken down just as often as it is told.
-    ensures counted { (x a b : List ℕ)
-        → BeginAs x a b (devices (U.state unit.old) (C.state card_a.old) (C.state card_b.old))
-        → HaveTime (devices (U.state unit.new) (C.state card_a.new) (C.state card_b.new))
-        → length trace.now.items ≤ largest_number
-        → OnOk result (BreakdownsAreCounted (recording_of x a b trace.now.start trace.now.items outcome.new)
-        (devices (U.state unit.old) (C.state card_a.old) (C.state card_b.old))
-        (devices (U.state unit.new) (C.state card_a.new) (C.state card_b.new))) }
 {
     card_a.holds_bytes();
     card_b.holds_bytes();

@@ -328,7 +328,8 @@ returns-clause-promises g c = record {
       judged-cards o done s n waits fewer e run.keeper c.args.outcome.now run.unfound run.next run.begun run.minutes (unit0 g c) (card0 g c) (beside g c) next.goes.within may next.goes.origin vehicle speed
       (is_err c.accept-answer.result) c.accept-answer.new.keeper run.noted c.accept-answer.new.noted c.accept-answer.new.outcome (unit1 g c) (card1 g c) (way g c) (gone g c) (sound g c time)
       (sits-works e (measured (way g c) e run.keeper) c.accept-answer.new.keeper run.noted (ending_of (way g c)) (g.C.Chip.card c.accept-answer.new.card) (card1 g c) c.accept-answer.ensures.entered.1.left.keeper c.accept-answer.ensures.behind.entered.card)
-      next.goes.stay;
+      next.goes.stay
+      (mine-at run.keeper.cabin.cards (g.C.Chip.card c.args.card.now) (g.D.Chip.card c.args.others.now) (card0 g c) (beside g c) e.which c.requires.acting.held.card_a c.requires.acting.held.card_b).size;
 }
 
 pub returns-clause-leaves : goal.returns-clause-leaves

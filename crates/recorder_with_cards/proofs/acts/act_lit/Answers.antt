@@ -38,6 +38,10 @@ use Rattle.run_outcome.proofs.Broken.{broke-none}
 use Rattle.run_acts.proofs.Uncut.{uncut-broke, cut-broke}
 use Rattle.recorder_with_cards.proofs.Uncut.{done-uncut}
 use Rattle.run_acts.specs.run_course.Moments.{and_break}
+use Rattle.run_acts.specs.Stood.{LetStand, TellsOn}
+use Rattle.run_acts.proofs.Stood.{stood-on, stood-told, tells-same}
+use Rattle.recorder_with_cards.proofs.StoodSeconds.{goes-tells, cut-tells, cut-ends}
+use Rattle.recorder_with_cards.proofs.SecondsRinged.{refused-all}
 use Rattle.run_acts.specs.RunCards.{CardsBehind, CardsIn, CardsGoOn}
 use Rattle.run_acts.specs.ByHand.{stopped_in}
 use Rattle.recorder_with_cards.proofs.HereDone.{TellsMoreOf, done-of}
@@ -111,6 +115,13 @@ module _ (g : Over) (c : After-carry_out g) where
     carded : (h : WithinCarded o done s (length front) run out before) → CardsGoOn (is_err c.carry_out.result) o done s h.ringed.evented.within.within.b.run.log more (log_of told) behind
     carded h = c.carry_out.ensures.promises.cards o done s now front rest are here allowed h.vehicle h.ringed.evented.within (cards-now o done s run out before front (c.args.deed.action ∷ rest) are some h.ringed.evented.within h.cards) time
 
+    -- what stood on the cards stands
+    stood : (h : WithinCarded o done s (length front) run out before) → LetStand o before behind
+    stood h = c.carry_out.ensures.promises.stands o done s now front rest are here allowed h.ringed.evented.within time
+
+    told-lines : TellsMoreOf s.number out.breaks.items told.breaks.items
+    told-lines = subst (λ (u : ℕ). TellsMoreOf u out.breaks.items told.breaks.items) (sym now.number) (done-of c.args.deed.action (moment_of c.args.deed.begun run) c.args.deed.speed (is_err c.carry_out.result) run mid out told c.carry_out.ensures.done.action_done)
+
     -- it goes on
     ringed-goes : is_err c.carry_out.result ≡ false → WithinRinged o done s (length front) run out before → InSecondRinged o done s c.args.deed.begun mid told behind
     ringed-goes well h =
@@ -130,6 +141,9 @@ module _ (g : Over) (c : After-carry_out g) where
           vehicle = ap (λ m. m.registration) watched.memory ∙ h.vehicle;
           cards = cards-on o done s c.args.deed.begun mid told behind more rest w.within.b all-so many some (subst (λ (b : Bool). GoesOnOrFails b o done s (In c.args.deed.begun) [] mid told behind w.within.b) well (goes w))
               (subst (λ (b : Bool). CardsGoOn b o done s w.within.b.run.log more (log_of told) behind) well (carded h));
+          past = stood-told o done (log_of out) (log_of told) behind
+              (goes-tells o done s (In (length front)) (In c.args.deed.begun) run mid out told before behind w (subst (λ (b : Bool). GoesOnOrFails b o done s (In c.args.deed.begun) [] mid told behind w.within.b) well (goes w)) some told-lines)
+              (stood-on o done (log_of out) before behind h.past (stood h));
         })
 
     -- or the unit failed, and power is lost
@@ -161,12 +175,16 @@ module _ (g : Over) (c : After-carry_out g) where
           ap (λ (n : ℕ). and_break (log_of told) (cut_at s.number true n)) many ∙ ap (λ (u : ℕ). and_break (log_of told) (cut_at u true c.args.deed.begun)) still_next ∙ sym (ap log_of told_so) in
           let lines = subst (λ (u : ℕ). TellsMoreOf u out.breaks.items told.breaks.items) (sym now.number) (done-of c.args.deed.action (moment_of c.args.deed.begun run) c.args.deed.speed (is_err c.carry_out.result) run mid out told c.carry_out.ensures.done.action_done) in
           let watched = done-watched c.args.deed.action (moment_of c.args.deed.begun run) c.args.deed.speed (is_err c.carry_out.result) run mid out told c.carry_out.ensures.done.action_done in
-          let shown = cut-cards o done s (length front) run out before behind w told more rest all-so (cut-later o done s (length front) run out before w told more lines (rings-cut h.ringed).behind some) (fails w).within.moment.up_to.uncut
+          let later = cut-later o done s (length front) run out before w told more lines (rings-cut h.ringed).behind some in
+          let rung_ = ringed-cut o done s new after behind c.args.deed.begun (ap (λ (q : Run). is_lit q.power) cut_so) (ringed-lost h.ringed) in
+          let shown = cut-cards o done s (length front) run out before behind w told more rest all-so later (fails w).within.moment.up_to.uncut
           (subst (λ (b : Bool). CardsGoOn b o done s w.within.b.run.log more (log_of told) behind) failed (carded h)) in
           in-carded_cut o done s new after behind c.args.deed.begun (record {
-            ringed = ringed-cut o done s new after behind c.args.deed.begun (ap (λ (q : Run). is_lit q.power) cut_so) (ringed-lost h.ringed);
+            ringed = rung_;
             vehicle = ap (λ (q : Run). q.keeper.memory.registration) cut_so ∙ ap (λ m. m.registration) watched.memory ∙ h.vehicle;
             cards = subst (λ (l : RunLog). CardsBehind o (done ++ s ∷ []) l behind) log shown;
+            past = cut-ends o done s (log_of out) new after behind rung_.evented.cut (still_next ∙ sym (ap (λ (q : Run). q.next) cut_so)) (subst (λ (l : RunLog). TellsOn (log_of out) l done) log (cut-tells o done s (length front) run out before w told more lines some later))
+                (stood-on o done (log_of out) before behind h.past (stood h));
           })
 
 -- ---- the unit failed: power is lost
@@ -274,6 +292,7 @@ returns-in-Err-clause-promises g c = record {
         cards = subst (λ (n : ℕ). CardsIn o done s (log_of told) (take n s.actions) (log_of told) d) here
             (cards-on o done s (suc (length front)) run told d more rest w.within.b (are ∙ sym (append_assoc front (c.args.deed.action ∷ []) rest)) many some
             (refused o done s c.args.deed.speed run out d now front c.args.deed.action rest are w c.in-Err.fault (sym c.in-Err.ensures) told told_is) cards);
+        past = stood-told o done (log_of out) (log_of told) d (tells-same (log_of out) (log_of told) done (refused-all (log_of out) (log_of told) refl refl done) refl) h.past;
       });
 }
 

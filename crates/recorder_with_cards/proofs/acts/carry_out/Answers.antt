@@ -38,6 +38,8 @@ use Rattle.run_acts.proofs.run_rings.Same.{rings-left}
 use Rattle.recorder_with_cards.specs.EnteredRings.{IsPlaceNow, RingsDone}
 use Rattle.run_acts.proofs.NotedEvents.{same-noted}
 use Rattle.recorder_with_cards.specs.Noting.{NotesDone}
+use Rattle.run_acts.specs.Stood.{StandsAction}
+use Rattle.run_acts.proofs.Stood.{stand-itself}
 use Rattle.run_acts.specs.RunCards.{CardsAction}
 use Rattle.run_acts.specs.ByHand.{entry_from, cabin_holding, entered_run, stopped_in}
 use Rattle.run_acts.proofs.ByHand.{holding-going, holding-held, holding-falls}
@@ -274,6 +276,7 @@ returns-in-Insert-clause-promises g c = record {
   evented = by-insert g c (λ a m. EventsAction a m.begun c.args.deed.speed (is_err c.insert.result) c.args.run.now c.insert.new.run c.args.outcome.now c.insert.new.outcome (before-insert g c) (behind-insert g c)) (c.insert.ensures.promises.evented (late-insert g c) (room-insert g c));
   ringed = by-insert g c (λ a m. RingsAction a m.begun c.args.deed.speed (is_err c.insert.result) c.args.run.now c.insert.new.run c.args.outcome.now c.insert.new.outcome (before-insert g c) (behind-insert g c)) (c.insert.ensures.promises.ringed (late-insert g c) (room-insert g c));
   cards = by-insert g c (λ a m. CardsAction a m.begun c.args.deed.speed (is_err c.insert.result) c.args.run.now c.args.outcome.now c.insert.new.outcome (before-insert g c) (behind-insert g c)) (c.insert.ensures.promises.cards (late-insert g c) (room-insert g c));
+  stands = by-insert g c (λ a m. StandsAction a m.begun c.args.deed.speed c.args.run.now c.args.outcome.now (before-insert g c) (behind-insert g c)) (c.insert.ensures.promises.stands (late-insert g c) (room-insert g c));
 }
 
 pub returns-in-Insert-clause-leaves : goal.returns-in-Insert-clause-leaves
@@ -317,6 +320,7 @@ returns-in-Withdraw-clause-promises g c = record {
   evented = by-withdraw g c (λ a m. EventsAction a m.begun c.args.deed.speed (is_err c.withdraw.result) c.args.run.now c.withdraw.new.run c.args.outcome.now c.withdraw.new.outcome (before-withdraw g c) (behind-withdraw g c)) (c.withdraw.ensures.promises.evented (late-withdraw g c) c.args.deed.speed);
   ringed = by-withdraw g c (λ a m. RingsAction a m.begun c.args.deed.speed (is_err c.withdraw.result) c.args.run.now c.withdraw.new.run c.args.outcome.now c.withdraw.new.outcome (before-withdraw g c) (behind-withdraw g c)) (c.withdraw.ensures.promises.ringed (late-withdraw g c) c.args.deed.speed);
   cards = by-withdraw g c (λ a m. CardsAction a m.begun c.args.deed.speed (is_err c.withdraw.result) c.args.run.now c.args.outcome.now c.withdraw.new.outcome (before-withdraw g c) (behind-withdraw g c)) (c.withdraw.ensures.promises.cards (late-withdraw g c) c.args.deed.speed);
+  stands = by-withdraw g c (λ a m. StandsAction a m.begun c.args.deed.speed c.args.run.now c.args.outcome.now (before-withdraw g c) (behind-withdraw g c)) (c.withdraw.ensures.promises.stands (late-withdraw g c) c.args.deed.speed);
 }
 
 pub returns-in-Withdraw-clause-leaves : goal.returns-in-Withdraw-clause-leaves
@@ -334,6 +338,9 @@ returns-in-Withdraw-clause-behind g c = record {
       };
   going = first_of (search rules, grind (arith, common_steps));
 }
+
+pub returns-in-Withdraw-clause-takes : goal.returns-in-Withdraw-clause-takes
+returns-in-Withdraw-clause-takes g c = subst (λ (k : ℕ). Takes k k 0 c.args.run.now c.withdraw.new.run c.args.outcome.now c.withdraw.new.outcome) (sym (ap put_count c.in-Withdraw.is)) c.withdraw.ensures.withdrawn.takes
 
 pub returns-in-Withdraw-clause-goes : goal.returns-in-Withdraw-clause-goes
 returns-in-Withdraw-clause-goes g c = record {
@@ -362,6 +369,7 @@ returns-in-Place-clause-promises g c = record {
       by-place g c (λ a m. RingsAction a m.begun c.args.deed.speed (is_err c.note_place.result) c.args.run.now c.note_place.new.run c.args.outcome.now (record c.args.outcome.now { breaks = c.note_place.new.breaks }) (before-place g c) (behind-place g c))
       (c.note_place.ensures.promises.ringed c.in-Place.ending c.in-Place.country c.in-Place.region (place-now g c) (late-place g c) c.args.deed.speed c.args.outcome.now refl);
   cards = by-place g c (λ a m. CardsAction a m.begun c.args.deed.speed (is_err c.note_place.result) c.args.run.now c.args.outcome.now (record c.args.outcome.now { breaks = c.note_place.new.breaks }) (before-place g c) (behind-place g c)) (c.note_place.ensures.promises.cards (late-place g c) c.in-Place.ending c.in-Place.country c.in-Place.region c.args.deed.speed c.args.outcome.now refl);
+  stands = by-place g c (λ a m. StandsAction a m.begun c.args.deed.speed c.args.run.now c.args.outcome.now (before-place g c) (behind-place g c)) (c.note_place.ensures.promises.stands (late-place g c) c.in-Place.ending c.in-Place.country c.in-Place.region c.args.deed.speed c.args.outcome.now refl);
 }
 
 pub returns-in-Place-clause-leaves : goal.returns-in-Place-clause-leaves
@@ -425,6 +433,7 @@ returns-in-Select-clause-promises g c = record {
       let o = c.args.outcome.now in
       let d : Devices = devices (g.M.Medium.state c.args.unit.now) (g.C.Chip.state c.args.card_a.now) (g.D.Chip.state c.args.card_b.now) in
       subst (λ (a : Action). CardsAction a c.args.deed.begun c.args.deed.speed false run o o d d) (sym c.in-Select.is) (selected-cards d c.in-Select.slot c.in-Select.pick c.args.deed.begun c.args.deed.speed run o);
+  stands = λ o done s now front rest are begun allowed w time. stand-itself o (devices (g.M.Medium.state c.args.unit.now) (g.C.Chip.state c.args.card_a.now) (g.D.Chip.state c.args.card_b.now));
 }
 
 pub returns-in-Select-clause-leaves : goal.returns-in-Select-clause-leaves
@@ -484,6 +493,7 @@ returns-in-Manual-clause-promises g c = record {
       let o = c.args.outcome.now in
       let d : Devices = devices (g.M.Medium.state c.args.unit.now) (g.C.Chip.state c.args.card_a.now) (g.D.Chip.state c.args.card_b.now) in
       subst (λ (a : Action). CardsAction a c.args.deed.begun c.args.deed.speed false run o o d d) (sym c.in-Manual.is) (hand-cards d c.in-Manual.slot c.in-Manual.pick c.in-Manual.minute c.args.deed.begun c.args.deed.speed run o);
+  stands = λ o done s now front rest are begun allowed w time. stand-itself o (devices (g.M.Medium.state c.args.unit.now) (g.C.Chip.state c.args.card_a.now) (g.D.Chip.state c.args.card_b.now));
 }
 
 pub returns-in-Manual-clause-leaves : goal.returns-in-Manual-clause-leaves
@@ -532,6 +542,7 @@ returns-in-Tear-clause-promises g c = record {
   evented = by-tear g c (λ a r l. EventsAction a c.args.deed.begun c.args.deed.speed false c.args.run.now r c.args.outcome.now (record c.args.outcome.now { breaks = l }) (torn g c) (torn g c)) (pulled-evented (torn g c) c.in-Tear.slot c.args.deed.begun c.args.deed.speed c.args.run.now c.args.outcome.now);
   ringed = by-tear g c (λ a r l. RingsAction a c.args.deed.begun c.args.deed.speed false c.args.run.now r c.args.outcome.now (record c.args.outcome.now { breaks = l }) (torn g c) (torn g c)) (pulled-ringed (torn g c) c.in-Tear.slot c.args.deed.begun c.args.deed.speed c.args.run.now c.args.outcome.now);
   cards = by-tear g c (λ a r l. CardsAction a c.args.deed.begun c.args.deed.speed false c.args.run.now c.args.outcome.now (record c.args.outcome.now { breaks = l }) (torn g c) (torn g c)) (pulled-cards (torn g c) c.in-Tear.slot c.args.deed.begun c.args.deed.speed c.args.run.now c.args.outcome.now);
+  stands = λ o done s now front rest are begun allowed w time. stand-itself o (torn g c);
 }
 
 pub returns-in-Tear-clause-leaves : goal.returns-in-Tear-clause-leaves

@@ -24,7 +24,14 @@ use Rattle.run_acts.specs.RunRinged.{RunRinged, InSecondRinged}
 use Rattle.recorder_with_cards.proofs.SecondsRinged.{dark-ringed}
 use Rattle.run_minutes.proofs.Later.{after-of, after-then}
 use Rattle.run_outcome.proofs.Broken.{broke-then}
-use Rattle.recorder_with_cards.specs.Carded.{RunCarded, InSecondCarded}
+use Rattle.recorder_with_cards.specs.Carded.{RunCarded, InSecondCarded, RunMoments, RunTimely}
+use Rattle.recorder_with_cards.proofs.Promised.{both}
+use Rattle.recorder_with_cards.proofs.Growing.{Grows, grows-lines, grows-then_, begun-grows, acted-grows, turn-grows}
+use Rattle.recorder_with_cards.proofs.Moments.{moments-on, near-one}
+use Rattle.device_calls.specs.safety_model.Safe.{card_of}
+use Rattle.tach_media.specs.Medium.{IsCoherent}
+use Rattle.run_acts.specs.Recording.{RunRecorded}
+use Rattle.recorder_with_cards.proofs.StoodSeconds.{turn-stood}
 use Rattle.recorder_with_cards.proofs.SecondsCards.{turned-carded, dark-carded}
 use Rattle.run_acts.specs.run_speeds.Speeds.{LeavesSpeeds}
 use Rattle.run_acts.proofs.run_speeds.Leaving.{leaves-then}
@@ -138,6 +145,42 @@ module _ (g : Over) (c : After-drive_on g) where
     refused-all many few =
         passes.1 ∙ (acted-so many few).1 ∙ ap (λ (x : Outcome). record x { refused = with_lines (refused_dark c.begin_second.new.run.next acts) x.refused }) (c.in_ok-has_power.ensures.dark away).1
         ∙ ap (λ (n : ℕ). record c.args.outcome.now { refused = with_lines (refused_dark n acts) c.args.outcome.now.refused }) begun-next
+
+  -- so far as it has come its outcome grows
+  grows-begun : c.in_ok-has_power.has_power ≡ true → Grows c.args.run.now.next c.args.outcome.now c.begin_second.new.outcome
+  grows-begun given =
+      begun-grows c.args.due.speed c.args.run.now c.begin_second.new.run c.args.outcome.now c.begin_second.new.outcome dev0 dev1 (λ on. (c.in_ok-has_power.ensures.lit on).2)
+      (λ dark_. c.in_ok-has_power.ensures.promises.noted dark_ (has-given given))
+
+  grows-acted : c.in_ok-has_power.has_power ≡ true → Grows c.args.run.now.next c.begin_second.new.outcome c.act_all.new.outcome
+  grows-acted given = subst (λ (u : ℕ). Grows u c.begin_second.new.outcome c.act_all.new.outcome) begun-next
+      (acted-grows c.args.due.speed 0 (between c.args.due.from c.args.due.to c.args.due.items.now) c.begin_second.new.run c.act_all.new.run c.begin_second.new.outcome c.act_all.new.outcome
+      (subst (λ (b : Bool). AreActed b c.args.due.speed 0 (between c.args.due.from c.args.due.to c.args.due.items.now) c.begin_second.new.run c.act_all.new.run c.begin_second.new.outcome c.act_all.new.outcome) given c.act_all.ensures.acted.done))
+
+  grows-turned : Grows c.args.run.now.next c.act_all.new.outcome c.turn.new.outcome
+  grows-turned = subst (λ (u : ℕ). Grows u c.act_all.new.outcome c.turn.new.outcome) (c.act_all.ensures.acted.next ∙ begun-next)
+      (turn-grows (is_lit c.act_all.new.run.power) 1 c.args.due.speed c.number_of-begun.result c.act_all.new.run c.turn.new.run c.act_all.new.outcome c.turn.new.outcome (omega arith) c.turn.ensures.turned.seconds)
+
+  grows-first : length acts ≡ c.args.due.to - c.args.due.from → c.args.due.to - c.args.due.from ≤ largest_number → Grows c.args.run.now.next c.args.outcome.now c.turn.new.outcome
+  grows-first many few = by c.in_ok-has_power.has_power refl
+    where
+      by : (b : Bool) → c.in_ok-has_power.has_power ≡ b → Grows c.args.run.now.next c.args.outcome.now c.turn.new.outcome
+      by true given = grows-then_ c.args.run.now.next c.args.outcome.now c.begin_second.new.outcome c.turn.new.outcome (grows-begun given) (grows-then_ c.args.run.now.next c.begin_second.new.outcome c.act_all.new.outcome c.turn.new.outcome (grows-acted given) grows-turned)
+      by false away =
+          let is = refused-all away many few in
+          grows-lines c.args.run.now.next c.args.run.now.next c.args.outcome.now c.turn.new.outcome (omega arith) (ap (λ (x : Outcome). x.marks.items) is) (ap (λ (x : Outcome). x.finds.items) is)
+          ([], ap (λ (x : Outcome). x.breaks.items) is ∙ sym (append-nil c.args.outcome.now.breaks.items), tt)
+
+  timely-first : length acts ≡ c.args.due.to - c.args.due.from → c.args.due.to - c.args.due.from ≤ largest_number → (o : Origin) (done : List TraceSecond) → RunRecorded o done c.args.run.now c.args.outcome.now dev0 → RunMoments o done c.args.outcome.now dev0
+      → RunMoments o (done ++ driven 1 c.args.run.now.next c.args.due.speed acts) c.turn.new.outcome dev3
+  timely-first many few o done r m =
+      let next : c.args.run.now.next ≡ o.from + length done = r.recorded.recorded.followed.next in
+      let one : length (driven 1 c.args.run.now.next c.args.due.speed acts) ≡ 1 = refl in
+      moments-on o done (driven 1 c.args.run.now.next c.args.due.speed acts) c.args.run.now c.args.outcome.now c.turn.new.outcome dev0 dev3 r m
+      (g.met.M.Medium.coherent c.args.unit.now) (both (λ k. IsCoherent (card_of dev0 k)) (g.met.C.Chip.coherent c.args.card_a.now) (g.met.D.Chip.coherent c.args.card_b.now)) next (grows-first many few)
+      (after-then dev0 dev1 dev3 (after-of dev0 dev1 c.in_ok-has_power.ensures.goes.later) (after-then dev1 dev2 dev3 (after-of dev1 dev2 c.act_all.ensures.goes.later) c.turn.ensures.goes.later))
+      (calm-then dev0 dev1 dev3 c.in_ok-has_power.ensures.goes.calm (calm-then dev1 dev2 dev3 c.act_all.ensures.goes.calm c.turn.ensures.goes.calm)) (broke-then c.in_ok-has_power.ensures.goes.broke (broke-then c.act_all.ensures.goes.broke c.turn.ensures.goes.broke))
+      (near-one o.from done (driven 1 c.args.run.now.next c.args.due.speed acts) one)
 
   -- what is carried behind it
   first-second : (R : Between) (I : Inside) (o : Origin) (done : List TraceSecond) → HasBegunBy R I (Ok c.in_ok-has_power.has_power) o done second c.begin_second.new.run c.begin_second.new.outcome dev1 →
@@ -280,7 +323,8 @@ returns-clause-promises g c = record {
       run-then RunRinged c.drive_on.result o done c.args.due.seconds c.args.run.now.next c.turn.new.run.next c.args.due.speed (acts g c) c.drive_on.new.run c.drive_on.new.outcome (dev4 g c) c.requires.some (later-by-one g c)
       (c.drive_on.ensures.promises.ringed o (done ++ driven 1 c.args.run.now.next c.args.due.speed (acts g c)) (done, s, refl, refl) behind time);
   cards =
-      λ many few o done r time.
+      λ many few o done t time.
+      let r = t.carded in
       let number = begun-all g c many few in
       let whole : c.args.due.to - c.args.due.from ≡ 0 + length (acts g c) = omega (arith, many) in
       let s : TraceSecond = second g c in
@@ -294,12 +338,15 @@ returns-clause-promises g c = record {
       (subst (λ (n : ℕ). InSecondCarded o done s n c.act_all.new.run c.act_all.new.outcome (dev2 g c)) (sym number) acted) c.turn.ensures.turned.seconds
       (λ x. c.turn.ensures.promises.ringed o done s (now-acted g c) (many ∙ sym number) (λ more. absurd (omega (arith, more))) x (time-three g c time))
       (λ x. c.turn.ensures.promises.cards o done s (now-acted g c) (many ∙ sym number) (λ more. absurd (omega (arith, more))) x (time-three g c time))
+      (λ x. turn-stood o done s 1 c.args.due.speed c.number_of-begun.result c.act_all.new.run c.turn.new.run c.act_all.new.outcome c.turn.new.outcome (dev2 g c) (dev3 g c) (now-acted g c).number c.turn.ensures.turned.next (omega arith) (omega arith) x.evented.recorded
+      (subst (λ (n : ℕ). InSecondCarded o done s n c.act_all.new.run c.act_all.new.outcome (dev2 g c)) (sym number) acted) c.turn.ensures.turned.seconds
+      (λ y. c.turn.ensures.promises.stands o done s (now-acted g c) (many ∙ sym number) (λ more. absurd (omega (arith, more))) y (time-three g c time)))
       (c.turn.ensures.promises.speeds o done s (now-acted g c) (many ∙ sym number) (λ more. absurd (omega (arith, more)))
       (in-second o done s c.args.run.now c.act_all.new.run c.args.outcome.now c.act_all.new.outcome (dev0 g c) (dev2 g c) r.ringed.evented.recorded r.speeds refl refl (has-given g c lit) (came g c lit) (leaves g c) c.number_of-begun.result
       (carded-in (is_lit c.act_all.new.run.power) o done s c.number_of-begun.result c.act_all.new.run c.act_all.new.outcome (dev2 g c) (subst (λ (n : ℕ). InSecondCarded o done s n c.act_all.new.run c.act_all.new.outcome (dev2 g c)) (sym number) acted))) (time-three g c time)))
       (λ away. dark-carded o done c.args.run.now c.args.outcome.now (dev0 g c) r c.requires.going.low 1 c.args.due.speed c.number_of-begun.result (acts g c) (omega arith) (none-given g c away) (omega arith) c.turn.new.run c.turn.new.outcome (passed-on g c away many few) (refused-all g c away many few)) in
-      run-then RunCarded c.drive_on.result o done c.args.due.seconds c.args.run.now.next c.turn.new.run.next c.args.due.speed (acts g c) c.drive_on.new.run c.drive_on.new.outcome (dev4 g c) c.requires.some (later-by-one g c)
-      (c.drive_on.ensures.promises.cards o (done ++ driven 1 c.args.run.now.next c.args.due.speed (acts g c)) (done, s, refl, refl) behind time);
+      run-then RunTimely c.drive_on.result o done c.args.due.seconds c.args.run.now.next c.turn.new.run.next c.args.due.speed (acts g c) c.drive_on.new.run c.drive_on.new.outcome (dev4 g c) c.requires.some (later-by-one g c)
+      (c.drive_on.ensures.promises.cards o (done ++ driven 1 c.args.run.now.next c.args.due.speed (acts g c)) (done, s, refl, refl) (record { carded = behind; timely = timely-first g c many few o done r.ringed.evented.recorded t.timely }) time);
 }
 
 pub returns-in_err-has_power-clause-promises : goal.returns-in_err-has_power-clause-promises
@@ -311,7 +358,7 @@ returns-in_err-has_power-clause-promises g c = record {
   cards =
       λ many few o done r time.
       let s : TraceSecond = record { number = c.args.run.now.next; has_power = true; speed = c.args.due.speed; actions = actions_in (between c.args.due.from c.args.due.to c.args.due.items.now) } in
-      absurd (c.in_err-has_power.ensures.promises.cards o done s (record { number = refl; given = refl; speed_is = refl }) r time);
+      absurd (c.in_err-has_power.ensures.promises.cards o done s (record { number = refl; given = refl; speed_is = refl }) r.carded time);
 }
 
 pub turn-requires-clause-stretch : goal.turn-requires-clause-stretch

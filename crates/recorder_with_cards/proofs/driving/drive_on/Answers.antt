@@ -9,7 +9,7 @@ use Rattle.run_acts.specs.Room.{cuts_from}
 use Rattle.recorder_with_cards.proofs.Rooms.{room-less}
 use Rattle.run_acts.specs.Evented.{LastAt}
 use Rattle.run_acts.specs.RunRinged.{RunRinged}
-use Rattle.recorder_with_cards.specs.Carded.{RunCarded}
+use Rattle.recorder_with_cards.specs.Carded.{RunTimely}
 use Rattle.recorder_with_cards.proofs.SecondsEvented.{last-more}
 use Rattle.run_minutes.proofs.Later.{after-same, after-then}
 use Rattle.run_outcome.proofs.Broken.{broke-none, broke-then}
@@ -31,8 +31,8 @@ loop-left-init g c = record {
       (subst (λ (ss : List TraceSecond). LastAt ss c.args.more.speed × RunRinged o ss c.args.run.now c.args.outcome.now d) (sym (append-nil done)) (last, r));
   cards = λ o done last r time.
       let d : Devices = devices (g.M.Medium.state c.args.unit.now) (g.C.Chip.state c.args.card_a.now) (g.D.Chip.state c.args.card_b.now) in
-      subst (λ (n : ℕ). LastAt (done ++ driven n c.args.run.now.next c.args.more.speed []) c.args.more.speed × RunCarded o (done ++ driven n c.args.run.now.next c.args.more.speed []) c.args.run.now c.args.outcome.now d) (let e : 0 ≡ c.args.more.seconds - c.args.more.seconds = omega arith in e)
-      (subst (λ (ss : List TraceSecond). LastAt ss c.args.more.speed × RunCarded o ss c.args.run.now c.args.outcome.now d) (sym (append-nil done)) (last, r));
+      subst (λ (n : ℕ). LastAt (done ++ driven n c.args.run.now.next c.args.more.speed []) c.args.more.speed × RunTimely o (done ++ driven n c.args.run.now.next c.args.more.speed []) c.args.run.now c.args.outcome.now d) (let e : 0 ≡ c.args.more.seconds - c.args.more.seconds = omega arith in e)
+      (subst (λ (ss : List TraceSecond). LastAt ss c.args.more.speed × RunTimely o ss c.args.run.now c.args.outcome.now d) (sym (append-nil done)) (last, r));
   later = after-same (devices (g.M.Medium.state c.args.unit.now) (g.C.Chip.state c.args.card_a.now) (g.D.Chip.state c.args.card_b.now));
   calm = calm-same (devices (g.M.Medium.state c.args.unit.now) (g.C.Chip.state c.args.card_a.now) (g.D.Chip.state c.args.card_b.now));
   broke = broke-none c.args.outcome.now.breaks.items {old = (g.M.Medium.state c.args.unit.now)} {new = (g.M.Medium.state c.args.unit.now)} (omega arith);
@@ -84,7 +84,7 @@ loop-left-preserved g c =
           let start = v.next in
           let here : c.loop-left.run.next ≡ c.args.run.now.next + so = omega (arith, start, few) in
           let e : Devices = devices (g.M.Medium.state c.step.new.unit) (g.C.Chip.state c.step.new.card_a) (g.D.Chip.state c.step.new.card_b) in
-          subst (λ (ss : List TraceSecond). LastAt ss c.args.more.speed × RunCarded o ss c.step.new.run c.step.new.outcome e)
+          subst (λ (ss : List TraceSecond). LastAt ss c.args.more.speed × RunTimely o ss c.step.new.run c.step.new.outcome e)
           (append_assoc done (driven so c.args.run.now.next c.args.more.speed []) (driven n c.loop-left.run.next c.args.more.speed [])
           ∙ ap (λ (ss : List TraceSecond). done ++ ss) (ap (λ (m : ℕ). driven so c.args.run.now.next c.args.more.speed [] ++ driven n m c.args.more.speed []) here ∙ sym (plain-parts so n c.args.run.now.next c.args.more.speed)
           ∙ ap (λ (m : ℕ). driven m c.args.run.now.next c.args.more.speed []) (let e : so + n ≡ c.args.more.seconds - (left - n) = omega (arith, few, most) in e)))
@@ -156,7 +156,7 @@ returns-clause-promises g c = record {
   cards =
       λ o done last r time.
       let none = c.loop-left-test.false in
-      subst (λ (n : ℕ). RunCarded o (done ++ driven n c.args.run.now.next c.args.more.speed []) c.loop-left.run c.loop-left.outcome (devices (g.M.Medium.state c.loop-left.unit) (g.C.Chip.state c.loop-left.card_a) (g.D.Chip.state c.loop-left.card_b))) (let e : c.args.more.seconds - c.loop-left.left ≡ c.args.more.seconds = omega (arith, none) in e)
+      subst (λ (n : ℕ). RunTimely o (done ++ driven n c.args.run.now.next c.args.more.speed []) c.loop-left.run c.loop-left.outcome (devices (g.M.Medium.state c.loop-left.unit) (g.C.Chip.state c.loop-left.card_a) (g.D.Chip.state c.loop-left.card_b))) (let e : c.args.more.seconds - c.loop-left.left ≡ c.args.more.seconds = omega (arith, none) in e)
       ((c.loop-left.invariant.cards o done last r time).1);
 }
 

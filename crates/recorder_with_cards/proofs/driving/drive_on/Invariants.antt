@@ -8,7 +8,7 @@ use Rattle.run_acts.specs.Going.{IsBetweenSeconds}
 use Rattle.run_acts.specs.Room.{HasRoom}
 use Rattle.run_acts.specs.Evented.{LastAt}
 use Rattle.run_acts.specs.RunRinged.{RunRinged}
-use Rattle.recorder_with_cards.specs.Carded.{RunCarded}
+use Rattle.recorder_with_cards.specs.Carded.{RunTimely}
 use Rattle.recorder_with_cards.specs.Writes.{WritesFor}
 use Rattle.run_outcome.specs.Broken.{BreaksDown}
 use Rattle.recorder_with_cards.proofs.driving.drive_on.Given as goal
@@ -21,7 +21,7 @@ invariant-loop-left g l = record {
   room : (left offs insertions actions : ℕ) → HasRoom l.fn.run l.fn.outcome (l.fn.more.seconds + left) offs insertions actions → HasRoom l.run l.outcome (l.left + left) offs insertions actions;
   few : l.left ≤ l.fn.more.seconds;
   ringed : (o : Origin) (done : List TraceSecond) → LastAt done l.fn.more.speed → RunRinged o done l.fn.run l.fn.outcome (devices (g.M.Medium.state l.fn.unit) (g.C.Chip.state l.fn.card_a) (g.D.Chip.state l.fn.card_b)) → HaveTime (devices (g.M.Medium.state l.unit) (g.C.Chip.state l.card_a) (g.D.Chip.state l.card_b)) → LastAt (done ++ driven (l.fn.more.seconds - l.left) l.fn.run.next l.fn.more.speed []) l.fn.more.speed × RunRinged o (done ++ driven (l.fn.more.seconds - l.left) l.fn.run.next l.fn.more.speed []) l.run l.outcome (devices (g.M.Medium.state l.unit) (g.C.Chip.state l.card_a) (g.D.Chip.state l.card_b));
-  cards : (o : Origin) (done : List TraceSecond) → LastAt done l.fn.more.speed → RunCarded o done l.fn.run l.fn.outcome (devices (g.M.Medium.state l.fn.unit) (g.C.Chip.state l.fn.card_a) (g.D.Chip.state l.fn.card_b)) → HaveTime (devices (g.M.Medium.state l.unit) (g.C.Chip.state l.card_a) (g.D.Chip.state l.card_b)) → LastAt (done ++ driven (l.fn.more.seconds - l.left) l.fn.run.next l.fn.more.speed []) l.fn.more.speed × RunCarded o (done ++ driven (l.fn.more.seconds - l.left) l.fn.run.next l.fn.more.speed []) l.run l.outcome (devices (g.M.Medium.state l.unit) (g.C.Chip.state l.card_a) (g.D.Chip.state l.card_b));
+  cards : (o : Origin) (done : List TraceSecond) → LastAt done l.fn.more.speed → RunTimely o done l.fn.run l.fn.outcome (devices (g.M.Medium.state l.fn.unit) (g.C.Chip.state l.fn.card_a) (g.D.Chip.state l.fn.card_b)) → HaveTime (devices (g.M.Medium.state l.unit) (g.C.Chip.state l.card_a) (g.D.Chip.state l.card_b)) → LastAt (done ++ driven (l.fn.more.seconds - l.left) l.fn.run.next l.fn.more.speed []) l.fn.more.speed × RunTimely o (done ++ driven (l.fn.more.seconds - l.left) l.fn.run.next l.fn.more.speed []) l.run l.outcome (devices (g.M.Medium.state l.unit) (g.C.Chip.state l.card_a) (g.D.Chip.state l.card_b));
   later : AreAfter (devices (g.M.Medium.state l.fn.unit) (g.C.Chip.state l.fn.card_a) (g.D.Chip.state l.fn.card_b)) (devices (g.M.Medium.state l.unit) (g.C.Chip.state l.card_a) (g.D.Chip.state l.card_b));
   calm : AreCalm l.fn.outcome.breaks.items l.outcome.breaks.items (devices (g.M.Medium.state l.fn.unit) (g.C.Chip.state l.fn.card_a) (g.D.Chip.state l.fn.card_b)) (devices (g.M.Medium.state l.unit) (g.C.Chip.state l.card_a) (g.D.Chip.state l.card_b));
   most : WritesFor (l.fn.more.seconds - l.left) 0 (devices (g.M.Medium.state l.fn.unit) (g.C.Chip.state l.fn.card_a) (g.D.Chip.state l.fn.card_b)) (devices (g.M.Medium.state l.unit) (g.C.Chip.state l.card_a) (g.D.Chip.state l.card_b));

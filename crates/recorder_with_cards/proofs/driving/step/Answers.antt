@@ -1,4 +1,4 @@
-use Rattle.std.proofs.Common.{rules, ◌≡◌, ◌∙◌, ℕ, ◌+◌, ◌-◌, ◌<◌, true, false, List, [], ◌∷◌, ◌++◌, refl, ap, sym, subst, arith}
+use Rattle.std.proofs.Common.{rules, ◌≡◌, ◌∙◌, ℕ, ◌+◌, ◌-◌, ◌%◌, ◌<◌, ◌≤◌, Bool, true, false, List, [], ◌∷◌, ◌++◌, length, refl, ap, sym, subst, arith}
 use Rattle.trace_model.specs.Trace.{TraceSecond, driven}
 use Rattle.device_calls.specs.safety_model.Safe.{Devices}
 use Rattle.run_minutes.specs.run_promise.Between.{devices}
@@ -15,7 +15,15 @@ use Rattle.run_acts.specs.RunRinged.{RunRinged, InSecondRinged}
 use Rattle.recorder_with_cards.proofs.SecondsRinged.{dark-ringed}
 use Rattle.run_minutes.proofs.Later.{after-of, after-then}
 use Rattle.run_outcome.proofs.Broken.{broke-then}
-use Rattle.recorder_with_cards.specs.Carded.{RunCarded, InSecondCarded}
+use Rattle.recorder_with_cards.specs.Carded.{RunCarded, InSecondCarded, RunMoments}
+use Rattle.recorder_with_cards.proofs.Promised.{both}
+use Rattle.recorder_with_cards.proofs.Growing.{Grows, grows-is, grows-then_, begun-grows, turn-grows}
+use Rattle.recorder_with_cards.proofs.Moments.{moments-on, near-minute}
+use Rattle.device_calls.proofs.run_unit_course.Parts.{driven-length}
+use Rattle.device_calls.specs.safety_model.Safe.{card_of}
+use Rattle.tach_media.specs.Medium.{IsCoherent}
+use Rattle.run_acts.specs.Recording.{RunRecorded}
+use Rattle.recorder_with_cards.proofs.StoodSeconds.{turn-stood}
 use Rattle.recorder_with_cards.proofs.SecondsCards.{turned-carded, dark-carded}
 use Rattle.recorder_with_cards.proofs.SpeedsSoFar.{CameSo, came-begun, in-second, carded-in}
 use Rattle.run_minutes.proofs.Calm.{calm-then}
@@ -84,6 +92,34 @@ module _ (g : Over) (c : After-turn g) where
 
     refused-none : c.turn.new.outcome ≡ record c.args.outcome.now { refused = with_lines (refused_dark c.args.run.now.next []) c.args.outcome.now.refused }
     refused-none = passes.1 ∙ (c.in_ok-begin_second.ensures.dark away).1 ∙ none-refused c.args.outcome.now
+
+  -- so far as it has come its outcome grows
+  grows-begun : c.in_ok-begin_second.field-0 ≡ true → Grows c.args.run.now.next c.args.outcome.now c.begin_second.new.outcome
+  grows-begun given =
+      begun-grows c.args.more.speed c.args.run.now c.begin_second.new.run c.args.outcome.now c.begin_second.new.outcome dev0 dev1 (λ on. (c.in_ok-begin_second.ensures.lit on).2)
+      (λ dark_. c.in_ok-begin_second.ensures.promises.noted dark_ (has-given given))
+
+  grows-turned : Grows c.args.run.now.next c.begin_second.new.outcome c.turn.new.outcome
+  grows-turned = subst (λ (u : ℕ). Grows u c.begin_second.new.outcome c.turn.new.outcome) c.in_ok-begin_second.ensures.begun.next
+      (turn-grows (is_lit c.begin_second.new.run.power) c.args.more.seconds c.args.more.speed 0 c.begin_second.new.run c.turn.new.run c.begin_second.new.outcome c.turn.new.outcome c.requires.stretch.some c.turn.ensures.turned.seconds)
+
+  grows-step : Grows c.args.run.now.next c.args.outcome.now c.turn.new.outcome
+  grows-step = grows-then_ c.args.run.now.next c.args.outcome.now c.begin_second.new.outcome c.turn.new.outcome (by c.in_ok-begin_second.field-0 refl) grows-turned
+    where
+      by : (b : Bool) → c.in_ok-begin_second.field-0 ≡ b → Grows c.args.run.now.next c.args.outcome.now c.begin_second.new.outcome
+      by true given = grows-begun given
+      by false away = grows-is c.args.run.now.next c.args.outcome.now c.begin_second.new.outcome (c.in_ok-begin_second.ensures.dark away).1
+
+  timely-step : (o : Origin) (done : List TraceSecond) → RunRecorded o done c.args.run.now c.args.outcome.now dev0 → RunMoments o done c.args.outcome.now dev0 → RunMoments o (done ++ driven c.args.more.seconds c.args.run.now.next c.args.more.speed []) c.turn.new.outcome dev2
+  timely-step o done r m =
+      let next : c.args.run.now.next ≡ o.from + length done = r.recorded.recorded.followed.next in
+      let minute = c.requires.stretch.minute in
+      let long = driven-length c.args.more.seconds c.args.run.now.next c.args.more.speed [] in
+      moments-on o done (driven c.args.more.seconds c.args.run.now.next c.args.more.speed []) c.args.run.now c.args.outcome.now c.turn.new.outcome dev0 dev2 r m
+      (g.met.M.Medium.coherent c.args.unit.now) (both (λ k. IsCoherent (card_of dev0 k)) (g.met.C.Chip.coherent c.args.card_a.now) (g.met.D.Chip.coherent c.args.card_b.now)) next grows-step
+      (after-then dev0 dev1 dev2 (after-of dev0 dev1 c.in_ok-begin_second.ensures.goes.later) c.turn.ensures.goes.later) (calm-then dev0 dev1 dev2 c.in_ok-begin_second.ensures.goes.calm c.turn.ensures.goes.calm)
+      (broke-then c.in_ok-begin_second.ensures.goes.broke c.turn.ensures.goes.broke)
+      (near-minute o.from done c.args.more.seconds c.args.run.now.next c.args.more.speed (subst (λ (u : ℕ). u % 60 + length (driven c.args.more.seconds c.args.run.now.next c.args.more.speed []) ≤ 60) next (omega (arith, minute, long))))
 
   -- what is carried behind them
   stepped : (R : Between) (I : Inside) (o : Origin) (done : List TraceSecond) → HasBegunBy R I (Ok c.in_ok-begin_second.field-0) o done second c.begin_second.new.run c.begin_second.new.outcome dev1 →
@@ -161,17 +197,23 @@ returns-clause-promises g c = record {
       (λ lit_ in_. c.turn.ensures.promises.ringed o done (second g c) (now-begun g c) refl (λ more. (refl, last)) in_ time)
       (λ away. dark-ringed o done c.args.run.now c.args.outcome.now (dev0 g c) r c.args.more.seconds c.args.more.speed 0 [] c.requires.stretch.some (none-given g c away) c.requires.stretch.minute c.turn.new.run c.turn.new.outcome (passed-on g c away) (refused-none g c away));
   cards =
-      λ o done last r time.
+      λ o done last t time.
+      let r = t.carded in
       let low = c.requires.going.low in
       let positive : 0 < c.args.run.now.next = omega (arith, low) in
-      stepped g c RunCarded InSecondCarded o done (c.in_ok-begin_second.ensures.promises.cards o done (second g c) (record { number = refl; given = refl; speed_is = refl }) r (time-begun g c time))
-      (λ lit_ in_. turned-carded o done (second g c) c.args.more.seconds c.args.more.speed 0 c.begin_second.new.run c.turn.new.run c.begin_second.new.outcome c.turn.new.outcome (dev1 g c) (dev2 g c) refl positive in_ c.turn.ensures.turned.seconds
-      (λ x. c.turn.ensures.promises.ringed o done (second g c) (now-begun g c) refl (λ more. (refl, last)) x time)
-      (λ x. c.turn.ensures.promises.cards o done (second g c) (now-begun g c) refl (λ more. refl) x time)
-      (c.turn.ensures.promises.speeds o done (second g c) (now-begun g c) refl (λ more. refl)
-      (in-second o done (second g c) c.args.run.now c.begin_second.new.run c.args.outcome.now c.begin_second.new.outcome (dev0 g c) (dev1 g c) r.ringed.evented.recorded r.speeds refl refl (has-given g c lit_) (came g c lit_) c.in_ok-begin_second.ensures.goes.later.speeds 0
-      (carded-in (is_lit c.begin_second.new.run.power) o done (second g c) 0 c.begin_second.new.run c.begin_second.new.outcome (dev1 g c) in_)) time))
-      (λ away. dark-carded o done c.args.run.now c.args.outcome.now (dev0 g c) r c.requires.going.low c.args.more.seconds c.args.more.speed 0 [] c.requires.stretch.some (none-given g c away) c.requires.stretch.minute c.turn.new.run c.turn.new.outcome (passed-on g c away) (refused-none g c away));
+      record {
+        carded = stepped g c RunCarded InSecondCarded o done (c.in_ok-begin_second.ensures.promises.cards o done (second g c) (record { number = refl; given = refl; speed_is = refl }) r (time-begun g c time))
+            (λ lit_ in_. turned-carded o done (second g c) c.args.more.seconds c.args.more.speed 0 c.begin_second.new.run c.turn.new.run c.begin_second.new.outcome c.turn.new.outcome (dev1 g c) (dev2 g c) refl positive in_ c.turn.ensures.turned.seconds
+            (λ x. c.turn.ensures.promises.ringed o done (second g c) (now-begun g c) refl (λ more. (refl, last)) x time)
+            (λ x. c.turn.ensures.promises.cards o done (second g c) (now-begun g c) refl (λ more. refl) x time)
+            (λ x. turn-stood o done (second g c) c.args.more.seconds c.args.more.speed 0 c.begin_second.new.run c.turn.new.run c.begin_second.new.outcome c.turn.new.outcome (dev1 g c) (dev2 g c) (now-begun g c).number c.turn.ensures.turned.next (let fits = c.requires.stretch.minute in let same = (now-begun g c).number in omega (arith, fits, same)) c.requires.stretch.some x.evented.recorded in_ c.turn.ensures.turned.seconds
+            (λ y. c.turn.ensures.promises.stands o done (second g c) (now-begun g c) refl (λ more. refl) y time))
+            (c.turn.ensures.promises.speeds o done (second g c) (now-begun g c) refl (λ more. refl)
+            (in-second o done (second g c) c.args.run.now c.begin_second.new.run c.args.outcome.now c.begin_second.new.outcome (dev0 g c) (dev1 g c) r.ringed.evented.recorded r.speeds refl refl (has-given g c lit_) (came g c lit_) c.in_ok-begin_second.ensures.goes.later.speeds 0
+            (carded-in (is_lit c.begin_second.new.run.power) o done (second g c) 0 c.begin_second.new.run c.begin_second.new.outcome (dev1 g c) in_)) time))
+            (λ away. dark-carded o done c.args.run.now c.args.outcome.now (dev0 g c) r c.requires.going.low c.args.more.seconds c.args.more.speed 0 [] c.requires.stretch.some (none-given g c away) c.requires.stretch.minute c.turn.new.run c.turn.new.outcome (passed-on g c away) (refused-none g c away));
+        timely = timely-step g c o done r.ringed.evented.recorded t.timely;
+      };
 }
 
 pub returns-in_err-begin_second-clause-promises : goal.returns-in_err-begin_second-clause-promises
@@ -183,7 +225,7 @@ returns-in_err-begin_second-clause-promises g c = record {
   cards =
       λ o done last r time.
       let s : TraceSecond = record { number = c.args.run.now.next; has_power = true; speed = c.args.more.speed; actions = [] } in
-      absurd (c.in_err-begin_second.ensures.promises.cards o done s (record { number = refl; given = refl; speed_is = refl }) r time);
+      absurd (c.in_err-begin_second.ensures.promises.cards o done s (record { number = refl; given = refl; speed_is = refl }) r.carded time);
 }
 
 pub turn-requires-clause-stretch : goal.turn-requires-clause-stretch

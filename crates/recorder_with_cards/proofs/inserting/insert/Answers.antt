@@ -49,6 +49,8 @@ use Rattle.run_acts.proofs.Ringing.{settling-leaves}
 use Rattle.recorder_with_cards.proofs.EnteredRings.{writes-behind}
 use Rattle.run_minutes.proofs.Later.{later-then}
 use Rattle.run_acts.specs.RunCards.{vehicle_in, StillShow, CardsSettling, PlacesSettling, CardsGoOn}
+use Rattle.run_acts.specs.Stood.{LetStand, StandsSettling}
+use Rattle.run_acts.proofs.Stood.{stand-then}
 use Rattle.recorder_with_cards.proofs.InsertedCards.{unsettled-cards, inserted-cards}
 use Rattle.recorder_with_cards.proofs.Staying.{settled-watched}
 use Rattle.run_minutes.proofs.Calm.{calm-then}
@@ -86,7 +88,7 @@ seat-there g c =
     let cabin = c.args.run.now.keeper.cabin in
     let stands = subst (λ (b : Cabin). CabinIsSound (ungiven_of h.span) None b) c.put_in.ensures.kept (c.put_in.ensures.stands (ungiven_of h.span) h.cabin) in
     let here = subst (λ (b : Cabin). IsBareIn b c.args.put.slot) (sym c.put_in.ensures.kept) (put-bare c.args.put.slot c.args.put.card cabin (ungiven_of h.span) stands) in
-    (c.in_ok-settle.ensures.behind.bare refl c.args.put.slot here).0 ∙ ap (λ (b : Cabin). seat_in b.slots.seats c.args.put.slot) c.put_in.ensures.kept ∙ seat-put c.args.put.slot c.args.put.card cabin
+    (c.in_ok-settle.ensures.stands.bare refl c.args.put.slot here).0 ∙ ap (λ (b : Cabin). seat_in b.slots.seats c.args.put.slot) c.put_in.ensures.kept ∙ seat-put c.args.put.slot c.args.put.card cabin
 
 -- where the unit failed
 module _ (g : Over) (c : After-from_residual g) where
@@ -162,10 +164,10 @@ accept_in-requires-clause-acting g c = record {
       let next = ap (λ (r : Run). r.next) c.settle.ensures.settled.only in
       let small = c.requires.acting.small in
       omega (arith, next, small);
-  held = c.settle.ensures.held;
+  held = c.settle.ensures.stands.held.held;
   going =
       let run = c.args.run.now in
-      c.in_ok-settle.ensures.going None
+      c.in_ok-settle.ensures.stands.going None
       (subst (λ (b : Cabin). RunHasPowerAllSeated (run.next / 60) (with_cabin b run) (g.M.Medium.state c.args.unit.now) (g.C.Chip.card c.args.card_a.now) (g.D.Chip.card c.args.card_b.now) (g.C.Chip.state c.args.card_a.now) (g.D.Chip.state c.args.card_b.now))
       (sym c.put_in.ensures.kept) (put-going c.args.put.slot c.args.put.card (run.next / 60) run (λ from s. subst (λ (b : Cabin). CabinIsSound from None b) c.put_in.ensures.kept (c.put_in.ensures.stands from s)) c.requires.acting.going));
 }
@@ -254,6 +256,19 @@ returns-in_err-settle-clause-promises g c = record {
       told e lines.lines (ap log_of settles.outcome ∙ ap (λ (bs : List Break). record (log_of out) { breaks = bs }) lines.are) (subst (λ (m : Moment). AreTears m lines.lines) at lines.tears)
       (more-left o d e (within.within.powered.lit.unit.unit_holds [] []).later within.within.there.clocks (settled-left c.settle.ensures.goes.keeping)) still in
       subst (λ (f : Bool). CardsGoOn f o done s within.within.b.run.log (front ++ Insert c.args.put.slot c.args.put.card ∷ []) (log_of told) e) (failed g c) goes;
+  stands =
+      λ late room o done s now front rest actions begun allowed within time.
+      let run = c.args.run.now in
+      let out = c.args.outcome.now in
+      let mid : Run = c.settle.new.run in
+      let told : Outcome = c.settle.new.outcome in
+      let d : Devices = devices (g.M.Medium.state c.args.unit.now) (g.C.Chip.state c.args.card_a.now) (g.D.Chip.state c.args.card_b.now) in
+      let e : Devices = devices (g.M.Medium.state c.settle.new.unit) (g.C.Chip.state c.settle.new.card_a) (g.D.Chip.state c.settle.new.card_b) in
+      let at = at-is c.args.put.slot c.args.put.card c.args.put.at c.args.put.speed run out d o done s now front rest actions c.requires.may.at begun late allowed within (ungiven_of c.requires.acting.going.span) c.requires.acting.going.cabin in
+      let v = c.in_err-settle.ensures.keeps in
+      let stands = subst (λ (b : Cabin). StandsSettling v.decided c.args.put.at (with_cabin b run) mid out d e) c.put_in.ensures.kept v.stands in
+      stands o done s (length front) (entering_by (length front) (Insert c.args.put.slot c.args.put.card)) at
+      (waits-within c.args.put.slot c.args.put.card c.args.put.at c.args.put.speed run out d o done s now front rest actions c.requires.may.at begun late allowed within (ungiven_of c.requires.acting.going.span) c.requires.acting.going.cabin mid told true (unsettles g c) v.decided v.given) time;
 }
 
 pub returns-in_err-settle-clause-leaves : goal.returns-in_err-settle-clause-leaves
@@ -288,8 +303,8 @@ pub returns-in_err-settle-clause-behind : goal.returns-in_err-settle-clause-behi
 returns-in_err-settle-clause-behind g c = record {
   held =
       record {
-        held = c.settle.ensures.held;
-        cause = subst (λ (b : Bool). HasCause (g.M.Medium.state c.args.unit.now) (g.M.Medium.state c.settle.new.unit) b) (failed g c) c.in_err-settle.ensures.behind.cause;
+        held = c.settle.ensures.stands.held.held;
+        cause = subst (λ (b : Bool). HasCause (g.M.Medium.state c.args.unit.now) (g.M.Medium.state c.settle.new.unit) b) (failed g c) c.in_err-settle.ensures.stands.held.cause;
       };
   going = on_ok c.from_residual.result (λ well. absurd (let bad : true ≡ false = (failed g c) ∙ well in cc));
 }
@@ -397,6 +412,27 @@ returns-clause-promises g c = record {
       let j = next-cards c.args.put.slot c.args.put.card c.args.put.at c.args.put.speed run out d o done s now front rest actions c.requires.may.at begun late allowed within (ungiven_of c.requires.acting.going.span) c.requires.acting.going.cabin mid told false settles q.decided q.given e (records g c) before refl (seat-there g (goal.at.returns-clause-promises g c).In_ok-settle)
       (is_err c.accept_in.result) c.accept_in.new.outcome last (c.accept_in.ensures.promises.cards (room-then g c room)) own time in
       inserted-cards o done s front rest c.args.put.slot c.args.put.card actions run out d within cards fine told e lines.lines log tears left still (is_err c.accept_in.result) c.accept_in.new.outcome last j;
+  stands =
+      λ late room o done s now front rest actions begun allowed within time.
+      let run = c.args.run.now in
+      let out = c.args.outcome.now in
+      let put : Run = put_run c.args.put.slot c.args.put.card run in
+      let mid : Run = c.settle.new.run in
+      let told : Outcome = c.settle.new.outcome in
+      let d = found g (settling g c) in
+      let e = settled g (settling g c) in
+      let last = behind g c in
+      let v = c.in_ok-settle.ensures.keeps in
+      let settles = settles g c in
+      let before = time-settled g c time in
+      let at = at-is c.args.put.slot c.args.put.card c.args.put.at c.args.put.speed run out d o done s now front rest actions c.requires.may.at begun late allowed within (ungiven_of c.requires.acting.going.span) c.requires.acting.going.cabin in
+      let stands = subst (λ (b : Cabin). StandsSettling v.decided c.args.put.at (with_cabin b run) mid out d e) c.put_in.ensures.kept v.stands in
+      let kept : LetStand o d e = stands o done s (length front) (entering_by (length front) (Insert c.args.put.slot c.args.put.card)) at
+      (waits-within c.args.put.slot c.args.put.card c.args.put.at c.args.put.speed run out d o done s now front rest actions c.requires.may.at begun late allowed within (ungiven_of c.requires.acting.going.span) c.requires.acting.going.cabin mid told false settles v.decided v.given) before in
+      let own : mid.keeper.memory.registration ≡ vehicle_in o = ap (λ m. m.registration) (settled-watched c.args.put.at false put mid out told settles).memory ∙ within.vehicle in
+      let j = next-cards c.args.put.slot c.args.put.card c.args.put.at c.args.put.speed run out d o done s now front rest actions c.requires.may.at begun late allowed within (ungiven_of c.requires.acting.going.span) c.requires.acting.going.cabin mid told false settles v.decided v.given e (records g c) before refl (seat-there g (goal.at.returns-clause-promises g c).In_ok-settle)
+      (is_err c.accept_in.result) c.accept_in.new.outcome last (c.accept_in.ensures.promises.cards (room-then g c room)) own time in
+      stand-then o d e last kept (record { left = j.left; made = j.made });
 }
 
 pub returns-clause-leaves : goal.returns-clause-leaves
@@ -452,7 +488,7 @@ returns-clause-behind g c = record {
   held =
       record {
         held = c.accept_in.ensures.behind.held.held;
-        cause = cause_after c.in_ok-settle.ensures.behind.cause c.accept_in.ensures.behind.held.cause;
+        cause = cause_after c.in_ok-settle.ensures.stands.held.cause c.accept_in.ensures.behind.held.cause;
       };
   going = first_of (search rules, grind (arith, common_steps));
 }

@@ -19,6 +19,9 @@ use Rattle.recorder_with_cards.proofs.BegunRinged.{lit-ringed}
 use Rattle.device_calls.specs.safety_model.Safe.{Devices}
 use Rattle.recorder_with_cards.proofs.RingsHeld.{ringed-lit}
 use Rattle.recorder_with_cards.proofs.CardsHeld.{in-carded_lit}
+use Rattle.recorder_with_cards.proofs.FreshStood.{begins-stood}
+use Rattle.recorder_with_cards.proofs.Resumed.{wholes-of}
+use Rattle.minute_rules.specs.minute_model.Span.{ungiven_of}
 use Rattle.recorder_with_cards.proofs.SecondsCards.{over-lit, over-vehicle, begins-cards}
 use Rattle.run_minutes.proofs.Calm.{calm-same}
 use Rattle.run_minutes.proofs.Writes.{wrote-none}
@@ -154,6 +157,7 @@ returns-then-is_lit-clause-promises g c = record {
         ringed = w;
         vehicle = ap (λ (r : Run). r.keeper.memory.registration) c.end_minute.ensures.run ∙ over-vehicle (run.next % 60 == 0) run ∙ rec.vehicle;
         cards = begins-cards o done run out d rec lit s now.number now.given;
+        past = begins-stood o done run out d rec.ringed (λ is. let going = c.requires.going.lit yes in (ungiven_of going.span, going.cabin)) (wholes-of (g.M.Medium.state c.args.unit.now) (g.C.Chip.state c.args.card_a.now) (g.D.Chip.state c.args.card_b.now) (g.met.C.Chip.coherent c.args.card_a.now) (g.met.D.Chip.coherent c.args.card_b.now)) rec.past;
       });
   noted =
       λ dark has.

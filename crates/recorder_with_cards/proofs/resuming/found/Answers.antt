@@ -23,6 +23,13 @@ use Rattle.run_acts.specs.Power.{is_lit, has_power}
 use Rattle.run_acts.specs.Room.{bare_seats}
 use Rattle.run_acts.specs.Recording.{log_of, values_of, InSecondBy, GoesOnOrCut, IsNow, RunCut, RunRecorded}
 use Rattle.run_acts.specs.RunRinged.{seats_of, with_cut, InSecondRinged, RunRinged}
+use Rattle.run_acts.specs.Stood.{TellsOn, HaveStood}
+use Rattle.run_acts.proofs.Stood.{stood-on, stood-told}
+use Rattle.recorder_with_cards.proofs.Resumed.{wholes-of}
+use Rattle.recorder_with_cards.proofs.FreshStood.{begins-stood}
+use Rattle.recorder_with_cards.proofs.StoodSeconds.{cut-ends}
+use Rattle.recorder_with_cards.proofs.WakesStood.{here-tells, found-tells}
+use Rattle.recorder_with_cards.proofs.RingsHere.{here-cut}
 use Rattle.run_acts.specs.RunCards.{vehicle_in, CardsBehind, CardsIn}
 use Rattle.recorder_with_cards.proofs.ActsRecorded.{cut-in, cut}
 use Rattle.recorder_with_cards.proofs.ActsEvented.{in-evented_cut, in-evented_lit}
@@ -145,6 +152,18 @@ module _ (g : Over) (c : After-resume g) where
         let cards : CardsBehind o done began dev0 = subst (λ (l : RunLog). CardsBehind o done l dev0) (sym log)
         (learned-cards o done (log_of out) run.unfound c.last_kept-kept.result dev0 rec.recorded.recorded.followed.order all.ringed.evented.evented.gaps.known all.cards) in
         c.resume.ensures.promises.cards room_learnt o rec.origin done s rec.supply (values_of run out) rec.recorded (stay rec) (may rec) now.number now.given now.speed_is values all.ringed.evented.evented (limit all.ringed.evented) (ap (λ (r : Run). r.keeper.memory.registration) c.learn.ensures.run ∙ all.vehicle) cards time
+
+    -- what stood on them, or is exact as power comes, stands
+    stood : RunCarded o done run out dev0 → HaveStood o done (log_of told) dev1
+    stood all =
+        let rec = all.ringed.evented.recorded in
+        let U : State = g.M.Medium.state c.args.unit.now in
+        let fresh : HaveStood o done (log_of out) dev0 = begins-stood o done run out dev0 all.ringed (λ lit. absurd (let bad : false ≡ true = sym c.requires.may.dark ∙ ap is_lit lit in cc))
+        (wholes-of U (g.C.Chip.state c.args.card_a.now) (g.D.Chip.state c.args.card_b.now) (g.met.C.Chip.coherent c.args.card_a.now) (g.met.D.Chip.coherent c.args.card_b.now)) all.past in
+        let learnt : HaveStood o done began dev0 = subst (λ (l : RunLog). HaveStood o done l dev0) (sym log)
+        (stood-told o done (log_of out) (found_log run.unfound c.last_kept-kept.result (log_of out)) dev0 (found-tells done o.from (log_of out) run.unfound c.last_kept-kept.result rec.recorded.recorded.followed.order) fresh) in
+        let stands = c.resume.ensures.promises.stands room_learnt o rec.origin done s rec.supply (values_of run out) rec.recorded (stay rec) (may rec) now.number now.given now.speed_is values all.ringed.evented.evented (limit all.ringed.evented) (ap (λ (r : Run). r.keeper.memory.registration) c.learn.ensures.run ∙ all.vehicle) time in
+        stood-told o done began (log_of told) dev1 stands.1 (stood-on o done began dev0 dev1 learnt stands.0)
 
 -- ---- where the clock is judged to have been put back: that is never so behind what is recorded
 
@@ -290,10 +309,16 @@ returns-then-is_err-clause-promises g c = record {
       let after : Devices = dev1 g (resuming g c) in
       let cards = subst (λ (f : Bool). CardsWoken f (began g (resuming g c)) o done s c.resume.new.run (log_of c.resume.new.outcome) after) (failed g c) (shown g (resuming g c) room o done s now has time all) in
       let is_log : with_cut (log_of c.resume.new.outcome) s [] ≡ log_of (lost g c) = ap (λ (u : ℕ). and_break (log_of c.resume.new.outcome) (cut_at u true 0)) (now.number ∙ sym (next g (resuming g c))) ∙ sym (ap log_of (line g c)) in
+      let rung_ = ringed-cut o done s c.cut.new.self (lost g c) after 0 (ap (λ (q : Run). is_lit q.power) c.cut.ensures.run) (ringed_cut g c room o done s now has time all.ringed) in
+      let f = all.ringed.evented.recorded.recorded.recorded.followed in
       in-carded_cut o done s c.cut.new.self (lost g c) after 0 (record {
-        ringed = ringed-cut o done s c.cut.new.self (lost g c) after 0 (ap (λ (q : Run). is_lit q.power) c.cut.ensures.run) (ringed_cut g c room o done s now has time all.ringed);
+        ringed = rung_;
         vehicle = ap (λ (q : Run). q.keeper.memory.registration) c.cut.ensures.run ∙ cards.0;
         cards = subst (λ (l : RunLog). CardsBehind o (done ++ s ∷ []) l after) is_log cards.1;
+        past = cut-ends o done s (log_of c.resume.new.outcome) c.cut.new.self (lost g c) after rung_.evented.cut (now.number ∙ sym (next g (resuming g c)) ∙ sym (ap (λ (q : Run). q.next) c.cut.ensures.run))
+            (subst (λ (l : RunLog). TellsOn (log_of c.resume.new.outcome) l done) is_log
+            (here-tells done o.from (log_of c.resume.new.outcome) (with_cut (log_of c.resume.new.outcome) s []) s.number f.order (let number = now.number in let next_ = f.next in omega (arith, number, next_)) (here-cut (log_of c.resume.new.outcome) s [])))
+            (stood g (resuming g c) room o done s now has time all);
       });
 }
 
@@ -350,6 +375,7 @@ returns-clause-promises g c = record {
         ringed = ringed-lit o done s (mid g here) (told g here) (dev1 g here) 0 (ap is_lit on.0.within.lit) (lit-woken o done s (mid g here) (told g here) (dev1 g here) (began g here) all.ringed.spans on (subst (λ (f : Bool). RingsWoken f (began g here) o done s all.ringed.spans (mid g here) (log_of (told g here)) (dev1 g here)) well (rung g here room o done s now has time all.ringed)));
         vehicle = cards.0;
         cards = cards-on o done s 0 (mid g here) (told g here) (dev1 g here) [] s.actions on.0.within.within.b refl refl positive (record { goes = on.0.within; began = refl }) (subst (λ (l : RunLog). CardsIn o done s l [] (log_of (told g here)) (dev1 g here)) (sym on.1) cards.1);
+        past = stood g here room o done s now has time all;
       });
 }
 

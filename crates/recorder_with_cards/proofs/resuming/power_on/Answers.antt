@@ -29,6 +29,13 @@ use Rattle.recorder_with_cards.proofs.WokenStored.{unread-stored}
 use Rattle.run_acts.specs.run_note_record.Steps.{spans_cut}
 use Rattle.run_acts.proofs.run_note_record.RingsWaking.{behind-stays}
 use Rattle.run_acts.specs.RunRinged.{seats_of, with_cut, InSecondRinged, RunRinged}
+use Rattle.run_acts.specs.Stood.{LetStand, TellsOn, HaveStood}
+use Rattle.run_acts.proofs.Stood.{behind-on, stood-on, unit-makes}
+use Rattle.recorder_with_cards.proofs.Resumed.{wholes-of}
+use Rattle.recorder_with_cards.proofs.FreshStood.{begins-stood}
+use Rattle.recorder_with_cards.proofs.StoodSeconds.{cut-ends}
+use Rattle.recorder_with_cards.proofs.WakesStood.{here-tells}
+use Rattle.recorder_with_cards.proofs.RingsHere.{here-cut}
 use Rattle.run_acts.specs.RunCards.{CardsBehind}
 use Rattle.run_acts.specs.Speeds.{SpeedsBehind}
 use Rattle.run_acts.proofs.SpeedLogs.{blocks-same}
@@ -125,6 +132,10 @@ module _ (g : Over) (c : After-open_unit g) where
 
     left : RunRecorded o done run out dev0 → HaveLeftMore o dev0 dev1
     left rec = left-on o done rec.supply (values_of run out) dev0 rec.recorded (may rec) (g.M.Medium.state c.open_unit.new.unit) whole c.open_unit.ensures.revived.leaves c.open_unit.ensures.revived.cause.breakdowns
+
+    -- what stood on the cards stands
+    stands : RunRecorded o done run out dev0 → LetStand o dev0 dev1
+    stands rec = record { left = left rec; made = unit-makes o (g.M.Medium.state c.args.unit.now) (g.M.Medium.state c.open_unit.new.unit) (g.C.Chip.state c.args.card_a.now) (g.D.Chip.state c.args.card_b.now) }
 
     -- it stays so behind the reading
     abbrev recorded : RunRecorded o done run out dev0 → RunRecorded o done run out dev1
@@ -265,7 +276,7 @@ returns-in-Ok-clause-promises g c = record {
   cards =
       λ room o done s now all has time.
       let at = (goal.at.returns-in-Ok-clause-promises g c).After-open_unit in
-      c.found.ensures.promises.cards room o done s now (record { ringed = ringed g at o done has all.ringed; vehicle = all.vehicle; cards = shown g at o done all.cards; speeds = speeds g at o done all.speeds }) has time;
+      c.found.ensures.promises.cards room o done s now (record { ringed = ringed g at o done has all.ringed; vehicle = all.vehicle; cards = shown g at o done all.cards; past = behind-on o done (log_of (out g at)) (dev0 g at) (dev1 g at) all.past (stands g at o done has all.ringed.evented.recorded); speeds = speeds g at o done all.speeds }) has time;
 }
 
 pub returns-in-Ok-clause-goes : goal.returns-in-Ok-clause-goes
@@ -335,10 +346,18 @@ returns-in-Err-Failed-clause-promises g c = record {
       let positive : 0 < s.number = omega (arith, low, number) in
       let cut_shown = unpowered-cards o done s (progress (values_of (run g at) (out g at)) rec.supply rec.recorded.book) rec.recorded.recorded.followed (comes g c o done s now has rec) now.number now.given positive (dev1 g at) (shown g at o done all.cards) in
       let is_log : with_cut (log_of (out g at)) s [] ≡ log_of (lost g c) = ap (λ (u : ℕ). and_break (log_of (out g at)) (cut_at u true 0)) now.number ∙ sym (ap log_of (line g c)) in
+      let rung_ = ringed-cut o done s c.cut.new.self (lost g c) (dev1 g at) 0 (ap (λ (q : Run). is_lit q.power) c.cut.ensures.run) (ringed_cut g c o done s now has all.ringed) in
+      let f = rec.recorded.recorded.followed in
+      let fresh : HaveStood o done (log_of (out g at)) (dev0 g at) = begins-stood o done (run g at) (out g at) (dev0 g at) all.ringed (λ lit. absurd (never-lit g at lit))
+      (wholes-of (g.M.Medium.state c.args.unit.now) (g.C.Chip.state c.args.card_a.now) (g.D.Chip.state c.args.card_b.now) (g.met.C.Chip.coherent c.args.card_a.now) (g.met.D.Chip.coherent c.args.card_b.now)) all.past in
       in-carded_cut o done s c.cut.new.self (lost g c) (dev1 g at) 0 (record {
-        ringed = ringed-cut o done s c.cut.new.self (lost g c) (dev1 g at) 0 (ap (λ (q : Run). is_lit q.power) c.cut.ensures.run) (ringed_cut g c o done s now has all.ringed);
+        ringed = rung_;
         vehicle = ap (λ (q : Run). q.keeper.memory.registration) c.cut.ensures.run ∙ all.vehicle;
         cards = subst (λ (l : RunLog). CardsBehind o (done ++ s ∷ []) l (dev1 g at)) is_log cut_shown;
+        past = cut-ends o done s (log_of (out g at)) c.cut.new.self (lost g c) (dev1 g at) rung_.evented.cut (now.number ∙ sym (ap (λ (q : Run). q.next) c.cut.ensures.run))
+            (subst (λ (l : RunLog). TellsOn (log_of (out g at)) l done) is_log
+            (here-tells done o.from (log_of (out g at)) (with_cut (log_of (out g at)) s []) s.number f.order (let next_ = f.next in omega (arith, number, next_)) (here-cut (log_of (out g at)) s [])))
+            (stood-on o done (log_of (out g at)) (dev0 g at) (dev1 g at) fresh (stands g at o done has rec));
       });
 }
 

@@ -78,6 +78,9 @@ use Rattle.device_calls.specs.event_model.declared.entries.Span.{Span}
 use Rattle.run_acts.specs.run_note_record.EventsSoFar.{AreBare, EventedNow, ComesInTurn}
 use Rattle.run_acts.proofs.run_note_record.SoFar.{left-itself}
 use Rattle.run_acts.specs.Noting.{NoGap, AreGapEvents}
+use Rattle.run_acts.specs.Stood.{LetStand}
+use Rattle.run_acts.proofs.Stood.{stand-then, tells-self, tells-then, unit-makes}
+use Rattle.recorder_with_cards.proofs.WakesStood.{StandsTo, driver-stands, codriver-stands, gap-stands}
 use Rattle.run_acts.specs.RunCards.{vehicle_in, CardsBehind, CardsWaking}
 use Rattle.recorder_with_cards.specs.CardsWoken.{CardsWoken}
 use Rattle.recorder_with_cards.proofs.GapEvented.{gap_events as gap_list}
@@ -316,6 +319,10 @@ module _ (g : Over) (c : After-moment-at g) where
         wakes-cards p.o p.done p.s woke.0 (waiting_in Driver first_card ++ others) mid out mended woke.1 (sym began_log)
         (unit-alone p.o p.done (log_of out) (g.M.Medium.state c.args.unit.now) (g.M.Medium.state c.mend.new.unit) (g.C.Chip.state c.args.card_a.now) (g.D.Chip.state c.args.card_b.now) shown)
 
+    -- what stood on them stands
+    stands-begun : LetStand p.o dev0 mended
+    stands-begun = record { left = is.2; made = unit-makes p.o (g.M.Medium.state c.args.unit.now) (g.M.Medium.state c.mend.new.unit) (g.C.Chip.state c.args.card_a.now) (g.D.Chip.state c.args.card_b.now) }
+
 -- ---- the card in the driver slot was judged
 
 module _ (g : Over) (c : After-accept_anew g) where
@@ -392,6 +399,12 @@ module _ (g : Over) (c : After-accept_anew g) where
     cards-one speed_is vehicle shown =
         driver-woken p.o p.done p.s (woke g span p).0 (first_card g span) (others g span) (mid g span) (out g span) (mended g span) (woke g span p).1 (at-once CoDriver (card_in (mid g span).keeper.cabin.slots.seats.codriver)) refl (bare g span) (positive g span p) (vehicle-one p.o vehicle).0
         (cards-begun g span p shown) c.moment-at.result (now g span p) c.args.waking.speed speed_is (is_err c.accept_anew.result) one out1 c.accept_anew.ensures.accepted.enters dev1 still time (c.accept_anew.ensures.promises.recorded room-one) (c.accept_anew.ensures.promises.cards room-one)
+
+    stands-one : p.s.speed ≡ c.args.waking.speed → (run g span).keeper.memory.registration ≡ vehicle_in p.o → StandsTo p.o p.done (out g span) out1 (dev0 g span) dev1
+    stands-one speed_is vehicle =
+        let one_ = driver-stands p.o p.done p.s (woke g span p).0 (first_card g span) (others g span) (mid g span) (out g span) (mended g span) (woke g span p).1 (at-once CoDriver (card_in (mid g span).keeper.cabin.slots.seats.codriver)) refl (bare g span) (positive g span p) (vehicle-one p.o vehicle).0
+        c.moment-at.result (now g span p) c.args.waking.speed speed_is (is_err c.accept_anew.result) one out1 c.accept_anew.ensures.accepted.enters dev1 still time (c.accept_anew.ensures.promises.cards room-one) in
+        (stand-then p.o (dev0 g span) (mended g span) dev1 (stands-begun g span p) one_.0, one_.1)
 
 -- ---- and that in the co-driver slot
 
@@ -540,6 +553,13 @@ module _ (g : Over) (c : After-accept_anew-2 g) where
         codriver-woken p.o p.done p.s (woke g start p).0 second_card (one g driver) (out1 g driver) (dev1 g driver) waking refl bare-two (positive g start p) (vehicle-one g driver p.o vehicle).1
         (subst (λ (f : Bool). WakesOn f p.o p.done p.s (woke g start p).0.run.log (log_of (out1 g driver)) (dev1 g driver)) well (cards-one g driver p time-one speed_is vehicle shown))
         c.moment-at.result (now g start p) c.args.waking.speed speed_is (is_err c.accept_anew-2.result) two out2 c.accept_anew-2.ensures.accepted.enters dev2 still-two time (c.accept_anew-2.ensures.promises.recorded room-two) (c.accept_anew-2.ensures.promises.cards room-two)
+
+    stands-two : p.s.speed ≡ c.args.waking.speed → (run g start).keeper.memory.registration ≡ vehicle_in p.o → StandsTo p.o p.done (out g start) out2 (dev0 g start) dev2
+    stands-two speed_is vehicle =
+        let one_ = stands-one g driver p time-one speed_is vehicle in
+        let two_ = codriver-stands p.o p.done p.s (woke g start p).0 second_card (one g driver) (out1 g driver) (dev1 g driver) waking refl bare-two (positive g start p) (vehicle-one g driver p.o vehicle).1
+        c.moment-at.result (now g start p) c.args.waking.speed speed_is (is_err c.accept_anew-2.result) two out2 c.accept_anew-2.ensures.accepted.enters dev2 still-two time (c.accept_anew-2.ensures.promises.cards room-two) in
+        (stand-then p.o (dev0 g start) (dev1 g driver) dev2 one_.0 two_.0, tells-then (log_of (out g start)) (log_of (out1 g driver)) (log_of out2) p.done one_.1 two_.1)
 
     -- where all went well
     module _ (fine : is_err c.accept_anew-2.result ≡ false) where
@@ -929,6 +949,10 @@ returns-in_err-mend-clause-promises g c = record {
       let alone = unit-alone o done (log_of c.args.outcome.now) (g.M.Medium.state c.args.unit.now) (g.M.Medium.state c.mend.new.unit) (g.C.Chip.state c.args.card_a.now) (g.D.Chip.state c.args.card_b.now) shown in
       let cut = unpowered-cards o done s q (read g c p).followed (read g c p).followed.power number given some_so (as_left g c) (subst (λ (l : RunLog). CardsBehind o done l (as_left g c)) (log-found g c p) alone) in
       subst (λ (f : Bool). CardsWoken f (log_of c.args.outcome.now) o done s c.args.run.now (log_of c.args.outcome.now) (as_left g c)) (failed-mend g c) (vehicle, subst (λ (l : RunLog). CardsBehind o (done ++ s ∷ []) (with_cut l s []) (as_left g c)) (sym (log-found g c p)) cut);
+  stands =
+      λ room o origin done s supply v r stay may number given speed_is values evented limit vehicle time.
+      let p : Behind c.args.waking.journal.kept c.args.run.now c.args.outcome.now (as_found g c) = record { room = room; o = o; origin = origin; vehicle = vehicle; done = done; s = s; supply = supply; v = v; r = r; stay = stay; may = may; number = number; given = given; values = values } in
+      (record { left = (read g c p).left; made = unit-makes o (g.M.Medium.state c.args.unit.now) (g.M.Medium.state c.mend.new.unit) (g.C.Chip.state c.args.card_a.now) (g.D.Chip.state c.args.card_b.now) }, tells-self (log_of c.args.outcome.now) done);
 }
 
 pub returns-in_err-mend-clause-behind : goal.returns-in_err-mend-clause-behind
@@ -996,6 +1020,10 @@ returns-in_err-accept_anew-clause-promises g c = record {
         (vehicle-one g card o vehicle).1,
         subst (λ (f : Bool). WakesOn f o done s (woke g at p).0.run.log (log_of (out1 g card)) (dev1 g card)) (fails-one g c) (cards-one g card p time speed_is vehicle shown),
       );
+  stands =
+      λ room o origin done s supply v r stay may number given speed_is values evented limit vehicle time.
+      let card = (goal.at.returns-in_err-accept_anew-clause-promises g c).After-accept_anew in
+      stands-one g card (premises g (span g card) room o origin vehicle done s supply v r stay may number given values) time speed_is vehicle;
 }
 
 pub returns-in_err-accept_anew-clause-behind : goal.returns-in_err-accept_anew-clause-behind
@@ -1061,6 +1089,10 @@ returns-in_err-accept_anew-2-clause-promises g c = record {
         vehicle-two g cards o vehicle,
         subst (λ (f : Bool). WakesOn f o done s (woke g at p).0.run.log (log_of (out2 g cards)) (dev2 g cards)) (fails-two g c) (cards-two g cards p time speed_is vehicle shown),
       );
+  stands =
+      λ room o origin done s supply v r stay may number given speed_is values evented limit vehicle time.
+      let cards = (goal.at.returns-in_err-accept_anew-2-clause-promises g c).After-accept_anew-2 in
+      stands-two g cards (premises g (start g cards) room o origin vehicle done s supply v r stay may number given values) time speed_is vehicle;
 }
 
 pub returns-in_err-accept_anew-2-clause-behind : goal.returns-in_err-accept_anew-2-clause-behind
@@ -1134,6 +1166,10 @@ returns-then-is_first-clause-promises g c = record {
       (gap-shown o done s (two g cards) (out2 g cards) (dev2 g cards) (dev2 g cards) x (ungiven_of stands_so.span) stands_so.cabin (off-here g cards p time well_two) (bare-here g cards p time well_two e) (positive g at p) None
       (none-list o done s supply v (dev0 g at) (mended g at) r may number given c.args.waking.journal.kept evented (quiet g at) (is g at p).2 (woken g at p e).2 x.within.b.run.log (log-here g cards p time well_two) untold) (vehicle-two g cards o vehicle) (cards-here g cards p time well_two speed_is vehicle shown)
       false (two g cards) (out2 g cards).breaks NoGap (refl, refl, refl) (left-itself o (dev2 g cards)) (λ bad. none-fails bad) (none-noted (two g cards).keeper.cabin.cards (two g cards).keeper.memory.registration (dev2 g cards)));
+  stands =
+      λ room o origin done s supply v r stay may number given speed_is values evented limit vehicle time.
+      let cards = (goal.at.returns-then-is_first-clause-promises g c).After-accept_anew-2 in
+      stands-two g cards (premises g (start g cards) room o origin vehicle done s supply v r stay may number given values) time speed_is vehicle;
 }
 
 pub returns-then-is_first-clause-behind : goal.returns-then-is_first-clause-behind
@@ -1226,6 +1262,17 @@ returns-clause-promises g c = record {
       (vehicle-two g cards o vehicle) (cards-here g cards p past (fine g c) speed_is vehicle shown)
       (is_err c.note_gap.result) (new g c) c.note_gap.new.breaks c.note_gap.ensures.noted.reach.0 c.note_gap.ensures.noted.reach.1 (c.note_gap.ensures.leaves.beside o done s (out2 g cards) x (comes g cards p past (fine g c))).0
       (λ fails. (subst (λ (f : Bool). GoesOnOrFails f o done s (In 0) [] (new g c) (out3 g c) (dev3 g c) x.within.b) fails (goes g c p time)).within.moment.up_to.uncut) c.note_gap.ensures.leaves.card_events);
+  stands =
+      λ room o origin done s supply v r stay may number given speed_is values evented limit vehicle time.
+      let cards = both g c in
+      let at = begin g c in
+      let p = premises g at room o origin vehicle done s supply v r stay may number given values in
+      let past = time-two g c p time in
+      let x = here g c p time in
+      let two_ = stands-two g cards p past speed_is vehicle in
+      let gap_ = gap-stands o done s (two g cards) (out2 g cards) (dev2 g cards) (dev3 g c) x (positive g at p) (gap_of c.last_kept-kept.result (two g cards).next) (is_err c.note_gap.result) (new g c) c.note_gap.new.breaks c.note_gap.ensures.noted.reach.0 c.note_gap.ensures.noted.reach.1
+      c.note_gap.ensures.leaves.places (c.note_gap.ensures.leaves.beside o done s (out2 g cards) x (comes g cards p past (fine g c))).0 in
+      (stand-then o (dev0 g at) (dev2 g cards) (dev3 g c) two_.0 gap_.0, tells-then (log_of (out g at)) (log_of (out2 g cards)) (log_of (out3 g c)) done two_.1 gap_.1);
 }
 
 pub returns-clause-behind : goal.returns-clause-behind

@@ -10,7 +10,13 @@ use Rattle.run_outcome.specs.declared.outcome.Outcome.{Outcome}
 use Rattle.run_acts.specs.RunRinged.{RunRinged}
 use Rattle.recorder_with_cards.specs.Recorded.{actions_in, HasRunBy}
 use Rattle.recorder_with_cards.proofs.SecondsRinged.{off-ringed}
-use Rattle.recorder_with_cards.specs.Carded.{RunCarded}
+use Rattle.recorder_with_cards.specs.Carded.{RunTimely}
+use Rattle.recorder_with_cards.proofs.Promised.{both}
+use Rattle.recorder_with_cards.proofs.Growing.{off-grows}
+use Rattle.recorder_with_cards.proofs.Moments.{moments-on, near-dark}
+use Rattle.trace_model.specs.Trace.{dark}
+use Rattle.device_calls.specs.safety_model.Safe.{card_of}
+use Rattle.tach_media.specs.Medium.{IsCoherent}
 use Rattle.recorder_with_cards.proofs.SecondsCards.{off-carded}
 use Rattle.tach_media.proofs.Runs.{on_ok, ok_gives}
 use Rattle.trace_model.specs.declared.Item.{Item}
@@ -143,8 +149,8 @@ returns-in-Act-clause-promises g c = record {
       λ many o done few r time.
       let d : Devices = devices (g.M.Medium.state c.args.unit.now) (g.C.Chip.state c.args.card_a.now) (g.D.Chip.state c.args.card_b.now) in
       let acts : List Action = actions_in (between c.args.due.from c.args.due.to c.args.due.items.now) in
-      subst (λ (i : Item). RunCarded o (done ++ seconds_at c.args.run.now.next acts i) c.args.run.now c.args.outcome.now d) (sym c.in-Act.is)
-      (subst (λ (ss : List TraceSecond). RunCarded o ss c.args.run.now c.args.outcome.now d) (sym (append-nil done)) r);
+      subst (λ (i : Item). RunTimely o (done ++ seconds_at c.args.run.now.next acts i) c.args.run.now c.args.outcome.now d) (sym c.in-Act.is)
+      (subst (λ (ss : List TraceSecond). RunTimely o ss c.args.run.now c.args.outcome.now d) (sym (append-nil done)) r);
 }
 
 pub returns-in-Off-clause-promises : goal.returns-in-Off-clause-promises
@@ -157,12 +163,20 @@ returns-in-Off-clause-promises g c = record {
       subst (λ (i : Item). RunRinged o (done ++ seconds_at c.args.run.now.next acts i) c.off.new.self out d) (sym c.in-Off.is)
       (off-ringed o done c.args.run.now c.args.outcome.now d r (λ lit. let h = c.requires.going.lit (ap is_lit lit) in (ungiven_of h.span, h.cabin)) c.in-Off.seconds (subst InRange c.in-Off.is c.requires.item).0 c.off.new.breaks c.off.ensures.breaks c.off.new.self c.off.ensures.run);
   cards =
-      λ many o done few r time.
+      λ many o done few t time.
       let d : Devices = devices (g.M.Medium.state c.args.unit.now) (g.C.Chip.state c.args.card_a.now) (g.D.Chip.state c.args.card_b.now) in
       let acts : List Action = actions_in (between c.args.due.from c.args.due.to c.args.due.items.now) in
       let out : Outcome = record c.args.outcome.now { breaks = c.off.new.breaks } in
-      subst (λ (i : Item). RunCarded o (done ++ seconds_at c.args.run.now.next acts i) c.off.new.self out d) (sym c.in-Off.is)
-      (off-carded o done c.args.run.now c.args.outcome.now d r c.requires.going.low (λ lit. let h = c.requires.going.lit (ap is_lit lit) in (ungiven_of h.span, h.cabin)) c.in-Off.seconds (subst InRange c.in-Off.is c.requires.item).0 c.off.new.breaks c.off.ensures.breaks c.off.new.self c.off.ensures.run);
+      subst (λ (i : Item). RunTimely o (done ++ seconds_at c.args.run.now.next acts i) c.off.new.self out d) (sym c.in-Off.is)
+      (record {
+        carded = off-carded o done c.args.run.now c.args.outcome.now d t.carded c.requires.going.low (λ lit. let h = c.requires.going.lit (ap is_lit lit) in (ungiven_of h.span, h.cabin)) c.in-Off.seconds (subst InRange c.in-Off.is c.requires.item).0 c.off.new.breaks c.off.ensures.breaks c.off.new.self c.off.ensures.run;
+        timely = moments-on o done (dark c.in-Off.seconds c.args.run.now.next) c.args.run.now c.args.outcome.now out d d t.carded.ringed.evented.recorded t.timely
+            (g.met.M.Medium.coherent c.args.unit.now) (both (λ k. IsCoherent (card_of d k)) (g.met.C.Chip.coherent c.args.card_a.now) (g.met.D.Chip.coherent c.args.card_b.now)) t.carded.ringed.evented.recorded.recorded.recorded.followed.next
+            (off-grows (is_lit c.args.run.now.power) c.args.run.now.next c.args.run.now.begun c.args.outcome.now c.off.new.breaks (let low = c.requires.going.low in omega (arith, low)) c.off.ensures.breaks)
+            (after-same d) (calm-told d _ (ap (λ (l : Listed Break). l.items) c.off.ensures.breaks) (off-calm _ _ _))
+            (broke-behind _ {old = (g.M.Medium.state c.args.unit.now)} {new = (g.M.Medium.state c.args.unit.now)} (ap (λ (l : Listed Break). l.items) c.off.ensures.breaks) (off-uncut _ _ _) (omega arith))
+            (near-dark o.from done c.in-Off.seconds c.args.run.now.next);
+      });
 }
 
 pub returns-in-Run-clause-promises : goal.returns-in-Run-clause-promises
@@ -175,7 +189,7 @@ returns-in-Run-clause-promises g c = record {
   cards =
       λ many o done few r time.
       let acts : List Action = actions_in (between c.args.due.from c.args.due.to c.args.due.items.now) in
-      subst (λ (i : Item). HasRunBy RunCarded c.drive.result o (done ++ seconds_at c.args.run.now.next acts i) c.drive.new.run c.drive.new.outcome (devices (g.M.Medium.state c.drive.new.unit) (g.C.Chip.state c.drive.new.card_a) (g.D.Chip.state c.drive.new.card_b))) (sym c.in-Run.is)
+      subst (λ (i : Item). HasRunBy RunTimely c.drive.result o (done ++ seconds_at c.args.run.now.next acts i) c.drive.new.run c.drive.new.outcome (devices (g.M.Medium.state c.drive.new.unit) (g.C.Chip.state c.drive.new.card_a) (g.D.Chip.state c.drive.new.card_b))) (sym c.in-Run.is)
       (c.drive.ensures.promises.cards many (omega (arith, few, many)) o done r time);
 }
 

@@ -11,17 +11,18 @@ use Rattle.log_model.specs.declared.lines.Find.{Find}
 use Rattle.log_model.specs.declared.lines.Refused.{Refused}
 use Rattle.run_outcome.specs.Lines.{Listed}
 use Rattle.device_calls.specs.safety_model.Safe.{Devices, card_of}
-use Rattle.device_calls.specs.safety_model.Recording.{Recording, card_image}
+use Rattle.device_calls.specs.safety_model.Recording.{card_image}
 use Rattle.run_acts.specs.run_crew.Cards.{known_of as known_in}
 use Rattle.run_opening.specs.Begun.{known_of, RunIsOpened, IsRefusedBy as IsRefusedAs}
 use Rattle.run_opening.specs.Cards.{IsFoundOn}
-use Rattle.recorder_with_cards.specs.Carded.{RunCarded}
-use Rattle.recorder_with_cards.specs.Ends.{opened_with, origin_of, recording_of}
+use Rattle.recorder_with_cards.specs.Carded.{RunTimely}
+use Rattle.recorder_with_cards.specs.Ends.{EndsTrace, opened_with, origin_of, recording_of}
 use Rattle.recorder_with_cards.proofs.Breakdowns.{are-counted}
 use Rattle.recorder_with_cards.specs.Recorded.{actions_in}
 use Rattle.recorder_with_cards.specs.Items.{between, insertions_in}
 use Rattle.recorder_with_cards.proofs.Waiting.{Waits, waits-none, waits-more, seconds-none, seconds-more, total-parts}
 use Rattle.recorder_with_cards.proofs.Again.{all-bytes}
+use Rattle.recorder_with_cards.proofs.Moments.{moments-none}
 use Rattle.recorder_with_cards.proofs.Promised.{both, more-devices, chip_of, begins-with, promised, may-record, is-found, starts-carded}
 use Rattle.std.specs.Prelude.{IfErr, is_err}
 use Rattle.std.proofs.lemmas.Grind.{common_steps}
@@ -117,21 +118,27 @@ loop-i-init g c =
           let chips = chip_of (g.C.Chip.card c.judge.new.card_a) (g.C.Chip.card c.judge.new.card_b) in
           let low = c.new-run.ensures.odometer in
           let same_odometer = ap (λ (k : Keeper). k.odometer) keeper in
-          subst (λ (ss : List TraceSecond). RunCarded (origin_of x a b start began) ss run c.args.outcome.now now) (sym (seconds-none start))
-          (starts-carded x a b start began now opened ready
-          (both (λ k. IsCoherent (card_of now k)) (g.met.C.Chip.coherent c.judge.new.card_a) (g.met.C.Chip.coherent c.judge.new.card_b))
-          (g.met.U.Medium.coherent c.judge.new.unit)
-          chips
-          (both (λ k. IsFoundOn (known_of opened k) (chips k) (card_of now k)) e.found.card_a e.found.card_b)
-          (both (λ k. All (λ n. n < 256) (card_image (opened_with x a b) k)) (all-bytes a (c.holds_bytes.ensures.told a h.of_a.tells)) (all-bytes b (c.holds_bytes-2.ensures.told b h.of_b.tells)))
-          (both (λ k. (card_of now k).clock ≡ (card_of began k).clock) c.judge.ensures.same.card_a.clock c.judge.ensures.same.card_b.clock)
-          (more-devices (g.U.Medium.state c.args.unit.now) (g.U.Medium.state c.judge.new.unit) (g.C.Chip.state c.args.card_a.now) (g.C.Chip.state c.judge.new.card_a) (g.C.Chip.state c.args.card_b.now) (g.C.Chip.state c.judge.new.card_b)
-          c.judge.ensures.same.unit.breakdowns (e.works.card_a.unbroken refl) (e.works.card_b.unbroken refl))
-          (omega (arith, low, same_odometer)) (c.judge.ensures.same.is_unit c.requires.unit)
-          run c.args.outcome.now c.new-run.ensures.starts.power next c.new-run.ensures.starts.begun c.new-run.ensures.starts.unfound (ap (λ (k : Keeper). k.memory) keeper) slots
-          (both (λ k. known_in run.keeper.cabin.cards k ≡ known_of opened k) (ap (λ (k : Keeper). k.cabin.cards.a) keeper) (ap (λ (k : Keeper). k.cabin.cards.b) keeper))
-          (none-yet run.keeper.cabin.cards a_none b_none)
-          (ap (λ (l : Listed Break). l.items) q.reserved.breaks) (ap (λ (l : Listed Refused). l.items) q.reserved.refused) (ap (λ (l : Listed Find). l.items) q.reserved.finds) (ap (λ (l : Listed Mark). l.items) q.reserved.marks) c.new-run.ensures.starts.noted c.judge.ensures.same.unit.clock);
+          subst (λ (ss : List TraceSecond). RunTimely (origin_of x a b start began) ss run c.args.outcome.now now) (sym (seconds-none start))
+          (record {
+            carded = starts-carded x a b start began now opened ready
+                (both (λ k. IsCoherent (card_of now k)) (g.met.C.Chip.coherent c.judge.new.card_a) (g.met.C.Chip.coherent c.judge.new.card_b))
+                (g.met.U.Medium.coherent c.judge.new.unit)
+                chips
+                (both (λ k. IsFoundOn (known_of opened k) (chips k) (card_of now k)) e.found.card_a e.found.card_b)
+                (both (λ k. All (λ n. n < 256) (card_image (opened_with x a b) k)) (all-bytes a (c.holds_bytes.ensures.told a h.of_a.tells)) (all-bytes b (c.holds_bytes-2.ensures.told b h.of_b.tells)))
+                (both (λ k. (card_of now k).clock ≡ (card_of began k).clock) c.judge.ensures.same.card_a.clock c.judge.ensures.same.card_b.clock)
+                (more-devices (g.U.Medium.state c.args.unit.now) (g.U.Medium.state c.judge.new.unit) (g.C.Chip.state c.args.card_a.now) (g.C.Chip.state c.judge.new.card_a) (g.C.Chip.state c.args.card_b.now) (g.C.Chip.state c.judge.new.card_b)
+                c.judge.ensures.same.unit.breakdowns (e.works.card_a.unbroken refl) (e.works.card_b.unbroken refl))
+                (omega (arith, low, same_odometer)) (c.judge.ensures.same.is_unit c.requires.unit)
+                run c.args.outcome.now c.new-run.ensures.starts.power next c.new-run.ensures.starts.begun c.new-run.ensures.starts.unfound (ap (λ (k : Keeper). k.memory) keeper) slots
+                (both (λ k. known_in run.keeper.cabin.cards k ≡ known_of opened k) (ap (λ (k : Keeper). k.cabin.cards.a) keeper) (ap (λ (k : Keeper). k.cabin.cards.b) keeper))
+                (none-yet run.keeper.cabin.cards a_none b_none)
+                (ap (λ (l : Listed Break). l.items) q.reserved.breaks) (ap (λ (l : Listed Refused). l.items) q.reserved.refused) (ap (λ (l : Listed Find). l.items) q.reserved.finds) (ap (λ (l : Listed Mark). l.items) q.reserved.marks) c.new-run.ensures.starts.noted c.judge.ensures.same.unit.clock;
+            timely = moments-none (origin_of x a b start began) c.args.outcome.now now (record {
+              unit = λ small. let same = e.works.unit.unbroken refl in omega (arith, same);
+              cards = λ small_a small_b. let same_a = e.works.card_a.unbroken refl in let same_b = e.works.card_b.unbroken refl in omega (arith, same_a, same_b);
+            });
+          });
     }
 
 -- ---- an item
@@ -206,7 +213,7 @@ loop-i-preserved g c =
           let at = v.next in
           let here : number_after start (take i items) ≡ c.loop-i.run.next = omega (arith, parts, at) in
           let was = v.cards x a b h (after-time f.goes.later time) few in
-          subst (λ (ss : List TraceSecond). RunCarded o ss c.go_on.new.run c.go_on.new.outcome now)
+          subst (λ (ss : List TraceSecond). RunTimely o ss c.go_on.new.run c.go_on.new.outcome now)
           (sym (seconds-more start items i c.loop-i.first item c.loop-i.run.next c.get-item.ensures here v.waits))
           (f.promises.cards many o (seconds_of start (take i items)) little was time);
     }
@@ -226,34 +233,23 @@ returns-clause-unit g c = c.loop-i.invariant.going.held.is_unit
 
 -- ---- what is promised
 
-pub returns-clause-recorded : goal.returns-clause-recorded
-returns-clause-recorded g c = λ x a b h time few.
-    let v = c.loop-i.invariant in
-    let items = c.args.trace.now.items in
-    let began : Devices = devices (g.U.Medium.state c.args.unit.now) (g.C.Chip.state c.args.card_a.now) (g.C.Chip.state c.args.card_b.now) in
-    let now : Devices = devices (g.U.Medium.state c.loop-i.unit) (g.C.Chip.state c.loop-i.card_a) (g.C.Chip.state c.loop-i.card_b) in
-    let start : ℕ = c.args.trace.now.start in
-    let whole = take_all c.loop-i.i items (omega (arith, c.loop-i-test.false, c.len-i-end.ensures)) in
-    let told = v.told x a b h in
-    promised x a b start items began now c.loop-i.run c.loop-i.outcome
-    (subst (λ (is : List Item). RunCarded (origin_of x a b start began) (seconds_of start is) c.loop-i.run c.loop-i.outcome now) whole (v.cards x a b h time few))
-    (λ lit. let on = v.going.lit (ap is_lit lit) in (ungiven_of on.span, on.cabin))
-    (g.met.U.Medium.coherent c.loop-i.unit) (both (λ k. IsCoherent (card_of now k)) (g.met.C.Chip.coherent c.loop-i.card_a) (g.met.C.Chip.coherent c.loop-i.card_b)) told.0 told.1
-
 pub returns-clause-begun : goal.returns-clause-begun
 returns-clause-begun g c = λ x a b h. (c.loop-i.invariant.told x a b h).0
 
 -- ---- or what kept it from being recorded
 
 pub returns-in_err-opened-clause-fault : goal.returns-in_err-opened-clause-fault
-returns-in_err-opened-clause-fault g c = λ x a b h time few.
+returns-in_err-opened-clause-fault g c = λ x a b told.
     let began : Devices = devices (g.U.Medium.state c.args.unit.now) (g.C.Chip.state c.args.card_a.now) (g.C.Chip.state c.args.card_b.now) in
-    let why = c.in_err-opened.ensures.begins (opened_with x a b) (begins-with x a b [] (record { breaks = []; refused = []; finds = [] }) [] began h) in
+    let why = c.in_err-opened.ensures.begins (opened_with x a b) (begins-with x a b [] (record { breaks = []; refused = []; finds = [] }) [] began told.begins) in
     let cause : IfErr c.from_residual.result (IsRefusedAs (opened_with x a b) c.args.trace.now.start began (devices (g.U.Medium.state c.judge.new.unit) (g.C.Chip.state c.judge.new.card_a) (g.C.Chip.state c.judge.new.card_b))) = first_of (search rules, grind (arith, common_steps)) in
     if-err c.from_residual.result (λ fault is. (record { cause = is; same_unit = c.judge.ensures.same.unit; same_a = c.judge.ensures.same.card_a; same_b = c.judge.ensures.same.card_b }, refl)) cause
 
 pub returns-in_err-go_on-clause-fault : goal.returns-in_err-go_on-clause-fault
-returns-in_err-go_on-clause-fault g c = λ x a b h time few.
+returns-in_err-go_on-clause-fault g c = λ x a b told.
+    let h = told.begins in
+    let time = told.time in
+    let few = told.few in
     let v = c.loop-i.invariant in
     let items = c.args.trace.now.items in
     let f = c.in_err-go_on.ensures in
@@ -339,10 +335,22 @@ returns-in_err-opened-clause-breakdowns g c =
       told = on_ok c.from_residual.result (λ well. absurd (cc));
     }
 
-pub returns-clause-counted : goal.returns-clause-counted
-returns-clause-counted g c = λ x a b h time few.
-    let r : Recording = recording_of x a b c.args.trace.now.start c.args.trace.now.items c.loop-i.outcome in
-    are-counted _ r (devices (g.U.Medium.state c.args.unit.now) (g.C.Chip.state c.args.card_a.now) (g.C.Chip.state c.args.card_b.now)) (devices (g.U.Medium.state c.loop-i.unit) (g.C.Chip.state c.loop-i.card_a) (g.C.Chip.state c.loop-i.card_b)) (returns-clause-recorded g c x a b h time few).ends.caused.causes (returns-clause-breakdowns g c).told
+pub returns-clause-recorded : goal.returns-clause-recorded
+returns-clause-recorded g c = λ x a b is.
+    let h = is.begins in
+    let v = c.loop-i.invariant in
+    let items = c.args.trace.now.items in
+    let began : Devices = devices (g.U.Medium.state c.args.unit.now) (g.C.Chip.state c.args.card_a.now) (g.C.Chip.state c.args.card_b.now) in
+    let now : Devices = devices (g.U.Medium.state c.loop-i.unit) (g.C.Chip.state c.loop-i.card_a) (g.C.Chip.state c.loop-i.card_b) in
+    let start : ℕ = c.args.trace.now.start in
+    let whole = take_all c.loop-i.i items (omega (arith, c.loop-i-test.false, c.len-i-end.ensures)) in
+    let told = v.told x a b h in
+    let timely : RunTimely (origin_of x a b start began) (seconds_of start items) c.loop-i.run c.loop-i.outcome now = subst (λ (is : List Item). RunTimely (origin_of x a b start began) (seconds_of start is) c.loop-i.run c.loop-i.outcome now) whole (v.cards x a b h is.time is.few) in
+    let all : EndsTrace x a b start items c.loop-i.outcome began now =
+    promised x a b start items began now c.loop-i.run c.loop-i.outcome timely.carded timely.timely
+    (λ lit. let on = v.going.lit (ap is_lit lit) in (ungiven_of on.span, on.cabin))
+    (g.met.U.Medium.coherent c.loop-i.unit) (both (λ k. IsCoherent (card_of now k)) (g.met.C.Chip.coherent c.loop-i.card_a) (g.met.C.Chip.coherent c.loop-i.card_b)) told.0 told.1 in
+    record { ends = all; counted = are-counted _ (recording_of x a b start items c.loop-i.outcome) began now all.ends.caused.causes (returns-clause-breakdowns g c).told }
 
 -- ---- its writes
 
