@@ -12,7 +12,7 @@ use std::process::Abort;
 use std::rt::HostRuntime;
 use std::test::Fail;
 use tach_media::{Left, Stop};
-use worked_media::{Told, told_by_card};
+use worked_media::told_by_card;
 
 /// An insertion at 06:00, with what was done since 05:00 and a break from 05:30 on, and four minutes at rest.
 const HELD: &[u8] =
@@ -79,12 +79,29 @@ fn fell_late(outcome: &Outcome) -> bool {
     false
 }
 
-/// What the first run has told of the first minute, and what the card tells behind the second one.
-#[derive(Drop)]
+/// Of words of a card: whether the entries by hand stand there before the first minute, whether none of them does, and
+/// whether the first minute does.
+#[derive(Clone, Copy)]
+struct ByHand {
+    all: bool,
+    none: bool,
+    minute: bool,
+}
+
+fn found_in(words: &[u16]) -> ByHand {
+    ByHand {
+        all: has_all(words),
+        none: has_none(words),
+        minute: place_of(words, FIRST).is_some(),
+    }
+}
+
+/// What the first run has told of the first minute, and what is found on the card behind the second one.
+#[derive(Clone, Copy)]
 struct Stopped {
     marked: bool,
     late: bool,
-    told: Told,
+    found: ByHand,
 }
 
 /// A run with this call stopped, and another behind it.
@@ -96,11 +113,20 @@ fn stop_once(alloc: Global, call: u64, left: Left) -> Result<Stopped, Fail> {
     let late = fell_late(&recorded.outcome);
     d.renew_unit(alloc)?;
     d.run_whole(alloc, AGAIN)?;
+    let told = told_by_card(alloc, &mut d.card_a)?;
     Ok(Stopped {
         marked,
         late,
-        told: told_by_card(alloc, &mut d.card_a)?,
+        found: found_in(told.words.as_slice()),
     })
+}
+
+/// All entries by hand are there or none, all of them where the first minute was acknowledged, and that minute where
+/// the card was pulled out behind it.
+fn is_as_acknowledged(rt: &impl Abort, call: u64, behind: Stopped) {
+    assert!(rt; behind.found.all || behind.found.none, "{call}");
+    assert!(rt; behind.found.all || !behind.marked, "{call}");
+    assert!(rt; behind.found.minute || !behind.late, "{call}");
 }
 
 /// Each call of both keeps.
@@ -110,11 +136,7 @@ fn stop_each(rt: &(impl Abort + AllocGlobal), left: Left) -> Result<(), Fail> {
     let whole = calls_of(alloc, HELD)?;
     assert!(rt; before.card_a < whole.card_a);
     for call in before.card_a..whole.card_a {
-        let behind = stop_once(alloc, call, left)?;
-        let words = behind.told.words.as_slice();
-        assert!(rt; has_all(words) || has_none(words), "{call}");
-        assert!(rt; has_all(words) || !behind.marked, "{call}");
-        assert!(rt; place_of(words, FIRST).is_some() || !behind.late, "{call}");
+        is_as_acknowledged(rt, call, stop_once(alloc, call, left)?);
     }
     Ok(())
 }
@@ -138,14 +160,18 @@ fn within_a_write_of_a_first_keep_by_hand(rt: HostRuntime) -> Result<(), Fail> {
 const PULLED: &[u8] =
     b"start 1267423200\ninsert driver a\nmanual driver work 300\nrun 90 0\ntear driver\nrun 60 0\ninsert driver a\nrun 240 0\n";
 
+/// What is found on the card behind that.
+fn found_behind(alloc: Global, text: &[u8]) -> Result<ByHand, Fail> {
+    let mut d = new_devices(alloc, Stops::none(alloc))?;
+    d.run_whole(alloc, text)?;
+    let told = told_by_card(alloc, &mut d.card_a)?;
+    Ok(found_in(told.words.as_slice()))
+}
+
 #[test]
 fn the_entries_of_a_session_that_kept_no_minute_are_lost(rt: HostRuntime) -> Result<(), Fail> {
-    let alloc = rt.alloc();
-    let mut d = new_devices(alloc, Stops::none(alloc))?;
-    d.run_whole(alloc, PULLED)?;
-    let told = told_by_card(alloc, &mut d.card_a)?;
-    let words = told.words.as_slice();
-    assert!(rt; has_none(words));
-    assert!(rt; place_of(words, FIRST).is_some());
+    let found = found_behind(rt.alloc(), PULLED)?;
+    assert!(rt; found.none);
+    assert!(rt; found.minute);
     Ok(())
 }

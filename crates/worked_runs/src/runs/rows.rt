@@ -62,6 +62,12 @@ fn a_driver_by_the_amended_rule(rt: HostRuntime) -> Result<(), Fail> {
     Ok(())
 }
 
+/// A run on new devices by the amended rule of minutes.
+fn run_by_the_amended_rule(alloc: Global, text: &[u8]) -> Result<Ran, Fail> {
+    let mut d = new_devices_by(alloc, Rule::Amended, Stops::none(alloc))?;
+    d.run(alloc, text)
+}
+
 /// A card that is torn out of a unit with the amended rule, and comes back: three minutes were owed to it, and are put
 /// on it.
 #[test]
@@ -69,8 +75,7 @@ fn three_minutes_are_put_on_a_card_by_the_amended_rule(rt: HostRuntime) -> Resul
     let alloc = rt.alloc();
     let text =
         b"start 1267401600\ninsert driver a\nrun 60 0\nrun 180 50\ntear driver\nrun 120 50\ninsert driver a\nrun 60 0\n";
-    let mut d = new_devices_by(alloc, Rule::Amended, Stops::none(alloc))?;
-    let ran = d.run(alloc, text)?;
+    let ran = run_by_the_amended_rule(alloc, text)?;
     assert!(rt; ran.has(6, 4) && ran.breaks == 1);
     assert_eq!(rt; ran.replayed(), Some(3));
     Ok(())
@@ -514,11 +519,9 @@ fn a_tear_loses_an_entry_by_hand(rt: HostRuntime) -> Result<(), Fail> {
     let alloc = rt.alloc();
     let text =
         b"start 1267423200\ninsert driver a\nmanual driver work 300\ntear driver\nrun 240 0\n";
-    let mut d = new_devices(alloc, Stops::none(alloc))?;
-    let ran = d.run(alloc, text)?;
-    let card = told_by_card(alloc, &mut d.card_a)?;
+    let (ran, is_told) = run_tells(alloc, text, Stops::none(alloc), &[])?;
     assert!(rt; ran.has(2, 0) && ran.breaks == 1);
-    assert!(rt; card.words.is_empty());
+    assert!(rt; is_told);
     Ok(())
 }
 
@@ -527,11 +530,9 @@ fn a_tear_loses_an_entry_by_hand(rt: HostRuntime) -> Result<(), Fail> {
 fn an_entry_by_hand_at_midnight(rt: HostRuntime) -> Result<(), Fail> {
     let alloc = rt.alloc();
     let text = b"start 1267423200\ninsert driver a\nmanual driver rest 0\nrun 240 0\n";
-    let mut d = new_devices(alloc, Stops::none(alloc))?;
-    let ran = d.run(alloc, text)?;
-    let card = told_by_card(alloc, &mut d.card_a)?;
+    let (ran, is_told) = run_tells(alloc, text, Stops::none(alloc), &[0x6000u16, 0x0168])?;
     assert!(rt; ran.has(2, 2));
-    assert!(rt; card.words.as_slice() == [0x6000u16, 0x0168].as_slice());
+    assert!(rt; is_told);
     Ok(())
 }
 
@@ -542,12 +543,10 @@ fn an_entry_by_hand_of_the_day_before_is_given_up(rt: HostRuntime) -> Result<(),
     let alloc = rt.alloc();
     let text =
         b"start 1267487940\ninsert driver a\nrun 10 0\noff 20\nmanual driver work 1400\nrun 270 0\n";
-    let mut d = new_devices(alloc, Stops::none(alloc))?;
-    let ran = d.run(alloc, text)?;
-    let card = told_by_card(alloc, &mut d.card_a)?;
+    let (ran, is_told) = run_tells(alloc, text, Stops::none(alloc), &[0u16])?;
     assert!(rt; ran.has(3, 2));
     assert_eq!(rt; (ran.breaks, ran.refused), (1, 0));
-    assert!(rt; card.words.as_slice() == [0u16].as_slice());
+    assert!(rt; is_told);
     Ok(())
 }
 
