@@ -1,3 +1,6 @@
+ghost use Rattle.std.specs.Prelude.{◌≡◌};
+ghost use Rattle.state_text.specs.Lines.{day_of};
+
 use crate::{Line, Name, OwedTo, Value, lines_text};
 use minute_model::Rule;
 use run_model::Device;
@@ -5,52 +8,57 @@ use std::process::Abort;
 use std::test::Fail;
 use tacho_types::{FullCardNumber, Name36, Nation, Registration};
 
-#[test]
-fn lines_of_each_kind(rt: HostRuntime) -> Result<(), Fail> {
-    let number = FullCardNumber {
-        kind: 1,
-        state: Nation(17),
-        number: *b"0123456789ABCDEF",
-    };
-    let owed = OwedTo {
-        card: number,
+fn line(device: Device, name: Name, value: Value) -> Line
+    ensures { result ≡ record { device = device; name = name; value = value } }
+{
+    Line {
+        device,
+        name,
+        value,
+    }
+}
+
+// A card to which three minutes are owed.
+fn owed() -> Value
+    ensures { day_of result ≡ 0 }
+{
+    Value::Owed(OwedTo {
+        card: FullCardNumber {
+            kind: 1,
+            state: Nation(17),
+            number: *b"0123456789ABCDEF",
+        },
         minutes: 3,
-    };
+    })
+}
+
+// A name in the first code page, with a backslash.
+fn holder() -> Value
+    ensures { day_of result ≡ 0 }
+{
     let mut name = [b' '; 36];
     name[0] = 1;
     name[1] = b'D';
     name[2] = b'\\';
+    Value::Holder(Name36(name))
+}
+
+fn plate() -> Value
+    ensures { day_of result ≡ 0 }
+{
+    Value::Plate(Registration(*b"\x0d\x01M-AB-1       "))
+}
+
+#[test]
+fn lines_of_each_kind(rt: HostRuntime) -> Result<(), Fail> {
+    let amended = Value::ByRule(Rule::Amended);
     let lines = [
-        Line {
-            device: Device::Unit,
-            name: Name::Whole,
-            value: Value::Valid,
-        },
-        Line {
-            device: Device::Unit,
-            name: Name::RuleOfMinutes,
-            value: Value::ByRule(Rule::Amended),
-        },
-        Line {
-            device: Device::Unit,
-            name: Name::Owed,
-            value: Value::Owed(owed),
-        },
-        Line {
-            device: Device::CardA,
-            name: Name::Surname,
-            value: Value::Holder(Name36(name)),
-        },
-        Line {
-            device: Device::CardB,
-            name: Name::LastUse,
-            value: Value::Second(1267428599),
-        },
-        Line {
-            device: Device::CardB,
-            name: Name::Vehicle,
-            value: Value::Plate(Registration(*b"\x0d\x01M-AB-1       ")),
-        },
+        line(Device::Unit, Name::Whole, Value::Valid),
+        line(Device::Unit, Name::RuleOfMinutes, amended),
+        line(Device::Unit, Name::Owed, owed()),
+        line(Device::CardA, Name::Surname, holder()),
+        line(Device::CardB, Name::LastUse, Value::Second(1267428599)),
+        line(Device::CardB, Name::Vehicle, plate()),
     ];
     let text = lines_text(rt.alloc(), &lines)?;
     let told =

@@ -1,5 +1,5 @@
 -- WHAT A RUN WITH CARDS PROMISES is what a run on the unit alone promises, where its trace has no card's line.
-use Rattle.std.proofs.Common.{◌≡◌, ◌∙◌, ℕ, List, ap, sym, subst}
+use Rattle.std.proofs.Common.{◌≡◌, ◌∙◌, ℕ, ◌+◌, List, take, ap, sym, subst}
 use Rattle.trace_model.specs.declared.Card.{Card}
 use Rattle.trace_model.specs.declared.Card.TheVariants.{A as OfA, B as OfB}
 use Rattle.trace_model.specs.declared.Item.{Item}
@@ -20,6 +20,7 @@ use Rattle.unit_model.specs.Image.{recorded, last_kept, number_of}
 use Rattle.unit_model.specs.Versions.{rule_of}
 use Rattle.card_image.specs.Own.{own_number, IsOwnValid}
 use Rattle.safety_model.specs.Recording.{Recording, card_image, start_of, history_of as history_in, lost_of as lost_in}
+use Rattle.safety_model.specs.Safe.{breakdowns_of}
 use Rattle.safety_model.specs.Unit.{UnitSafe, HasEachDecided, IsFilled}
 use Rattle.note_model.specs.Noted.{insertions_of, places_of}
 use Rattle.note_model.specs.Tables.{table_in}
@@ -33,8 +34,9 @@ use Rattle.run_outcome.specs.declared.outcome.Outcome.{Outcome}
 use Rattle.recorder_with_cards.specs.Words.{log_of}
 use Rattle.recorder_with_cards.specs.Ends.{recording_of, EndsTrace}
 use Rattle.recorder_with_cards.specs.LastKept.{TellsLast}
+use Rattle.recorder_with_cards.specs.Moments.{IsMoment}
 use Rattle.tacho.specs.Blank.{no_image}
-use Rattle.tacho.specs.Alone.{IsForUnit, NoVerdict, history_of, lost_of, IsAlone}
+use Rattle.tacho.specs.Alone.{IsForUnit, NoVerdict, history_of, lost_of, IsUnitMoment, IsAlone}
 use Rattle.tacho.proofs.Cardless.{AreCardless, cardless, plain-told}
 use Rattle.tacho.proofs.AloneLog.{trace-selects, without-cards, caused-alone, unit-history-any, with-lost-any}
 use Rattle.tacho.proofs.NoCard.{no-valid}
@@ -92,6 +94,11 @@ module _ (x : List ℕ) (start : ℕ) (items : List Item) (out : Outcome) (U V A
           few = s.few;
         }
 
+  -- a moment of it is one of the unit
+  moment-alone : (k : ℕ) → IsMoment r.rule (start_of r) (breakdowns_of (devices U A B)) (take k ss) (start + k) log out.marks.items (devices V C D)
+      → IsUnitMoment (rule_of x) U.breakdowns (take k ss) (start + k) log out.marks.items V
+  moment-alone k m = record { by_then = m.by_then; told = m.told; earlier = m.earlier; count = m.count; few = m.few; complete = m.complete.unit; broken = m.unit }
+
   module _ (cards : Start) where
     history-same : history_in r ≡ history_of (rule_of x) cards out start items
     history-same = unit-history-any (rule_of x) (start_of r) cards log told (plain-told told none-in)
@@ -105,7 +112,7 @@ module _ (x : List ℕ) (start : ℕ) (items : List Item) (out : Outcome) (U V A
         (subst (λ (ls : List (List HistoryMinute)). (s : UnitSafe (recorded x) (history_in r) ls out.marks.items U.clock V) × TellsLast (last_kept x) s) lost-same (h.ends.safe.unit, h.last))
 
     -- THE RUN ON THE UNIT ALONE
-    pub is-alone : IsAlone cards x start items U.clock out V
+    pub is-alone : IsAlone cards x start items out U V
     is-alone = record {
       safe = safe-same.0;
       none = λ c. (h.ends.safe.card c).unmarked (none-valid c);
@@ -122,6 +129,7 @@ module _ (x : List ℕ) (start : ℕ) (items : List Item) (out : Outcome) (U V A
       kept = h.kept;
       last = safe-same.1;
       complete = h.ends.caused.complete.unit;
+      timely = λ n low. let m = h.timely n low in (m.0, m.1, m.2, moment-alone m.0 m.3);
       whole = λ none.
           let w = h.ends.whole none in (
             subst (HasEachDecided (rule_of x) told) history-same w.decided,

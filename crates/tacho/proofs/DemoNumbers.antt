@@ -10,7 +10,7 @@ use Rattle.log_model.specs.Causes.{HasCauses, device_of}
 use Rattle.message_model.specs.Records.{insertion_ring}
 use Rattle.note_model.specs.Noted.{insertions_of}
 use Rattle.note_model.specs.Rings.{RingShows, IsInsertion, is_sure_insertion}
-use Rattle.safety_model.specs.Recording.{Recording, history_of, lost_of, told_of, card_image}
+use Rattle.safety_model.specs.Recording.{Recording, start_of, history_of, lost_of, told_of, card_image}
 use Rattle.safety_model.specs.Unit.{UnitSafe, issued_bytes}
 use Rattle.unit_rule.specs.OtherRows.{KeepsRows}
 use Rattle.safety_model.specs.Cards.{CardSafe}
@@ -27,8 +27,9 @@ use Rattle.recorder_with_cards.specs.Side.{ShowsSide, HasComeBefore, TellsAtStar
 use Rattle.recorder_with_cards.specs.KeptAfter.{TellsKept}
 use Rattle.recorder_with_cards.specs.LastKept.{TellsLast}
 use Rattle.recorder_with_cards.specs.CardEvents.{ShowsItsEvents}
+use Rattle.recorder_with_cards.specs.Moments.{HasMoments}
 use Rattle.recorder_with_cards.specs.Stays.{NothingFailedOn}
-use Rattle.recorder_with_cards.specs.Words.{vehicle_of, accepted_on, met_seconds, ShowsOn, AreUses}
+use Rattle.recorder_with_cards.specs.Words.{vehicle_of, accepted_on, met_seconds, ShowsOn, AreUses, StoodExactly}
 
 module _ (x a b : List ℕ) (start : ℕ) (items : List Item) (out : Outcome) (p q now : Devices) (unit : p.unit.clock ≡ q.unit.clock) (cards : (c : Card) → (card_of p c).clock ≡ (card_of q c).clock) (broken : (device : Device) → breakdowns_of p device ≡ breakdowns_of q device) where
   abbrev r : Recording
@@ -114,6 +115,7 @@ module _ (x a b : List ℕ) (start : ℕ) (items : List Item) (out : Outcome) (p
     written = h.written;
     stays = λ c on. h.stays c (none-failed c on);
     both = h.both;
+    stood = λ c valid. subst (λ (n : ℕ). StoodExactly r c n (card_of now c)) (cards c) (h.stood c valid);
     kept = subst (λ (n : ℕ). TellsKept r n now.unit) unit h.kept;
     last = (safe-by h.ends.safe.unit h.last).1;
     dense = h.dense;
@@ -127,4 +129,5 @@ module _ (x a b : List ℕ) (start : ℕ) (items : List Item) (out : Outcome) (p
     again = λ u ca cb left left_a left_b.
         h.again u ca cb (subst (λ (n : ℕ). now.unit.left_since n u) (sym unit) left) (subst (λ (n : ℕ). now.card_a.left_since n ca) (sym (cards A)) left_a) (subst (λ (n : ℕ). now.card_b.left_since n cb) (sym (cards B)) left_b);
     speeds = λ ring. subst (λ (n : ℕ). HasSpeeds (is_sure_block r.log) r.unit n (blocks_by r.log r.trace) now.unit) unit (h.speeds ring);
+    timely = subst (λ (m : Device → ℕ). HasMoments r.rule (start_of r) m start r.trace r.log out.marks.items now) (λ i device. broken device i) h.timely;
   }

@@ -1,5 +1,5 @@
 -- What was recorded stands where the unit is only read behind the run.
-use Rattle.std.proofs.Common.{◌≡◌, ◌≤◌, ◌-◌, ℕ, List, inl, inr, ⊎_elim, ◌⊎◌, arith, Bool, refl, sym, ◌∙◌, subst}
+use Rattle.std.proofs.Common.{◌≡◌, ◌≤◌, ◌-◌, ◌+◌, true, All, length, filter, take, ℕ, List, inl, inr, ⊎_elim, ◌⊎◌, arith, Bool, refl, sym, ◌∙◌, subst}
 use Rattle.trace_model.specs.declared.Card.{Card}
 use Rattle.trace_model.specs.declared.Card.TheVariants.{A, B}
 use Rattle.trace_model.specs.declared.Item.{Item}
@@ -7,9 +7,11 @@ use Rattle.run_model.specs.declared.Device.TheVariants.{Unit as Recorder}
 use Rattle.log_model.specs.declared.lines.Mark.{Mark}
 use Rattle.log_model.specs.declared.lines.Verdict.{Verdict}
 use Rattle.log_model.specs.declared.lines.Verdict.TheVariants.{Accepted, NotValid, TimeOverlap}
-use Rattle.log_model.specs.Causes.{RoseBy, device_of}
+use Rattle.log_model.specs.Slots.{same_card}
+use Rattle.log_model.specs.Course.{went}
+use Rattle.log_model.specs.Causes.{RoseBy, device_of, cuts, cards_torn}
 use Rattle.history_model.specs.Minutes.{HistoryMinute}
-use Rattle.tach_media.specs.Medium.{State, LeavesOnly, Unchanged}
+use Rattle.tach_media.specs.Medium.{State, LeavesOnly, Unchanged, KeepsBroken}
 use Rattle.unit_minutes.specs.Reading.{ReadsIfAny}
 use Rattle.unit_model.specs.Days.{ShownDay}
 use Rattle.unit_model.specs.Image.{recorded, last_kept}
@@ -17,8 +19,8 @@ use Rattle.message_model.specs.Records.{insertion_ring}
 use Rattle.note_model.specs.Noted.{insertions_of}
 use Rattle.note_model.specs.Rings.{RingShows, IsInsertion, is_sure_insertion}
 use Rattle.log_model.specs.Spans.{spans_of}
-use Rattle.safety_model.specs.Recording.{Recording, card_image, told_of, history_of, lost_of}
-use Rattle.safety_model.specs.Unit.{UnitSafe, UnitMarkHolds}
+use Rattle.safety_model.specs.Recording.{Recording, start_of, told_of, history_of, lost_of}
+use Rattle.safety_model.specs.Unit.{UnitSafe, UnitMarkHolds, marks_of}
 use Rattle.safety_model.specs.Cards.{CardSafe, Agree}
 use Rattle.safety_model.specs.ByHand.{HandsSafe}
 use Rattle.safety_model.specs.Safe.{Devices, card_of, breakdowns_of, IsVerdict, WasFound}
@@ -28,13 +30,15 @@ use Rattle.run_promise.specs.Whole.{IsFull}
 use Rattle.log_model.specs.declared.lines.Break.{Break}
 use Rattle.log_model.specs.declared.lines.Break.TheVariants.{Cut, Tear}
 use Rattle.run_outcome.specs.declared.outcome.Outcome.{Outcome}
-use Rattle.recorder_with_cards.specs.Words.{ShowsStays, vehicle_of}
+use Rattle.recorder_with_cards.specs.Words.{StoodExactly}
 use Rattle.recorder_with_cards.specs.Ends.{recording_of, EndsTrace}
 use Rattle.run_speeds.specs.Speeds.{LeavesSpeeds}
 use Rattle.run_speeds.specs.Spans.{blocks_by, is_sure_block}
 use Rattle.run_speeds.proofs.Speeds.{speeds-on}
 use Rattle.recorder_with_cards.specs.Side.{ShowsSide, HasComeBefore, TellsAtStart}
 use Rattle.recorder_with_cards.specs.CardEvents.{ShowsItsEvents}
+use Rattle.recorder_with_cards.specs.Moments.{HadBroken, IsMoment}
+use Rattle.std.proofs.lemmas.List.Elements.{All-weaker}
 use Rattle.recorder_with_cards.specs.LastKept.{TellsLast}
 use Rattle.recorder_with_cards.proofs.KeptAfter.{more-found}
 use Rattle.tacho.specs.Anew.{EndsAnew, began_at}
@@ -44,15 +48,19 @@ pub record IsRead (old new : State) : Type 0 where
   pub leaves : LeavesOnly old new Unchanged
   pub clock : new.clock ≡ old.clock
   pub breakdowns : old.breakdowns ≤ new.breakdowns
+  pub tells : KeepsBroken old new
 
 pub is-read : (old new : State) (failed : Bool) → ReadsIfAny old new failed → IsRead old new
 is-read old new failed reads = ⊎_elim
-    (λ none. record { leaves = none.1.leaves; clock = none.1.clock; breakdowns = omega (arith, none.1.breakdowns) })
-    (λ some. record { leaves = some.leaves; clock = some.clock; breakdowns = some.cause.breakdowns }) reads
+    (λ none. record { leaves = none.1.leaves; clock = none.1.clock; breakdowns = omega (arith, none.1.breakdowns); tells = none.1.tells })
+    (λ some. record { leaves = some.leaves; clock = some.clock; breakdowns = some.cause.breakdowns; tells = some.cause.tells }) reads
 
 module _ (U V : State) (is : IsRead U V) where
   back : (t : ℕ) (c : List ℕ) → t ≤ U.clock → V.left_since t c → U.left_since t c
   back t c low left = ⊎_elim (λ was. was) (λ new. absurd new.2) (is.leaves.since t c low left)
+
+  broken-read : (writes most : ℕ) → HadBroken U writes most → HadBroken V writes most
+  broken-read writes most had = record { begun = omega (arith, had.begun, is.clock); told = λ t n low says. had.told t n low (is.tells.told t n (omega (arith, low, had.begun)) says) }
 
   now-back : (c : List ℕ) → V.may_leave c → U.may_leave c
   now-back c left = ⊎_elim (λ was. was) (λ new. absurd new.2) (is.leaves.now c left)
@@ -165,6 +173,23 @@ module _ (U V : State) (is : IsRead U V) where
           };
     }
 
+    -- what was told by a moment
+    moment-read : (k : ℕ) → IsMoment r.rule (start_of r) (breakdowns_of p) (take k r.trace) (start + k) r.log out.marks.items (devices U Y Z) → IsMoment r.rule (start_of r) (breakdowns_of p) (take k r.trace) (start + k) r.log out.marks.items (devices V Y Z)
+    moment-read k m = record {
+      by_then = m.by_then;
+      told = m.told;
+      earlier = m.earlier;
+      count = m.count;
+      few = m.few;
+      complete = m.complete;
+      unit = λ low.
+          let most : ℕ = breakdowns_of p Recorder + length (cuts true m.by_then) in
+          All-weaker (λ (x : Mark). HadBroken U x.clock most) (λ (x : Mark). HadBroken V x.clock most) (λ x had. broken-read x.clock most had) (marks_of Recorder (take m.count out.marks.items)) (m.unit (omega (arith, low, is.breakdowns)));
+      cards = λ low_a low_b c.
+          let most : ℕ = breakdowns_of p (device_of c) + length (filter (same_card c) (cards_torn (went m.by_then (take k r.trace)).told)) in
+          subst (λ (s : State). All (λ (x : Mark). HadBroken s x.clock most) (marks_of (device_of c) (take m.count out.marks.items))) (same-card c) (m.cards low_a low_b c);
+    }
+
     pub ends-read : EndsTrace x a b start items out p (devices U Y Z) → EndsTrace x a b start items out p (devices V Y Z)
     ends-read h =
         let was = h.ends.caused.causes in
@@ -212,42 +237,47 @@ module _ (U V : State) (is : IsRead U V) where
           stays = λ c on.
               let s = h.stays c on in
               record {
-                stays = s.stays;
-                since = s.since;
-                others = s.others;
-                only = s.only;
-                judged = s.judged;
-                entered = s.entered;
-                theirs = s.theirs;
-                verdicts = s.verdicts;
-                shows = λ valid. subst (λ (x : State). ShowsStays (vehicle_of r.unit) (card_image r c) s.stays x) (same-card c) (s.shows valid);
-                closed = s.closed;
-                words = s.words;
+                exact = record {
+                  stays = s.exact.stays;
+                  since = s.exact.since;
+                  others = s.exact.others;
+                  only = s.exact.only;
+                  judged = s.exact.judged;
+                  entered = s.exact.entered;
+                  theirs = s.exact.theirs;
+                  verdicts = s.exact.verdicts;
+                  shows = λ valid y left. s.exact.shows valid y (card-back c y left);
+                  closed = s.exact.closed;
+                  words = s.exact.words;
+                  odometers = s.exact.odometers;
+                };
                 acknowledged = s.acknowledged;
-                odometers = s.odometers;
               };
           both = λ none.
               let s = h.both none in
               record {
                 own = λ c. record {
-                  stays = (s.own c).stays;
-                  since = (s.own c).since;
-                  others = (s.own c).others;
-                  only = (s.own c).only;
-                  judged = (s.own c).judged;
-                  entered = (s.own c).entered;
-                  theirs = (s.own c).theirs;
-                  verdicts = (s.own c).verdicts;
-                  shows = λ valid. subst (λ (x : State). ShowsStays (vehicle_of r.unit) (card_image r c) (s.own c).stays x) (same-card c) ((s.own c).shows valid);
-                  closed = (s.own c).closed;
-                  words = (s.own c).words;
+                  exact = record {
+                    stays = (s.own c).exact.stays;
+                    since = (s.own c).exact.since;
+                    others = (s.own c).exact.others;
+                    only = (s.own c).exact.only;
+                    judged = (s.own c).exact.judged;
+                    entered = (s.own c).exact.entered;
+                    theirs = (s.own c).exact.theirs;
+                    verdicts = (s.own c).exact.verdicts;
+                    shows = λ valid y left. (s.own c).exact.shows valid y (card-back c y left);
+                    closed = (s.own c).exact.closed;
+                    words = (s.own c).exact.words;
+                    odometers = (s.own c).exact.odometers;
+                  };
                   acknowledged = (s.own c).acknowledged;
-                  odometers = (s.own c).odometers;
                 };
                 judged = s.judged;
                 owes = s.owes;
                 befores = record { comings = s.befores.comings; lines = s.befores.lines; merged = s.befores.merged; tells = λ dense y left. s.befores.tells dense y (now-back y left) };
               };
+          stood = λ c valid. subst (λ (k : State). StoodExactly r c (card_of p c).clock k) (same-card c) (h.stood c valid);
           rows = λ y left. h.rows y (back p.unit.clock y before left);
           again = λ u ca cb left left_a left_b. h.again u ca cb (back p.unit.clock u before left) left_a left_b;
           speeds = λ ring. speeds-on (is_sure_block r.log) r.unit p.unit.clock (blocks_by r.log r.trace) U V (h.speeds ring) speeds-read;
@@ -258,6 +288,7 @@ module _ (U V : State) (is : IsRead U V) where
           vehicles = λ c valid y left. h.vehicles c valid y (told-back c y left);
           measures = record { spans = h.measures.spans; are_spans = h.measures.are_spans; measures = λ c valid y left. h.measures.measures c valid y (card-back c y left) };
           sessions = λ c valid y left. h.sessions c valid y (card-back c y left);
+          timely = λ n low. let m = h.timely n low in (m.0, m.1, m.2, moment-read m.0 m.3);
           places = record { spans = h.places.spans; are_spans = h.places.are_spans; shows = λ c valid y left. h.places.shows c valid y (card-back c y left) };
           cards = λ c. subst (λ (s : State). ShowsItsEvents r c p s) (same-card c) (h.cards c);
         }

@@ -17,6 +17,10 @@ pub refusal-bad : (fault : TraceFault) (n : ℕ) → refusal_of fault ≡ BadTra
 refusal-bad (trace.BadLine m) n is = let e : m ≡ n = cc in ap trace.BadLine e
 refusal-bad _ n is = cc
 
+pub refusal-long : (fault : TraceFault) (n : ℕ) → refusal_of fault ≡ TooLong n → fault ≡ trace.TooLong n
+refusal-long (trace.TooLong m) n is = let e : m ≡ n = cc in ap trace.TooLong e
+refusal-long _ n is = cc
+
 failure-unread : (fault : TraceFault) → IsFailure fault → IsUnread (refusal_of fault)
 failure-unread trace.ReadFault is = tt
 failure-unread trace.Memory is = tt

@@ -6,7 +6,7 @@ use Rattle.card_layout.specs.Images.{bytes_at}
 use Rattle.card_layout.specs.declared.files.TheConstants.{LARGEST_IMAGE}
 use Rattle.card_layout.specs.Application.{first_bad_field, application_in}
 use Rattle.card_image.specs.Own.{IsOwnValid}
-use Rattle.tach_media.specs.Medium.{State, IsCoherent, Rose, last_count, LeavesOnly, Unchanged, Reads, HasCause, revivable, most_writes}
+use Rattle.tach_media.specs.Medium.{State, IsCoherent, Rose, last_count, LeavesOnly, Unchanged, Reads, KeepsBroken, HasCause, revivable, most_writes}
 use Rattle.run_promise.specs.Opening.{BeginsAs}
 use Rattle.run_promise.specs.Between.{devices}
 use Rattle.recorder_with_cards.specs.Words.{HaveTime}
@@ -57,16 +57,20 @@ leaves-blank old new R later = record {
   keeps = λ t c le left. left;
 }
 
+-- it tells of no breakdown
+keeps-blank : (old new : Bool) → (blank_state old).clock ≤ (blank_state new).clock → KeepsBroken (blank_state old) (blank_state new)
+keeps-blank old new later = record { later = later; told = λ t n low told. told }
+
 -- a call that fails has broken it for good
 pub blank-broken : (old : Bool) → HasCause (blank_state old) (blank_state true) true
-blank-broken true = record { works = refl; broken = λ is. refl; faults = lit≤ tt; fault = λ is. lit≤ tt; breakdowns = lit≤ tt; breaks = λ works is. lit≤ tt; unbroken = λ no. absurd (cc); already = λ is. refl; once = λ low. lit≤ tt }
-blank-broken false = record { works = refl; broken = λ is. refl; faults = lit≤ tt; fault = λ is. lit≤ tt; breakdowns = lit≤ tt; breaks = λ works is. lit≤ tt; unbroken = λ no. absurd (cc); already = λ is. absurd (cc); once = λ low. absurd (omega (arith, low)) }
+blank-broken true = record { works = refl; broken = λ is. refl; faults = lit≤ tt; fault = λ is. lit≤ tt; breakdowns = lit≤ tt; breaks = λ works is. lit≤ tt; unbroken = λ no. absurd (cc); already = λ is. refl; once = λ low. lit≤ tt; tells = keeps-blank true true (lit≤ tt) }
+blank-broken false = record { works = refl; broken = λ is. refl; faults = lit≤ tt; fault = λ is. lit≤ tt; breakdowns = lit≤ tt; breaks = λ works is. lit≤ tt; unbroken = λ no. absurd (cc); already = λ is. absurd (cc); once = λ low. absurd (omega (arith, low)); tells = keeps-blank false true (lit≤ tt) }
 
 blank-works : HasCause (blank_state false) (blank_state false) false
-blank-works = record { works = refl; broken = λ is. absurd (cc); faults = lit≤ tt; fault = λ no. absurd (cc); breakdowns = lit≤ tt; breaks = λ works no. absurd (cc); unbroken = λ is. refl; already = λ is. refl; once = λ low. lit≤ tt }
+blank-works = record { works = refl; broken = λ is. absurd (cc); faults = lit≤ tt; fault = λ no. absurd (cc); breakdowns = lit≤ tt; breaks = λ works no. absurd (cc); unbroken = λ is. refl; already = λ is. refl; once = λ low. lit≤ tt; tells = keeps-blank false false (lit≤ tt) }
 
 pub blank-revived : (broken failed : Bool) → broken ≡ failed → HasCause (revivable (blank_state broken)) (blank_state broken) failed
-blank-revived true true is = record { works = refl; broken = λ no. refl; faults = lit≤ tt; fault = λ same. lit≤ tt; breakdowns = lit≤ tt; breaks = λ works same. lit≤ tt; unbroken = λ no. absurd (cc); already = λ no. refl; once = λ low. lit≤ tt }
+blank-revived true true is = record { works = refl; broken = λ no. refl; faults = lit≤ tt; fault = λ same. lit≤ tt; breakdowns = lit≤ tt; breaks = λ works same. lit≤ tt; unbroken = λ no. absurd (cc); already = λ no. refl; once = λ low. lit≤ tt; tells = record { later = lit≤ tt; told = λ t n low told. told } }
 blank-revived false false is = blank-works
 blank-revived true false is = absurd (cc)
 blank-revived false true is = absurd (cc)

@@ -202,7 +202,7 @@ run-done old new LinkEnded is rose sound = absurd is
 pub unit-run : (old new : Outside) (outcome : Outcome) (start : ℕ) (items : List Item) → IsForUnit items
     → ((text : List ℕ) (s : ℕ) (is : List Item) → old.source.left ≡ Some text → IsTraceText Whole text s is → (start ≡ s) × (items ≡ is))
     → total_seconds items ≤ 2 ^ 32 → length items ≤ 2 ^ 32
-    → ((x : List ℕ) → StartsAs x old.unit → new.unit.clock < last_count → IsRecorded x start items old.unit.clock outcome new.unit)
+    → ((x : List ℕ) → StartsAs x old.unit → new.unit.clock < last_count → IsRecorded x start items outcome old.unit new.unit)
     → ((x : List ℕ) → StartsAs x old.unit → new.unit.clock < last_count → IsCaused old new start items outcome)
     → ((x : List ℕ) → StartsAs x old.unit → Decodes x × (last_kept x < start / 60))
     → HasBroken old.unit new.unit (length (cuts true (log_of outcome))) → new.unit.clock ≤ old.unit.clock + (187 * total_seconds items + 102 * length items) → (cuts true (log_of outcome) ≡ [] → new.unit.breakdowns ≡ old.unit.breakdowns) → HasBrokenAtMost old.unit new.unit (length (cuts true (log_of outcome))) → IsLater old.unit new.unit → new.card_a.memory ≡ old.card_a.memory → new.card_b.memory ≡ old.card_b.memory
@@ -230,7 +230,7 @@ unit-run old new outcome start items for_unit is_read short few recorded caused 
   whole = λ s is x told starts sound counts done cards. there s is x (of_trace s is x (is_read told.text s is told.told told.trace) (recorded x starts.alone starts.clock)) (unbroken_as x starts sound counts).0 cards;
 }
   where
-    there : (s : ℕ) (is : List Item) (x : List ℕ) → IsRecorded x s is old.unit.clock outcome new.unit → cuts true (log_of outcome) ≡ [] → IsAllThere x s is outcome new.unit
+    there : (s : ℕ) (is : List Item) (x : List ℕ) → IsRecorded x s is outcome old.unit new.unit → cuts true (log_of outcome) ≡ [] → IsAllThere x s is outcome new.unit
     there s is x h none cards =
         let f = h cards in
         let w = f.whole none in
@@ -252,8 +252,8 @@ unit-run old new outcome start items for_unit is_read short few recorded caused 
     unbroken_as : (x : List ℕ) → Starts x old.unit new.unit → IsSound old new → HaveCounts old → (cuts true (log_of outcome) ≡ []) × (tears true (log_of outcome) ≡ [])
     unbroken_as x starts sound counts = none-failed NoVerdict (breakdowns_in old) (breakdowns_in new) _ (log_of outcome) counts (none_broke sound) (caused x starts.alone starts.clock)
 
-    of_trace : (s : ℕ) (is : List Item) (x : List ℕ) → (start ≡ s) × (items ≡ is) → IsRecorded x start items old.unit.clock outcome new.unit → IsRecorded x s is old.unit.clock outcome new.unit
-    of_trace s is x same h = subst (λ (t : ℕ). IsRecorded x t is old.unit.clock outcome new.unit) same.0 (subst (λ (l : List Item). IsRecorded x start l old.unit.clock outcome new.unit) same.1 h)
+    of_trace : (s : ℕ) (is : List Item) (x : List ℕ) → (start ≡ s) × (items ≡ is) → IsRecorded x start items outcome old.unit new.unit → IsRecorded x s is outcome old.unit new.unit
+    of_trace s is x same h = subst (λ (t : ℕ). IsRecorded x t is outcome old.unit new.unit) same.0 (subst (λ (l : List Item). IsRecorded x start l outcome old.unit new.unit) same.1 h)
 
     of_causes : (s : ℕ) (is : List Item) → (start ≡ s) × (items ≡ is) → IsCaused old new start items outcome → IsCaused old new s is outcome
     of_causes s is same h = subst (λ (t : ℕ). IsCaused old new t is outcome) same.0 (subst (λ (l : List Item). IsCaused old new start l outcome) same.1 h)

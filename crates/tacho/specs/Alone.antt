@@ -1,19 +1,22 @@
 -- A run of a trace without a card's line (profile): it uses no card, and its unit is safe, whatever the cards bring.
-use Rattle.std.specs.Prelude.{◌≡◌, ◌⊎◌, ◌<◌, ◌≤◌, ℕ, Bool, true, false, IsTrue, List, [], is_some, length}
-use Rattle.std.specs.Prelude.{Result, IfErr, OnOk}
+use Rattle.std.specs.Prelude.{◌≡◌, ◌⊎◌, ◌+◌, ◌<◌, ◌≤◌, ℕ, Bool, true, false, IsTrue, List, [], is_some, length, take}
+use Rattle.std.specs.Prelude.{All, Result, IfErr, OnOk}
 use Rattle.std.specs.List.{AllByRecursion}
 use Rattle.trace_model.specs.declared.Card.{Card}
 use Rattle.trace_model.specs.declared.Action.TheVariants.{Select, Insert, Withdraw, Tear, Place, Manual}
 use Rattle.trace_model.specs.declared.Item.{Item}
 use Rattle.trace_model.specs.declared.Item.TheVariants.{Run, Off, Act}
-use Rattle.trace_model.specs.Trace.{seconds_of}
+use Rattle.trace_model.specs.Trace.{TraceSecond, seconds_of}
 use Rattle.minute_model.specs.declared.Rule.{Rule}
 use Rattle.run_model.specs.declared.Device.{Device}
 use Rattle.run_model.specs.declared.Device.TheVariants.{Unit as OfUnit, CardA, CardB}
 use Rattle.tach_media.specs.Medium.{State, HasBroken, HasBrokenAtMost, Rose, LeavesOnly, Unchanged, last_count}
+use Rattle.log_model.specs.declared.lines.Break.{Break}
+use Rattle.log_model.specs.declared.lines.Mark.{Mark}
 use Rattle.log_model.specs.declared.lines.Verdict.{Verdict}
+use Rattle.log_model.specs.Log.{RunLog}
 use Rattle.log_model.specs.Course.{ToldSecond, Visit, went}
-use Rattle.log_model.specs.Causes.{cuts, device_of}
+use Rattle.log_model.specs.Causes.{cuts, device_of, second_of}
 use Rattle.event_model.specs.Events.{Tearing, events_of}
 use Rattle.history_model.specs.Minutes.{HistoryMinute}
 use Rattle.history_model.specs.Presence.{Start}
@@ -41,6 +44,7 @@ use Rattle.run_outcome.specs.declared.outcome.Outcome.{Outcome}
 use Rattle.recorder_with_cards.specs.Ends.{recording_of}
 use Rattle.recorder_with_cards.specs.KeptAfter.{TellsKept}
 use Rattle.recorder_with_cards.specs.LastKept.{TellsLast}
+use Rattle.recorder_with_cards.specs.Moments.{TellsMoreSince, HadBroken, IsNear}
 use Rattle.tacho.specs.Blank.{no_image}
 
 -- ---- its trace
@@ -101,18 +105,40 @@ pub record ShowsOld (ring : Shape) (x y : List ℕ) : Type 0 where
   pub shown : ring_list ring y ≡ ring_list ring x
   pub dense : IsDense ring x → IsDense ring y
 
--- WHAT A RUN HAS RECORDED on the unit alone of a trace, that began with this image, at this clock: the crash-safety
--- theorem of the unit, by the rule of minutes of that image.
-pub record IsAlone (cards : Start) (x : List ℕ) (start : ℕ) (items : List Item) (clock : ℕ) (o : Outcome)
-    (unit : State) : Type 0 where
+-- A MOMENT of such a run, behind these seconds, as a second with this number begins, on a unit that had broken down so
+-- often before it. By the log of then, whose breaks are of earlier seconds, and by the marks of then each decided
+-- minute is acknowledged, but where a call failed in the second that decided it. And the unit had broken down no more
+-- often, as it had begun the writes of one of these marks, than failed calls have cut the power by that log.
+pub record IsUnitMoment (rule : Rule) (before : ℕ) (done : List TraceSecond) (number : ℕ) (log : RunLog)
+    (marks : List Mark) (unit : State) : Type 0 where
+  pub by_then : RunLog
+  pub told : TellsMoreSince number by_then log
+  pub earlier : AllByRecursion (λ (b : Break). second_of b < number) by_then.breaks
+  pub count : ℕ
+  pub few : count ≤ length marks
+  pub complete : AreMarked rule by_then done (take count marks)
+  pub broken : unit.breakdowns < last_count → All (λ (m : Mark).
+      HadBroken unit m.clock (before + length (cuts true by_then))) (marks_of OfUnit (take count marks))
+
+-- EACH FAILURE IS TOLD BY THE SECOND IN WHICH THE UNIT ACKNOWLEDGES A DECIDED MINUTE: as any second of a trace began
+-- that has an action, comes behind one that has, or begins a minute, the run had come to such a moment; or since one
+-- the trace gave no power.
+abbrev pub TellsUnitInTime : Rule → (before from : ℕ) → List TraceSecond → RunLog → List Mark → State → Type 0
+TellsUnitInTime rule before from trace log marks unit = (n : ℕ) → n < length trace → (k : ℕ) × (k ≤ n)
+    × IsNear from trace k n × IsUnitMoment rule before (take k trace) (from + k) log marks unit
+
+-- WHAT A RUN HAS RECORDED on the unit alone of a trace, that began with this image, as the unit stood then: the
+-- crash-safety theorem of the unit, by the rule of minutes of that image.
+pub record IsAlone (cards : Start) (x : List ℕ) (start : ℕ) (items : List Item) (o : Outcome)
+    (began unit : State) : Type 0 where
   pub safe : UnitSafe (recorded x) (history_of (rule_of x) cards o start items)
-      (lost_of (rule_of x) cards o start items) o.marks.items clock unit
+      (lost_of (rule_of x) cards o start items) o.marks.items began.clock unit
   -- no minute is told as acknowledged by a card
   pub none : (c : Card) → marks_of (device_of c) o.marks.items ≡ []
   -- what the unit was issued with stays, in every image that a stop might have left since
-  pub issued : (y : List ℕ) → unit.left_since clock y → issued_bytes y ≡ issued_bytes x
+  pub issued : (y : List ℕ) → unit.left_since began.clock y → issued_bytes y ≡ issued_bytes x
   -- and what is owed to any card, in each of them
-  pub owed : (y : List ℕ) → unit.left_since clock y → OwesStill x y
+  pub owed : (y : List ℕ) → unit.left_since began.clock y → OwesStill x y
   -- the odometer of each image that a stop may leave is the start's and the whole kilometres of each span; and so it is
   -- stored
   pub odometer : (y : List ℕ) → unit.may_leave y
@@ -134,15 +160,18 @@ pub record IsAlone (cards : Start) (x : List ℕ) (start : ℕ) (items : List It
   pub insertions : (y : List ℕ) → unit.may_leave y → ShowsOld insertion_ring x y
   pub places : (y : List ℕ) → unit.may_leave y → ShowsOld unit_place_ring x y
   -- each image that a stop may leave carries the blocks of detailed speed of the run
-  pub speeds : HasSpeedRing x → HasSpeeds (is_sure_block (log_of o)) x clock
+  pub speeds : HasSpeedRing x → HasSpeeds (is_sure_block (log_of o)) x began.clock
       (blocks_by (log_of o) (seconds_of start items)) unit
   -- what was found kept after its cuts was so
-  pub kept : TellsKept (recording_of x no_image no_image start items o) clock unit
+  pub kept : TellsKept (recording_of x no_image no_image start items o) began.clock unit
   -- the last-kept minute of each image that a stop might have left since the start is that of the last minute which it
   -- shows
   pub last : TellsLast (last_kept x) safe
   -- each decided minute is acknowledged, but where a call failed in the second that decided it
   pub complete : AreMarked (rule_of x) (log_of o) (seconds_of start items) o.marks.items
+  -- and no failed call is told later than in the second in which the unit acknowledges the next minute, where it tells
+  -- when it broke down
+  pub timely : TellsUnitInTime (rule_of x) began.breakdowns start (seconds_of start items) (log_of o) o.marks.items unit
   -- where no call on the unit failed, each decided minute stands in the history, and each image that a stop may leave
   -- has all of it
   pub whole : cuts true (log_of o) ≡ []

@@ -29,6 +29,7 @@ blank_state broken = record {
   works = not broken;
   faults = if broken then last_count else 0;
   breakdowns = if broken then last_count else 0;
+  broke = λ t n. ⊥;
   layers = [];
 }
 
@@ -57,4 +58,5 @@ blank_coherent broken = record {
   only = λ x works left. ap Some left;
   counts_now = λ t x le left. left;
   earlier = λ t u x le high left. left;
+  broken = λ t n told. absurd told;
 }

@@ -23,6 +23,7 @@ pub mod View
 pub mod Match
 pub mod Reports
 pub mod Read
+pub mod Printing
 pub mod Show
 pub mod CardFile
 pub mod Demo

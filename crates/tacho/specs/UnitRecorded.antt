@@ -37,9 +37,9 @@ pub record Starts (x : List ℕ) (old new : State) : Type 0 where
   pub alone : StartsAs x old
   pub clock : new.clock < last_count
 
--- what a run has recorded of a trace, whatever the cards bring: it began with this image, at this clock
-abbrev pub IsRecorded : (x : List ℕ) → (start : ℕ) → List Item → (clock : ℕ) → Outcome → State → Type 0
-IsRecorded x start items clock outcome unit = (cards : Start) → IsAlone cards x start items clock outcome unit
+-- what a run has recorded of a trace, whatever the cards bring: it began with this image, as the unit stood then
+abbrev pub IsRecorded : (x : List ℕ) → (start : ℕ) → List Item → Outcome → (began unit : State) → Type 0
+IsRecorded x start items outcome began unit = (cards : Start) → IsAlone cards x start items outcome began unit
 
 -- each decided minute of a trace stands in the history, whatever the cards bring, and each image that a stop may leave
 -- has the start's days with all of it, of which the newest 366 are retained, and its odometer with each whole
@@ -83,7 +83,7 @@ pub record EndsOnUnit (old new : Outside) (outcome : Outcome) (fault : Fault) : 
   -- THE RUN of the trace, where it was recorded.
   pub run : (start : ℕ) (items : List Item) (x : List ℕ) → SourceTells old start items → Starts x old.unit new.unit
       → IsRun fault
-      → IsRecorded x start items old.unit.clock outcome new.unit
+      → IsRecorded x start items outcome old.unit new.unit
   -- Its refused actions are those of the seconds without power, and each cut was an `off` line's or a breakdown of the
   -- unit.
   pub caused : (start : ℕ) (items : List Item) (x : List ℕ) → SourceTells old start items → Starts x old.unit new.unit

@@ -60,7 +60,7 @@ pub fn record_alone<U: Medium>(
     // The crash-safety theorem of the unit, with its auxiliary records.
     ensures recorded { (cards : Start) (x : List ℕ) → StartsAs x (U.state unit.old)
         → (U.state unit.new).clock < last_count → length trace.now.items ≤ largest_number
-        → OnOk result (IsAlone cards x trace.now.start trace.now.items (U.state unit.old).clock outcome.new
+        → OnOk result (IsAlone cards x trace.now.start trace.now.items outcome.new (U.state unit.old)
         (U.state unit.new)) }
     // Each line of the run log has its cause, and what happened has its line, however often the cards, which are not
     // called, have broken down.

@@ -1,18 +1,15 @@
 //! The commands `minutes` and `minutes 2009`: the view text of a trace's decided minutes, by the original and by the
 //! amended rule.
-ghost use Rattle.std.specs.Prelude.{◌≡◌, ◌≢◌, ◌≤◌, ◌⊎◌, ℕ, List, Some, Err, OnOk, IfOk, IfErr, IsErrAnd};
-ghost use Rattle.std.specs.Io.KnownBytes.{Appends, IsAtEnd};
-ghost use Rattle.tach_media.specs.Medium.{Rose};
-ghost use Rattle.tach_media.specs.Streams.{AppendsFront};
+ghost use Rattle.std.specs.Prelude.{◌≡◌, ◌≢◌, OnOk, IfOk, IfErr};
+ghost use Rattle.std.specs.Io.KnownBytes.{IsAtEnd};
 ghost use Rattle.view_text.specs.Text.{IsUnitView};
 ghost use Rattle.trace_text.specs.declared.lines_trace.Form.TheVariants.{Minutes as FormOfMinutes};
-ghost use Rattle.trace_model.specs.declared.Item.{Item};
 ghost use Rattle.trace_text.specs.Line.{IsKnown};
 ghost use Rattle.trace_text.specs.Trace.{IsWellFormed};
 ghost use Rattle.std.specs.List.{AllByRecursion};
-ghost use Rattle.trace_text.specs.Judged.{IsTraceText, IsBadText, IsLongText};
-ghost use Rattle.tacho.specs.End.{refusal_of, IsUnread, IsUnprinted};
+ghost use Rattle.tacho.specs.End.{refusal_of};
 ghost use Rattle.tacho.specs.Minutes.{PrintsMinutes, minutes_printed, IsMinutesEnd};
+ghost use Rattle.tacho.specs.Printing.{JudgesText, PrintsFrom, TellsFaults};
 
 use crate::end::Fault;
 use crate::minutes::lines_of;
@@ -29,25 +26,11 @@ pub fn print_minutes<S: Source, K: Sink>(
     source: &mut S,
     sink: &mut K,
 ) -> Result<(), Fault>
-    ensures printed { (text : List ℕ) → S.left source.old ≡ Some text
-        → OnOk result ((out : List ℕ) × PrintsMinutes rule text out × Appends (K.held sink.old) (K.held sink.new) out) }
+    ensures prints { PrintsFrom (PrintsMinutes rule) (S.left source.old) (K.held sink.old) (K.held sink.new) result }
     ensures read { OnOk result (IsAtEnd (S.left source.new)) }
-    ensures bad_trace { (text : List ℕ) (n : ℕ) → S.left source.old ≡ Some text → result ≡ Err (Fault.BadTrace n)
-        → IsBadText FormOfMinutes text n }
-    ensures too_long { (text : List ℕ) (n : ℕ) → S.left source.old ≡ Some text → result ≡ Err (Fault.TooLong n)
-        → IsLongText FormOfMinutes text n }
-    ensures read_fault { result ≡ Err Fault.ReadFault → Rose (S.faults source.old) (S.faults source.new) }
-    ensures write_fault { result ≡ Err Fault.WriteFault → Rose (K.faults sink.old) (K.faults sink.new) }
-    ensures prints { (text : List ℕ) (start : ℕ) (items : List Item) → S.left source.old ≡ Some text
-        → IsTraceText FormOfMinutes text start items
-        → IfErr result IsUnprinted }
-    ensures finds_bad_trace { (text : List ℕ) (n : ℕ) → S.left source.old ≡ Some text → IsBadText FormOfMinutes text n
-        → IsErrAnd result (λ fault. (fault ≡ Fault.BadTrace n) ⊎ IsUnread fault) }
-    ensures finds_too_long { (text : List ℕ) (n : ℕ) → S.left source.old ≡ Some text → IsLongText FormOfMinutes text n
-        → IsErrAnd result (λ fault. (fault ≡ Fault.TooLong n) ⊎ IsUnread fault) }
-    ensures counts { (S.faults source.old ≤ S.faults source.new) × (K.faults sink.old ≤ K.faults sink.new) }
-    ensures front { (text : List ℕ) → S.left source.old ≡ Some text → result ≡ Err Fault.WriteFault
-        → (out : List ℕ) × PrintsMinutes rule text out × AppendsFront (K.held sink.old) (K.held sink.new) out }
+    ensures judges { JudgesText FormOfMinutes (S.left source.old) result }
+    ensures faults { TellsFaults (S.faults source.old) (S.faults source.new) (K.faults sink.old) (K.faults sink.new)
+        result }
     ensures nothing { IfErr result (λ fault. fault ≢ Fault.WriteFault → sink.new ≡ sink.old) }
     ensures other { IfErr result (λ fault. (fault ≢ Fault.Done) × IsMinutesEnd fault) }
 {

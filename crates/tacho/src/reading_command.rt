@@ -1,11 +1,11 @@
 //! The forms that read a file to its end and print what it tells.
-ghost use Rattle.std.specs.Prelude.{◌≡◌, ◌≢◌, ◌≤◌, ◌<◌, ◌^◌, ◌⊎◌, ℕ, List, Some, Err, OnOk, IfOk, IfErr, IsErrAnd};
+ghost use Rattle.std.specs.Prelude.{◌≡◌, ◌≢◌, ◌≤◌, ◌<◌, ◌^◌, ◌⊎◌, ℕ, List, Some, Err, OnOk, IfOk, IfErr};
 ghost use Rattle.std.specs.Prelude.{length};
-ghost use Rattle.std.specs.Io.KnownBytes.{Appends, IsAtEnd};
+ghost use Rattle.std.specs.Io.KnownBytes.{IsAtEnd};
 ghost use Rattle.tach_media.specs.Medium.{Rose};
 ghost use Rattle.tach_media.specs.Streams.{AppendsFront};
-ghost use Rattle.tacho.specs.End.{IsUnread};
-ghost use Rattle.tacho.specs.Read.{EndsPut, IsBad, IsReadingEnd, IsUnshown, IsWhole, MayStopWithin, Prints, most_bytes};
+ghost use Rattle.tacho.specs.Read.{EndsPut, IsBad, IsReadingEnd, IsUnshown, IsWhole, MayStopWithin, Prints};
+ghost use Rattle.tacho.specs.Printing.{JudgesFile, PrintsFrom, TellsFaults};
 
 use crate::end::Fault;
 use crate::forms::Reading;
@@ -26,20 +26,11 @@ pub fn print_reading<S: Source, K: Sink>(
     source: &mut S,
     sink: &mut K,
 ) -> Result<(), Fault>
-    ensures printed { (bytes : List ℕ) → S.left source.old ≡ Some bytes
-        → OnOk result ((out : List ℕ) × Prints reading bytes out × Appends (K.held sink.old) (K.held sink.new) out) }
+    ensures prints { PrintsFrom (Prints reading) (S.left source.old) (K.held sink.old) (K.held sink.new) result }
     ensures read { OnOk result (IsAtEnd (S.left source.new)) }
-    ensures bad_file { (bytes : List ℕ) (place : ℕ) → S.left source.old ≡ Some bytes
-        → result ≡ Err (Fault.BadFile place) → IsBad reading place bytes }
-    ensures too_long { (bytes : List ℕ) (n : ℕ) → S.left source.old ≡ Some bytes → result ≡ Err (Fault.TooLong n)
-        → (n ≡ 0) × (most_bytes < length bytes) }
-    ensures finds_too_long { (bytes : List ℕ) → S.left source.old ≡ Some bytes → most_bytes < length bytes
-        → IsErrAnd result (λ fault. (fault ≡ Fault.TooLong 0) ⊎ IsUnread fault) }
-    ensures read_fault { result ≡ Err Fault.ReadFault → Rose (S.faults source.old) (S.faults source.new) }
-    ensures write_fault { result ≡ Err Fault.WriteFault → Rose (K.faults sink.old) (K.faults sink.new) }
-    ensures counts { (S.faults source.old ≤ S.faults source.new) × (K.faults sink.old ≤ K.faults sink.new) }
-    ensures front { (bytes : List ℕ) → S.left source.old ≡ Some bytes → result ≡ Err Fault.WriteFault
-        → (out : List ℕ) × Prints reading bytes out × AppendsFront (K.held sink.old) (K.held sink.new) out }
+    ensures judges { JudgesFile reading (S.left source.old) result }
+    ensures faults { TellsFaults (S.faults source.old) (S.faults source.new) (K.faults sink.old) (K.faults sink.new)
+        result }
     ensures short { (bytes : List ℕ) → S.left source.old ≡ Some bytes → result ≡ Err Fault.Memory
         → (sink.new ≡ sink.old)
         ⊎ ((out : List ℕ) × Prints reading bytes out × AppendsFront (K.held sink.old) (K.held sink.new) out) }

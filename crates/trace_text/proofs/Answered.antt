@@ -10,7 +10,7 @@ use Rattle.trace_text.specs.declared.lines_trace.TraceFault.{TraceFault}
 use Rattle.trace_text.specs.declared.lines_trace.TraceFault.TheVariants.{ReadFault, BadLine, TooLong, Memory}
 use Rattle.trace_text.specs.Text.{text_lines}
 use Rattle.trace_text.specs.Trace.{IsTraceOf, IsWellFormed, HasRuns}
-use Rattle.trace_text.specs.Judged.{IsTraceText, IsBadText, IsLongText, IsFailure}
+use Rattle.trace_text.specs.Judged.{IsTraceText, IsBadText, IsLongText, IsFailure, TraceIsRead}
 use Rattle.trace_text.specs.Reading.{IsFaultOf}
 use Rattle.std.specs.List.{AllByRecursion}
 use Rattle.trace_text.specs.Line.{IsKnown}
@@ -92,3 +92,10 @@ trace-well_formed form lines (Err fault) judged = tt
 pub trace-few : (form : Form) (text : List ℕ) (result : Result Trace TraceFault) → length text ≤ 16777216 → Judges form (text_lines text) result → IfOk result (λ t. length t.items < 2 ^ 26)
 trace-few form text (Ok t) few judged = trace-items-few form text t.start t.items few judged
 trace-few form text (Err fault) few judged = tt
+
+-- what is said of a trace that was read
+pub trace-read : (form : Form) (left : Option (List ℕ)) (result : Result Trace TraceFault)
+    → ((text : List ℕ) → left ≡ Some text → IfOk result (λ t. IsTraceText form text t.start t.items)) → IfOk result (λ t. IsWellFormed t.start t.items)
+    → IfOk result (λ t. AllByRecursion (IsKnown form) t.items) → IfOk result (λ t. length t.items < 2 ^ 26) → IfOk result (TraceIsRead form left)
+trace-read form left (Ok t) trace well known few = record { trace = trace; well_formed = well; known = known; few = few }
+trace-read form left (Err fault) trace well known few = tt

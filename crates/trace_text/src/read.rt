@@ -1,15 +1,11 @@
 //! Reading a trace from a source.
-ghost use Rattle.std.specs.Prelude.{◌≡◌, ℕ, ◌<◌, ◌≤◌, ◌^◌, ◌∷◌, ◌++◌, ◌+◌, ◌-◌, [], List, length, ◌⊎◌, Some};
-ghost use Rattle.std.specs.Prelude.{Err, IfOk, IfErr, OnOk, IsErrOf, IsErrAnd, MatchResult};
+ghost use Rattle.std.specs.Prelude.{◌≡◌, ℕ, ◌<◌, ◌≤◌, ◌^◌, ◌∷◌, ◌++◌, ◌+◌, ◌-◌, [], List, length};
+ghost use Rattle.std.specs.Prelude.{IfOk, IfErr, OnOk, MatchResult};
 ghost use Rattle.trace_text.specs.declared.read.TheConstants.{MOST_BYTES};
 ghost use Rattle.std.specs.Io.KnownBytes.{IsAtEnd};
-ghost use Rattle.tach_media.specs.Medium.{Rose};
-ghost use Rattle.std.specs.List.{AllByRecursion};
-ghost use Rattle.trace_model.specs.declared.Item.{Item as EachItem};
-ghost use Rattle.trace_text.specs.Line.{IsKnown};
 ghost use Rattle.trace_text.specs.Text.{text_lines};
-ghost use Rattle.trace_text.specs.Trace.{IsTraceOf, IsWellFormed};
-ghost use Rattle.trace_text.specs.Judged.{IsTraceText, IsBadText, IsLongText, IsFailure};
+ghost use Rattle.trace_text.specs.Trace.{IsTraceOf};
+ghost use Rattle.trace_text.specs.Judged.{TraceIsJudged, TraceIsRead, TraceIsRefused};
 ghost use Rattle.trace_text.specs.Reading.{HasRead, IsFaultOf};
 
 use crate::lines_trace::{Form, Trace, TraceFault};
@@ -26,30 +22,11 @@ const MOST_BYTES: u32 = 16777216;
 #[tactic(auto, unfolding(crate::specs::Judged::IsTraceText, crate::specs::Judged::IsBadText, crate::specs::Judged::IsLongText))]
 pub fn read_trace<S: Source>(alloc: Global, source: &mut S, form: Form) -> Result<Trace, TraceFault>
     // What is read is the trace that the source told, and nothing of the source is left.
-    ensures trace { (text : List ℕ) → S.left source.old ≡ Some text
-        → IfOk result (λ t. IsTraceText form text t.start t.items) }
+    ensures read { IfOk result (TraceIsRead form (S.left source.old)) }
     ensures end { OnOk result (IsAtEnd (S.left source.new)) }
-    // It is well formed and each of its items is one of the form's, whether or not the source tells its content.
-    ensures well_formed { IfOk result (λ t. IsWellFormed t.start t.items) }
-    ensures known { IfOk result (λ t. AllByRecursion (IsKnown form) t.items) }
-    ensures few { IfOk result (λ t. length t.items < 2 ^ 26) }
-
-    // Each refusal has its cause.
-    ensures bad_line { (text : List ℕ) (n : ℕ) → S.left source.old ≡ Some text
-        → result ≡ Err (TraceFault.BadLine n) → IsBadText form text n }
-    ensures too_long { (text : List ℕ) (n : ℕ) → S.left source.old ≡ Some text
-        → result ≡ Err (TraceFault.TooLong n) → IsLongText form text n }
-    ensures read_fault { IsErrOf result TraceFault.ReadFault → Rose (S.faults source.old) (S.faults source.new) }
+    ensures refused { TraceIsRefused form (S.left source.old) (S.faults source.old) (S.faults source.new) result }
     ensures later { S.faults source.old ≤ S.faults source.new }
-
-    // And each cause its refusal, unless the source fails or memory runs out.
-    ensures reads { (text : List ℕ) (start : ℕ) (items : List EachItem) → S.left source.old ≡ Some text
-        → IsTraceText form text start items
-        → MatchResult result (λ t. (t.start ≡ start) × (t.items ≡ items)) IsFailure }
-    ensures finds_bad_line { (text : List ℕ) (n : ℕ) → S.left source.old ≡ Some text → IsBadText form text n
-        → IsErrAnd result (λ fault. (fault ≡ TraceFault.BadLine n) ⊎ IsFailure fault) }
-    ensures finds_too_long { (text : List ℕ) (n : ℕ) → S.left source.old ≡ Some text → IsLongText form text n
-        → IsErrAnd result (λ fault. (fault ≡ TraceFault.TooLong n) ⊎ IsFailure fault) }
+    ensures judged { TraceIsJudged form (S.left source.old) result }
 {
     let text = match take_all(alloc, source, MOST_BYTES) {
         Ok(text) => text,

@@ -16,8 +16,8 @@ returns-clause-recorded g c = λ cards x alone clock few.
     let V = g.U.Medium.state c.run_trace.new.unit in
     let begins = begins-alone x U c.no_card-card_a.result.medium.broken c.no_card-card_b.result.medium.broken (g.met.U.Medium.coherent c.args.unit.now) alone in
     let time = time-alone V c.run_trace.new.card_a.medium.broken c.run_trace.new.card_b.medium.broken clock in
-    on_ok_weaker c.run_trace.result (λ h. is-alone x c.args.trace.now.start c.args.trace.now.items c.run_trace.new.outcome U V _ _ _ _ c.requires.for_unit h cards)
-    (c.run_trace.ensures.recorded x no_image no_image begins time few)
+    on_ok_weaker c.run_trace.result (λ h. is-alone x c.args.trace.now.start c.args.trace.now.items c.run_trace.new.outcome U V _ _ _ _ c.requires.for_unit h.ends cards)
+    (c.run_trace.ensures.recorded x no_image no_image (record { begins = begins; time = time; few = few }))
 
 pub returns-clause-causes : goal.returns-clause-causes
 returns-clause-causes g c = λ x a b alone clock few.
@@ -26,8 +26,8 @@ returns-clause-causes g c = λ x a b alone clock few.
     let begins = begins-alone x U c.no_card-card_a.result.medium.broken c.no_card-card_b.result.medium.broken (g.met.U.Medium.coherent c.args.unit.now) alone in
     let time = time-alone V c.run_trace.new.card_a.medium.broken c.run_trace.new.card_b.medium.broken clock in
     let same : (card : Card) → counts V.breakdowns a b (device_of card) ≡ counts U.breakdowns a b (device_of card) = λ card. elim card as (λ k. counts V.breakdowns a b (device_of k) ≡ counts U.breakdowns a b (device_of k)) [ A ↦ refl | B ↦ refl ] in
-    on_ok_weaker c.run_trace.result (λ h. is-caused x c.args.trace.now.start c.args.trace.now.items c.run_trace.new.outcome U V _ _ _ _ c.requires.for_unit h (counts U.breakdowns a b) (counts V.breakdowns a b) refl refl same)
-    (c.run_trace.ensures.recorded x no_image no_image begins time few)
+    on_ok_weaker c.run_trace.result (λ h. is-caused x c.args.trace.now.start c.args.trace.now.items c.run_trace.new.outcome U V _ _ _ _ c.requires.for_unit h.ends (counts U.breakdowns a b) (counts V.breakdowns a b) refl refl same)
+    (c.run_trace.ensures.recorded x no_image no_image (record { begins = begins; time = time; few = few }))
 
 pub returns-clause-begun : goal.returns-clause-begun
 returns-clause-begun g c = λ x alone.
@@ -55,7 +55,7 @@ returns-clause-refusal g c = record {
   refused =
       refused-by c.args.trace.now.start (g.U.Medium.state c.args.unit.now) (g.U.Medium.state c.run_trace.new.unit) c.no_card-card_a.result.medium.broken c.no_card-card_b.result.medium.broken c.run_trace.new.card_a.medium.broken c.run_trace.new.card_b.medium.broken
       c.no_card-card_a.ensures c.no_card-card_b.ensures c.run_trace.result _ c.args.outcome.now c.run_trace.new.outcome
-      (g.met.U.Medium.coherent c.args.unit.now) (g.met.U.Medium.coherent c.run_trace.new.unit) c.run_trace.ensures.fault;
+      (g.met.U.Medium.coherent c.args.unit.now) (g.met.U.Medium.coherent c.run_trace.new.unit) (λ x y z begins time few. c.run_trace.ensures.fault x y z (record { begins = begins; time = time; few = few }));
 }
 
 pub returns-clause-most : goal.returns-clause-most

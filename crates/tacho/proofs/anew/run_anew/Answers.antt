@@ -23,7 +23,7 @@ returns-in-Err-clause-nothing g c = λ b may time few.
     may
     (ok_gives c.format_unit.result c.format_unit.ensures.formatted formed) (ok_gives c.format_unit.result c.format_unit.ensures.settled formed then_.unit)
     (ok_gives c.issue.result c.issue.ensures.written issued) (ok_gives c.issue.result c.issue.ensures.settled issued then_.card_a) in
-    let kept = e.fault (unit_image c.args.vehicle.now) c.args.image.now b begins time few in
+    let kept = e.fault (unit_image c.args.vehicle.now) c.args.image.now b (record { begins = begins; time = time; few = few }) in
     (kept.1, kept.0.same_b)
 
 -- where it was not made new no call was made on card b
@@ -49,7 +49,7 @@ returns-in-Err-clause-kept g c = λ b may time few may_record.
     (ok_gives c.format_unit.result c.format_unit.ensures.formatted formed) (ok_gives c.format_unit.result c.format_unit.ensures.settled formed then_.unit)
     (ok_gives c.issue.result c.issue.ensures.written issued) (ok_gives c.issue.result c.issue.ensures.settled issued then_.card_a) in
     only-failed (unit_image c.args.vehicle.now) c.args.image.now b c.args.trace.now.start (devices V Y Z) (devices (g.U.Medium.state c.run_trace.new.unit) (g.C.Chip.state c.run_trace.new.card_a) (g.C.Chip.state c.run_trace.new.card_b)) c.in-Err.fault may_record
-    (e.fault (unit_image c.args.vehicle.now) c.args.image.now b begins time few).0
+    (e.fault (unit_image c.args.vehicle.now) c.args.image.now b (record { begins = begins; time = time; few = few })).0
 
 pub returns-in-Err-clause-failed : goal.returns-in-Err-clause-failed
 returns-in-Err-clause-failed g c =
@@ -75,7 +75,7 @@ returns-clause-recorded g c = λ b may time few.
     (ok_gives c.issue.result c.issue.ensures.written issued) (ok_gives c.issue.result c.issue.ensures.settled issued then_.card_a) in
     ends-anew (unit_image c.args.vehicle.now) c.args.image.now b c.args.trace.now.start c.args.trace.now.items c.run_trace.new.outcome U V X Y Z (devices (g.U.Medium.state c.run_trace.new.unit) (g.C.Chip.state c.run_trace.new.card_a) (g.C.Chip.state c.run_trace.new.card_b))
     c.format_unit.ensures.moments.later c.issue.ensures.moments.later (unit_cause.unbroken refl) (card_cause.unbroken refl) e.goes.later.unit.clock e.goes.later.card_a.clock c.format_unit.ensures.most (let few = c.issue.ensures.few in let long = c.requires.image in omega (arith, few, long)) e.goes.most
-    (e.recorded (unit_image c.args.vehicle.now) c.args.image.now b begins time few)
+    (e.recorded (unit_image c.args.vehicle.now) c.args.image.now b (record { begins = begins; time = time; few = few })).ends
 
 -- ---- how often the unit has failed
 

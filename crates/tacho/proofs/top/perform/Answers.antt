@@ -17,8 +17,8 @@ returns-in-Minutes-clause-does g c = record {
       let e = c.print_minutes.ensures in
       rw (c.in-Minutes.is, c.after.ensures)
       (minutes-ends c.in-Minutes.rule _ _ c.print_minutes.result
-      (ends-minutes c.in-Minutes.rule _ _ c.print_minutes.result e.printed e.read e.bad_trace e.too_long e.read_fault e.write_fault e.prints e.finds_bad_trace e.finds_too_long e.front e.other)
-      e.read_fault e.write_fault e.counts c.nothing-nothing.result c.nothing-nothing.ensures);
+      (ends-minutes c.in-Minutes.rule _ _ c.print_minutes.result e.prints.printed e.read e.judges.bad_trace e.judges.too_long e.faults.read_fault e.faults.write_fault e.judges.prints e.judges.finds_bad_trace e.judges.finds_too_long e.prints.front e.other)
+      e.faults.read_fault e.faults.write_fault e.faults.counts c.nothing-nothing.result c.nothing-nothing.ensures);
   spares = search rules;
 }
 
@@ -83,9 +83,9 @@ returns-in-Read-clause-does g c = record {
       let e = c.print_reading.ensures in
       rw (c.in-Read.is, c.after-in-Read.ensures)
       (reading-ends c.in-Read.reading _ _ c.print_reading.result
-      (ends-reading (Prints c.in-Read.reading) (IsBad c.in-Read.reading) _ _ c.print_reading.result e.printed e.read e.bad_file e.too_long e.finds_too_long e.read_fault e.write_fault e.front
+      (ends-reading (Prints c.in-Read.reading) (IsBad c.in-Read.reading) _ _ c.print_reading.result e.prints.printed e.read e.judges.bad_file e.judges.too_long e.judges.finds_too_long e.faults.read_fault e.faults.write_fault e.prints.front
       (λ bytes told is. kept-or (g.K.Sink.held c.args.sink.now) (g.K.Sink.held c.print_reading.new.sink) (c.print_reading.new.sink ≡ c.args.sink.now) _ (λ same. ap (λ s. g.K.Sink.held s) same) (e.short bytes told is)) e.other)
-      e.read_fault e.write_fault e.counts c.nothing-nothing.result c.nothing-nothing.ensures);
+      e.faults.read_fault e.faults.write_fault e.faults.counts c.nothing-nothing.result c.nothing-nothing.ensures);
   spares =
       rw (c.in-Read.is, c.after-in-Read.ensures)
       (reading-spares c.in-Read.reading c.print_reading.result refl refl refl c.print_reading.ensures.nothing);

@@ -10,7 +10,7 @@ returns-in-Ok-clause-ends g c =
     let before : SinkTold = record { held = g.K.Sink.held c.args.sink.now; faults = g.K.Sink.faults c.args.sink.now } in
     let after : SinkTold = record { held = g.K.Sink.held c.print_upgrade.new.sink; faults = g.K.Sink.faults c.print_upgrade.new.sink } in
     upgrade-done c.in-Ok.newly (g.U.Medium.state c.args.unit.now) (g.U.Medium.state c.upgrade.new.unit) before after c.print_upgrade.result c.upgrade.ensures.moments r.cause r.most
-    (record { version = r.version; decodes = r.decodes; image = r.upgraded; settled = λ is. r.settled (ap Ok is); nothing = λ is. r.nothing (ap Ok is) })
+    (record { version = r.upgraded.version; decodes = r.upgraded.decodes; image = r.upgraded.image; settled = λ is. r.settled (ap Ok is); nothing = λ is. r.nothing (ap Ok is) })
     c.print_upgrade.ensures.ok c.print_upgrade.ensures.err c.print_upgrade.ensures.cause
 
 pub returns-in-Err-Failed-clause-ends : goal.returns-in-Err-Failed-clause-ends
