@@ -19,7 +19,7 @@ use Rattle.device_calls.specs.card_model.Days.{AreDays}
 use Rattle.device_calls.specs.card_retention.Entries.{newest_minute}
 use Rattle.device_calls.specs.card_retention.Retains.{Rise}
 use Rattle.device_calls.specs.card_retention.Shown.{AllUpTo}
-use Rattle.device_calls.specs.card_image.Fields.{card_days, end_mark, session_time}
+use Rattle.device_calls.specs.card_image.Fields.{card_days, end_mark, session_time, vehicle_ring}
 use Rattle.device_calls.specs.card_image.Judging.{IsValid}
 use Rattle.device_calls.specs.card_image.View.{CardView, card_view}
 use Rattle.device_calls.specs.card_image.Own.{own_view, own_sizes, own_number, IsOwnValid}
@@ -66,7 +66,7 @@ use Rattle.device_calls.specs.Rule.{opened, card_seen}
 use Rattle.device_calls.proofs.Enters.{unit-read, entering-rule, entered-answer, entering-moments}
 use Rattle.device_calls.proofs.Inserted.{inserting_open, inserting_shut}
 use Rattle.device_calls.proofs.OnCard.{AnyStep, own-is, session-is, mark-is}
-use Rattle.device_calls.proofs.Passed.{valid-days}
+use Rattle.device_calls.proofs.Passed.{valid-days, valid-passes, pointer-passes}
 use Rattle.device_calls.proofs.PutIn.{number_told}
 use Rattle.device_calls.specs.card_validity.Judged.{IsLook}
 use Rattle.device_calls.specs.tacho_types.CardNumber.{card_number_bytes}
@@ -83,8 +83,8 @@ use Rattle.run_devices.specs.Strung.{CardHoldsString, HasSameHolder}
 use Rattle.run_devices.specs.Told.{HasFoundSo, AreFoundCards, IsPutIn, DevicesPowered, DevicesUnpowered, arranged, card_marks, with_marks}
 use Rattle.run_devices.proofs.Parts.{both_of, as-steps, of-steps, told-one, CardLit, off-of, UnitLit, AreParts, MarksLit, parts-of, powered-of, powerless-of, brought-on}
 use Rattle.run_devices.proofs.Holders.{inserting-rest}
-use Rattle.run_devices.specs.Registered.{AreRegistered, IsUsedSo}
-use Rattle.run_devices.proofs.Registered.{MayBe, inserting-on}
+use Rattle.run_devices.specs.Registered.{VehiclesBefore, vehicles_before, StandAsBefore, HasNoMinuteElsewhere, IsUsedSo}
+use Rattle.run_devices.proofs.Registered.{bounded-by, inserting-stands, inserting-minutes}
 use Rattle.run_devices.proofs.Used.{inserting-used}
 use Rattle.device_calls.specs.card_session.Sessions.{book_of}
 use Rattle.run_devices.proofs.OnCards.{valid-own, valid-or, no-marks, number-own, own-holder-still, Rises, rises-run, none-falls, marks-on, brought-card, bound_of, held-on, held-read, hands-on, hands-read, valid-on}
@@ -354,6 +354,14 @@ module _ (f : Found) (w : RunLedger) (c : Card) (U V X Y : State) (two : f.card_
       sizes-at : (y : List ℕ) → IsCardInserting (own_sizes (found_of f c).image) registration odometer (owed_on (own_sizes (found_of f c).image) u x) now x y → own_sizes y ≡ own_sizes x
       sizes-at y m = same-sizes f (w.hands c) w.book c u x sound registration long odometer now few fits sizes (one.held.number x there) valid unit.none sure meets (one.held.now x there).1 y m
 
+      abbrev at_start : VehiclesBefore
+      at_start = vehicles_before (own_sizes (found_of f c).image) (found_of f c).vehicle (found_of f c).image
+
+      -- no minute comes in another vehicle
+      minutes-at : (a y : List ℕ) → X.image ≡ Some a → IsCardInserting (own_sizes (found_of f c).image) registration odometer (owed_on (own_sizes (found_of f c).image) u x) now a y → HasNoMinuteElsewhere at_start (own_sizes (found_of f c).image) a → HasNoMinuteElsewhere at_start (own_sizes (found_of f c).image) y
+      minutes-at a y t m told = inserting-minutes (own_sizes (found_of f c).image) sound registration long odometer now (owed_on (own_sizes (found_of f c).image) u x) x fits at_start vehicle are valid sizes y (sizes-at y (moment-at a y t m) ∙ sizes)
+          (subst (λ (l : List ℕ). HasNoMinuteElsewhere at_start (own_sizes (found_of f c).image) l) (sym (this a t)) told) (moment-at a y t m)
+
       inserted-so : IsPutSo
       inserted-so = record {
         views = rises-run (IsCardInserting (own_sizes (found_of f c).image) registration odometer (owed_on (own_sizes (found_of f c).image) u x) now) X Y whole run
@@ -367,8 +375,10 @@ module _ (f : Found) (w : RunLedger) (c : Card) (U V X Y : State) (two : f.card_
             ))
             (λ a y t m. subst (λ (l : List ℕ). HasSameHolder l y) (this a t) (same-holder f (w.hands c) w.book c u x sound registration long odometer now few fits sizes (one.held.number x there) valid unit.none sure meets (one.held.now x there).1 y (moment-at a y t m)))
             (λ a y t m own told. record {
-              entries = inserting-on (MayBe (found_of f c).vehicle (book_of (own_sizes (found_of f c).image) (found_of f c).image).vehicles) (own_sizes (found_of f c).image) sound registration (inl vehicle) long now x fits
-                  (subst (AreRegistered (own_sizes (found_of f c).image) (found_of f c).vehicle (found_of f c).image) (sym (this a t)) told.entries) odometer (owed_on (own_sizes (found_of f c).image) u x) y (moment-at a y t m);
+              entries = inserting-stands (own_sizes (found_of f c).image) sound registration long odometer now (owed_on (own_sizes (found_of f c).image) u x) x fits at_start vehicle (pointer-passes (vehicle_ring (own_sizes (found_of f c).image)) x (valid-passes (own_sizes (found_of f c).image) x valid).vehicles)
+                  (subst (λ (l : List ℕ). StandAsBefore at_start (book_of (own_sizes (found_of f c).image) l).vehicles) (sym (this a t)) told.entries) y (moment-at a y t m)
+                  (bounded-by at_start (own_sizes (found_of f c).image) y (sizes-at y (moment-at a y t m) ∙ sizes) (minutes-at a y t m told.minutes));
+              minutes = minutes-at a y t m told.minutes;
               session = subst (λ (v : Registration). IsUsedSo (own_sizes (found_of f c).image) v (found_of f c).image y) vehicle
                   (inserting-used (own_sizes (found_of f c).image) registration (found_of f c).image now long few x fits
                   (subst (λ (v : Registration). IsUsedSo (own_sizes (found_of f c).image) v (found_of f c).image x) (sym vehicle) (subst (IsUsedSo (own_sizes (found_of f c).image) (found_of f c).vehicle (found_of f c).image) (sym (this a t)) told.session))

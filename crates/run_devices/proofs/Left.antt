@@ -51,10 +51,9 @@ use Rattle.run_promise.specs.Between.{RunLedger}
 use Rattle.run_devices.specs.Told.{AreFoundCards, SessionIsOnCard, DevicesPowered, for_card, arranged, with_standing}
 use Rattle.run_devices.proofs.Parts.{both_of, as-steps, of-steps, left-one, CardLit, UnitLit, AreParts, MarksLit, parts-of, powered-of, at-card, at-other}
 use Rattle.run_devices.proofs.Holders.{HaveSameRest, closing-rest}
-use Rattle.run_devices.specs.Registered.{AreIn, IsUsedSo, TellsOfTwo}
-use Rattle.run_devices.proofs.Registered.{MayBe, close-on}
+use Rattle.run_devices.specs.Registered.{VehiclesBefore, vehicles_before, StandAsBefore, NewestIsOf, HasNoMinuteElsewhere, IsUsedSo, TellsOfTwo}
+use Rattle.run_devices.proofs.Registered.{bounded-by, close-stands, close-newest}
 use Rattle.run_devices.proofs.Used.{close-used}
-use Rattle.device_calls.specs.tacho_types.declared.texts.Registration.{Registration}
 use Rattle.run_devices.proofs.OnCards.{own-valid, valid-own, valid-or, no-marks, own-holder-still, Rises, rises-run, none-falls, marks-on, brought-card, held-on, hands-on, valid-on, bound_of as place_on}
 use Rattle.device_calls.specs.card_string.Deeds.{IsMadeSince}
 use Rattle.device_calls.proofs.card_string.MadeSince.{close_since}
@@ -186,13 +185,24 @@ module _ (f : Found) (w : RunLedger) (c : Card) (U X Y : State) (two : f.card_a.
           (omega (arith, minute-low x there, step.newest)) (omega (arith, newest-here, step.newest))
           (at_image (SitsSince a.session.application (found_of f c).image (w.hands c) one.goes.has (suc (max (found_of f c).start.word a.session.minute))) is on.goes) closing))
 
+  -- and no minute comes in another vehicle
+  closed-minutes : (x : List ℕ) (is : X.image ≡ Some x) (y : List ℕ) → IsCardClosing a.session act x y → HasNoMinuteElsewhere (vehicles_before (own_sizes (found_of f c).image) (found_of f c).vehicle (found_of f c).image) (own_sizes (found_of f c).image) x
+      → HasNoMinuteElsewhere (vehicles_before (own_sizes (found_of f c).image) (found_of f c).vehicle (found_of f c).image) (own_sizes (found_of f c).image) y
+  closed-minutes x is y k told = ⊎_elim
+      (λ its. inl (subst (λ (p : Application). NewestIsOf (found_of f c).vehicle (book_of p y).vehicles) on.sizes
+      (close-newest (found_of f c).vehicle a.session act x y sound-s (long x is) (subst (λ (p : Application). NewestIsOf (found_of f c).vehicle (book_of p x).vehicles) (sym on.sizes) its) k)))
+      (λ low. inr (omega (arith, low, (step x is y k).newest)))
+      told
+
   -- and it tells of no other vehicle
   closed-named : (x : List ℕ) (is : X.image ≡ Some x) (y : List ℕ) → IsCardClosing a.session act x y → TellsOfTwo (own_sizes (found_of f c).image) (found_of f c).vehicle (found_of f c).image x → TellsOfTwo (own_sizes (found_of f c).image) (found_of f c).vehicle (found_of f c).image y
   closed-named x is y k told =
-      let May : Registration → Type 0 = MayBe (found_of f c).vehicle (book_of (own_sizes (found_of f c).image) (found_of f c).image).vehicles in
+      let b : VehiclesBefore = vehicles_before (own_sizes (found_of f c).image) (found_of f c).vehicle (found_of f c).image in
       record {
-        entries = subst (λ (p : Application). AreIn (λ v. May v.registration) (book_of p y).vehicles) on.sizes
-            (close-on May a.session act x y sound-s (long x is) (subst (λ (p : Application). AreIn (λ v. May v.registration) (book_of p x).vehicles) (sym on.sizes) told.entries) k);
+        entries = subst (λ (p : Application). StandAsBefore b (book_of p y).vehicles) on.sizes
+            (close-stands b a.session act x y sound-s (long x is) (knows x is).card.points (subst (λ (p : Application). StandAsBefore b (book_of p x).vehicles) (sym on.sizes) told.entries) k
+            (bounded-by b a.session.application y (same-sizes x is y k ∙ own x is) (subst (λ (p : Application). HasNoMinuteElsewhere b p y) (sym on.sizes) (closed-minutes x is y k told.minutes))));
+        minutes = closed-minutes x is y k told.minutes;
         session = subst (λ (p : Application). IsUsedSo p (found_of f c).vehicle (found_of f c).image y) on.sizes
             (close-used a.session (found_of f c).vehicle (found_of f c).image act x y (long x is) (subst (λ (p : Application). IsUsedSo p (found_of f c).vehicle (found_of f c).image x) (sym on.sizes) told.session) k);
       }

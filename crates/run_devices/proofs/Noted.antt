@@ -39,9 +39,9 @@ use Rattle.run_devices.specs.Strung.{CardHoldsString}
 use Rattle.run_devices.specs.Told.{AreFoundCards, SessionIsOnCard, GoesOwing, owes_nothing, AllGo, IsLitWith, DevicesPowered, DevicesUnpowered, arranged, with_standing}
 use Rattle.run_devices.proofs.Parts.{both_of, as-steps, of-steps, CardLit, off-of, UnitLit, AreParts, MarksLit, parts-of, powered-of, powerless-of, owing-of, brought-on, at-card, at-other}
 use Rattle.run_devices.proofs.Holders.{note-rest}
-use Rattle.run_devices.proofs.Registered.{MayBe, note-on}
+use Rattle.run_devices.specs.Registered.{vehicles_before}
+use Rattle.run_devices.proofs.Registered.{note-stands, note-minutes}
 use Rattle.run_devices.proofs.Used.{note-used}
-use Rattle.device_calls.specs.card_session.Sessions.{book_of}
 use Rattle.run_devices.proofs.OnCards.{own-holder-still, own-valid, valid-own, valid-or, no-marks, time-of, Rises, rises-run, none-falls, marks-on, brought-card, bound_of, held-on, hands-on, valid-on, told-on}
 use Rattle.run_devices.proofs.NotedCard.{note-ends, note-number, note-book, note-session_time, note-sits, note-shut, note-session}
 use Rattle.device_calls.proofs.card_string.MadeSince.{since_same}
@@ -177,7 +177,11 @@ module _ (f : Found) (w : RunLedger) (c : Card) (U X Y : State) (two : f.card_a.
             (w.hands c) (brought_by c (found_of f c).start w.book) (bound_of (found_of f c) (w.standing c) x) (note-session_time (own_sizes (found_of f c).image) sound x (sound-at x is).1 n note) h.1)),
       ))
       (λ x n is note. own-holder-still (own_sizes (found_of f c).image) x n (sound-at x is).0 (same-sizes x n is note ∙ (sound-at x is).0) (note-number (own_sizes (found_of f c).image) sound x (sound-at x is).1 n note) (note-rest (own_sizes (found_of f c).image) x n note))
-      (λ x n is note own told. record { entries = note-on (MayBe (found_of f c).vehicle (book_of (own_sizes (found_of f c).image) (found_of f c).image).vehicles) (own_sizes (found_of f c).image) sound x (sound-at x is).1 n note told.entries; session = note-used (own_sizes (found_of f c).image) (found_of f c).vehicle (found_of f c).image x n note told.session }) whole one.held
+      (λ x n is note own told. record {
+        entries = note-stands (vehicles_before (own_sizes (found_of f c).image) (found_of f c).vehicle (found_of f c).image) (own_sizes (found_of f c).image) sound x (sound-at x is).1 n note told.entries;
+        minutes = note-minutes (vehicles_before (own_sizes (found_of f c).image) (found_of f c).vehicle (found_of f c).image) (own_sizes (found_of f c).image) sound x (sound-at x is).1 n note (same-view x n is note) told.minutes;
+        session = note-used (own_sizes (found_of f c).image) (found_of f c).vehicle (found_of f c).image x n note told.session;
+      }) whole one.held
     where
       both : {m n : ℕ} → m ≤ n → n ≤ m → m ≡ n
       both {m} {n} low high = omega (arith, low, high)

@@ -39,7 +39,7 @@ use Rattle.run_promise.specs.Opening.{BeginsAs, IsLookedAt, carried_first}
 use Rattle.run_promise.proofs.Opening.{own-told, own-all, own-stays}
 use Rattle.run_promise.proofs.OwedRises.{owed-rises}
 use Rattle.run_devices.specs.Registered.{TellsOfTwo}
-use Rattle.run_devices.proofs.Registered.{registered-first}
+use Rattle.run_devices.proofs.Registered.{first-stands, first-minutes}
 use Rattle.run_devices.proofs.Used.{first-used}
 use Rattle.run_devices.specs.Strung.{CardHoldsString, HasSameHolder}
 use Rattle.run_devices.specs.Told.{CardHoldsStringUnpowered, DevicesUnpowered}
@@ -127,7 +127,7 @@ module _ (f : Found) (c : Card) (u x : List ℕ) (card : State) (whole : IsCoher
     stay = λ y left. subst (λ (k : List ℕ). StaysTold (found_of f c).image (own_sizes (found_of f c).image) k) (sym (only y left)) (subst (λ (i : List ℕ). StaysTold i (own_sizes i) x) (sym looked.image) (own-stays x));
     number = λ y there. ap own_number (only-now y there) ∙ sym number;
     still = λ y left. subst (HasSameHolder (found_of f c).image) (looked.image ∙ sym (only y left)) (same-holder (found_of f c).image);
-    registered = λ y left. subst (TellsOfTwo (own_sizes (found_of f c).image) (found_of f c).vehicle (found_of f c).image) (looked.image ∙ sym (only y left)) (record { entries = registered-first (own_sizes (found_of f c).image) (found_of f c).vehicle (found_of f c).image; session = first-used (own_sizes (found_of f c).image) (found_of f c).vehicle (found_of f c).image });
+    registered = λ y left. subst (TellsOfTwo (own_sizes (found_of f c).image) (found_of f c).vehicle (found_of f c).image) (looked.image ∙ sym (only y left)) (record { entries = first-stands (own_sizes (found_of f c).image) (found_of f c).vehicle (found_of f c).image; minutes = first-minutes (own_sizes (found_of f c).image) (found_of f c).vehicle (found_of f c).image; session = first-used (own_sizes (found_of f c).image) (found_of f c).vehicle (found_of f c).image });
   }
 
   pub opened-wait : CardHoldsStringUnpowered (found_of f c) no_hands c not_begun Out card

@@ -40,16 +40,14 @@ use Rattle.device_calls.specs.unit_rule.Marks.{UnitFollowsBook}
 use Rattle.device_calls.specs.Rule.{opened, CardHolds}
 use Rattle.device_calls.specs.OnCard.{CardMayTake, IsOnItsCard, hands_for}
 use Rattle.device_calls.specs.Minute.{IsNotIn}
-use Rattle.device_calls.proofs.OnCard.{own-is, session-is, first-sizes, hands-are, on-card, kept-torn, ends-on_card}
+use Rattle.device_calls.proofs.OnCard.{own-is, session-is, mark-is, first-sizes, hands-are, on-card, kept-torn, ends-on_card}
 use Rattle.run_crew.specs.declared.cards.Accepted.{Accepted}
 use Rattle.run_crew.specs.declared.cards.Cards.{Cards}
 use Rattle.run_crew.specs.Cabin.{MayKeepAt}
 use Rattle.run_devices.specs.run_promise.Found.{CardFound, Found, found_of, unit_seen, AnyKept}
 use Rattle.run_devices.specs.run_promise.Cards.{brought_by, CardMarksHold, FirstKeep, and_first, HandMarksHold}
-use Rattle.run_devices.specs.Registered.{AreIn, IsUsedSo, TellsOfTwo}
-use Rattle.run_devices.proofs.Registered.{MayBe}
-use Rattle.run_minutes.proofs.FirstTold.{first-on, first-used}
-use Rattle.tacho_types.specs.declared.texts.Registration.{Registration}
+use Rattle.run_devices.specs.Registered.{VehiclesBefore, vehicles_before, StandAsBefore, HasNoMinuteElsewhere, IsUsedSo, TellsOfTwo}
+use Rattle.run_minutes.proofs.FirstTold.{first-stand, first-minute, first-used}
 use Rattle.card_session.specs.Sessions.{book_of}
 use Rattle.tach_media.specs.card_layout.declared.files.Application.{Application}
 use Rattle.run_devices.specs.Strung.{CardHoldsString, HasSameHolder}
@@ -197,10 +195,12 @@ module _ (f : Found) (cards : Cards) (found : AreFoundCards f cards) (c : Card) 
   kept-since : (n : ℕ) (x y : List ℕ) → X.image ≡ Some x → n < e.minute → IsFirstKeeping s by_hand e odometer x y → IsMadeSince (own_sizes g.image) n x y
   kept-since n x y is later k = subst (λ (p : Application). IsMadeSince p n x y) on.sizes (keep_since n s by_hand e odometer x y later k)
 
+  step-at : (x y : List ℕ) → X.image ≡ Some x → IsFirstKeeping s by_hand e odometer x y → IsOnCard AnyAdded e (own_view x) (own_view y)
+  step-at x y told k = on-card s (bound_since g.image (entries_of ready.0)) (own_covered g.image) ready.1 (counted_since g.image ready.0) (all_since g.image (entries_of ready.0)) by_hand e odometer are x y
+      (at_image (CardMayTake s (bound_since g.image (entries_of ready.0)) (own_covered g.image) ready.1 (counted_since g.image ready.0) (all_since g.image (entries_of ready.0)) by_hand e) told ready.2) k
+
   views : LeavesViews (of_card X) (of_card Y) (IsOnCard AnyAdded e)
-  views = seen-run own_view (λ x y. IsOnCard AnyAdded e (own_view x) (own_view y)) (IsOnCard AnyAdded e) X Y whole
-      (weaken run (λ x y told k. on-card s (bound_since g.image (entries_of ready.0)) (own_covered g.image) ready.1 (counted_since g.image ready.0) (all_since g.image (entries_of ready.0)) by_hand e odometer are x y
-      (at_image (CardMayTake s (bound_since g.image (entries_of ready.0)) (own_covered g.image) ready.1 (counted_since g.image ready.0) (all_since g.image (entries_of ready.0)) by_hand e) told ready.2) (k (at_image (IsSession s) told on.session)))) (λ x y k. k)
+  views = seen-run own_view (λ x y. IsOnCard AnyAdded e (own_view x) (own_view y)) (IsOnCard AnyAdded e) X Y whole (weaken run (λ x y told k. step-at x y told (k (at_image (IsSession s) told on.session)))) (λ x y k. k)
 
   valid-now : (x : List ℕ) → Y.left_since g.began x → IsOwnValid x
   valid-now = valid-on g.began (IsFirstKeeping s by_hand e odometer) X Y rule.dark.later keeping
@@ -225,19 +225,42 @@ module _ (f : Found) (cards : Cards) (found : AreFoundCards f cards) (c : Card) 
       (λ here. let there = whole.is_left here.0 here.1 in then-holder g.image here.0 y (held.still here.0 (whole.counts_now g.began here.0 rule.dark.later there)) (holder-here here.0 y there here.2))
       (keeping.since g.began y rule.dark.later left)
 
-  keep-registered : (x y : List ℕ) → TellsOfTwo (own_sizes g.image) g.vehicle g.image x → IsFirstKeeping s by_hand e odometer x y → TellsOfTwo (own_sizes g.image) g.vehicle g.image y
-  keep-registered x y told k =
-      let May : Registration → Type 0 = MayBe g.vehicle (book_of (own_sizes g.image) g.image).vehicles in
+  -- as long as the end mark stays, the newest minute is no later than before and at the start
+  newest-stays : (x y : List ℕ) → X.image ≡ Some x → IsFirstKeeping s by_hand e odometer x y → end_mark s.application y ≡ end_mark s.application x → (own_view x).newest ≤ (vehicles_before (own_sizes g.image) g.vehicle g.image).minute → (own_view y).newest ≤ (vehicles_before (own_sizes g.image) g.vehicle g.image).minute
+  newest-stays x y image k same before =
+      let there = whole.is_left x image in
+      let own : own_sizes x ≡ s.application = is x there ∙ sym on.sizes in
+      let words = (rule.stands.2 some-unit.0 (own_view x) some-unit.1 (x, there, refl)).words in
+      ⊎_elim
+      (λ stays. omega (arith, stays.2, words, found.word c valid, before))
+      (λ moved. absurd (omega (
+        arith,
+        moved.0,
+        low (own_view x) (x, there, refl),
+        same,
+        ap (λ (v : CardView). v.mark) (own-is s.application x own),
+        ap (λ (v : CardView). v.mark) (own-is s.application y (first-sizes s by_hand e odometer x y k ∙ own)),
+        mark-is s.application x,
+        mark-is s.application y,
+      )))
+      (step-at x y image k).side
+
+  keep-registered : (x y : List ℕ) → X.image ≡ Some x → TellsOfTwo (own_sizes g.image) g.vehicle g.image x → IsFirstKeeping s by_hand e odometer x y → TellsOfTwo (own_sizes g.image) g.vehicle g.image y
+  keep-registered x y image told k =
+      let before : VehiclesBefore = vehicles_before (own_sizes g.image) g.vehicle g.image in
+      let points = (at_image (IsSession s) image on.session).card.points in
       record {
-        entries = subst (λ (p : Application). AreIn (λ v. May v.registration) (book_of p y).vehicles) on.sizes
-            (first-on May s by_hand e odometer x y (inl on.vehicle) (subst (λ (p : Application). AreIn (λ v. May v.registration) (book_of p x).vehicles) (sym on.sizes) told.entries) k);
+        entries = subst (λ (p : Application). StandAsBefore before (book_of p y).vehicles) on.sizes
+            (first-stand before s by_hand e odometer x y on.vehicle points (subst (λ (p : Application). StandAsBefore before (book_of p x).vehicles) (sym on.sizes) told.entries) k);
+        minutes = subst (λ (p : Application). HasNoMinuteElsewhere before p y) on.sizes
+            (first-minute before s by_hand e odometer x y on.vehicle points (subst (λ (p : Application). HasNoMinuteElsewhere before p x) (sym on.sizes) told.minutes) k (newest-stays x y image k));
         session = subst (λ (p : Application). IsUsedSo p g.vehicle g.image y) on.sizes
             (first-used s g.vehicle g.image by_hand e odometer x y (subst (λ (p : Application). IsUsedSo p g.vehicle g.image x) (sym on.sizes) told.session) k);
       }
 
   registered-since : (x : List ℕ) → Y.left_since g.began x → TellsOfTwo (own_sizes g.image) g.vehicle g.image x
   registered-since y left = ⊎_elim (held.registered y)
-      (λ here. keep-registered here.0 y (held.registered here.0 (whole.counts_now g.began here.0 rule.dark.later (whole.is_left here.0 here.1))) here.2)
+      (λ here. keep-registered here.0 y here.1 (held.registered here.0 (whole.counts_now g.began here.0 rule.dark.later (whole.is_left here.0 here.1))) here.2)
       (keeping.since g.began y rule.dark.later left)
 
   brought-now : (k : ℕ) → Contains ks k → HasBrought f.card_a.number f.card_b.number c k U Y

@@ -1,46 +1,87 @@
 -- A session's first keep, with its entries by hand, at each of its moments: it tells of no other vehicle than before and the session's own.
-use Rattle.std.proofs.Common.{◌≡◌, ◌∙◌, inl, inr, ℕ, List, [], ◌∷◌, ap, sym, subst}
+use Rattle.std.proofs.Common.{◌≡◌, ◌∙◌, ◌⊎◌, inl, inr, ⊎_elim, ℕ, ◌/◌, ◌≤◌, List, [], ◌∷◌, ap, refl, sym, subst}
 use Rattle.activity_codec.specs.declared.entries.Entry.{Entry}
 use Rattle.activity_codec.specs.declared.entries.Manual.{Manual}
 use Rattle.tacho_types.specs.declared.texts.Registration.{Registration}
 use Rattle.tach_media.specs.card_layout.declared.files.Application.{Application}
-use Rattle.hand_model.specs.card_image.Fields.{current_use}
+use Rattle.hand_model.specs.card_image.Fields.{current_use, end_mark, vehicle_ring}
+use Rattle.hand_model.specs.card_image.Own.{own_view}
+use Rattle.device_calls.specs.gated_ring.Ring.{PointsInside}
+use Rattle.card_session.specs.Vehicles.{Vehicles, last_use_in}
+use Rattle.card_session.specs.Cards.{IsCardKeeping}
+use Rattle.card_session.proofs.Marks.{mark_told}
 use Rattle.card_session.specs.Sessions.{Session, book_of}
 use Rattle.card_session.proofs.InsertingCards.{use_same}
 use Rattle.device_calls.specs.card_by_hand.First.{AreEntered, IsEntering, IsFirstKeeping}
-use Rattle.run_devices.specs.Registered.{AreIn, IsUsedSo}
-use Rattle.run_devices.proofs.Registered.{keep-on}
+use Rattle.run_devices.specs.Registered.{VehiclesBefore, StandAsBefore, NewestIsOf, HasNoMinuteElsewhere, IsUsedSo}
+use Rattle.run_devices.proofs.Registered.{keep-stands, keep-newest, keep-moves}
 use Rattle.run_devices.proofs.Used.{same-used}
 use Rattle.run_minutes.proofs.FirstEnds.{entered-session}
 
 -- ---- the vehicle entries
 
-module _ (R : Registration → Type 0) where
+module _ (Q : Vehicles → Type 0) where
   abbrev On : Application → List ℕ → Type 0
-  On app x = AreIn (λ v. R v.registration) (book_of app x).vehicles
+  On app x = PointsInside (vehicle_ring app) x × Q (book_of app x).vehicles
 
   entered-on : (hs : List Manual) (s t : Session) (x z : List ℕ) → On s.application x → AreEntered hs s t x z → On s.application z
   entered-on [] s t x z is entered = subst (On s.application) (sym entered.1) is
   entered-on (h ∷ hs) s t x z is entered =
-      let one : On s.application entered.1 = subst (AreIn (λ v. R v.registration)) (sym entered.3.card.told.1) is in
+      let one : On s.application entered.1 = (entered.3.card.points, subst Q (sym entered.3.card.told.1) is.1) in
       subst (λ (app : Application). On app z) entered.2.application
       (entered-on hs entered.0 t entered.1 z (subst (λ (app : Application). On app entered.1) (sym entered.2.application) one) entered.4)
 
-  entering-on : (hs : List Manual) (s : Session) (x c : List ℕ) → On s.application x → IsEntering hs s x c → On s.application c
+  entering-on : (hs : List Manual) (s : Session) (x c : List ℕ) → On s.application x → IsEntering hs s x c → Q (book_of s.application c).vehicles
   entering-on [] s x c is entering = absurd entering
-  entering-on (h ∷ hs) s x c is (inl now) = subst (AreIn (λ v. R v.registration)) (sym now.card.told.1) is
+  entering-on (h ∷ hs) s x c is (inl now) = subst Q (sym now.card.told.1) is.1
   entering-on (h ∷ hs) s x c is (inr behind) =
-      let one : On s.application behind.1 = subst (AreIn (λ v. R v.registration)) (sym behind.3.card.told.1) is in
-      subst (λ (app : Application). On app c) behind.2.application
+      let one : On s.application behind.1 = (behind.3.card.points, subst Q (sym behind.3.card.told.1) is.1) in
+      subst (λ (app : Application). Q (book_of app c).vehicles) behind.2.application
       (entering-on hs behind.0 behind.1 c (subst (λ (app : Application). On app behind.1) (sym behind.2.application) one) behind.4)
 
-  pub first-on : (s : Session) (hs : List Manual) (e : Entry) (odometer : ℕ) (x y : List ℕ) → R s.registration → On s.application x → IsFirstKeeping s hs e odometer x y → On s.application y
-  first-on s hs e odometer x y here is (inl entering) = entering-on hs s x y is entering
-  first-on s hs e odometer x y here is (inr behind) =
+  -- what a keep behind them comes to
+  first-so : (s : Session) (hs : List Manual) (e : Entry) (odometer : ℕ) (x y : List ℕ) (Last : Vehicles → Type 0) → ((v : Vehicles) → Q v → Last v)
+      → ((t : Session) (card : List ℕ) → t.registration ≡ s.registration → On t.application card → IsCardKeeping t e odometer card y → Last (book_of t.application y).vehicles)
+      → On s.application x → IsFirstKeeping s hs e odometer x y → Last (book_of s.application y).vehicles
+  first-so s hs e odometer x y Last last keep is (inl entering) = last (book_of s.application y).vehicles (entering-on hs s x y is entering)
+  first-so s hs e odometer x y Last last keep is (inr behind) =
       let same = entered-session hs s behind.between x behind.card behind.entered in
-      subst (λ (app : Application). On app y) same.application
-      (keep-on R behind.between e odometer behind.card y (subst R (sym same.registration) here)
-      (subst (λ (app : Application). On app behind.card) (sym same.application) (entered-on hs s behind.between x behind.card is behind.entered)) behind.keeping)
+      subst (λ (app : Application). Last (book_of app y).vehicles) same.application
+      (keep behind.between behind.card same.registration (subst (λ (app : Application). On app behind.card) (sym same.application) (entered-on hs s behind.between x behind.card is behind.entered)) behind.keeping)
+
+-- THEY STAND AS AT THE START
+pub first-stand : (b : VehiclesBefore) (s : Session) (hs : List Manual) (e : Entry) (odometer : ℕ) (x y : List ℕ) → s.registration ≡ b.registration → PointsInside (vehicle_ring s.application) x → StandAsBefore b (book_of s.application x).vehicles → IsFirstKeeping s hs e odometer x y → StandAsBefore b (book_of s.application y).vehicles
+first-stand b s hs e odometer x y here points is keeping =
+    first-so (StandAsBefore b) s hs e odometer x y (StandAsBefore b) (λ v stands. stands)
+    (λ t card registration on keep. keep-stands b t e odometer card y (registration ∙ here) on.0 on.1 keep) (points, is) keeping
+
+-- the newest one stays of the session's vehicle
+newest-first : (s : Session) (hs : List Manual) (e : Entry) (odometer : ℕ) (x y : List ℕ) → PointsInside (vehicle_ring s.application) x → NewestIsOf s.registration (book_of s.application x).vehicles → IsFirstKeeping s hs e odometer x y → NewestIsOf s.registration (book_of s.application y).vehicles
+newest-first s hs e odometer x y points is keeping =
+    first-so (NewestIsOf s.registration) s hs e odometer x y (NewestIsOf s.registration) (λ v its. its)
+    (λ t card registration on keep. subst (λ (r : Registration). NewestIsOf r (book_of t.application y).vehicles) registration
+    (keep-newest t e odometer card y (subst (λ (r : Registration). NewestIsOf r (book_of t.application card).vehicles) (sym registration) on.1) keep)) (points, is) keeping
+
+-- and where the end mark moves the newest one is of the session's vehicle
+moves-first : (s : Session) (hs : List Manual) (e : Entry) (odometer : ℕ) (x y : List ℕ) → PointsInside (vehicle_ring s.application) x → IsFirstKeeping s hs e odometer x y → (last_use_in (book_of s.application y).vehicles ≡ last_use_in (book_of s.application x).vehicles) ⊎ NewestIsOf s.registration (book_of s.application y).vehicles
+moves-first s hs e odometer x y points keeping =
+    first-so (λ v. last_use_in v ≡ last_use_in (book_of s.application x).vehicles) s hs e odometer x y (λ v. (last_use_in v ≡ last_use_in (book_of s.application x).vehicles) ⊎ NewestIsOf s.registration v) (λ v same. inl same)
+    (λ t card registration on keep. ⊎_elim
+    (λ same. inl (same ∙ on.1))
+    (λ its. inr (subst (λ (r : Registration). NewestIsOf r (book_of t.application y).vehicles) registration its))
+    (keep-moves t e odometer card y keep)) (points, refl) keeping
+
+-- SO NO MINUTE COMES IN ANOTHER VEHICLE, where it leaves the newest minute as long as the end mark stays
+pub first-minute : (b : VehiclesBefore) (s : Session) (hs : List Manual) (e : Entry) (odometer : ℕ) (x y : List ℕ) → s.registration ≡ b.registration → PointsInside (vehicle_ring s.application) x → HasNoMinuteElsewhere b s.application x → IsFirstKeeping s hs e odometer x y
+    → (end_mark s.application y ≡ end_mark s.application x → (own_view x).newest ≤ b.minute → (own_view y).newest ≤ b.minute) → HasNoMinuteElsewhere b s.application y
+first-minute b s hs e odometer x y here points told keeping stays = ⊎_elim
+    (λ its. inl (subst (λ (r : Registration). NewestIsOf r (book_of s.application y).vehicles) here
+    (newest-first s hs e odometer x y points (subst (λ (r : Registration). NewestIsOf r (book_of s.application x).vehicles) (sym here) its) keeping)))
+    (λ low. ⊎_elim
+    (λ same. inr (stays (mark_told s.application y ∙ ap (λ (n : ℕ). n / 60) same ∙ sym (mark_told s.application x)) low))
+    (λ its. inl (subst (λ (r : Registration). NewestIsOf r (book_of s.application y).vehicles) here its))
+    (moves-first s hs e odometer x y points keeping))
+    told
 
 -- ---- the current use
 
