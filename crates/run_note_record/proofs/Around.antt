@@ -15,7 +15,7 @@ use Rattle.run_note_record.specs.Ringed.{holder_in, TellsIn, IsInsertionIn, Seat
 use Rattle.run_devices.specs.card_image.Own.{own_sizes}
 use Rattle.run_devices.proofs.Measured.{goes-itself}
 use Rattle.run_note_record.specs.OnCards.{PlacesStay, IsReading, VehiclesGo, SessionsGo, NoOtherComes, CardsGo, CardsStay, PlaceIsTaken}
-use Rattle.run_note_record.specs.Sessions.{IsBrokenSince, OpensSince, Ends, Opens, Shuts}
+use Rattle.run_note_record.specs.Sessions.{IsBrokenSince, OpensIn, Ends, Opens, Shuts}
 use Rattle.run_note_record.proofs.Sessions.{stay-may}
 use Rattle.run_note_record.proofs.Stands.{insertion-as}
 use Rattle.run_note_record.proofs.Rings.{rings-stay, go-on, tells-more, insertion-noted, insertion-broken, place-noted, place-broken}
@@ -123,11 +123,11 @@ module _ (R : List ℕ → List ℕ → Type 0) (d e : Devices) where
     -- what is carried before it, and so behind all
     module _ (log : RunLog) (spans : List SpanFrom) (notes : List Note) (seats : Card → Option Seating) where
       pub ringed-before : Ringed o log spans notes seats d → Ringed o log spans notes seats before-it
-      ringed-before v = rings-stay d before-it o log log spans spans notes seats v (λ p left. left) to-before (stay-may o.origin spans (λ c t. IsBrokenSince log c notes t) d before-it (stay-before spans)) (go-on log spans notes)
+      ringed-before v = rings-stay d before-it o log log spans spans notes seats v (λ p left. left) to-before (stay-may o.origin spans (λ c t. IsBrokenSince o.moves log c notes t) d before-it (stay-before spans)) (go-on log spans notes)
 
       pub ringed-behind : WritesRing R d e → Ringed o log spans notes seats behind-it → Ringed o log spans notes seats e
       ringed-behind writes v = rings-stay behind-it e o log log spans spans notes seats v
-          (λ y left. let w = writes y left in (w.2.1, (w.2.0, (w.0, w.1, w.2.2), w.2.3), w.2.4)) from-behind (stay-may o.origin spans (λ c t. IsBrokenSince log c notes t) behind-it e (stay-from spans)) (go-on log spans notes)
+          (λ y left. let w = writes y left in (w.2.1, (w.2.0, (w.0, w.1, w.2.2), w.2.3), w.2.4)) from-behind (stay-may o.origin spans (λ c t. IsBrokenSince o.moves log c notes t) behind-it e (stay-from spans)) (go-on log spans notes)
 
       -- an entry tells of a card what its images do
       pub insertion-behind : (n : InsertionNote) (head : List ℕ) → IsInsertionIn o log spans e n head → IsInsertionIn o log spans behind-it n head
@@ -140,7 +140,7 @@ module _ (R : List ℕ → List ℕ → Type 0) (d e : Devices) where
 pub insertion-around : (d e : Devices) → AnInsertionIsNoted d e
 insertion-around d e o log spans notes seats now v more a cards opens head index writes full is each =
     ringed-behind (IsAddedAt index head) d e o log spans (notes ++ Accepts a ∷ []) now writes
-    (insertion-noted (before-it (IsAddedAt index head) d e) (behind-it (IsAddedAt index head) d e) o log spans notes seats now (ringed-before (IsAddedAt index head) d e o log spans notes seats v) (to-behind (IsAddedAt index head) d e o more) a (cards-between (IsAddedAt index head) d e o spans (OpensSince log a notes) cards) (opens-between (IsAddedAt index head) d e o log a opens) head index (λ q left. left) full
+    (insertion-noted (before-it (IsAddedAt index head) d e) (behind-it (IsAddedAt index head) d e) o log spans notes seats now (ringed-before (IsAddedAt index head) d e o log spans notes seats v) (to-behind (IsAddedAt index head) d e o more) a (cards-between (IsAddedAt index head) d e o spans (OpensIn log a) cards) (opens-between (IsAddedAt index head) d e o log a opens) head index (λ q left. left) full
     (insertion-behind (IsAddedAt index head) d e o log spans notes seats (record { accepted = a; withdrawn = None }) head is) each)
 
 pub place-around : (d e : Devices) → APlaceIsNoted d e
@@ -156,7 +156,7 @@ withdrawal-around d e o log spans notes seats now v more w cards s at below time
 pub insertion-cut : (d e : Devices) → AnInsertionIsBroken d e
 insertion-cut d e o log spans notes seats v more a cards head writes full is has =
     ringed-behind (MayBeAdded insertion_ring head) d e o log spans (notes ++ Accepts a ∷ []) (λ c. None) writes
-    (insertion-broken (before-it (MayBeAdded insertion_ring head) d e) (behind-it (MayBeAdded insertion_ring head) d e) o log spans notes seats (ringed-before (MayBeAdded insertion_ring head) d e o log spans notes seats v) (to-behind (MayBeAdded insertion_ring head) d e o more) a (cards-between (MayBeAdded insertion_ring head) d e o spans (OpensSince log a notes) cards) head (λ q left. left) full
+    (insertion-broken (before-it (MayBeAdded insertion_ring head) d e) (behind-it (MayBeAdded insertion_ring head) d e) o log spans notes seats (ringed-before (MayBeAdded insertion_ring head) d e o log spans notes seats v) (to-behind (MayBeAdded insertion_ring head) d e o more) a (cards-between (MayBeAdded insertion_ring head) d e o spans (OpensIn log a) cards) head (λ q left. left) full
     (insertion-behind (MayBeAdded insertion_ring head) d e o log spans notes seats (record { accepted = a; withdrawn = None }) head is) has)
 
 pub place-cut : (d e : Devices) → APlaceIsBroken d e

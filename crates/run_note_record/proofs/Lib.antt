@@ -1,6 +1,7 @@
 pub mod Opened
 pub mod Lines
 pub mod Noted
+pub mod Moved
 pub mod Uses
 pub mod Exact
 pub mod Seconds

@@ -36,7 +36,7 @@ module _ (log later : RunLog) where
   both-same u same p e c =
       slot-same u same p e CoDriver (slot_told later u p e Driver c) ∙ ap (slot_told log u p e CoDriver) (slot-same u same p e Driver c)
 
-  acted-same : (s : TraceSecond) → SameAt log later s.number → (n : ℕ) (a : Action) (c : Course) → acted later s n a c ≡ acted log s n a c
+  pub acted-same : (s : TraceSecond) → SameAt log later s.number → (n : ℕ) (a : Action) (c : Course) → acted later s n a c ≡ acted log s n a c
   acted-same s same n a c =
       rw same.cut (rw (both-same s.number same (In (n + 1)) (moved_by n (refusal c.slots s.speed a) a c.slots) (answered n (refusal c.slots s.speed a) a c)) refl)
 
@@ -51,10 +51,10 @@ module _ (log later : RunLog) where
       carried-same s same (n + 1) acts (acted later s n a c) ∙ ap (carried_from log s (n + 1) acts) (acted-same s same n a c) in
       λ i. cond (begins (same.cut i) n && not (is_some (refusal c.slots s.speed a))) (record { before = n; action = a; slots = c.slots; after = (acted-same s same n a c i).slots } ∷ []) [] ++ rest i
 
-  second-same : (before : Before) (s : TraceSecond) → SameAt log later s.number → second_told later before s ≡ second_told log before s
+  pub second-same : (before : Before) (s : TraceSecond) → SameAt log later s.number → second_told later before s ≡ second_told log before s
   second-same before s same = ap (λ (x : Seen). x.told) (seen-by-same log later before s same)
 
-  powered-same : (before : Before) (s : TraceSecond) → SameAt log later s.number → course_powered later before s ≡ course_powered log before s
+  pub powered-same : (before : Before) (s : TraceSecond) → SameAt log later s.number → course_powered later before s ≡ course_powered log before s
   powered-same before s same = both-same s.number same (In 0) (unmoved (not before.running)) (fresh (not before.running) before.slots)
 
   done-by-same : (before : Before) (s : TraceSecond) → SameAt log later s.number → done_by later before s ≡ done_by log before s

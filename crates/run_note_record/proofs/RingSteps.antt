@@ -16,25 +16,24 @@ use Rattle.run_events.specs.run_rings.Spans.{with_second}
 use Rattle.run_events.proofs.run_rings.Same.{rings-left}
 use Rattle.run_events.proofs.run_rings.Actions.{places, withdrawals, insertions}
 use Rattle.run_note_record.specs.Origin.{Origin}
-use Rattle.run_note_record.specs.Ringed.{Seating, Ringed, since_in}
+use Rattle.run_note_record.specs.Ringed.{Seating, Ringed, since_at}
 use Rattle.run_note_record.specs.RingsSoFar.{notes_so_far, RingedBehind, RingedIn}
 use Rattle.run_note_record.specs.Steps.{GoesOnTo, IsCutIn, spans_cut, nobody, AnActionPasses, AnActionIsCut, APlaceIsEntered, APlaceIsCut, ACardIsWithdrawn, AWithdrawalIsCut, ACardIsAccepted, AnAcceptanceIsCut}
-use Rattle.run_note_record.specs.Sessions.{FailsIn, OpensIn, OpensSince}
 use Rattle.run_note_record.proofs.OnCards.{stay-itself}
-use Rattle.run_note_record.proofs.Sessions.{go-more, stay-may, opens-since}
 use Rattle.run_note_record.proofs.Rings.{fewer-sit}
 use Rattle.run_note_record.proofs.Around.{insertion-around, place-around, withdrawal-around, insertion-cut, place-cut, withdrawal-cut}
-use Rattle.run_note_record.proofs.SoFar.{left-itself, early-so-far, go-on-in, notes-nothing, action-noted, cut-ends}
+use Rattle.run_note_record.proofs.SoFar.{left-itself, go-on-in, calls-in, notes-nothing, action-noted, cut-ends}
 
 -- the lines alone, before any call
 lines-in : (d : Devices) (o : Origin) (done : List TraceSecond) (s : TraceSecond) (began log later : RunLog) (front : List Action) (spans : List SpanFrom) (base : ℕ) (t : ToldSecond) (seats : Card → Option Seating) →
     RingedIn o done s began front log spans base t seats d → GoesOnTo log later s front → RingedIn o done s began front later spans base t seats d
-lines-in d o done s began log later front spans base t seats v g = go-on-in d d o done s began front log later spans base t seats seats v g.lines g.same (rings-left d.unit) (left-itself o d) (stay-may o (with_second spans base t) (FailsIn later s.number) d d (stay-itself o (with_second spans base t) d)) (λ c. inl refl)
+lines-in d o done s began log later front spans base t seats v g = go-on-in d d o done s began front log later spans base t seats seats v g.lines g.same (rings-left d.unit) (left-itself o d) (stay-itself o (with_second spans base t) d) (λ c. inl refl)
 
 -- AN ACTION NOTES NOTHING
 pub passes : (d e : Devices) → AnActionPasses d e
 passes d e o done s began log later front a spans base t seats fewer v g none stays left cards few =
-    notes-nothing e o done s began front a later spans base t fewer (go-on-in d e o done s began front log later spans base t seats fewer v g.lines g.same stays left cards few) none
+    let w = lines-in d o done s began log later front spans base t seats v g in
+    calls-in d e o done s began later (front ++ a ∷ []) spans base t seats fewer (notes-nothing d o done s began front a later spans base t seats w none) stays left cards few
 
 -- power is cut behind an action
 module _ (d e : Devices) (o : Origin) (done : List TraceSecond) (s : TraceSecond) (began log cut : RunLog) (front : List Action) (a : Action) (rest : List Action) (spans : List SpanFrom) (base : ℕ) (t : ToldSecond) where
@@ -56,9 +55,9 @@ place-entered d e o done s began log later front spans base t seats fewer v g sl
     let w = lines-in d o done s began log later front spans base t seats v g in
     let notes : List Note = notes_so_far began done later s front in
     let p : PlaceNote = record { second = s.number; card = x.card; ending = ending; country = country; region = region } in
-    let r : Ringed (since_in o began done s) later now (notes ++ Enters p ∷ []) seats e = place-around d e (since_in o began done s) later now notes seats w.ringed left p head writes long is own wide on taken_ goes sessions in
+    let r : Ringed (since_at o began done later s front) later now (notes ++ Enters p ∷ []) seats e = place-around d e (since_at o began done later s front) later now notes seats w.ringed left p head writes long is own wide on taken_ goes sessions in
     action-noted d e o done s began front (Place slot ending country region) later spans base t seats fewer (Enters p) w (places later (went began done).before s front g.begun slot ending country region x sits accepted)
-    (fewer-sit e (since_in o began done s) later now (notes ++ Enters p ∷ []) seats fewer r few)
+    (fewer-sit e (since_at o began done later s front) later now (notes ++ Enters p ∷ []) seats fewer r few)
 
 pub place-is-cut : (d e : Devices) → APlaceIsCut d e
 place-is-cut d e o done s began log cut front rest spans base t seats v slot ending country region c x sits accepted head writes long is left own wide on taken_ goes sessions =
@@ -66,7 +65,7 @@ place-is-cut d e o done s began log cut front rest spans base t seats v slot end
     let w = lines-in d o done s began log cut front spans base t seats v c.goes in
     let notes : List Note = notes_so_far began done cut s front in
     let p : PlaceNote = record { second = s.number; card = x.card; ending = ending; country = country; region = region } in
-    let r : Ringed (since_in o began done s) cut now (notes ++ Enters p ∷ []) nobody e = place-cut d e (since_in o began done s) cut now notes seats w.ringed left p head writes long is c.failed own wide on taken_ goes sessions in
+    let r : Ringed (since_at o began done cut s front) cut now (notes ++ Enters p ∷ []) nobody e = place-cut d e (since_at o began done cut s front) cut now notes seats w.ringed left p head writes long is c.failed own wide on taken_ goes sessions in
     behind-it d e o done s began log cut front (Place slot ending country region) rest spans base t nobody c
     (action-noted d e o done s began front (Place slot ending country region) cut spans base t seats nobody (Enters p) w (places cut (went began done).before s front c.goes.begun slot ending country region x sits accepted) r)
 
@@ -77,9 +76,9 @@ card-withdrawn d e o done s began log later front spans base t seats now_ fewer 
     let w = lines-in d o done s began log later front spans base t seats v g in
     let notes : List Note = notes_so_far began done later s front in
     let n : Withdrawal = record { second = s.number; card = x.card } in
-    let r : Ringed (since_in o began done s) later now (notes ++ Withdraws n ∷ []) now_ e = withdrawal-around d e (since_in o began done s) later now notes seats now_ w.ringed left n cards q seat below time odometer second kilometres low few_ writes each shuts in
+    let r : Ringed (since_at o began done later s front) later now (notes ++ Withdraws n ∷ []) now_ e = withdrawal-around d e (since_at o began done later s front) later now notes seats now_ w.ringed left n cards q seat below time odometer second kilometres low few_ writes each shuts in
     action-noted d e o done s began front (Withdraw slot) later spans base t seats fewer (Withdraws n) w ((withdrawals later (went began done).before s front g.begun slot x sits still).2 torn accepted)
-    (fewer-sit e (since_in o began done s) later now (notes ++ Withdraws n ∷ []) now_ fewer r few)
+    (fewer-sit e (since_at o began done later s front) later now (notes ++ Withdraws n ∷ []) now_ fewer r few)
 
 pub withdrawal-is-cut : (d e : Devices) → AWithdrawalIsCut d e
 withdrawal-is-cut d e o done s began log cut front rest spans base t seats v slot c x sits still torn accepted q seat below time odometer second kilometres low few_ writes left cards =
@@ -87,7 +86,7 @@ withdrawal-is-cut d e o done s began log cut front rest spans base t seats v slo
     let w = lines-in d o done s began log cut front spans base t seats v c.goes in
     let notes : List Note = notes_so_far began done cut s front in
     let n : Withdrawal = record { second = s.number; card = x.card } in
-    let r : Ringed (since_in o began done s) cut now (notes ++ Withdraws n ∷ []) nobody e = withdrawal-cut d e (since_in o began done s) cut now notes seats w.ringed left n cards q seat below time odometer second kilometres low few_ writes c.failed in
+    let r : Ringed (since_at o began done cut s front) cut now (notes ++ Withdraws n ∷ []) nobody e = withdrawal-cut d e (since_at o began done cut s front) cut now notes seats w.ringed left n cards q seat below time odometer second kilometres low few_ writes c.failed in
     behind-it d e o done s began log cut front (Withdraw slot) rest spans base t nobody c
     (action-noted d e o done s began front (Withdraw slot) cut spans base t seats nobody (Withdraws n) w ((withdrawals cut (went began done).before s front c.goes.begun slot x sits still).2 torn accepted) r)
 
@@ -102,10 +101,10 @@ card-accepted d e o done s began log later front spans base t seats now_ fewer v
     let w = lines-in d o done s began log later front spans base t seats v g in
     let notes : List Note = notes_so_far began done later s front in
     let n : Acceptance = record { second = s.number; slot = slot; card = card } in
-    let r : Ringed (since_in o began done s) later now (notes ++ Accepts n ∷ []) now_ e = insertion-around d e (since_in o began done s) later now notes seats now_ w.ringed left n (go-more o now (OpensIn later n) (OpensSince later n notes) d e (opens-since later n notes (early-so-far done s began later front w.early)) cards) opens head index writes long is each in
+    let r : Ringed (since_at o began done later s front) later now (notes ++ Accepts n ∷ []) now_ e = insertion-around d e (since_at o began done later s front) later now notes seats now_ w.ringed left n cards opens head index writes long is each in
     let one = one-accepts s.number slot card (found_in later s.number (In (length front + 1)) slot) verdict found accepting in
     let more : NotesMore later (went began done).before s front (Insert slot card) (Accepts n ∷ []) = subst (λ (l : List Note). NotesMore later (went began done).before s front (Insert slot card) l) one (insertions later (went began done).before s front g.begun slot card fine) in
-    action-noted d e o done s began front (Insert slot card) later spans base t seats fewer (Accepts n) w more (fewer-sit e (since_in o began done s) later now (notes ++ Accepts n ∷ []) now_ fewer r few)
+    action-noted d e o done s began front (Insert slot card) later spans base t seats fewer (Accepts n) w more (fewer-sit e (since_at o began done later s front) later now (notes ++ Accepts n ∷ []) now_ fewer r few)
 
 pub acceptance-is-cut : (d e : Devices) → AnAcceptanceIsCut d e
 acceptance-is-cut d e o done s began log cut front rest spans base t seats v slot card c fine verdict found accepting head writes long is left cards =
@@ -113,7 +112,7 @@ acceptance-is-cut d e o done s began log cut front rest spans base t seats v slo
     let w = lines-in d o done s began log cut front spans base t seats v c.goes in
     let notes : List Note = notes_so_far began done cut s front in
     let n : Acceptance = record { second = s.number; slot = slot; card = card } in
-    let r : Ringed (since_in o began done s) cut now (notes ++ Accepts n ∷ []) nobody e = insertion-cut d e (since_in o began done s) cut now notes seats w.ringed left n (go-more o now (OpensIn cut n) (OpensSince cut n notes) d e (opens-since cut n notes (early-so-far done s began cut front w.early)) cards) head writes long is c.failed in
+    let r : Ringed (since_at o began done cut s front) cut now (notes ++ Accepts n ∷ []) nobody e = insertion-cut d e (since_at o began done cut s front) cut now notes seats w.ringed left n cards head writes long is c.failed in
     let one = one-accepts s.number slot card (found_in cut s.number (In (length front + 1)) slot) verdict found accepting in
     let more : NotesMore cut (went began done).before s front (Insert slot card) (Accepts n ∷ []) = subst (λ (l : List Note). NotesMore cut (went began done).before s front (Insert slot card) l) one (insertions cut (went began done).before s front c.goes.begun slot card fine) in
     behind-it d e o done s began log cut front (Insert slot card) rest spans base t nobody c (action-noted d e o done s began front (Insert slot card) cut spans base t seats nobody (Accepts n) w more r)

@@ -1,5 +1,5 @@
 -- What is carried of the rings, over each step.
-use Rattle.std.proofs.Common.{◌≡◌, ◌⊎◌, inl, inr, ⊎_elim, ℕ, suc, ◌+◌, ◌<◌, ◌≤◌, Bool, true, false, not, ◌||◌, Option, Some, None, IfSome, option_map, List, [], ◌∷◌, ◌++◌, length, refl, ap, sym, subst, ◌∙◌, arith, append_assoc, append-nil, nat_lt}
+use Rattle.std.proofs.Common.{◌≡◌, ◌⊎◌, inl, inr, ⊎_elim, ℕ, suc, ◌+◌, ◌<◌, ◌≤◌, Bool, true, false, not, ◌||◌, Option, Some, None, IfSome, option_map, List, [], ◌∷◌, ◌++◌, Contains, length, refl, ap, sym, subst, ◌∙◌, arith, append_assoc, append-nil, nat_lt}
 use Rattle.std.specs.List.{AllByRecursion, list_any}
 use Rattle.std.proofs.lemmas.Bool.{ltb-true, ltb-false}
 use Rattle.std.proofs.lemmas.List.{length-append}
@@ -29,8 +29,9 @@ use Rattle.run_note_record.specs.Origin.{Origin}
 use Rattle.run_note_record.specs.Beside.{HaveLeftMore}
 use Rattle.run_note_record.specs.Ringed.{holder_in, TellsIn, IsInsertionIn, IsPlaceIn, sure_insertion, sure_place, ShowsNotes, Seating, one_behind, LiesBehind, StandsAt, IsSeated, ShowsInsertions, Ringed, GoOn, NoRingIsWritten, RingsStay, FewerSit, IsAddedAt, MayBeAdded, Since}
 use Rattle.run_note_record.specs.OnCards.{place_width, IsPlaceOn, VehiclesGo, SessionsGo, NoOtherComes, CardsGo, PlaceIsTaken}
-use Rattle.run_note_record.specs.Sessions.{OpensSince, Opens}
-use Rattle.run_note_record.proofs.Sessions.{sessions-none, sessions-go, sessions-accepted, opens-none, sessions-entered}
+use Rattle.run_note_record.specs.Moved.{Move}
+use Rattle.run_note_record.specs.Sessions.{OpensIn, Opens}
+use Rattle.run_note_record.proofs.Sessions.{sessions-none, sessions-moved, sessions-go, sessions-accepted, opens-none, sessions-entered}
 use Rattle.run_note_record.proofs.OnCards.{call-failed, whole-head, maybe, places-none, places-go, places-beside, places-taken, vehicles-none, vehicles-go}
 use Rattle.run_note_record.proofs.Stands.{Weaker, stand-as, unsure-as, each-as, each-append, all-parts, all-of, all-each, insertions-more, places-more, insertion-as, place-as}
 
@@ -58,7 +59,7 @@ none-noted d o log spans start cards = record {
   places = λ ring x left. record { more = []; carries = subst (λ (y : List ℕ). RingKeeps unit_place_ring o.origin.recording.unit y []) (sym (start x left)) (carries-none unit_place_ring o.origin.recording.unit ring); stand = refl; few = few-start unit_place_ring (sure_place o.origin log spans) o.origin.recording.unit x ring (start x left) };
   on_cards = places-none o.origin log spans d cards;
   vehicles = vehicles-none o.origin spans d cards;
-  sessions = sessions-none o.origin log d cards;
+  sessions = sessions-none o.origin o.moves log d cards;
 }
 
 -- FEWER CARDS
@@ -78,13 +79,13 @@ fewer-sit d o log spans notes seats fewer v each = record {
 
 -- ---- as a log goes on, over devices
 
-module _ (origin : Origin) (told told_now : List ToldSecond) (trace trace_now : List TraceSecond) (come : (c : Card) (u : ℕ) → HasComeBefore told trace c u → HasComeBefore told_now trace_now c u)
+module _ (origin : Origin) (told told_now : List ToldSecond) (trace trace_now : List TraceSecond) (moves moves_now : List Move) (come : (c : Card) (u : ℕ) → HasComeBefore told trace c u → HasComeBefore told_now trace_now c u)
     (log later : RunLog) (spans now : List SpanFrom) (notes : List Note) (d e : Devices) (more : HaveLeftMore origin d e) (on : GoOn log later spans now notes) where
   abbrev since_was : Since
-  since_was = record { origin = origin; told = told; trace = trace }
+  since_was = record { origin = origin; told = told; trace = trace; moves = moves }
 
   abbrev since_now : Since
-  since_now = record { origin = origin; told = told_now; trace = trace_now }
+  since_now = record { origin = origin; told = told_now; trace = trace_now; moves = moves_now }
 
   pub tells-since : (u : ℕ) (c : Card) (registration : List ℕ) (time : ℕ) → TellsIn since_was d u c registration time → TellsIn since_now e u c registration time
   tells-since u c registration time tells = ((tells.0.0, more.card c tells.0.0 tells.0.1, tells.0.2), ⊎_elim (λ first. inl first) (λ before. inr (come c u before)) tells.1)
@@ -131,17 +132,17 @@ module _ (origin : Origin) (told told_now : List ToldSecond) (trace trace_now : 
 -- so far as it has gone
 module _ (o : Since) (log later : RunLog) (spans now : List SpanFrom) (notes : List Note) (d e : Devices) (more : HaveLeftMore o.origin d e) (on : GoOn log later spans now notes) where
   pub tells-more : (u : ℕ) (c : Card) (registration : List ℕ) (time : ℕ) → TellsIn o d u c registration time → TellsIn o e u c registration time
-  tells-more = tells-since o.origin o.told o.told o.trace o.trace (λ c u before. before) log later spans now notes d e more on
+  tells-more = tells-since o.origin o.told o.told o.trace o.trace o.moves o.moves (λ c u before. before) log later spans now notes d e more on
 
   pub insertions-weaker : AllByRecursion (Weaker (sure_insertion o.origin log spans) (sure_insertion o.origin later now) (IsInsertionIn o log spans d) (IsInsertionIn o later now e)) (insertions_of notes)
-  insertions-weaker = weaker-since o.origin o.told o.told o.trace o.trace (λ c u before. before) log later spans now notes d e more on
+  insertions-weaker = weaker-since o.origin o.told o.told o.trace o.trace o.moves o.moves (λ c u before. before) log later spans now notes d e more on
 
   pub places-weaker : AllByRecursion (Weaker (sure_place o.origin log spans) (sure_place o.origin later now) (IsPlaceIn o.origin log spans) (IsPlaceIn o.origin later now)) (places_of notes)
-  places-weaker = places-since o.origin o.told o.told o.trace o.trace (λ c u before. before) log later spans now notes d e more on
+  places-weaker = places-since o.origin o.told o.told o.trace o.trace o.moves o.moves (λ c u before. before) log later spans now notes d e more on
 
   pub seated-as : (c : Card) (q : Option Seating) (ms : List (List ℕ)) (x y : List ℕ) → HasSameTurn x y →
       IfSome q (λ s. IsSeated (sure_insertion o.origin log spans) (IsInsertionIn o log spans d) c s (insertions_of notes) ms x) → IfSome q (λ s. IsSeated (sure_insertion o.origin later now) (IsInsertionIn o later now e) c s (insertions_of notes) ms y)
-  seated-as = seated-since o.origin o.told o.told o.trace o.trace (λ c u before. before) log later spans now notes d e more on
+  seated-as = seated-since o.origin o.told o.told o.trace o.trace o.moves o.moves (λ c u before. before) log later spans now notes d e more on
 
 -- nothing of the log and the spans
 pub go-on : (log : RunLog) (spans : List SpanFrom) (notes : List Note) → GoOn log log spans spans notes
@@ -157,28 +158,28 @@ go-on log spans notes = record {
     by None = tt
     by (Some u) = refl
 
--- MORE SECONDS are told, and more of the trace: who has come before has come before.
+-- MORE SECONDS are told, and more of the trace, and more cards were moved: who has come before has come before.
 abbrev pub MoreComeBefore : Devices → Type 0
-MoreComeBefore d = (o : Origin) (told later : List ToldSecond) (trace now : List TraceSecond) → ((c : Card) (u : ℕ) → HasComeBefore told trace c u → HasComeBefore later now c u) → (log : RunLog) (spans : List SpanFrom) (notes : List Note) (seats : Card → Option Seating) →
-    Ringed (record { origin = o; told = told; trace = trace }) log spans notes seats d → Ringed (record { origin = o; told = later; trace = now }) log spans notes seats d
+MoreComeBefore d = (o : Origin) (told later : List ToldSecond) (trace now : List TraceSecond) (moves behind : List Move) → ((c : Card) (u : ℕ) → HasComeBefore told trace c u → HasComeBefore later now c u) → ((m : Move) → Contains moves m → Contains behind m) → (log : RunLog) (spans : List SpanFrom) (notes : List Note) (seats : Card → Option Seating) →
+    Ringed (record { origin = o; told = told; trace = trace; moves = moves }) log spans notes seats d → Ringed (record { origin = o; told = later; trace = now; moves = behind }) log spans notes seats d
 
 pub come-before : (d : Devices) → MoreComeBefore d
-come-before d o told later trace now come log spans notes seats v = record {
+come-before d o told later trace now moves behind come moved log spans notes seats v = record {
   insertions = λ ring x left.
       let was = v.insertions ring x left in
-      let all = weaker-since o told later trace now come log log spans spans notes d d (record { unit = λ y h. h; card = λ c y h. h }) (go-on log spans notes) in record {
+      let all = weaker-since o told later trace now moves behind come log log spans spans notes d d (record { unit = λ y h. h; card = λ c y h. h }) (go-on log spans notes) in record {
         shows = record {
           more = was.shows.more;
           carries = was.shows.carries;
-          stand = stand-as (sure_insertion o log spans) (sure_insertion o log spans) (IsInsertionIn (record { origin = o; told = told; trace = trace }) log spans d) (IsInsertionIn (record { origin = o; told = later; trace = now }) log spans d) (insertions_of notes) was.shows.more all was.shows.stand;
+          stand = stand-as (sure_insertion o log spans) (sure_insertion o log spans) (IsInsertionIn (record { origin = o; told = told; trace = trace; moves = moves }) log spans d) (IsInsertionIn (record { origin = o; told = later; trace = now; moves = behind }) log spans d) (insertions_of notes) was.shows.more all was.shows.stand;
           few = was.shows.few;
         };
-        seated = λ c. seated-since o told later trace now come log log spans spans notes d d (record { unit = λ y h. h; card = λ c y h. h }) (go-on log spans notes) c (seats c) was.shows.more x x (refl, refl) (was.seated c);
+        seated = λ c. seated-since o told later trace now moves behind come log log spans spans notes d d (record { unit = λ y h. h; card = λ c y h. h }) (go-on log spans notes) c (seats c) was.shows.more x x (refl, refl) (was.seated c);
       };
   places = v.places;
   on_cards = v.on_cards;
   vehicles = v.vehicles;
-  sessions = v.sessions;
+  sessions = sessions-moved o moves behind moved log notes d v.sessions;
 }
 
 -- CALLS THAT WRITE NO RING
@@ -210,7 +211,7 @@ rings-stay d e o log later spans now notes seats v stays more cards on = record 
       };
   on_cards = places-go o.origin log later spans now notes d e on.fell on.places cards.places v.on_cards;
   vehicles = vehicles-go o.origin spans now d e on.reads cards.vehicles v.vehicles;
-  sessions = sessions-go o.origin log later notes d e on.failed on.fell cards.sessions v.sessions;
+  sessions = sessions-go o.origin o.moves log later notes d e on.failed on.fell cards.sessions v.sessions;
 }
 
 -- ---- lists
@@ -264,7 +265,7 @@ place-noted d e o log spans notes seats v more p head added full is own long on 
       };
   on_cards = places-taken o.origin log spans notes p own d e long on taken_ v.on_cards;
   vehicles = vehicles-go o.origin spans spans d e (λ k is. is) goes v.vehicles;
-  sessions = sessions-entered o.origin log notes p d e sessions_ v.sessions;
+  sessions = sessions-entered o.origin o.moves log notes p d e sessions_ v.sessions;
 }
 
 -- or the unit failed in it
@@ -293,7 +294,7 @@ place-broken d e o log spans notes seats v more p head adding full is has own lo
       (maybe unit_place_ring o.origin.recording.unit w.0 y head (sure_place o.origin log spans) (IsPlaceIn o.origin log spans) (places_of notes) p was full is (ap not has) w.2);
   on_cards = places-taken o.origin log spans notes p own d e long on taken_ v.on_cards;
   vehicles = vehicles-go o.origin spans spans d e (λ k is. is) goes v.vehicles;
-  sessions = sessions-entered o.origin log notes p d e sessions_ v.sessions;
+  sessions = sessions-entered o.origin o.moves log notes p d e sessions_ v.sessions;
 }
 
 -- ---- AN INSERTION
@@ -344,7 +345,7 @@ seated-more sure Is c (Some s) ns ms x y a head points added other is sits = rec
       sits.there;
 }
 
-pub insertion-noted : (d e : Devices) (o : Since) (log : RunLog) (spans : List SpanFrom) (notes : List Note) (seats now : Card → Option Seating) → Ringed o log spans notes seats d → HaveLeftMore o.origin d e → (a : Acceptance) → CardsGo o.origin spans (OpensSince log a notes) d e → Opens o.origin log a e → (head : List ℕ) (index : ℕ) → Writes (IsAddedAt index head) d e → length head ≡ insertion_ring.width →
+pub insertion-noted : (d e : Devices) (o : Since) (log : RunLog) (spans : List SpanFrom) (notes : List Note) (seats now : Card → Option Seating) → Ringed o log spans notes seats d → HaveLeftMore o.origin d e → (a : Acceptance) → CardsGo o.origin spans (OpensIn log a) d e → Opens o.origin log a e → (head : List ℕ) (index : ℕ) → Writes (IsAddedAt index head) d e → length head ≡ insertion_ring.width →
     IsInsertionIn o log spans e (record { accepted = a; withdrawn = None }) head → ((c : Card) → ((same_card a.card c ≡ false) × (now c ≡ option_map one_behind (seats c))) ⊎ ((same_card a.card c ≡ true) × (now c ≡ Some (record { index = index; behind = 0 })))) →
     Ringed o log spans (notes ++ Accepts a ∷ []) now e
 insertion-noted d e o log spans notes seats now v more a cards opens head index added full is each = record {
@@ -406,11 +407,11 @@ insertion-noted d e o log spans notes seats now v more a cards opens head index 
       });
   on_cards = places-beside o.origin log spans notes (Accepts a) d e refl cards.places v.on_cards;
   vehicles = vehicles-go o.origin spans spans d e (λ k is. is) cards.vehicles v.vehicles;
-  sessions = sessions-accepted o.origin log notes a d e cards.sessions opens v.sessions;
+  sessions = sessions-accepted o.origin o.moves log notes a d e cards.sessions opens v.sessions;
 }
 
 -- or the unit failed in it
-pub insertion-broken : (d e : Devices) (o : Since) (log : RunLog) (spans : List SpanFrom) (notes : List Note) (seats : Card → Option Seating) → Ringed o log spans notes seats d → HaveLeftMore o.origin d e → (a : Acceptance) → CardsGo o.origin spans (OpensSince log a notes) d e → (head : List ℕ) → Writes (MayBeAdded insertion_ring head) d e → length head ≡ insertion_ring.width →
+pub insertion-broken : (d e : Devices) (o : Since) (log : RunLog) (spans : List SpanFrom) (notes : List Note) (seats : Card → Option Seating) → Ringed o log spans notes seats d → HaveLeftMore o.origin d e → (a : Acceptance) → CardsGo o.origin spans (OpensIn log a) d e → (head : List ℕ) → Writes (MayBeAdded insertion_ring head) d e → length head ≡ insertion_ring.width →
     IsInsertionIn o log spans e (record { accepted = a; withdrawn = None }) head → has_failed_in log a.second ≡ true → Ringed o log spans (notes ++ Accepts a ∷ []) (λ c. None) e
 insertion-broken d e o log spans notes seats v more a cards head adding full is has = record {
   insertions = λ ring y left.
@@ -434,5 +435,5 @@ insertion-broken d e o log spans notes seats v more a cards head adding full is 
       });
   on_cards = places-beside o.origin log spans notes (Accepts a) d e refl cards.places v.on_cards;
   vehicles = vehicles-go o.origin spans spans d e (λ k is. is) cards.vehicles v.vehicles;
-  sessions = sessions-accepted o.origin log notes a d e cards.sessions (opens-none o.origin log a e (call-failed log a.second has)) v.sessions;
+  sessions = sessions-accepted o.origin o.moves log notes a d e cards.sessions (opens-none o.origin log a e (call-failed log a.second has)) v.sessions;
 }

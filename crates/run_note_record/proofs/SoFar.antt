@@ -1,7 +1,7 @@
 -- The rings within a second: how it begins, goes on and ends.
-use Rattle.std.proofs.Common.{◌≡◌, inl, ℕ, suc, ◌+◌, ◌<◌, ◌≤◌, Bool, true, false, cond, not, ◌&&◌, Option, Some, None, IfSome, List, [], ◌∷◌, ◌++◌, map, filter, fold, nat_eq, refl, ap, sym, subst, ◌∙◌, arith, append-nil, append_assoc}
+use Rattle.std.proofs.Common.{◌≡◌, inl, ℕ, suc, ◌+◌, ◌<◌, ◌≤◌, Bool, true, false, cond, not, ◌&&◌, Option, Some, None, IfSome, List, [], ◌∷◌, ◌++◌, Contains, map, filter, fold, nat_eq, refl, ap, sym, subst, ◌∙◌, arith, append-nil, append_assoc}
 use Rattle.std.specs.List.{AllByRecursion, list_any}
-use Rattle.std.proofs.lemmas.List.Elements.{filter-append}
+use Rattle.std.proofs.lemmas.List.Elements.{filter-append, Contains-append_left, Contains-append_right}
 use Rattle.run_devices.specs.trace_model.declared.Action.{Action}
 use Rattle.run_devices.specs.trace_model.declared.Action.TheVariants.{Select, Insert, Withdraw, Tear, Place, Manual}
 use Rattle.run_devices.specs.trace_model.declared.Card.{Card}
@@ -29,16 +29,19 @@ use Rattle.run_events.proofs.run_rings.Spans.{are-spans, earlier-stay, alike}
 use Rattle.run_events.proofs.Later.{told-number}
 use Rattle.run_note_record.specs.Origin.{Origin}
 use Rattle.run_note_record.specs.Beside.{HaveLeftMore}
-use Rattle.run_note_record.specs.Ringed.{Seating, Ringed, GoOn, notes_in, Since, since_behind, since_in}
+use Rattle.run_note_record.specs.Moved.{Move, moves_to, moves_in, moves_so_far}
+use Rattle.run_note_record.specs.Ringed.{Seating, Ringed, StaysInRings, GoOn, notes_in, Since, since_behind, since_at}
 use Rattle.run_note_record.specs.RingsSoFar.{noted_at, AreEarlier, RingedBehind, IsSecond, notes_so_far, RingedIn, AreFewer, HasMoreBreaks, ASecondBeginsInRings, RingsGoOn, AnActionNotesNothing, AnActionIsNoted, GoesBehind, TheSecondEndsInRings, ACutEndsInRings, DarkSecondsNoteNothing}
 use Rattle.run_note_record.proofs.Stands.{all-of, all-push, all-each}
 use Rattle.run_note_record.proofs.Noted.{second-notes}
-use Rattle.run_note_record.specs.OnCards.{has_call_failed_in, IsReading}
+use Rattle.run_note_record.proofs.Moved.{moves-front, moves-later, moves-before, moves-ended, moves-more}
+use Rattle.run_note_record.specs.OnCards.{has_call_failed_in, IsReading, CardsGo}
 use Rattle.run_note_record.proofs.OnCards.{any-front, call-failed-more, stay-itself}
-use Rattle.run_note_record.specs.Sessions.{IsBrokenSince, FailsIn}
+use Rattle.run_note_record.specs.Sessions.{IsBrokenSince}
+use Rattle.run_note_record.specs.Steps.{FailsBy}
 use Rattle.run_note_record.proofs.Sessions.{go-more, stay-may, fails-since}
 use Rattle.run_note_record.proofs.Readings.{reads-with, reads-alike}
-use Rattle.run_note_record.proofs.Rings.{fewer-sit, rings-stay, come-before}
+use Rattle.run_note_record.proofs.Rings.{fewer-sit, rings-stay, come-before, go-on}
 
 -- ---- more breaks
 
@@ -111,12 +114,20 @@ pub left-itself : (o : Origin) (d : Devices) → HaveLeftMore o d d
 left-itself o d = record { unit = λ x left. left; card = λ c x left. left }
 
 along : (o : Since) (d : Devices) (log later : RunLog) (spans now : List SpanFrom) (notes : List Note) (seats : Card → Option Seating) → Ringed o log spans notes seats d → GoOn log later spans now notes → Ringed o later now notes seats d
-along o d log later spans now notes seats v on = rings-stay d d o log later spans now notes seats v (rings-left d.unit) (left-itself o.origin d) (stay-may o.origin now (λ c t. IsBrokenSince later c notes t) d d (stay-itself o.origin now d)) on
+along o d log later spans now notes seats v on = rings-stay d d o log later spans now notes seats v (rings-left d.unit) (left-itself o.origin d) (stay-may o.origin now (λ c t. IsBrokenSince o.moves later c notes t) d d (stay-itself o.origin now d)) on
 
 -- a second more of the trace, and of what is told
 pub come-in : (d : Devices) (o : Origin) (log : RunLog) (done : List TraceSecond) (s : TraceSecond) (spans : List SpanFrom) (notes : List Note) (seats : Card → Option Seating) →
-    Ringed (since_behind o log done) log spans notes seats d → Ringed (since_in o log done s) log spans notes seats d
-come-in d o log done s spans notes seats v = come-before d o (went log done).told (went log done).told done (done ++ s ∷ []) (λ c u h. come-trace (went log done).told done (s ∷ []) c u h) log spans notes seats v
+    Ringed (since_behind o log done) log spans notes seats d → Ringed (since_at o log done log s []) log spans notes seats d
+come-in d o log done s spans notes seats v =
+    come-before d o (went log done).told (went log done).told done (done ++ s ∷ []) (moves_in log done) (moves_so_far log done log s []) (λ c u h. come-trace (went log done).told done (s ∷ []) c u h)
+    (λ m at. Contains-append_left (moves_in log done) (moves_to log (went log done).before s []) m at) log spans notes seats v
+
+-- by a later log, and with actions more
+pub moved-on : (d : Devices) (o : Origin) (began log later : RunLog) (done : List TraceSecond) (s : TraceSecond) (front back : List Action) → ((m : Move) → Contains (moves_to log (went began done).before s front) m → Contains (moves_to later (went began done).before s back) m) →
+    (told : RunLog) (spans : List SpanFrom) (notes : List Note) (seats : Card → Option Seating) → Ringed (since_at o began done log s front) told spans notes seats d → Ringed (since_at o began done later s back) told spans notes seats d
+moved-on d o began log later done s front back more told spans notes seats v =
+    come-before d o (went began done).told (went began done).told (done ++ s ∷ []) (done ++ s ∷ []) (moves_so_far began done log s front) (moves_so_far began done later s back) (λ c u h. h) (moves-more began log later done s front back more) told spans notes seats v
 
 -- ---- the notes of a second are of that second
 
@@ -194,8 +205,8 @@ second-begins d o done s log spans base t seats v runs second =
       before = v.before;
       early = v.early;
       second = second;
-      ringed = subst (λ (l : List Note). Ringed (since_in o log done s) log (with_second spans base t) l seats d) (sym none)
-          (along (since_in o log done s) d log log spans (with_second spans base t) (notes_in log done) seats (come-in d o log done s spans (notes_in log done) seats v.ringed)
+      ringed = subst (λ (l : List Note). Ringed (since_at o log done log s []) log (with_second spans base t) l seats d) (sym none)
+          (along (since_at o log done log s []) d log log spans (with_second spans base t) (notes_in log done) seats (come-in d o log done s spans (notes_in log done) seats v.ringed)
           (goes-earlier log spans (with_second spans base t) s.number (notes_in log done) v.early (λ u lt. earlier-stay spans base t u (let is = second.number in omega (arith, lt, is))) (reads-with spans base t)));
     }
 
@@ -204,14 +215,34 @@ go-on-in d e o done s began front log later spans base t seats fewer v more same
     let now : List SpanFrom = with_second spans base t in
     let notes : List Note = notes_so_far began done log s front in
     let on : GoOn log later now now notes = goes-alike log later now now notes (failed-more log later more) (call-failed-more log later more) (λ u. refl) (λ n is. is) in
-    let ringed : Ringed (since_in o began done s) later now notes seats e = rings-stay d e (since_in o began done s) log later now now notes seats v.ringed stays left (go-more o now (FailsIn later s.number) (λ c t. IsBrokenSince later c notes t) d e (fails-since later s.number notes (early-so-far done s began log front v.early)) cards) on in
+    let ringed : Ringed (since_at o began done log s front) later now notes seats e = rings-stay d e (since_at o began done log s front) log later now now notes seats v.ringed stays left (stay-may o now (λ c t. IsBrokenSince (moves_so_far began done log s front) later c notes t) d e cards) on in
+    let moves_are : moves_to later (went began done).before s front ≡ moves_to log (went began done).before s front = moves-later log later s (went began done).before front same in
+    let moved : Ringed (since_at o began done later s front) later now notes seats e = moved-on e o began log later done s front front (λ m at. subst (λ (l : List Move). Contains l m) (sym moves_are) at) later now notes seats ringed in
     let as_ : notes ≡ notes_so_far began done later s front = ap (λ (l : List Note). notes_in began done ++ l) (sym (later-lines log later (went began done).before s front same)) in
     record {
       spans_are = v.spans_are;
       before = v.before;
       early = v.early;
       second = v.second;
-      ringed = subst (λ (l : List Note). Ringed (since_in o began done s) later now l fewer e) as_ (fewer-sit e (since_in o began done s) later now notes seats fewer ringed fewer_sit);
+      ringed = subst (λ (l : List Note). Ringed (since_at o began done later s front) later now l fewer e) as_ (fewer-sit e (since_at o began done later s front) later now notes seats fewer moved fewer_sit);
+    }
+
+-- calls that write no ring, behind the last of these actions
+pub calls-in : (d e : Devices) (o : Origin) (done : List TraceSecond) (s : TraceSecond) (began log : RunLog) (front : List Action) (spans : List SpanFrom) (base : ℕ) (t : ToldSecond) (seats fewer : Card → Option Seating) →
+    RingedIn o done s began front log spans base t seats d → StaysInRings d e → HaveLeftMore o d e → CardsGo o (with_second spans base t) (FailsBy began done log s front) d e → AreFewer seats fewer → RingedIn o done s began front log spans base t fewer e
+calls-in d e o done s began log front spans base t seats fewer v stays left cards fewer_sit =
+    let now : List SpanFrom = with_second spans base t in
+    let notes : List Note = notes_so_far began done log s front in
+    let o_at : Since = since_at o began done log s front in
+    let broken = go-more o now (FailsBy began done log s front) (λ c t. IsBrokenSince (moves_so_far began done log s front) log c notes t) d e
+    (fails-since log s.number (moves_to log (went began done).before s front) (moves_so_far began done log s front)
+    (λ m at. Contains-append_right (moves_in began done) (moves_to log (went began done).before s front) m at) notes (early-so-far done s began log front v.early)) cards in
+    record {
+      spans_are = v.spans_are;
+      before = v.before;
+      early = v.early;
+      second = v.second;
+      ringed = fewer-sit e o_at log now notes seats fewer (rings-stay d e o_at log log now now notes seats v.ringed stays left broken (go-on log now notes)) fewer_sit;
     }
 
 -- these notes more
@@ -226,7 +257,8 @@ notes-nothing d o done s began front a log spans base t seats v is = record {
   before = v.before;
   early = v.early;
   second = v.second;
-  ringed = subst (λ (l : List Note). Ringed (since_in o began done s) log (with_second spans base t) l seats d) (sym (append-nil (notes_so_far began done log s front)) ∙ noted-more began done log s front a [] is) v.ringed;
+  ringed = subst (λ (l : List Note). Ringed (since_at o began done log s (front ++ a ∷ [])) log (with_second spans base t) l seats d) (sym (append-nil (notes_so_far began done log s front)) ∙ noted-more began done log s front a [] is)
+      (moved-on d o began log log done s front (front ++ a ∷ []) (moves-front log (went began done).before s front (a ∷ [])) log (with_second spans base t) (notes_so_far began done log s front) seats v.ringed);
 }
 
 pub action-noted : (d e : Devices) → AnActionIsNoted d e
@@ -235,7 +267,8 @@ action-noted d e o done s began front a log spans base t seats now n v is ringed
   before = v.before;
   early = v.early;
   second = v.second;
-  ringed = subst (λ (l : List Note). Ringed (since_in o began done s) log (with_second spans base t) l now e) (noted-more began done log s front a (n ∷ []) is) ringed;
+  ringed = subst (λ (l : List Note). Ringed (since_at o began done log s (front ++ a ∷ [])) log (with_second spans base t) l now e) (noted-more began done log s front a (n ∷ []) is)
+      (moved-on e o began log log done s front (front ++ a ∷ []) (moves-front log (went began done).before s front (a ∷ [])) log (with_second spans base t) (notes_so_far began done log s front ++ n ∷ []) now ringed);
 }
 
 -- ---- the second ends
@@ -310,7 +343,7 @@ before-with v spans base t all lt = by t.lit t.starts
 -- ---- THE SECOND ENDS
 
 module _ (d : Devices) (o : Origin) (done : List TraceSecond) (s : TraceSecond) (began later : RunLog) (front : List Action) (spans : List SpanFrom) (base : ℕ) (t : ToldSecond) (seats : Card → Option Seating) (v : RingedIn o done s began front later spans base t seats d)
-    (behind : GoesBehind began later done) (power : has_power (went began done).before s ≡ true) (notes : notes_to later (went began done).before s s.actions ≡ notes_to later (went began done).before s front) where
+    (behind : GoesBehind began later done) (power : has_power (went began done).before s ≡ true) (rest : List Action) (are : s.actions ≡ front ++ rest) (notes : notes_to later (went began done).before s s.actions ≡ notes_to later (went began done).before s front) where
   before-is : (went later done).before ≡ (went began done).before
   before-is = ap (λ (w : Went). w.before) behind.went_is
 
@@ -338,10 +371,11 @@ module _ (d : Devices) (o : Origin) (done : List TraceSecond) (s : TraceSecond) 
       let same : AreAlike t one = told-alike later (went later done).before s t there second in
       let number : one.second.number ≡ s.number = told-number later (went later done).before s in
       let so_far : List Note = notes_so_far began done later s front in
-      let ringed : Ringed (since_in o began done s) later (with_second spans base one) so_far seats d =
-      along (since_in o began done s) d later later (with_second spans base t) (with_second spans base one) so_far seats v.ringed (goes-alike later later (with_second spans base t) (with_second spans base one) so_far (λ u has. has) (λ u has. has) (alike spans base t one same) (reads-alike spans base t one same)) in
+      let ringed : Ringed (since_at o began done later s front) later (with_second spans base one) so_far seats d =
+      along (since_at o began done later s front) d later later (with_second spans base t) (with_second spans base one) so_far seats v.ringed (goes-alike later later (with_second spans base t) (with_second spans base one) so_far (λ u has. has) (λ u has. has) (alike spans base t one same) (reads-alike spans base t one same)) in
       let now : Ringed (since_behind o later (done ++ s ∷ [])) later (with_second spans base one) so_far seats d =
-      come-before d o (went began done).told (went later (done ++ s ∷ [])).told (done ++ s ∷ []) (done ++ s ∷ []) (come-told_now began later done (done ++ s ∷ []) s behind.went_is) later (with_second spans base one) so_far seats ringed in
+      come-before d o (went began done).told (went later (done ++ s ∷ [])).told (done ++ s ∷ []) (done ++ s ∷ []) (moves_so_far began done later s front) (moves_in later (done ++ s ∷ [])) (come-told_now began later done (done ++ s ∷ []) s behind.went_is)
+      (moves-ended began later done s front rest behind.same before-is power are) later (with_second spans base one) so_far seats ringed in
       record {
         spans_are = told-spans;
         before = before-with (suc s.number) spans base one (all-before-later s.number (suc s.number) spans (omega arith) v.before) (omega (arith, number));
@@ -351,11 +385,11 @@ module _ (d : Devices) (o : Origin) (done : List TraceSecond) (s : TraceSecond) 
       }
 
 pub second-ends : (d : Devices) → TheSecondEndsInRings d
-second-ends d o done s began later spans base t seats v behind power = ends-in d o done s began later s.actions spans base t seats v behind power refl seats (λ c. inl refl)
+second-ends d o done s began later spans base t seats v behind power = ends-in d o done s began later s.actions spans base t seats v behind power [] (sym (append-nil s.actions)) refl seats (λ c. inl refl)
 
 pub cut-ends : (d : Devices) → ACutEndsInRings d
 cut-ends d o done s began cut front rest spans base t seats fewer v behind power are is fewer_sit =
-    ends-in d o done s began cut front spans base t seats v behind power
+    ends-in d o done s began cut front spans base t seats v behind power rest are
     (ap (λ (l : List Action). notes_to cut (went began done).before s l) are ∙ cut-notes cut (went began done).before s front rest is) fewer fewer_sit
 
 -- ---- without power
@@ -376,8 +410,8 @@ dark-ends d o done s log later spans base seats fewer v behind more off fewer_si
     let unlit : one.lit ≡ false = dark-lit later (went later done).before s there in
     let ringed : Ringed (since_behind o log done) later spans (notes_in log done) seats d = along (since_behind o log done) d log later spans spans (notes_in log done) seats v.ringed (goes-alike log later spans spans (notes_in log done) (failed-more log later more) (call-failed-more log later more) (λ u. refl) (λ n is. is)) in
     let now : Ringed (since_behind o later (done ++ s ∷ [])) later spans (notes_in log done) seats d =
-    come-before d o (went log done).told (went later (done ++ s ∷ [])).told (done ++ s ∷ []) (done ++ s ∷ []) (come-told_now log later done (done ++ s ∷ []) s behind.went_is) later spans (notes_in log done) seats
-    (come-before d o (went log done).told (went log done).told done (done ++ s ∷ []) (λ c u h. come-trace (went log done).told done (s ∷ []) c u h) later spans (notes_in log done) seats ringed) in
+    come-before d o (went log done).told (went later (done ++ s ∷ [])).told (done ++ s ∷ []) (done ++ s ∷ []) (moves_in log done) (moves_in later (done ++ s ∷ [])) (come-told_now log later done (done ++ s ∷ []) s behind.went_is) (moves-before log later done s behind.same) later spans (notes_in log done) seats
+    (come-before d o (went log done).told (went log done).told done (done ++ s ∷ []) (moves_in log done) (moves_in log done) (λ c u h. come-trace (went log done).told done (s ∷ []) c u h) (λ m at. at) later spans (notes_in log done) seats ringed) in
     record {
       spans_are = v.spans_are
           ∙ ap (λ (b : Bool). cond b (cond one.starts (spans_of (went log done).told ++ (one ∷ []) ∷ []) (go_on (spans_of (went log done).told) one)) (spans_of (went log done).told)) (sym unlit)

@@ -326,7 +326,7 @@ withdrawal-noted d e o log spans notes seats now v more w cards s at below time 
       });
   on_cards = places-beside o.origin log spans notes (Withdraws w) d e refl cards.places v.on_cards;
   vehicles = vehicles-go o.origin spans spans d e (λ k is. is) cards.vehicles v.vehicles;
-  sessions = sessions-withdrawn o.origin log notes w d e cards.sessions shuts v.sessions;
+  sessions = sessions-withdrawn o.origin o.moves log notes w d e cards.sessions shuts v.sessions;
 }
   where
     places-same : (x y : List ℕ) (s : Seating) → s.index < insertion_ring.count → (time : TimeReal) (odometer : Odometer) → (IsWithdrawn s.index time odometer x y × (s.behind < insertion_ring.count)) ⊎ (HasSameRings x y × (insertion_ring.count ≤ s.behind)) →
@@ -376,7 +376,7 @@ withdrawal-broken d e o log spans notes seats v more w cards s at below time odo
       });
   on_cards = places-beside o.origin log spans notes (Withdraws w) d e refl cards.places v.on_cards;
   vehicles = vehicles-go o.origin spans spans d e (λ k is. is) cards.vehicles v.vehicles;
-  sessions = sessions-withdrawn o.origin log notes w d e cards.sessions (shuts-none o.origin log w e has) v.sessions;
+  sessions = sessions-withdrawn o.origin o.moves log notes w d e cards.sessions (shuts-none o.origin log w e has) v.sessions;
 }
   where
     places-same : (x y : List ℕ) → MayBeWithdrawn s time odometer x y → bytes_at y unit_place_ring.base (size_of unit_place_ring) ≡ bytes_at x unit_place_ring.base (size_of unit_place_ring)

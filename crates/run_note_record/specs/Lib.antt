@@ -7,6 +7,7 @@ pub mod Bringing
 pub mod EventsSoFar
 pub mod Kept
 pub mod OnCards
+pub mod Moved
 pub mod Sessions
 pub mod Ringed
 pub mod RingsSoFar

@@ -2,6 +2,7 @@
 use Rattle.std.specs.Prelude.{◌≡◌, ◌⊎◌, ℕ, suc, ◌+◌, ◌<◌, ◌≤◌, ◌^◌, Bool, true, false, Option, Some, None, IfSome}
 use Rattle.std.specs.Prelude.{option_map, List, [], ◌∷◌, ◌++◌, length}
 use Rattle.std.specs.List.{AllByRecursion, list_any}
+use Rattle.run_devices.specs.trace_model.declared.Action.{Action}
 use Rattle.run_devices.specs.trace_model.declared.Card.{Card}
 use Rattle.run_devices.specs.trace_model.Trace.{TraceSecond}
 use Rattle.run_devices.specs.tacho_types.declared.numbers.TimeReal.{TimeReal}
@@ -35,24 +36,42 @@ pub use Rattle.run_note_record.specs.OnCards.{HasRing, ShowsNotes}
 use Rattle.run_note_record.specs.OnCards.{has_call_failed_in, place_width, IsPlaceOn, PlacesOnCards, IsReading}
 use Rattle.run_note_record.specs.OnCards.{VehiclesOnCards, VehiclesGo, SessionsGo, NoOtherComes, CardsGo}
 use Rattle.run_note_record.specs.OnCards.{PlaceIsTaken, HasPlaces, places_in, places_on, is_sure_on}
-use Rattle.run_note_record.specs.Sessions.{IsBrokenSince, SessionsOnCards, OpensSince, Ends, Opens, Shuts}
+use Rattle.run_note_record.specs.Moved.{Move, moves_in, moves_so_far}
+use Rattle.run_note_record.specs.Sessions.{IsBrokenSince, SessionsOnCards, OpensIn, Ends, Opens, Shuts}
 use Rattle.run_note_record.specs.Origin.{Origin}
 use Rattle.run_note_record.specs.Beside.{HaveLeftMore}
 
 -- ---- how rings show it
 
--- what a run began with, and how far it has gone, as far as it tells which cards have come before
+-- what a run began with, and how far it has gone, as far as it tells which cards have come before, and which it has put
+-- in and taken out
 pub record Since : Type 0 where
   pub origin : Origin
   pub told : List ToldSecond
   pub trace : List TraceSecond
+  pub moves : List Move
 
 -- behind these seconds; and within one more, where the log was this as it began
 abbrev pub since_behind : Origin → RunLog → List TraceSecond → Since
-since_behind o log done = record { origin = o; told = (went log done).told; trace = done }
+since_behind o log done = record { origin = o; told = (went log done).told; trace = done; moves = moves_in log done }
 
 abbrev pub since_in : Origin → RunLog → List TraceSecond → TraceSecond → Since
-since_in o began done s = record { origin = o; told = (went began done).told; trace = done ++ s ∷ [] }
+since_in o began done s = record {
+  origin = o;
+  told = (went began done).told;
+  trace = done ++ s ∷ [];
+  moves = moves_in began done;
+}
+
+-- and behind these of its actions
+abbrev pub since_at : Origin → (began : RunLog) → List TraceSecond → (log : RunLog) → TraceSecond
+    → (front : List Action) → Since
+since_at o began done log s front = record {
+  origin = o;
+  told = (went began done).told;
+  trace = done ++ s ∷ [];
+  moves = moves_so_far began done log s front;
+}
 
 -- the holder of a card by its image at the start
 abbrev pub holder_in : Origin → Card → Holder
@@ -150,7 +169,7 @@ pub record Ringed (o : Since) (log : RunLog) (spans : List SpanFrom) (notes : Li
       o.origin.recording.unit x
   pub on_cards : PlacesOnCards o.origin log spans notes d
   pub vehicles : VehiclesOnCards o.origin spans d
-  pub sessions : SessionsOnCards o.origin log notes d
+  pub sessions : SessionsOnCards o.origin o.moves log notes d
 
 -- ---- steps
 
@@ -209,7 +228,7 @@ NoRingIsWritten d = (o : Since) (log : RunLog) (spans : List SpanFrom)
 abbrev pub RingsStay : (d e : Devices) → Type 0
 RingsStay d e = (o : Since) (log later : RunLog) (spans now : List SpanFrom) (notes : List Note)
     (seats : Card → Option Seating) → Ringed o log spans notes seats d → StaysInRings d e → HaveLeftMore o.origin d e
-    → CardsGo o.origin now (λ c t. IsBrokenSince later c notes t) d e → GoOn log later spans now notes →
+    → CardsGo o.origin now (λ c t. IsBrokenSince o.moves later c notes t) d e → GoOn log later spans now notes →
     Ringed o later now notes seats e
 
 -- CARDS leave their slots, or power is lost: fewer are accepted.
@@ -222,7 +241,7 @@ FewerSit d = (o : Since) (log : RunLog) (spans : List SpanFrom) (notes : List No
 abbrev pub AnInsertionIsNoted : (d e : Devices) → Type 0
 AnInsertionIsNoted d e = (o : Since) (log : RunLog) (spans : List SpanFrom) (notes : List Note)
     (seats now : Card → Option Seating) → Ringed o log spans notes seats d → HaveLeftMore o.origin d e
-    → (a : Acceptance) → CardsGo o.origin spans (OpensSince log a notes) d e → Opens o.origin log a e
+    → (a : Acceptance) → CardsGo o.origin spans (OpensIn log a) d e → Opens o.origin log a e
     → (head : List ℕ) (index : ℕ) → WritesRing (IsAddedAt index head) d e →
     length head ≡ insertion_ring.width → IsInsertionIn o log spans e (record { accepted = a; withdrawn = None }) head →
     ((c : Card) → ((same_card a.card c ≡ false) × (now c ≡ option_map one_behind (seats c)))
@@ -256,7 +275,7 @@ AWithdrawalIsNoted d e = (o : Since) (log : RunLog) (spans : List SpanFrom) (not
 abbrev pub AnInsertionIsBroken : (d e : Devices) → Type 0
 AnInsertionIsBroken d e = (o : Since) (log : RunLog) (spans : List SpanFrom) (notes : List Note)
     (seats : Card → Option Seating) → Ringed o log spans notes seats d → HaveLeftMore o.origin d e
-    → (a : Acceptance) → CardsGo o.origin spans (OpensSince log a notes) d e → (head : List ℕ) →
+    → (a : Acceptance) → CardsGo o.origin spans (OpensIn log a) d e → (head : List ℕ) →
     WritesRing (MayBeAdded insertion_ring head) d e → length head ≡ insertion_ring.width →
     IsInsertionIn o log spans e (record { accepted = a; withdrawn = None }) head → has_failed_in log a.second ≡ true
     → Ringed o log spans (notes ++ Accepts a ∷ []) (λ c. None) e

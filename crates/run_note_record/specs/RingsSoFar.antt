@@ -18,9 +18,8 @@ use Rattle.run_events.specs.run_rings.Notes.{notes_to, TellSameTo, NotesMore}
 use Rattle.run_events.specs.run_rings.Spans.{with_second, AreAllBefore}
 use Rattle.run_note_record.specs.Origin.{Origin}
 use Rattle.run_note_record.specs.Beside.{HaveLeftMore}
-use Rattle.run_note_record.specs.OnCards.{CardsGo}
-use Rattle.run_note_record.specs.Ringed.{Seating, Ringed, StaysInRings, notes_in, since_behind, since_in}
-use Rattle.run_note_record.specs.Sessions.{FailsIn}
+use Rattle.run_note_record.specs.OnCards.{CardsStay}
+use Rattle.run_note_record.specs.Ringed.{Seating, Ringed, StaysInRings, notes_in, since_behind, since_at}
 
 -- when a note was made
 abbrev pub noted_at : Note → ℕ
@@ -61,8 +60,8 @@ pub record RingedIn (o : Origin) (done : List TraceSecond) (s : TraceSecond) (be
   pub before : AreAllBefore s.number spans
   pub early : AreEarlier s.number (notes_in began done)
   pub second : IsSecond s (went began done).before t
-  pub ringed : Ringed (since_in o began done s) log (with_second spans base t) (notes_so_far began done log s front)
-      seats d
+  pub ringed : Ringed (since_at o began done log s front) log (with_second spans base t)
+      (notes_so_far began done log s front) seats d
 
 -- fewer cards are accepted, or the same
 abbrev pub AreFewer : (seats fewer : Card → Option Seating) → Type 0
@@ -86,7 +85,7 @@ RingsGoOn d e = (o : Origin) (done : List TraceSecond) (s : TraceSecond) (began 
     (log later : RunLog) (spans : List SpanFrom) (base : ℕ) (t : ToldSecond) (seats fewer : Card → Option Seating) →
     RingedIn o done s began front log spans base t seats d → HasMoreBreaks log later
     → TellSameTo log later s.number (length front) → StaysInRings d e → HaveLeftMore o d e
-    → CardsGo o (with_second spans base t) (FailsIn later s.number) d e → AreFewer seats fewer →
+    → CardsStay o (with_second spans base t) d e → AreFewer seats fewer →
     RingedIn o done s began front later spans base t fewer e
 
 abbrev pub AnActionNotesNothing : Devices → Type 0
@@ -101,7 +100,7 @@ AnActionIsNoted d e = (o : Origin) (done : List TraceSecond) (s : TraceSecond) (
     (a : Action) (log : RunLog) (spans : List SpanFrom) (base : ℕ) (t : ToldSecond) (seats now : Card → Option Seating)
     (n : Note) →
     RingedIn o done s began front log spans base t seats d → NotesMore log (went began done).before s front a (n ∷ [])
-    → Ringed (since_in o began done s) log (with_second spans base t)
+    → Ringed (since_at o began done log s front) log (with_second spans base t)
     (notes_so_far began done log s front ++ n ∷ []) now e →
     RingedIn o done s began (front ++ a ∷ []) log spans base t now e
 

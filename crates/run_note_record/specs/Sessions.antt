@@ -11,6 +11,7 @@ use Rattle.run_devices.specs.note_model.Noted.{Acceptance, Withdrawal, Note, Acc
 use Rattle.run_devices.specs.safety_model.Recording.{card_image}
 use Rattle.run_devices.specs.safety_model.Safe.{Devices, card_of}
 use Rattle.run_note_record.specs.Origin.{Origin}
+use Rattle.run_note_record.specs.Moved.{Move, goes_in, goes_out}
 use Rattle.run_note_record.specs.OnCards.{has_call_failed_in}
 
 -- ---- what is sure of it
@@ -57,38 +58,40 @@ IsNotBefore log c u (Enters p) = Unit {0}
 abbrev pub HasFailedSince : RunLog → Card → List Note → (second : ℕ) → Type 0
 HasFailedSince log c notes u = (has_call_failed_in log u ≡ true) × AllByRecursion (IsNotBefore log c u) notes
 
--- what a call that failed since may have left: no session, or one of its second
-abbrev pub IsBrokenSince : RunLog → Card → List Note → (session : ℕ) → Type 0
-IsBrokenSince log c notes t = (u : ℕ) × HasFailedSince log c notes u × ((t ≡ 0) ⊎ (t ≡ u))
+-- A CALL THAT FAILS IN A SECOND may have left of a card no session, or that of the second, where it was being put in
+-- then; none, where it was being withdrawn; and else what it told before
+abbrev pub MayLeave : List Move → Card → (second session : ℕ) → Type 0
+MayLeave moves c u t = (Contains moves (goes_in u c) × ((t ≡ 0) ⊎ (t ≡ u))) ⊎ (Contains moves (goes_out u c) × (t ≡ 0))
 
--- SO THE SESSION THAT IT TELLS is one of these.
-abbrev pub MayTell : RunLog → Card → (start : ℕ) → List Note → (session : ℕ) → Type 0
-MayTell log c start notes t = Contains (told_on log c start notes) t ⊎ IsBrokenSince log c notes t
+-- so it may tell of one that a call has left which failed since
+abbrev pub IsBrokenSince : List Move → RunLog → Card → List Note → (session : ℕ) → Type 0
+IsBrokenSince moves log c notes t = (u : ℕ) × HasFailedSince log c notes u × MayLeave moves c u t
+
+-- SO THE SESSION THAT IT TELLS is one of these, where the run has moved the cards so.
+abbrev pub MayTell : List Move → RunLog → Card → (start : ℕ) → List Note → (session : ℕ) → Type 0
+MayTell moves log c start notes t = Contains (told_on log c start notes) t ⊎ IsBrokenSince moves log c notes t
 
 -- the session that the image of a card tells, by the sizes of its image at the start
 abbrev pub session_told : (start x : List ℕ) → ℕ
 session_told start x = session_time (own_sizes start) x
 
 -- EACH IMAGE that a stop may leave of a card that was valid tells of one of these
-abbrev pub SessionsOnCards : Origin → RunLog → List Note → Devices → Type 0
-SessionsOnCards o log notes d = (c : Card) → IsOwnValid (card_image o.recording c) → (x : List ℕ)
+abbrev pub SessionsOnCards : Origin → List Move → RunLog → List Note → Devices → Type 0
+SessionsOnCards o moves log notes d = (c : Card) → IsOwnValid (card_image o.recording c) → (x : List ℕ)
     → (card_of d c).may_leave x →
-    MayTell log c (session_told (card_image o.recording c) (card_image o.recording c)) notes
+    MayTell moves log c (session_told (card_image o.recording c) (card_image o.recording c)) notes
     (session_told (card_image o.recording c) x)
 
 -- ---- calls
 
--- a call fails in a second, and may have ended the session, or opened one then
-abbrev pub FailsIn : RunLog → (second : ℕ) → Card → ℕ → Type 0
-FailsIn log u c t = ((t ≡ 0) ⊎ (t ≡ u)) × (has_call_failed_in log u ≡ true)
+-- a call fails in a second, of which these are the moves so far
+abbrev pub FailsIn : RunLog → List Move → (second : ℕ) → Card → ℕ → Type 0
+FailsIn log moves u c t = MayLeave moves c u t × (has_call_failed_in log u ≡ true)
 
--- a card is accepted in a second, or a call fails in it
+-- a card is accepted in a second: it tells of that one; where a call fails in it, maybe of none
 abbrev pub OpensIn : RunLog → Acceptance → Card → ℕ → Type 0
-OpensIn log a c t = ((same_card a.card c ≡ true) × (t ≡ a.second)) ⊎ FailsIn log a.second c t
-
--- or it may have failed behind these notes
-abbrev pub OpensSince : RunLog → Acceptance → List Note → Card → ℕ → Type 0
-OpensSince log a notes c t = ((same_card a.card c ≡ true) × (t ≡ a.second)) ⊎ IsBrokenSince log c notes t
+OpensIn log a c t = (same_card a.card c ≡ true)
+    × ((t ≡ a.second) ⊎ ((t ≡ 0) × (has_call_failed_in log a.second ≡ true)))
 
 -- the session of a card is ended; where it had one
 abbrev pub Ends : Card → Card → ℕ → Type 0

@@ -24,6 +24,7 @@ use Rattle.run_note_record.specs.Origin.{Origin}
 use Rattle.run_note_record.specs.Beside.{HaveLeftMore}
 use Rattle.run_note_record.specs.OnCards.{place_width, IsPlaceOn, CardsGo, VehiclesGo, SessionsGo}
 use Rattle.run_note_record.specs.OnCards.{NoOtherComes, PlaceIsTaken}
+use Rattle.run_note_record.specs.Moved.{moves_to}
 use Rattle.run_note_record.specs.Sessions.{FailsIn, OpensIn, Ends, Opens, Shuts}
 use Rattle.run_note_record.specs.Ringed.{Seating, one_behind, StaysInRings, WritesRing, IsInsertionIn, IsPlaceIn}
 use Rattle.run_note_record.specs.Ringed.{IsAddedAt, MayBeAdded, IsWithdrawnAt, MayBeWithdrawn, since_in}
@@ -53,6 +54,11 @@ spans_cut spans base log done s = with_second spans base (second_told log (went 
 abbrev pub nobody : Card → Option Seating
 nobody c = None
 
+-- a call fails in a second, behind these of its actions, where the log was this as it began
+abbrev pub FailsBy : (began : RunLog) → List TraceSecond → (log : RunLog) → TraceSecond → (front : List Action) → Card
+    → ℕ → Type 0
+FailsBy began done log s front = FailsIn log (moves_to log (went began done).before s front) s.number
+
 -- AN ACTION NOTES NOTHING, and writes no ring;
 abbrev pub AnActionPasses : (d e : Devices) → Type 0
 AnActionPasses d e = (o : Origin) (done : List TraceSecond) (s : TraceSecond) (began log later : RunLog)
@@ -60,7 +66,7 @@ AnActionPasses d e = (o : Origin) (done : List TraceSecond) (s : TraceSecond) (b
     (seats fewer : Card → Option Seating) →
     RingedIn o done s began front log spans base t seats d → GoesOnTo log later s front
     → NotesMore later (went began done).before s front a [] → StaysInRings d e → HaveLeftMore o d e
-    → CardsGo o (with_second spans base t) (FailsIn later s.number) d e → AreFewer seats fewer →
+    → CardsGo o (with_second spans base t) (FailsBy began done later s (front ++ a ∷ [])) d e → AreFewer seats fewer →
     RingedIn o done s began (front ++ a ∷ []) later spans base t fewer e
 
 abbrev pub AnActionIsCut : (d e : Devices) → Type 0
@@ -69,7 +75,7 @@ AnActionIsCut d e = (o : Origin) (done : List TraceSecond) (s : TraceSecond) (be
     (seats : Card → Option Seating) →
     RingedIn o done s began front log spans base t seats d → IsCutIn began log cut done s front a rest
     → NotesMore cut (went began done).before s front a [] → StaysInRings d e → HaveLeftMore o d e
-    → CardsGo o (with_second spans base t) (FailsIn cut s.number) d e →
+    → CardsGo o (with_second spans base t) (FailsBy began done cut s (front ++ a ∷ [])) d e →
     RingedBehind o (done ++ s ∷ []) cut (suc s.number) (spans_cut spans base cut done s) nobody e
 
 -- A PLACE IS ENTERED of the accepted card of a slot;

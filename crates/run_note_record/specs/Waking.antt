@@ -17,11 +17,11 @@ use Rattle.run_events.specs.run_rings.Spans.{with_second}
 use Rattle.run_note_record.specs.Origin.{Origin}
 use Rattle.run_note_record.specs.Beside.{HaveLeftMore}
 use Rattle.run_note_record.specs.OnCards.{CardsGo}
-use Rattle.run_note_record.specs.Sessions.{FailsIn, OpensIn, Opens}
+use Rattle.run_note_record.specs.Sessions.{OpensIn, Opens}
 use Rattle.run_note_record.specs.Ringed.{Seating, one_behind, StaysInRings, WritesRing, IsInsertionIn, IsAddedAt}
 use Rattle.run_note_record.specs.Ringed.{MayBeAdded, since_in}
 use Rattle.run_note_record.specs.RingsSoFar.{RingedBehind, IsSecond, RingedIn, AreFewer, HasMoreBreaks, GoesBehind}
-use Rattle.run_note_record.specs.Steps.{spans_cut, nobody}
+use Rattle.run_note_record.specs.Steps.{FailsBy, spans_cut, nobody}
 
 -- no card was looked at yet in this second
 abbrev pub NoneFound : RunLog → (second : ℕ) → Type 0
@@ -49,7 +49,8 @@ ASlotIsPassedAnew d e = (o : Origin) (done : List TraceSecond) (s : TraceSecond)
     RingedIn o done s began [] log spans base t seats d → (went began done).before.running ≡ false
     → HasMoreBreaks log later → (slot : Slot) (found : List Verdict) → IsFoundAnew log later s.number slot found →
     (in_slot (went began done).before.slots slot ≡ None) ⊎ (filter is_accepting found ≡ []) → StaysInRings d e
-    → HaveLeftMore o d e → CardsGo o (with_second spans base t) (FailsIn later s.number) d e → AreFewer seats fewer →
+    → HaveLeftMore o d e → CardsGo o (with_second spans base t) (FailsBy began done later s []) d e
+    → AreFewer seats fewer →
     RingedIn o done s began [] later spans base t fewer e
 
 -- or its card is accepted anew,
