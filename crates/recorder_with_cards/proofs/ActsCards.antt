@@ -20,7 +20,7 @@ use Rattle.run_acts.specs.run_course.Moments.{and_break, and_refused}
 use Rattle.run_acts.proofs.run_course.Lookups.{break-more, refusal-more}
 use Rattle.run_acts.specs.run_course.Reached.{course_at}
 use Rattle.run_acts.specs.run_note_record.Uses.{notes_now, uses_in}
-use Rattle.run_acts.proofs.run_note_record.Exact.{fewer-none}
+use Rattle.run_acts.proofs.AllStay.{stood-self, known-fewer, known-as}
 use Rattle.run_acts.proofs.run_note_record.SoFar.{left-itself, failed-more}
 use Rattle.run_minutes.specs.Keeping.{with_lines}
 use Rattle.run_outcome.specs.declared.outcome.Outcome.{Outcome}
@@ -52,12 +52,12 @@ use Rattle.recorder_with_cards.proofs.SlotLines.{whose, stops-hand, stop-by-sess
 -- an activity is selected
 pub selected-cards : (d : Devices) (slot : Slot) (pick : Pick) (begun speed : ℕ) (run : Run) (out : Outcome) → CardsAction (Select slot pick) begun speed false run out out d d
 selected-cards d slot pick begun speed run out o done s now front rest are is allowed vehicle w cards time =
-    quiet-goes o done s front rest (Select slot pick) are run out d d w tt [] (log_of out) (ap (λ (bs : List Break). record (log_of out) { breaks = bs }) (sym (append-nil (log_of out).breaks))) tt (left-itself o d) (shows-self o d) cards false
+    quiet-goes o done s front rest (Select slot pick) are run out d d w tt [] (log_of out) (ap (λ (bs : List Break). record (log_of out) { breaks = bs }) (sym (append-nil (log_of out).breaks))) tt (stood-self o d) (left-itself o d) (shows-self o d) cards false
 
 -- or an entry by hand passes the slots
 pub hand-cards : (d : Devices) (slot : Slot) (pick : Pick) (minute begun speed : ℕ) (run : Run) (out : Outcome) → CardsAction (Manual slot pick minute) begun speed false run out out d d
 hand-cards d slot pick minute begun speed run out o done s now front rest are is allowed vehicle w cards time =
-    quiet-goes o done s front rest (Manual slot pick minute) are run out d d w tt [] (log_of out) (ap (λ (bs : List Break). record (log_of out) { breaks = bs }) (sym (append-nil (log_of out).breaks))) tt (left-itself o d) (shows-self o d) cards false
+    quiet-goes o done s front rest (Manual slot pick minute) are run out d d w tt [] (log_of out) (ap (λ (bs : List Break). record (log_of out) { breaks = bs }) (sym (append-nil (log_of out).breaks))) tt (stood-self o d) (left-itself o d) (shows-self o d) cards false
 
 -- a card is pulled out
 pub pulled-cards : (d : Devices) (slot : Slot) (begun speed : ℕ) (run : Run) (out : Outcome) → CardsAction (Pull slot) begun speed false run out
@@ -74,9 +74,9 @@ pulled-cards d slot begun speed run out o done s now front rest are is allowed v
     to k x lt = w.within.moment.up_to.found (In k) x lt
 
     -- its line tells of no find
-    finds : (c : Card) → FindsStill log (and_break log line) (uses_in o c (notes_now w.within.b.run.log done log s)) (uses_in o c (notes_now w.within.b.run.log done (and_break log line) s))
-    finds c none = (
-      fewer-none log (and_break log line) (line ∷ []) refl none,
+    finds : (c : Card) → FindsStill o c log (and_break log line) d d (uses_in o c (notes_now w.within.b.run.log done log s)) (uses_in o c (notes_now w.within.b.run.log done (and_break log line) s))
+    finds c whose in_ known = (
+      known-fewer whose o log (and_break log line) (line ∷ []) d d refl (stood-self o d) known,
       still-found o w.within.b.run.log done s (power-here o done s (In (length front)) [] None [] (values_of run out) d w.within) c log (and_break log line) front (Pull slot ∷ rest) are
           (goes-torn log s front slot false w.within.moment.up_to.uncut).same to (λ k x lt. (break-more log line s.number).found (In k) x ∙ to k x lt),
     )
@@ -114,8 +114,8 @@ refused-cards o done s speed run before d now front a rest are w cards fault is 
     let faults : refusal (course_behind log was s front).slots s.speed a ≡ Some fault = ap (λ (c : Course). refusal c.slots s.speed a) same ∙ refuses o done s speed run before d now front a rest are w (Some fault) slots in
     subst (λ (l : RunLog). CardsIn o done s w.within.b.run.log (front ++ a ∷ []) l d) (sym (log-one before line (refusal-by-slots (logged run.keeper.cabin.slots.seats) speed a fault slots)))
     (quiet-shown o done s w.within.b.run.log front (front ++ a ∷ []) log later d d cards
-    (λ c none. (
-      none,
+    (λ c whose in_ known. (
+      known-as whose o log later d refl known,
       still-found o w.within.b.run.log done s (power-here o done s (In (length front)) [] None [] (values_of run before) d w.within) c log later front (a ∷ rest) are goes.same (λ k x lt. w.within.moment.up_to.found (In k) x lt)
           (λ k x lt. (refusal-more log later.refused s.number).found (In k) x ∙ w.within.moment.up_to.found (In k) x lt),
     )) (failed-more log later goes.lines)
@@ -124,7 +124,7 @@ refused-cards o done s speed run before d now front a rest are w cards fault is 
     let hand = stops-hand a run fault session.1 in
     subst (λ (l : RunLog). CardsIn o done s w.within.b.run.log (front ++ a ∷ []) l d) (sym (log-stop before line (stop-by-session a run fault session.1)))
     (subst (λ (x : Action). CardsIn o done s w.within.b.run.log (front ++ x ∷ []) log d) (sym hand.3)
-    (quiet-goes o done s front rest (Manual hand.0 hand.1 hand.2) (subst (λ (x : Action). s.actions ≡ front ++ x ∷ rest) hand.3 are) run before d d w tt [] log (ap (λ (bs : List Break). record log { breaks = bs }) (sym (append-nil log.breaks))) tt (left-itself o d) (shows-self o d) cards false)))
+    (quiet-goes o done s front rest (Manual hand.0 hand.1 hand.2) (subst (λ (x : Action). s.actions ≡ front ++ x ∷ rest) hand.3 are) run before d d w tt [] log (ap (λ (bs : List Break). record log { breaks = bs }) (sym (append-nil log.breaks))) tt (stood-self o d) (left-itself o d) (shows-self o d) cards false)))
     (whose run speed a fault is) in
     subst (λ (q : Outcome). CardsIn o done s w.within.b.run.log (front ++ a ∷ []) (log_of q) d) (sym told) on
 
@@ -164,5 +164,5 @@ pub cut-cards : (o : Origin) (done : List TraceSecond) (s : TraceSecond) (n : �
 cut-cards o done s n run out d e w told front rest are l uncut cards =
     let cut : RunLog = with_cut (log_of told) s front in
     let power = power-here o done s (In n) [] None [] (values_of run out) d w.within in
-    ends-shown o done s w.within.b.run.log cut l power front cut e e cards (λ c none. (none, refl)) (λ u is. is)
+    ends-shown o done s w.within.b.run.log cut l power front cut e e cards (λ c whose in_ known. (known, refl)) (λ u is. is)
     (cut-short o done s w.within.b.run.log cut l power front rest are (cut-is (log_of told) s.number (length front) uncut)) (left-itself o e) (shows-self o e)

@@ -39,9 +39,8 @@ use Rattle.run_acts.specs.run_record.Within.{Beginning}
 use Rattle.run_acts.specs.run_note_record.Noting.{Acting}
 use Rattle.run_acts.specs.run_note_record.EventsSoFar.{EventedNow}
 use Rattle.run_acts.specs.run_note_record.RingsSoFar.{RingedBehind, RingedIn}
-use Rattle.run_acts.specs.run_note_record.Steps.{GoesOnTo, nobody, spans_cut}
+use Rattle.run_acts.specs.run_note_record.Steps.{GoesOnTo, FailsBy, nobody, spans_cut}
 use Rattle.run_acts.specs.run_note_record.Stored.{StoresOn, StoresOff}
-use Rattle.run_acts.specs.run_note_record.Sessions.{FailsIn}
 use Rattle.run_acts.proofs.run_note_record.OnCards.{stay-itself}
 use Rattle.run_acts.proofs.run_note_record.Sessions.{stay-may}
 use Rattle.run_acts.proofs.run_note_record.SoFar.{left-itself}
@@ -121,7 +120,7 @@ passes-by : (d : Devices) (o : Origin) (done : List TraceSecond) (s : TraceSecon
     GoesOnTo log later s front → NotesMore later (went began done).before s front a [] → new.keeper.odometer ≡ run.keeper.odometer → ((c : Card) → (seats_of new c ≡ seats_of run c) ⊎ (seats_of new c ≡ None)) →
     new.noted ≡ run.noted → later.finds ≡ log.finds → RingsWithin o done s began (front ++ a ∷ []) new later spans t d
 passes-by d o done s began log later front a spans t run new rings goes none same fewer noted finds =
-    let on = passes d d o done s began log later front a spans run.keeper.odometer t (seats_of run) (seats_of new) rings.ringed goes none (rings-left d.unit) (left-itself o d) (stay-may o (with_second spans run.keeper.odometer t) (FailsIn later s.number) d d (stay-itself o (with_second spans run.keeper.odometer t) d)) fewer in
+    let on = passes d d o done s began log later front a spans run.keeper.odometer t (seats_of run) (seats_of new) rings.ringed goes none (rings-left d.unit) (left-itself o d) (stay-may o (with_second spans run.keeper.odometer t) (FailsBy began done later s (front ++ a ∷ [])) d d (stay-itself o (with_second spans run.keeper.odometer t) d)) fewer in
     record {
       base = subst (λ (n : ℕ). IsLastFrom n (with_second spans n t)) (sym same) rings.base;
       counted = let was = rings.counted in let many = ap (λ (fs : List Find). length fs) finds in omega (arith, was, noted, many);

@@ -30,14 +30,13 @@ use Rattle.run_minutes.specs.run_devices.Told.{arranged}
 use Rattle.run_outcome.specs.declared.outcome.Outcome.{Outcome}
 use Rattle.run_minutes.specs.run_promise.Origin.{Origin}
 use Rattle.run_minutes.specs.run_promise.Beside.{HaveLeftMore}
-use Rattle.run_minutes.specs.run_promise.Whole.{NothingFailed}
 use Rattle.run_acts.specs.run_note_record.Evented.{images_in}
 use Rattle.run_acts.specs.run_note_record.Uses.{uses_from, insertions_at, notes_now, uses_in, use_now}
 use Rattle.run_minutes.specs.declared.keeper.Keeper.{Keeper}
 use Rattle.run_minutes.specs.declared.keeper.Moment.{Moment as KeepingAt}
 use Rattle.run_minutes.specs.Keeping.{tear_of}
 use Rattle.run_insertion.specs.declared.lines.Entering.{Entering}
-use Rattle.run_insertion.specs.Entering.{Ending, Unfit, Ahead, Fell, Unasked, Unnoted, Seated, Lost, Way, Unread, Unsized, Judged, ending_of, finds_by}
+use Rattle.run_insertion.specs.Entering.{Ending, Unfit, Ahead, Fell, Unasked, Unnoted, Seated, Lost, Way, Unread, Unsized, Judged, ending_of, finds_by, breaks_by, falls_of}
 use Rattle.run_insertion.specs.Entered.{IsWay}
 use Rattle.run_insertion.specs.Noted.{moving_event}
 use Rattle.run_insertion.specs.CardEvents.{events_in, all_noted, AreBeingNoted, MayBeNoted, of_type, ShowsMore, ShowsThese, unclosed_on}
@@ -49,7 +48,9 @@ use Rattle.run_acts.specs.Closings.{notes_within}
 use Rattle.run_acts.specs.Entered.{values_with, MayJudge, HasGone, AreSound}
 use Rattle.run_acts.specs.Recording.{IsOrigin, log_of}
 use Rattle.run_acts.specs.Truths.{truths_within, marked}
-use Rattle.run_acts.specs.Stays.{AllStay}
+use Rattle.run_acts.specs.Stays.{Whose, covers, AreKnown, AllStay}
+use Rattle.run_acts.proofs.AllStay.{known-fewer, stood-broken}
+use Rattle.run_acts.proofs.KeptSeats.{floor-in}
 use Rattle.run_acts.specs.OnCards.{Bringing, unclosed_at, unclosed_by, unclosed_all, events_by, accepts, moving_at, movings, judging, IsBrought, IsUse, StillShows, AreUses}
 use Rattle.run_acts.specs.RunCards.{vehicle_in, sizes_in}
 use Rattle.run_acts.proofs.OnCards.{events-none, still-same}
@@ -235,10 +236,15 @@ module _ (o : Origin) (done : List TraceSecond) (s : TraceSecond) (n : ℕ) (wai
       (subst (λ (x : ℕ). TellsOf (log_of out) (log_with (ending_of way) e (log_of out)) x e.at.begun e.slot (verdicts_of (ending_of way) e)) second
       (ending-tells (ending_of way) e (log_of out) early)))
 
-  -- where no call failed its lines tell the uses
-  finds : NothingFailed (log_with (ending_of way) e (log_of out)) → NothingFailed (log_of out)
-      × FindsBy o w.b.run.log done s e.slot e.which (notes_within w.b done s (In n) (log_of out)) (log_of out) (log_with (ending_of way) e (log_of out)) (verdicts_of (ending_of way) e)
-  finds = ending-finds o done s n waits fewer (values_with k out unfound next_ begun minutes) (arranged e.which U X Z) w e m.next_ m.none m.order second begun-is (ending_of way)
+  -- its lines tell the uses
+  finds : FindsBy o w.b.run.log done s e.slot e.which (notes_within w.b done s (In n) (log_of out)) (log_of out) (log_with (ending_of way) e (log_of out)) (verdicts_of (ending_of way) e)
+  finds = ending-finds o done s n waits fewer (values_with k out unfound next_ begun minutes) (arranged e.which U X Z) w e m.next_ m.none m.order m.moment (ending_of way)
+
+  -- and what is known of stays then was known before
+  known-then : (whose : Whose) → AreKnown whose o (log_of out') (arranged e.which W Y Z) → AreKnown whose o (log_of out) (arranged e.which U X Z)
+  known-then whose is =
+      known-fewer whose o (log_of out) (log_of out') (breaks_by (ending_of way) e) (arranged e.which U X Z) (arranged e.which W Y Z) (ap (λ (l : RunLog). l.breaks) log-is)
+      (stood-broken o (falls_of (ending_of way)) e.which U W X Y Z (floor-in o done s (In n) waits None [] (values_with k out unfound next_ begun minutes) (arranged e.which U X Z) w) g.entered.broken) is
 
   found-is : found_in (log_of out') s.number (In n) e.slot ≡ verdicts_of (ending_of way) e
   found-is = tells.own ∙ ap (λ (vs : List Verdict). vs ++ verdicts_of (ending_of way) e) m.none
@@ -305,27 +311,26 @@ module _ (o : Origin) (done : List TraceSecond) (s : TraceSecond) (n : ℕ) (wai
     abbrev Step : List CurrentUse → List ℕ → List ℕ → Type 0
     Step uses us y = (x : List ℕ) × X.may_leave x × EachBrought uses us x y
 
-    -- where no call failed this was found on it, by the notes before it
+    -- this was found on it, by the notes before it
     abbrev TellsFound : List Verdict → Type 0
-    TellsFound vs = NothingFailed (log_of out') → NothingFailed (log_of out)
-        × (uses_then o w.b.run.log done s e.which out' ≡ uses_then o w.b.run.log done s e.which out ++ uses_from (vehicle_in o) (use_now o e.which (notes_within w.b done s (In n) (log_of out))) (insertions_at s.number e.slot e.which vs))
+    TellsFound vs = uses_then o w.b.run.log done s e.which out' ≡ uses_then o w.b.run.log done s e.which out ++ uses_from (vehicle_in o) (use_now o e.which (notes_within w.b done s (In n) (log_of out))) (insertions_at s.number e.slot e.which vs)
 
     tells_found : TellsFound (verdicts_of (ending_of way) e)
-    tells_found fine = let told = finds (subst NothingFailed log-is fine) in (told.0, ap (λ (l : RunLog). uses_in o e.which (notes_now w.b.run.log done l s)) log-is ∙ told.1.own e.which (same-self e.which))
+    tells_found = ap (λ (l : RunLog). uses_in o e.which (notes_now w.b.run.log done l s)) log-is ∙ finds.own e.which (same-self e.which)
 
     -- it tells the use that they have left
-    once : (replayed : ℕ) (x : List ℕ) → X.may_leave x → NothingFailed (log_of out) →
+    once : (replayed : ℕ) (x : List ℕ) → X.may_leave x → (whose : Whose) → covers whose e.which ≡ true → AreKnown whose o (log_of out) (arranged e.which U X Z) →
         current_use (own_sizes x) x ∷ [] ≡ uses_from (vehicle_in o) (use_now o e.which (notes_within w.b done s (In n) (log_of out))) (insertions_at s.number e.slot e.which (verdict.Accepted replayed ∷ []))
-    once replayed x at fine = ap (λ (held : CurrentUse). held ∷ [])
-        (use-is o done s n waits fewer (values_with k out unfound next_ begun minutes) (arranged e.which U X Z) w e.slot e.which m.next_ m.none m.order origin k.memory.registration stay m.bare fine valid x
+    once replayed x at whose in_ is = ap (λ (held : CurrentUse). held ∷ [])
+        (use-is o done s n waits fewer (values_with k out unfound next_ begun minutes) (arranged e.which U X Z) w e.slot e.which m.next_ m.none m.order origin k.memory.registration stay m.bare whose in_ is valid x
         (mine-back e.which U X Z (λ (q : State). q.may_leave x) at))
 
     -- as it is told of the devices in their order
-    brings : (vs : List Verdict) (uses : List CurrentUse) → TellsFound vs → (NothingFailed (log_of out) → uses ≡ uses_from (vehicle_in o) (use_now o e.which (notes_within w.b done s (In n) (log_of out))) (insertions_at s.number e.slot e.which vs)) → AreUses (images_in o (arranged e.which W Y Z) e.which) uses (accepts s.number vs) → ((y : List ℕ) → Y.may_leave y → Step uses (accepts s.number vs) y)
+    brings : (vs : List Verdict) (uses : List CurrentUse) → TellsFound vs → ((whose : Whose) → covers whose e.which ≡ true → AreKnown whose o (log_of out) (arranged e.which U X Z) → uses ≡ uses_from (vehicle_in o) (use_now o e.which (notes_within w.b done s (In n) (log_of out))) (insertions_at s.number e.slot e.which vs)) → AreUses (images_in o (arranged e.which W Y Z) e.which) uses (accepts s.number vs) → ((y : List ℕ) → Y.may_leave y → Step uses (accepts s.number vs) y)
         → BringsNow o e.which s.number s.speed failed is_torn vs (log_of out') (uses_then o w.b.run.log done s e.which out) (uses_then o w.b.run.log done s e.which out') (arranged e.which U X Z) (arranged e.which W Y Z)
     brings vs uses found exact are steps = record {
       uses = uses;
-      exact = λ fine. let told = found fine in told.1 ∙ ap (λ (l : List CurrentUse). uses_then o w.b.run.log done s e.which out ++ l) (sym (exact told.0));
+      exact = λ whose in_ is. found ∙ ap (λ (l : List CurrentUse). uses_then o w.b.run.log done s e.which out ++ l) (sym (exact whose in_ (known-then whose is)));
       are = are;
       notes = λ sure why y at.
           let was = steps y (mine e.which W Y Z (λ (q : State). q.may_leave y) at) in
@@ -336,7 +341,7 @@ module _ (o : Origin) (done : List TraceSecond) (s : TraceSecond) (n : ℕ) (wai
     without_use : (vs : List Verdict) → TellsFound vs → accepts s.number vs ≡ [] → insertions_at s.number e.slot e.which vs ≡ [] → ((y : List ℕ) → Y.may_leave y → Step [] [] y)
         → BringsNow o e.which s.number s.speed failed is_torn vs (log_of out') (uses_then o w.b.run.log done s e.which out) (uses_then o w.b.run.log done s e.which out') (arranged e.which U X Z) (arranged e.which W Y Z)
     without_use vs found none inserts steps =
-        brings vs [] found (λ fine. ap (uses_from (vehicle_in o) (use_now o e.which (notes_within w.b done s (In n) (log_of out)))) (sym inserts))
+        brings vs [] found (λ whose in_ is. ap (uses_from (vehicle_in o) (use_now o e.which (notes_within w.b done s (In n) (log_of out)))) (sym inserts))
         (subst (AreUses (images_in o (arranged e.which W Y Z) e.which) []) (sym none) tt) (λ y at. subst (λ (us : List ℕ). Step [] us y) (sym none) (steps y at))
 
     -- nothing is noted of it
@@ -497,7 +502,8 @@ module _ (o : Origin) (done : List TraceSecond) (s : TraceSecond) (n : ℕ) (wai
     beside = λ c valid away. each e.which U W X Y Z (λ (q : Card) (a b : State). same_card e.which q ≡ false → StillShows (sizes_in o q) a b)
         (λ apart. absurd (let clash : true ≡ false = sym (same-self e.which) ∙ apart in cc)) (λ apart. still-same (sizes_in o (other e.which)) Z) c away;
     others = tells.others;
-    still = λ fine c away. let told = finds (subst NothingFailed log-is fine) in ap (λ (l : RunLog). uses_in o c (notes_now w.b.run.log done l s)) log-is ∙ told.1.others c away;
+    still = λ c away. ap (λ (l : RunLog). uses_in o c (notes_now w.b.run.log done l s)) log-is ∙ finds.others c away;
+    known = known-then;
     here = subst (λ (l : RunLog). TellsHere (log_of out) l s.number) (sym log-is) (subst (λ (u : ℕ). TellsHere (log_of out) (log_with (ending_of way) e (log_of out)) u) second (ending-here (ending_of way) e (log_of out)));
     cut = tells.cut;
     same = λ x is. tells-same (log_of out) (log_of out') s.number x e.slot (verdicts_of (ending_of way) e) w.moment.up_to.uncut

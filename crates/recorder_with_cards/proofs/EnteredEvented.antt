@@ -279,7 +279,7 @@ module _ (o : Origin) (done : List TraceSecond) (s : TraceSecond) (n : ℕ) (wai
     found_so : AreFound (ending_of way) o w.b.run.log done s v.log e
     found_so =
         let y = found-in o done s n waits fewer e k out unfound next_ begun minutes U X Z w m failed k' noted noted' out' W Y way g sound in
-        way-found o done s n waits fewer v d w e m.next_ m.none m.order second begun-is origin k.memory.registration stay m.bare y.0 (mine-back e.which U X Z (λ (a : State). a.may_leave y.0) y.1) e.at.second U.image way y.2
+        way-found o done s n waits fewer v d w e m.next_ m.none m.order m.moment origin k.memory.registration stay m.bare y.0 (mine-back e.which U X Z (λ (a : State). a.may_leave y.0) y.1) e.at.second U.image way y.2
 
     tells : AreTold (number_in o) (events_in (notes_by (ending_of way) e noted cabin)) brings
     tells = subst (λ (x : ℕ). AreTold (number_in o) (events_in (notes_by (ending_of way) e noted cabin)) (events_by (ending_of way) x s.number bare with_it bare)) (sym speed)

@@ -34,6 +34,7 @@ use Rattle.run_minutes.specs.run_promise.Found.{found_of}
 use Rattle.run_minutes.specs.run_devices.Strung.{identification_of, HasSameHolder}
 use Rattle.run_minutes.specs.run_promise.Origin.{Origin}
 use Rattle.run_acts.specs.run_note_record.Opened.{HasComeBefore}
+use Rattle.run_acts.specs.run_note_record.Moved.{Move}
 use Rattle.run_acts.specs.run_note_record.Ringed.{Since, holder_in, TellsIn, IsInsertionIn}
 use Rattle.run_acts.proofs.run_note_record.Bytes.{IsInsertionTold, insertion-is}
 use Rattle.run_insertion.specs.declared.lines.Entering.{Entering}
@@ -93,7 +94,7 @@ slot-is CoDriver = refl
 -- ---- what a card told by this image, which a stop might have left, and which is of the holder at the start
 module _ (o : Origin) (origin : IsOrigin o) (e : Entering) (look : CardLook) (app : Application) (y : List ℕ) (sizes : own_sizes y ≡ app) (is : IsLook app y look) (fits : FitsInsertion look) (valid : IsOwnValid (card_image o.recording e.which))
     (same : HasSameHolder (found_of o.found e.which).image y) (named : card_number_bytes look.number ≡ (found_of o.found e.which).number)
-    (seconds : List ToldSecond) (trace : List TraceSecond) (u : ℕ) (first : (y ≡ card_image o.recording e.which) ⊎ HasComeBefore seconds trace e.which u) (d : Devices) (left_ : (card_of d e.which).left_since (found_of o.found e.which).began y) (second : e.at.second ≡ u) (small : u < 2 ^ 32) (spans : List SpanFrom) (odometer : e.odometer.0 ≡ odometer_at u spans) (few : e.odometer.0 < 2 ^ 24) where
+    (seconds : List ToldSecond) (trace : List TraceSecond) (moves : List Move) (u : ℕ) (first : (y ≡ card_image o.recording e.which) ⊎ HasComeBefore seconds trace e.which u) (d : Devices) (left_ : (card_of d e.which).left_since (found_of o.found e.which).began y) (second : e.at.second ≡ u) (small : u < 2 ^ 32) (spans : List SpanFrom) (odometer : e.odometer.0 ≡ odometer_at u spans) (few : e.odometer.0 < 2 ^ 24) where
   the-file : file_bytes app 0x0520 y ≡ identification_of (card_image o.recording e.which)
   the-file = ap (λ (a : Application). file_bytes a 0x0520 y) (sym sizes) ∙ same.identification ∙ ap identification_of (origin.image e.which)
 
@@ -131,7 +132,7 @@ module _ (o : Origin) (origin : IsOrigin o) (e : Entering) (look : CardLook) (ap
 
   -- so far as it has gone
   abbrev so_far : Since
-  so_far = record { origin = o; told = seconds; trace = trace }
+  so_far = record { origin = o; told = seconds; trace = trace; moves = moves }
 
   of-image : (x : List ℕ) → x ≡ y → TellsVehicle o.recording (newest_vehicle (own_sizes x) x) (previous_of look.previous).0 (previous_time_of look.previous)
   of-image x same = subst (λ (v : Option Vehicle). TellsVehicle o.recording v (previous_of look.previous).0 (previous_time_of look.previous))

@@ -434,13 +434,13 @@ module _ (o : Origin) (done : List TraceSecond) (s : TraceSecond) (n : ℕ) (wai
           → (t : ℕ) → IsNoneOr e.at.second t → May e.which t
       comes-open (Unfit fid place) told fails comes t is = absurd comes
       comes-open (Ahead stored) told fails comes t is = absurd comes
-      comes-open Fell told fails comes t is = inr (inr (now-or t is, told))
+      comes-open Fell told fails comes t is = (same-self e.which, inr (inr (now-or t is, told)))
       comes-open Unasked told fails comes t is = absurd comes
-      comes-open (Unnoted entered clock) told fails comes t (inl none) = inr (inl (told.1, none))
-      comes-open (Unnoted entered clock) told fails comes t (inr is) = inl (same-self e.which, told.0, is ∙ second)
-      comes-open (Seated entered clock entry) told fails comes t (inl none) = inr (inl (fails tt, none))
-      comes-open (Seated entered clock entry) told fails comes t (inr is) = inl (same-self e.which, told, is ∙ second)
-      comes-open (Lost entered clock entry) told fails comes t is = inr (inr (now-or t is, told.1))
+      comes-open (Unnoted entered clock) told fails comes t (inl none) = (same-self e.which, inr (inl (told.1, none)))
+      comes-open (Unnoted entered clock) told fails comes t (inr is) = (same-self e.which, inl (told.0, is ∙ second))
+      comes-open (Seated entered clock entry) told fails comes t (inl none) = (same-self e.which, inr (inl (fails tt, none)))
+      comes-open (Seated entered clock entry) told fails comes t (inr is) = (same-self e.which, inl (told, is ∙ second))
+      comes-open (Lost entered clock entry) told fails comes t is = (same-self e.which, inr (inr (now-or t is, told.1)))
 
       coming-opens : (ending : Ending) → IsTold ending → (IsSitting ending → failed ≡ true) → X.may_leave x
           → AreBeingDone (IsOnCard (sizes_in o e.which) k.memory.registration e u) (IsComingOnCard (sizes_in o e.which) k.memory.registration e u) (card_notes_by ending k.memory.registration e) x y
@@ -461,7 +461,7 @@ module _ (o : Origin) (done : List TraceSecond) (s : TraceSecond) (n : ℕ) (wai
     own-opens y left = ⊎_elim
         (λ sits.
         let on = now-opens sits.0 sits.1 y left in
-        (on.0, on.1, inr (inl (same-self e.which, sitting-told (log_of out') s.number failed (found_in (log_of out') s.number (In n) e.slot) (ending_of way) sits.0 opens, on.2))))
+        (on.0, on.1, inr (same-self e.which, inl (sitting-told (log_of out') s.number failed (found_in (log_of out') s.number (In n) e.slot) (ending_of way) sits.0 opens, on.2))))
         (λ fails.
         let run = card-run o done s n waits fewer e k out unfound next_ begun minutes U X Z w m failed k' noted noted' out' W Y way g sound in
         ⊎_elim

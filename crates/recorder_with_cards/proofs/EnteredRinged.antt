@@ -32,6 +32,7 @@ use Rattle.run_acts.specs.run_crew.declared.cabin.Cabin.{Cabin}
 use Rattle.run_acts.specs.run_crew.Cards.{session_of}
 use Rattle.run_acts.specs.run_crew.Cabin.{torn_out, with_accepted, with_sizes_of}
 use Rattle.run_acts.specs.run_note_record.Opened.{HasComeBefore}
+use Rattle.run_acts.specs.run_note_record.Moved.{moves_in}
 use Rattle.recorder_with_cards.proofs.CameFirst.{came-first}
 use Rattle.run_minutes.specs.run_promise.Found.{found_of}
 use Rattle.run_minutes.specs.run_promise.Between.{RunLedger}
@@ -275,7 +276,7 @@ module _ (o : Origin) (done : List TraceSecond) (s : TraceSecond) (n : ℕ) (wai
     of-holder = (w.powered.go.held e.which valid).still y.0 (mine-back e.which U X Z (λ (q : State). q.left_since (found_of o.found e.which).began y.0) y-left)
 
     inserts : IsInsertionNow (since_in o w.b.run.log done s) (record { second = s.number; slot = e.slot; card = e.which }) spans (arranged e.which W Y Z) (insertion_bytes (insertion_of look e))
-    inserts = insertion-now o origin e look app y.0 sizes is fits (subst IsOwnValid (origin.image e.which) valid) of-holder named (went w.b.run.log done).told (done ++ s ∷ []) s.number first-or (arranged e.which W Y Z)
+    inserts = insertion-now o origin e look app y.0 sizes is fits (subst IsOwnValid (origin.image e.which) valid) of-holder named (went w.b.run.log done).told (done ++ s ∷ []) (moves_in w.b.run.log done) s.number first-or (arranged e.which W Y Z)
         (more.card e.which y.0 (mine-back e.which U X Z (λ (q : State). q.left_since (found_of o.found e.which).began y.0) y-left)) second small spans odometer.at few
 
   room : (x : Find) → length (log_of out').finds ≡ length ((log_of out).finds ++ x ∷ []) → noted + 1 ≤ 2 ^ 64 - 1

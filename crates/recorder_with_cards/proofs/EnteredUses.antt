@@ -25,12 +25,15 @@ use Rattle.log_model.specs.Course.{Visit, has_power, went}
 use Rattle.device_calls.specs.note_model.Noted.{Note}
 use Rattle.device_calls.specs.safety_model.Recording.{card_image}
 use Rattle.device_calls.specs.safety_model.Safe.{Devices, card_of}
-use Rattle.run_acts.specs.run_course.Moments.{and_find}
-use Rattle.run_acts.proofs.run_course.Lookups.{find-more}
-use Rattle.run_acts.specs.run_course.Reached.{IsFindAt, moved_at}
+use Rattle.run_acts.specs.run_course.Moments.{and_break, and_find}
+use Rattle.run_acts.proofs.run_course.Lookups.{break-more, find-more}
+use Rattle.run_acts.specs.run_course.Reached.{IsTearAt, IsFindAt, moved_at}
+use Rattle.run_acts.specs.run_rings.Notes.{accepts_by}
 use Rattle.run_acts.specs.run_crew.Cards.{session_of}
 use Rattle.run_minutes.specs.run_promise.Origin.{Origin}
 use Rattle.run_minutes.specs.run_promise.Whole.{NothingFailed}
+use Rattle.run_minutes.specs.declared.keeper.Moment.{Moment}
+use Rattle.run_minutes.specs.Keeping.{tear_of}
 use Rattle.run_acts.specs.run_note_record.Uses.{uses_from, inserted, insertions_at, times_of, notes_now, vehicle_in, uses_in, use_now, FindsMore}
 use Rattle.run_acts.proofs.run_note_record.Uses.{times-append, card-is, card-turned}
 use Rattle.run_insertion.specs.declared.lines.Entering.{Entering}
@@ -43,11 +46,11 @@ use Rattle.run_acts.specs.Closings.{notes_within}
 use Rattle.run_acts.specs.Recording.{IsOrigin}
 use Rattle.run_acts.specs.RunCards.{sizes_in}
 use Rattle.run_acts.specs.Truths.{truths_within, marked}
-use Rattle.run_acts.specs.Stays.{AllStay}
-use Rattle.run_acts.proofs.AllStay.{no-tear}
+use Rattle.run_acts.specs.Stays.{Whose, Both, covers, AreKnown, AllStay}
 use Rattle.run_acts.proofs.CardStays.{valid-found}
 use Rattle.run_acts.proofs.CardUses.{FoundTo, others-found, mine-found}
-use Rattle.run_acts.proofs.NotesThen.{judged-notes}
+use Rattle.run_acts.proofs.EnteredStays.{tear-at}
+use Rattle.run_acts.proofs.NotesThen.{judged-notes, fallen-notes, lost-notes}
 use Rattle.run_acts.proofs.RingedSecond.{power-here}
 use Rattle.run_acts.proofs.StayUses.{use-now}
 use Rattle.recorder_with_cards.proofs.EnteredAdds.{AreFound, log_with}
@@ -87,6 +90,20 @@ module _ (o : Origin) (done : List TraceSecond) (s : TraceSecond) (n : ℕ) (wai
   to : FoundTo v.log s.number (length (take n s.actions))
   to k x lt = w.moment.up_to.found (In k) x (let is = long in omega (arith, lt, is))
 
+  -- by a log that tells of no find behind the moment, and by which this is noted
+  noted-finds : (later : RunLog) (verdicts : List Verdict) → ((k : ℕ) (x : Slot) → n < k → found_in later s.number (In k) x ≡ []) → notes_within w.b done s (In n) later ≡ notes_within w.b done s (In n) v.log ++ accepts_by s.number slot card verdicts →
+      FindsBy o w.b.run.log done s slot card noted_before v.log later verdicts
+  noted-finds later verdicts behind noted =
+      let to-later : FoundTo later s.number (length (take n s.actions)) = λ k x lt. behind k x (let is = long in omega (arith, lt, is)) in
+      record {
+        others = others-found o w.b.run.log done s power v.log later (take n s.actions) (drop n s.actions) parts to to-later slot card verdicts noted;
+        own = mine-found o w.b.run.log done s power v.log later (take n s.actions) (drop n s.actions) parts to to-later slot card verdicts noted;
+      }
+
+  -- it fell
+  pub fallen-finds : (b : Break) → IsTearAt s (In n) slot true b → FindsBy o w.b.run.log done s slot card noted_before v.log (and_break v.log b) []
+  fallen-finds b tear = noted-finds (and_break v.log b) [] (λ k x lt. (break-more v.log b s.number).found (In k) x ∙ w.moment.up_to.found (In k) x lt) (fallen-notes o done s n waits fewer v d w slot card next b tear)
+
   pub nothing-finds : FindsBy o w.b.run.log done s slot card noted_before v.log v.log []
   nothing-finds = record { others = λ c other. refl; own = λ c is. sym (append-nil (uses_by v.log c)) }
 
@@ -109,6 +126,12 @@ module _ (o : Origin) (done : List TraceSecond) (s : TraceSecond) (n : ℕ) (wai
           own = mine-found o w.b.run.log done s power v.log (and_find v.log f) (take n s.actions) (drop n s.actions) parts to to-later slot card (f.verdict ∷ []) noted;
         }
 
+    -- and fell then
+    pub lost-finds : (b : Break) → IsTearAt s (In n) slot true b → FindsBy o w.b.run.log done s slot card noted_before v.log (and_break (and_find v.log f) b) (f.verdict ∷ [])
+    lost-finds b tear =
+        noted-finds (and_break (and_find v.log f) b) (f.verdict ∷ []) (λ k x lt. (break-more (and_find v.log f) b s.number).found (In k) x ∙ to-later k x (let is = long in omega (arith, lt, is)))
+        (lost-notes o done s n waits fewer v d w slot card next b tear none order f here slot_is)
+
     -- as the session times tell it
     pub find-more-found : (session : ℕ) → (NothingFailed v.log → IsOwnValid (card_image o.recording card) → is_accepting f.verdict ≡ true → (use_now o card noted_before).session.0 ≡ session) →
         FindsMore o w.b.run.log done s v.log (and_find v.log f) card (cond (is_accepting f.verdict) (session ∷ []) [])
@@ -130,22 +153,31 @@ module _ (o : Origin) (done : List TraceSecond) (s : TraceSecond) (n : ℕ) (wai
             ap times_of (find-finds.own c (card-turned card c ∙ own)) ∙ times-append (uses_by v.log c) more
             ∙ ap (λ (l : List ℕ). times_of (uses_by v.log c) ++ l) (told (is_accepting f.verdict) refl own)
 
-  -- ---- the use that it has now, where no call failed
+  -- ---- the use that it has now, where its stays are known
   module _ (origin : IsOrigin o) (vehicle : Registration) (stay : AllStay o (marked v.marks (truths_within o w.b.run.log done s)) s.number v.log noted_before vehicle v.cabin d) (bare : session_of v.cabin.cards card ≡ None) where
     pub sizes-are : IsOwnValid (card_image o.recording card) → (x : List ℕ) → (card_of d card).may_leave x → own_sizes x ≡ sizes_in o card
     sizes-are valid x at = ((w.powered.go.held card (valid-found o origin card valid)).now x at).0 ∙ ap own_sizes (origin.image card)
 
-    pub use-is : NothingFailed v.log → IsOwnValid (card_image o.recording card) → (x : List ℕ) → (card_of d card).may_leave x → current_use (own_sizes x) x ≡ use_now o card noted_before
-    use-is fine valid x at =
-        ap (λ (a : Application). current_use a x) (sizes-are valid x at) ∙ use-now o origin (marked v.marks (truths_within o w.b.run.log done s)) s.number v.log noted_before vehicle v.cabin d stay fine card valid bare x at
+    pub use-is : (whose : Whose) → covers whose card ≡ true → AreKnown whose o v.log d → IsOwnValid (card_image o.recording card) → (x : List ℕ) → (card_of d card).may_leave x → current_use (own_sizes x) x ≡ use_now o card noted_before
+    use-is whose in_ known valid x at =
+        ap (λ (a : Application). current_use a x) (sizes-are valid x at) ∙ use-now o origin (marked v.marks (truths_within o w.b.run.log done s)) s.number v.log noted_before vehicle v.cabin d stay card whose in_ known valid bare x at
 
 -- ---- BY WHAT BECAME OF IT
 
 module _ (o : Origin) (done : List TraceSecond) (s : TraceSecond) (n : ℕ) (waits fewer : List Visit) (v : Values) (d : Devices) (w : RecordInSecond o done s (In n) waits None [] v d) (e : Entering) (next : IsNext o done s (In n) waits fewer v d w e.slot e.which)
     (none : found_in v.log s.number (In n) e.slot ≡ []) (order : e.slot ≡ Driver → ((moved_at v.log (went w.b.run.log done).before s (In n)).enters CoDriver ≡ false) ⊎ (found_in v.log s.number (In n) CoDriver ≡ []))
-    (second : e.at.second ≡ s.number) (begun : e.at.begun ≡ n) where
+    (moment : e.at ≡ record { second = s.number; begun = n; late = false }) where
   abbrev Finds : RunLog → List Verdict → Type 0
   Finds later verdicts = FindsBy o w.b.run.log done s e.slot e.which (notes_within w.b done s (In n) v.log) v.log later verdicts
+
+  second : e.at.second ≡ s.number
+  second = ap (λ (m : Moment). m.second) moment
+
+  begun : e.at.begun ≡ n
+  begun = ap (λ (m : Moment). m.begun) moment
+
+  tear : IsTearAt s (In n) e.slot true (tear_of e.slot e.at)
+  tear = tear-at s n e.slot e.at w.moment.is moment
 
   found-at : (x : Verdict) → IsFindAt s (In n) (find_of e x)
   found-at x = record { second = second; begun = ap In begun }
@@ -156,22 +188,19 @@ module _ (o : Origin) (done : List TraceSecond) (s : TraceSecond) (n : ℕ) (wai
       subst (λ (bs : List Break). Finds (record v.log { breaks = bs; finds = v.log.finds ++ find_of e x ∷ [] }) (x ∷ [])) (sym (append-nil v.log.breaks))
       (find-finds o done s n waits fewer v d w e.slot e.which next none order (find_of e x) (found-at x) refl)
 
-  fine-alone : NothingFailed (record v.log { breaks = v.log.breaks ++ [] }) → NothingFailed v.log
-  fine-alone fine = subst (λ (bs : List Break). NothingFailed (record v.log { breaks = bs })) (append-nil v.log.breaks) fine
-
-  -- where no call failed its lines tell so
-  pub ending-finds : (ending : Ending) → NothingFailed (log_with ending e v.log) → NothingFailed v.log × FindsBy o w.b.run.log done s e.slot e.which (notes_within w.b done s (In n) v.log) v.log (log_with ending e v.log) (verdicts_of ending e)
-  ending-finds (Unfit fid place) fine = (fine-alone fine, alone (verdict.NotValid fid place))
-  ending-finds (Ahead stored) fine = (fine-alone fine, alone (verdict.TimeOverlap stored e.at.second))
-  ending-finds Fell fine = no-tear v.log e.slot e.at fine
-  ending-finds Unasked fine = (
-    fine-alone fine,
-    subst (λ (bs : List Break). Finds (record v.log { breaks = bs; finds = v.log.finds ++ [] }) []) (sym (append-nil v.log.breaks))
-        (subst (λ (fs : List Find). Finds (record v.log { finds = fs }) []) (sym (append-nil v.log.finds)) (nothing-finds o done s n waits fewer v d w e.slot e.which next none order)),
-  )
-  ending-finds (Unnoted entered clock) fine = (fine-alone fine, alone (verdict.Accepted entered.replayed))
-  ending-finds (Seated entered clock entry) fine = (fine-alone fine, alone (verdict.Accepted entered.replayed))
-  ending-finds (Lost entered clock entry) fine = no-tear v.log e.slot e.at fine
+  -- its lines tell so
+  pub ending-finds : (ending : Ending) → FindsBy o w.b.run.log done s e.slot e.which (notes_within w.b done s (In n) v.log) v.log (log_with ending e v.log) (verdicts_of ending e)
+  ending-finds (Unfit fid place) = alone (verdict.NotValid fid place)
+  ending-finds (Ahead stored) = alone (verdict.TimeOverlap stored e.at.second)
+  ending-finds Fell =
+      subst (λ (fs : List Find). Finds (record v.log { breaks = v.log.breaks ++ tear_of e.slot e.at ∷ []; finds = fs }) []) (sym (append-nil v.log.finds))
+      (fallen-finds o done s n waits fewer v d w e.slot e.which next none order (tear_of e.slot e.at) tear)
+  ending-finds Unasked =
+      subst (λ (bs : List Break). Finds (record v.log { breaks = bs; finds = v.log.finds ++ [] }) []) (sym (append-nil v.log.breaks))
+      (subst (λ (fs : List Find). Finds (record v.log { finds = fs }) []) (sym (append-nil v.log.finds)) (nothing-finds o done s n waits fewer v d w e.slot e.which next none order))
+  ending-finds (Unnoted entered clock) = alone (verdict.Accepted entered.replayed)
+  ending-finds (Seated entered clock entry) = alone (verdict.Accepted entered.replayed)
+  ending-finds (Lost entered clock entry) = lost-finds o done s n waits fewer v d w e.slot e.which next none order (find_of e (verdict.Accepted entered.replayed)) (found-at (verdict.Accepted entered.replayed)) refl (tear_of e.slot e.at) tear
 
   -- ---- and the session that it found open is the one of the use that it has now
   module _ (origin : IsOrigin o) (vehicle : Registration) (stay : AllStay o (marked v.marks (truths_within o w.b.run.log done s)) s.number v.log (notes_within w.b done s (In n) v.log) vehicle v.cabin d) (bare : session_of v.cabin.cards e.which ≡ None) (y : List ℕ) (at : (card_of d e.which).may_leave y) where
@@ -184,7 +213,7 @@ module _ (o : Origin) (done : List TraceSecond) (s : TraceSecond) (n : ℕ) (wai
     accepted a sizes replayed look is =
         find-more-found o done s n waits fewer v d w e.slot e.which next none order (find_of e (verdict.Accepted replayed)) (found-at (verdict.Accepted replayed)) refl look.session
         (λ fine valid accepts.
-        ap (λ (held : CurrentUse). held.session.0) (sym (use-is o done s n waits fewer v d w e.slot e.which next none order origin vehicle stay bare fine valid y at))
+        ap (λ (held : CurrentUse). held.session.0) (sym (use-is o done s n waits fewer v d w e.slot e.which next none order origin vehicle stay bare Both refl fine valid y at))
         ∙ ap (λ (b : Application). session_time b y) sizes ∙ sym is.session)
 
     ending-found : (a : Application) → own_sizes y ≡ a → (u : ℕ) (unit : Option (List ℕ)) (ending : Ending) → IsFound a u unit ending y → AreFound ending o w.b.run.log done s v.log e

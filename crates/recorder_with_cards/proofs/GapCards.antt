@@ -257,7 +257,7 @@ module _ (o : Origin) (done : List TraceSecond) (s : TraceSecond) (run : Run) (o
         interruption w.within.b.run.log (seen_spans (seen_of w.within.b.run.log done)) s.number crew ≡ gap_list gap crew → (failed ≡ true → has_failed_in later s.number ≡ true) →
         ((c : Card) → is_some (session_of run.keeper.cabin.cards c) ≡ true → is_some (session_of after c) ≡ false → falls c (seen_behind w.within.b.run.log done s [] later) ≡ true) →
         NotesOnCards failed run.keeper.cabin.cards after (λ card. gap_on gap own) d e →
-        ((c : Card) → FindsStill (log_of out) later (uses_in o c (notes_now w.within.b.run.log done (log_of out) s)) (uses_in o c (notes_now w.within.b.run.log done later s))) → CardsIn o done s w.within.b.run.log [] later e
+        ((c : Card) → FindsStill o c (log_of out) later d e (uses_in o c (notes_now w.within.b.run.log done (log_of out) s)) (uses_in o c (notes_now w.within.b.run.log done later s))) → CardsIn o done s w.within.b.run.log [] later e
     gap-cards e left keeps cards failed after own vehicle gap list fails fell notes finds =
         gap-noted o done s w.within.b.run.log (log_of out) later d e off torn keeps left cards same finds
         (λ c valid.

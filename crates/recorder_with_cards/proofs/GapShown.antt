@@ -44,7 +44,7 @@ use Rattle.run_acts.proofs.run_record.Seats.{card-seated}
 use Rattle.run_acts.specs.run_note_record.Evented.{NotesNothing, Evented}
 use Rattle.run_acts.specs.run_note_record.EventsSoFar.{AreBare, interruption}
 use Rattle.run_acts.specs.run_note_record.Kept.{interruption_of}
-use Rattle.run_acts.proofs.run_note_record.Exact.{fewer-none}
+use Rattle.run_acts.proofs.AllStay.{StoodBefore, known-fewer}
 use Rattle.run_acts.specs.run_note_record.RingsSoFar.{HasMoreBreaks}
 use Rattle.run_acts.proofs.run_note_record.SoFar.{failed-more}
 use Rattle.run_acts.specs.declared.run.Run.{Run}
@@ -235,7 +235,7 @@ GapOn true o done s began log d = CardsBehind o (done ++ s ∷ []) (with_cut log
 
 module _ (o : Origin) (done : List TraceSecond) (s : TraceSecond) (run : Run) (out : Outcome) (d e : Devices) (w : RunWithin o done s (In 0) [] [] run out d) (low : ℕ) (stands : CabinIsSound low None run.keeper.cabin) (off : (went w.within.b.run.log done).before.running ≡ false)
     (bare : AreBare (went w.within.b.run.log done).before.slots) (some : 0 < s.number) (gap : Option Span) (list : (crew : Crew) → interruption w.within.b.run.log (seen_spans (seen_of w.within.b.run.log done)) s.number crew ≡ gap_list gap crew) (vehicle : run.keeper.memory.registration ≡ vehicle_in o)
-    (cards : CardsWaking o done s w.within.b.run.log (log_of out) d) (failed : Bool) (new : Run) (after : Listed Break) (reach : GapReach) (is : IsGapNoted gap (now_moment run) failed run new out.breaks after reach) (left : HaveLeftMore o d e)
+    (cards : CardsWaking o done s w.within.b.run.log (log_of out) d) (failed : Bool) (new : Run) (after : Listed Break) (reach : GapReach) (is : IsGapNoted gap (now_moment run) failed run new out.breaks after reach) (stood : StoodBefore o d e) (left : HaveLeftMore o d e)
     (uncut : failed ≡ true → cut_in (log_of (record out { breaks = after })) s.number ≡ None) (notes : NotesOnCards failed run.keeper.cabin.cards new.keeper.cabin.cards (λ card. gap_on gap run.keeper.memory.registration) d e) where
   abbrev told : RunLog
   told = log_of (record out { breaks = after })
@@ -279,7 +279,7 @@ module _ (o : Origin) (done : List TraceSecond) (s : TraceSecond) (run : Run) (o
     shown fails =
         gap-cards o done s run out d w low stands off bare later (λ slot. same 0 slot) (λ slot torn. torn-more (log_of out) later s.number (In 0) slot all torn)
         e left (failed-more (log_of out) later all) cards failed new.keeper.cabin.cards run.keeper.memory.registration vehicle gap (list _) fails fell notes
-        (λ c none. (fewer-none (log_of out) later all.0 all.1 none, woken-found o w.within.b.run.log done s (power-here o done s (In 0) [] None [] (values_of run out) d w.within) off c (log_of out) later same (λ k slot lt. w.within.moment.up_to.found (In k) slot lt)))
+        (λ c whose in_ known. (known-fewer whose o (log_of out) later all.0 d e all.1 stood known, woken-found o w.within.b.run.log done s (power-here o done s (In 0) [] None [] (values_of run out) d w.within) off c (log_of out) later same (λ k slot lt. w.within.moment.up_to.found (In k) slot lt)))
 
   by : (b : Bool) → failed ≡ b → GapOn b o done s w.within.b.run.log (log_of (record out { breaks = after })) e
   by false well = shown (log_of (record out { breaks = after })) ([], sym (append-nil after.items)) (λ k slot. refl) (λ fails. absurd (let clash : true ≡ false = sym fails ∙ well in cc))

@@ -24,10 +24,10 @@ use Rattle.run_outcome.specs.declared.outcome.Outcome.{Outcome}
 use Rattle.device_calls.specs.note_model.Done.{has_failed_in}
 use Rattle.run_minutes.specs.run_promise.Origin.{Origin}
 use Rattle.run_minutes.specs.run_promise.Beside.{HaveLeftMore}
-use Rattle.run_minutes.specs.run_promise.Whole.{NothingFailed}
 use Rattle.run_acts.specs.run_note_record.Evented.{images_in}
 use Rattle.run_acts.specs.run_note_record.Uses.{notes_now, uses_in}
-use Rattle.run_acts.proofs.run_note_record.Exact.{fewer-none, no-cut}
+use Rattle.run_acts.specs.Stays.{Whose, AreKnown}
+use Rattle.run_acts.proofs.AllStay.{StoodBefore, known-uncut, no-cut}
 use Rattle.run_insertion.specs.CardEvents.{events_in}
 use Rattle.run_acts.specs.run_rings.Notes.{TellSameTo, course_behind}
 use Rattle.run_acts.specs.run_note_record.RingsSoFar.{HasMoreBreaks}
@@ -43,9 +43,9 @@ use Rattle.run_acts.proofs.CardCourse.{quiet-same, behind-more, behind-same}
 use Rattle.run_acts.proofs.CardBrings.{brought-nothing}
 use Rattle.run_acts.proofs.CardSecond.{any-more, count-more, quiet-shown, put-shown}
 use Rattle.run_acts.proofs.CardShown.{FindsUses, FindsStill}
-use Rattle.run_acts.proofs.CardUses.{tears-none, lines-still}
+use Rattle.run_acts.proofs.CardUses.{lines-still, cut-unknown, cut-still}
 use Rattle.run_acts.proofs.RingedLines.{AreTears}
-use Rattle.run_acts.proofs.RingedSecond.{cut-found, cut-torn, cut-failed}
+use Rattle.run_acts.proofs.RingedSecond.{cut-found, cut-torn, cut-failed, power-here}
 use Rattle.recorder_with_cards.specs.JudgedCards.{IsSureHere, once_torn, IsJudgedOnCards}
 use Rattle.recorder_with_cards.proofs.SettledLines.{TellsOn, tears-on}
 use Rattle.recorder_with_cards.proofs.RingsHere.{here-then, here-more, goes-to, course-then, course-cut, is-cut}
@@ -197,7 +197,7 @@ judged-sure c log x failed torn entered fails falls_ kind sure = by (may_note c 
 module _ (o : Origin) (done : List TraceSecond) (s : TraceSecond) (front rest : List Action) (slot : Slot) (card : Card) (are : s.actions ≡ front ++ Insert slot card ∷ rest) (old : Run) (before : Outcome) (d : Devices) (w : RunWithin o done s (In (length front)) [] [] old before d)
     (cards : CardsIn o done s w.within.b.run.log front (log_of before) d) (allowed : refusal (course_in w.within.b done s (In (length front)) (log_of before)).slots s.speed (Insert slot card) ≡ None)
     (told : Outcome) (e : Devices) (lines : List Break) (log_is : log_of told ≡ record (log_of before) { breaks = before.breaks.items ++ lines }) (tears : AreTears (record { second = s.number; begun = suc (length front); late = false }) lines)
-    (left : HaveLeftMore o d e) (still : StillShow o d e) where
+    (stood : StoodBefore o d e) (left : HaveLeftMore o d e) (still : StillShow o d e) where
   abbrev was : Before
   was = (went w.within.b.run.log done).before
 
@@ -207,11 +207,11 @@ module _ (o : Origin) (done : List TraceSecond) (s : TraceSecond) (front rest : 
   told-on : TellsOn (log_of before) (log_of told) s.number (length front)
   told-on = tears-on (log_of before) (log_of told) s.number (length front) lines log_is tears uncut
 
-  -- where no call failed no line was told
-  quiet-lines : (c : Card) → FindsStill (log_of before) (log_of told) (uses_in o c (notes_now w.within.b.run.log done (log_of before) s)) (uses_in o c (notes_now w.within.b.run.log done (log_of told) s))
+  -- no line that was told tells of a find
+  quiet-lines : (c : Card) → FindsStill o c (log_of before) (log_of told) d e (uses_in o c (notes_now w.within.b.run.log done (log_of before) s)) (uses_in o c (notes_now w.within.b.run.log done (log_of told) s))
   quiet-lines =
-      lines-still o w.within.b.run.log done s (log_of before) (log_of told) lines log_is
-      (λ none. tears-none (record { second = s.number; begun = suc (length front); late = false }) lines (log_of before) tears (subst NothingFailed log_is none))
+      lines-still o w.within.b.run.log done s (power-here o done s (In (length front)) [] None [] (values_of old before) d w.within) (log_of before) (log_of told) front (Insert slot card ∷ rest) are told-on.same
+      (λ k x lt. w.within.moment.up_to.found (In k) x lt) (λ k x lt. told-on.beside.found (In k) x ∙ w.within.moment.up_to.found (In k) x lt) lines (ap (λ (l : RunLog). l.breaks) log_is) d e stood
 
   -- the cards as this one is to be judged
   settled-on : CardsIn o done s w.within.b.run.log front (log_of told) e
@@ -236,16 +236,17 @@ module _ (o : Origin) (done : List TraceSecond) (s : TraceSecond) (front rest : 
       let found : found_in cut s.number (In (length front + 1)) slot ≡ [] = ap (λ (k : ℕ). found_in cut s.number (In k) slot) longer ∙ cut-found (log_of told) s.number (length (front ++ Insert slot card ∷ [])) told-on.uncut (In (suc (length front))) slot ∙ none-told in
       put-shown o done s w.within.b.run.log front slot card (log_of before) cut d e cards (failed-more (log_of before) cut told-cut.goes.lines) told-cut.goes.same told-cut.goes.begun
       (ap (λ (q : Course). refusal q.slots s.speed (Insert slot card)) (course-cut (log_of before) (log_of told) s front rest (Insert slot card) are uncut told-on.more told-on.same told-on.uncut was) ∙ allowed)
-      left (λ c valid other. still c valid) (λ c other none. no-cut (log_of told) s.number (length (front ++ Insert slot card ∷ [])) none)
+      left (λ c valid other. still c valid)
+      (λ c other. cut-still o c (log_of told) (log_of before) s.number (length (front ++ Insert slot card ∷ [])) d e (uses_in o c (notes_now w.within.b.run.log done (log_of before) s)) (uses_in o c (notes_now w.within.b.run.log done cut s)))
       (λ c valid own entered often.
       let x : Seen = seen_behind w.within.b.run.log done s (front ++ Insert slot card ∷ []) cut in
       let before_ : Seen = seen_behind w.within.b.run.log done s front (log_of before) in
       let least : torn_times c before_ ≤ torn_times c x = often in
-      subst (λ (vs : List Verdict). (more : List CurrentUse) × FindsUses (log_of before) cut (uses_in o c (notes_now w.within.b.run.log done (log_of before) s)) more (uses_in o c (notes_now w.within.b.run.log done cut s)) × AreUses (images_in o e c) more (accepts s.number vs)
+      subst (λ (vs : List Verdict). (more : List CurrentUse) × FindsUses o c (log_of before) cut d e (uses_in o c (notes_now w.within.b.run.log done (log_of before) s)) more (uses_in o c (notes_now w.within.b.run.log done cut s)) × AreUses (images_in o e c) more (accepts s.number vs)
       × (many : ℕ) × (torn_times c before_ + many ≤ torn_times c x)
       × ComesTo (images_in o e c) (sizes_in o c) (λ kind. is_sure_in c kind cut x) (judging c (vehicle_in o) s.number s.speed many (accepts s.number vs) more) (card_of d c) (card_of e c)) (sym found) (
         [],
-        (λ none. no-cut (log_of told) s.number (length (front ++ Insert slot card ∷ [])) none),
+        cut-unknown o c (log_of told) (log_of before) s.number (length (front ++ Insert slot card ∷ [])) d e (uses_in o c (notes_now w.within.b.run.log done (log_of before) s)) [] (uses_in o c (notes_now w.within.b.run.log done cut s)),
         tt,
         0,
         omega (arith, least),
@@ -303,12 +304,12 @@ module _ (o : Origin) (done : List TraceSecond) (s : TraceSecond) (front rest : 
         → refusal (course_behind later was s front).slots s.speed (Insert slot card) ≡ None
         → found_in later s.number (In (suc (length front))) slot ≡ found_in (log_of after) s.number (In (suc (length front))) slot
         → is_torn_in later s.number (In (suc (length front))) slot ≡ is_torn_in (log_of after) s.number (In (suc (length front))) slot
-        → (NothingFailed later → later ≡ log_of after) → (failed ≡ true → has_failed_in later s.number ≡ true) → CardsIn o done s w.within.b.run.log (front ++ Insert slot card ∷ []) later f
+        → ((whose : Whose) → AreKnown whose o later f → later ≡ log_of after) → (failed ≡ true → has_failed_in later s.number ≡ true) → CardsIn o done s w.within.b.run.log (front ++ Insert slot card ∷ []) later f
     in-log later lines_ same begun allowed_ found torn alike fails =
         put-shown o done s w.within.b.run.log front slot card (log_of told) later e f settled-on (failed-more (log_of told) later lines_) same begun allowed_ j.left j.beside
-        (λ c other none.
-        let is : later ≡ log_of after = alike none in
-        (fewer-none (log_of told) later lines_.0 lines_.1 none, ap (λ (l : RunLog). uses_in o c (notes_now w.within.b.run.log done l s)) is ∙ j.still (subst NothingFailed is none) c other))
+        (λ c other whose in_ known.
+        let is : later ≡ log_of after = alike whose known in
+        (j.known whose (subst (λ (l : RunLog). AreKnown whose o l f) is known), ap (λ (l : RunLog). uses_in o c (notes_now w.within.b.run.log done l s)) is ∙ j.still c other))
         (λ c valid own entered often.
         let x : Seen = seen_behind w.within.b.run.log done s (front ++ Insert slot card ∷ []) later in
         let before_ : Seen = seen_behind w.within.b.run.log done s front (log_of told) in
@@ -316,13 +317,14 @@ module _ (o : Origin) (done : List TraceSecond) (s : TraceSecond) (front rest : 
         let torn_is : is_torn_in later s.number (In (length front + 1)) slot ≡ torn_ = ap (λ (k : ℕ). is_torn_in later s.number (In k) slot) longer ∙ torn in
         let b = j.own c valid own in
         let verdicts_ : found_in later s.number (In (length front + 1)) slot ≡ found_in (log_of after) s.number (In (suc (length front))) slot = ap (λ (k : ℕ). found_in later s.number (In k) slot) longer ∙ found in
-        subst (λ (vs : List Verdict). (more : List CurrentUse) × FindsUses (log_of told) later (uses_in o c (notes_now w.within.b.run.log done (log_of told) s)) more (uses_in o c (notes_now w.within.b.run.log done later s)) × AreUses (images_in o f c) more (accepts s.number vs)
+        subst (λ (vs : List Verdict). (more : List CurrentUse) × FindsUses o c (log_of told) later e f (uses_in o c (notes_now w.within.b.run.log done (log_of told) s)) more (uses_in o c (notes_now w.within.b.run.log done later s)) × AreUses (images_in o f c) more (accepts s.number vs)
         × (many : ℕ) × (torn_times c before_ + many ≤ torn_times c x)
         × ComesTo (images_in o f c) (sizes_in o c) (λ kind. is_sure_in c kind later x) (judging c (vehicle_in o) s.number s.speed many (accepts s.number vs) more) (card_of e c) (card_of f c)) (sym verdicts_) (
           b.uses,
-          (λ none.
-              let is : later ≡ log_of after = alike none in
-              (fewer-none (log_of told) later lines_.0 lines_.1 none, ap (λ (l : RunLog). uses_in o c (notes_now w.within.b.run.log done l s)) is ∙ b.exact (subst NothingFailed is none))),
+          (λ whose in_ known.
+              let is : later ≡ log_of after = alike whose known in
+              let then : AreKnown whose o (log_of after) f = subst (λ (l : RunLog). AreKnown whose o l f) is known in
+              (j.known whose then, ap (λ (l : RunLog). uses_in o c (notes_now w.within.b.run.log done l s)) is ∙ b.exact whose in_ then)),
           b.are,
           once_torn torn_,
           put-times c later same begun allowed_ own torn_ torn_is often,
@@ -335,7 +337,7 @@ module _ (o : Origin) (done : List TraceSecond) (s : TraceSecond) (front rest : 
     by : (b : Bool) → failed ≡ b → CardsGoOn b o done s w.within.b.run.log (front ++ Insert slot card ∷ []) (log_of after) f
     by false is = in-log (log_of after) more-after same-after goes.begun
         (ap (λ (q : Course). refusal q.slots s.speed (Insert slot card)) (course-then (log_of told) (log_of after) s front rest (Insert slot card) are told-on.uncut more-after same-after uncut-after was) ∙ allowed-told)
-        refl refl (λ none. refl) (λ fails. absurd (let clash : true ≡ false = sym fails ∙ is in cc))
+        refl refl (λ whose is. refl) (λ fails. absurd (let clash : true ≡ false = sym fails ∙ is in cc))
     by true is =
         let cuts : IsCutIn w.within.b.run.log (log_of told) (with_cut (log_of after) s (front ++ Insert slot card ∷ [])) done s front (Insert slot card) rest =
         is-cut (log_of told) (log_of after) s front rest (Insert slot card) are told-on.uncut more-after same-after uncut-after o done (In (length front)) [] None [] (values_of old before) d w.within
@@ -344,7 +346,7 @@ module _ (o : Origin) (done : List TraceSecond) (s : TraceSecond) (front rest : 
         (ap (λ (q : Course). refusal q.slots s.speed (Insert slot card)) (course-cut (log_of told) (log_of after) s front rest (Insert slot card) are told-on.uncut more-after same-after uncut-after was) ∙ allowed-told)
         (cut-found (log_of after) s.number (length (front ++ Insert slot card ∷ [])) uncut-after (In (suc (length front))) slot)
         (cut-torn (log_of after) s.number (length (front ++ Insert slot card ∷ [])) uncut-after (In (suc (length front))) slot)
-        (λ none. no-cut (log_of after) s.number (length (front ++ Insert slot card ∷ [])) none)
+        (λ whose is. no-cut (log_of after) s.number (length (front ++ Insert slot card ∷ [])) (known-uncut whose o (with_cut (log_of after) s (front ++ Insert slot card ∷ [])) f is))
         (λ fails. cut-failed (log_of after) s.number (length (front ++ Insert slot card ∷ [])) uncut-after)
 
     -- SO THE EVENTS OF THE CARDS GO ON

@@ -1,5 +1,5 @@
 -- A card is put into a slot, and so the rings go on: the minutes before write no ring, and its insertion is noted where it is accepted.
-use Rattle.std.proofs.Common.{◌≡◌, ◌∙◌, ⊎_elim, ℕ, suc, ◌+◌, ◌≤◌, Bool, true, false, None, List, [], ◌∷◌, ◌++◌, length, map, refl, ap, sym, subst, arith, append-nil}
+use Rattle.std.proofs.Common.{◌≡◌, ◌∙◌, ⊎_elim, ℕ, suc, ◌+◌, ◌≤◌, Bool, true, false, None, List, [], ◌∷◌, ◌++◌, Contains, length, map, refl, ap, sym, subst, arith, append-nil}
 use Rattle.std.specs.Prelude.{filter}
 use Rattle.activity_codec.specs.declared.values.Slot.{Slot}
 use Rattle.trace_model.specs.declared.Action.{Action}
@@ -26,10 +26,11 @@ use Rattle.run_acts.proofs.run_rings.Actions.{insertions}
 use Rattle.run_acts.specs.run_note_record.Ringed.{StaysInRings, since_in}
 use Rattle.run_acts.specs.run_note_record.OnCards.{has_call_failed_in, CardsStay}
 use Rattle.run_acts.proofs.run_note_record.OnCards.{call-failed}
-use Rattle.run_acts.specs.run_note_record.Sessions.{FailsIn}
+use Rattle.run_acts.specs.run_note_record.Moved.{goes_in, moves_to}
 use Rattle.run_acts.proofs.run_note_record.Sessions.{stay-may}
+use Rattle.run_acts.proofs.run_note_record.Moved.{put-moves}
 use Rattle.run_acts.specs.run_note_record.RingsSoFar.{RingedBehind, RingedIn, AreFewer, HasMoreBreaks}
-use Rattle.run_acts.specs.run_note_record.Steps.{GoesOnTo, IsCutIn, nobody, spans_cut}
+use Rattle.run_acts.specs.run_note_record.Steps.{GoesOnTo, IsCutIn, FailsBy, nobody, spans_cut}
 use Rattle.run_acts.proofs.run_note_record.SoFar.{go-on-in}
 use Rattle.run_acts.proofs.run_note_record.RingSteps.{passes, action-cut, card-accepted, acceptance-is-cut}
 use Rattle.run_acts.specs.run_record.Within.{Beginning, course_in}
@@ -70,7 +71,7 @@ module _ (o : Origin) (done : List TraceSecond) (s : TraceSecond) (front rest : 
 
   -- the rings as the card is to be judged
   settled-in : RingedIn o done s w.within.b.run.log front (log_of told) spans old.keeper.odometer t (seats_of mid) e
-  settled-in = go-on-in d e o done s w.within.b.run.log front (log_of before) (log_of told) spans old.keeper.odometer t (seats_of old) (seats_of mid) rings.ringed told-on.more told-on.same leaves left (stay-may o (with_second spans old.keeper.odometer t) (FailsIn (log_of told) s.number) d e places) fewer
+  settled-in = go-on-in d e o done s w.within.b.run.log front (log_of before) (log_of told) spans old.keeper.odometer t (seats_of old) (seats_of mid) rings.ringed told-on.more told-on.same leaves left places fewer
 
   -- and so it is as the card is judged
   pub odometer-mid : (waits : List Visit) (x : RunWithin o done s (In (suc (length front))) waits [] mid told e) → x.within.b ≡ w.within.b →
@@ -122,7 +123,7 @@ module _ (o : Origin) (done : List TraceSecond) (s : TraceSecond) (front rest : 
             (action-cut d e o done s w.within.b.run.log (log_of before) cut front (Insert slot card) rest spans old.keeper.odometer t (seats_of old) rings.ringed told-cut
             (notes-none cut told-cut.goes.begun
             (ap (λ c. refusal c.slots s.speed (Insert slot card)) (course-cut (log_of before) (log_of told) s front rest (Insert slot card) are uncut told-on.more told-on.same told-on.uncut was) ∙ allowed)
-            (ap (filter is_accepting) (cut-found_ (log_of told) told-on.uncut) ∙ ap (filter is_accepting) none-told)) leaves left (stay-may o (with_second spans old.keeper.odometer t) (FailsIn cut s.number) d e places));
+            (ap (filter is_accepting) (cut-found_ (log_of told) told-on.uncut) ∙ ap (filter is_accepting) none-told)) leaves left (stay-may o (with_second spans old.keeper.odometer t) (FailsBy w.within.b.run.log done cut s (front ++ Insert slot card ∷ [])) d e places));
       }
     where
       cut-found_ : (later : RunLog) → cut_in later s.number ≡ None → found_in (with_cut later s (front ++ Insert slot card ∷ [])) s.number (In (suc (length front))) slot ≡ found_in later s.number (In (suc (length front))) slot
@@ -184,13 +185,20 @@ module _ (o : Origin) (done : List TraceSecond) (s : TraceSecond) (front rest : 
     cut-fails : failed ≡ true → has_call_failed_in (with_cut (log_of after) s (front ++ Insert slot card ∷ [])) s.number ≡ true
     cut-fails is = call-failed (with_cut (log_of after) s (front ++ Insert slot card ∷ [])) s.number cuts.failed
 
+    -- it was put in, by either log
+    put-after : Contains (moves_to (log_of after) was s (front ++ Insert slot card ∷ [])) (goes_in s.number card)
+    put-after = put-moves (log_of after) was s front goes.begun slot card fine-after
+
+    put-cut : Contains (moves_to (with_cut (log_of after) s (front ++ Insert slot card ∷ [])) was s (front ++ Insert slot card ∷ [])) (goes_in s.number card)
+    put-cut = put-moves (with_cut (log_of after) s (front ++ Insert slot card ∷ [])) was s front cuts.goes.begun slot card fine-cut
+
     by : (b : Bool) → failed ≡ b → JudgedInRings b (since_in o w.within.b.run.log done s) (record { second = s.number; slot = slot; card = card }) (found_in (log_of after) s.number (In (suc (length front))) slot) (with_second spans old.keeper.odometer t) (seats_of mid) (seats_of new) e f →
         RingsGoOn b o done s w.within.b (front ++ Insert slot card ∷ []) new (log_of after) spans t f
     by false well h = record {
       base = subst (λ (b : ℕ). IsLastFrom b (with_second spans b t)) (sym (j.odometer ∙ same_odometer)) rings.base;
       counted = j.counted;
       ringed = subst (λ (b : ℕ). RingedIn o done s w.within.b.run.log (front ++ Insert slot card ∷ []) (log_of after) spans b t (seats_of new) f) (sym (j.odometer ∙ same_odometer)) (⊎_elim
-          (λ p. passes e f o done s w.within.b.run.log (log_of told) (log_of after) front (Insert slot card) spans old.keeper.odometer t (seats_of mid) (seats_of new) settled-in goes (notes-none (log_of after) goes.begun fine-after p.none) p.stays j.left (cards-fail o (with_second spans old.keeper.odometer t) e f failed (log_of after) (log_of after) none-more acceptance verdicts j.places (not-failed well) p.none) p.fewer_sit)
+          (λ p. passes e f o done s w.within.b.run.log (log_of told) (log_of after) front (Insert slot card) spans old.keeper.odometer t (seats_of mid) (seats_of new) settled-in goes (notes-none (log_of after) goes.begun fine-after p.none) p.stays j.left (cards-fail o (with_second spans old.keeper.odometer t) e f failed (log_of after) (log_of after) none-more acceptance verdicts j.places (not-failed well) (moves_to (log_of after) was s (front ++ Insert slot card ∷ [])) put-after p.none) p.fewer_sit)
           (λ i. card-accepted e f o done s w.within.b.run.log (log_of told) (log_of after) front spans old.keeper.odometer t (seats_of mid) i.now (seats_of new) settled-in goes slot card fine-after i.verdict
           (ap (λ (k : ℕ). found_in (log_of after) s.number (In k) slot) longer ∙ i.found) i.accepting i.head i.index i.writes i.inserts.long (i.inserts.is (log_of after)) i.seated j.left (cards-open o (with_second spans old.keeper.odometer t) e f failed (log_of after) (log_of after) none-more acceptance verdicts j.places (not-failed well)) (j.opens well i.verdict i.found i.accepting) i.fewer_sit)
           h);
@@ -203,7 +211,7 @@ module _ (o : Origin) (done : List TraceSecond) (s : TraceSecond) (front rest : 
           behind = cuts.behind;
           odometer = j.odometer ∙ same_odometer ∙ w.odometer;
           ringed = subst (λ (b : ℕ). RingedBehind o (done ++ s ∷ []) cut (suc s.number) (spans_cut spans b cut done s) nobody f) (sym (j.odometer ∙ same_odometer)) (⊎_elim
-              (λ p. action-cut e f o done s w.within.b.run.log (log_of told) cut front (Insert slot card) rest spans old.keeper.odometer t (seats_of mid) settled-in cuts (notes-none cut cuts.goes.begun fine-cut (ap (filter is_accepting) found-cut ∙ p.0)) p.1 j.left (cards-fail o (with_second spans old.keeper.odometer t) e f failed (log_of after) cut cut-more acceptance verdicts j.places cut-fails p.0))
+              (λ p. action-cut e f o done s w.within.b.run.log (log_of told) cut front (Insert slot card) rest spans old.keeper.odometer t (seats_of mid) settled-in cuts (notes-none cut cuts.goes.begun fine-cut (ap (filter is_accepting) found-cut ∙ p.0)) p.1 j.left (cards-fail o (with_second spans old.keeper.odometer t) e f failed (log_of after) cut cut-more acceptance verdicts j.places cut-fails (moves_to cut was s (front ++ Insert slot card ∷ [])) put-cut p.0))
               (λ i. acceptance-is-cut e f o done s w.within.b.run.log (log_of told) cut front rest spans old.keeper.odometer t (seats_of mid) settled-in slot card cuts fine-cut i.verdict
               (ap (λ (k : ℕ). found_in cut s.number (In k) slot) longer ∙ found-cut ∙ i.found) i.accepting i.head i.writes i.inserts.long (i.inserts.is cut) j.left (cards-open o (with_second spans old.keeper.odometer t) e f failed (log_of after) cut cut-more acceptance verdicts j.places cut-fails))
               h);

@@ -93,5 +93,7 @@ pub mod StoodSeconds
 pub mod SecondsCards
 pub mod SlotLines
 pub mod Time
+pub mod Turns
+pub mod TurnRows
 pub mod Writes
 pub mod NewestGrows

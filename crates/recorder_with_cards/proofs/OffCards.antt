@@ -1,6 +1,6 @@
 -- The last second turns out to be a cut's, as an `off` line says: what the cards show of their events stays.
 use Rattle.std.proofs.Common.{◌≡◌, ◌∙◌, ℕ, ◌+◌, ◌-◌, ◌<◌, Bool, true, false, cond, not, ◌&&◌, ◌||◌, is_some, List, [], ◌∷◌, ◌++◌, length, refl, ap, sym, subst, arith}
-use Rattle.std.specs.Prelude.{filter, flat_map}
+use Rattle.std.specs.Prelude.{filter, flat_map, nat_eq}
 use Rattle.std.specs.List.{AllByRecursion, list_any}
 use Rattle.activity_codec.specs.declared.values.Slot.{Slot}
 use Rattle.activity_codec.specs.declared.values.Slot.TheVariants.{Driver, CoDriver}
@@ -11,6 +11,7 @@ use Rattle.device_calls.specs.history_model.Presence.{Start}
 use Rattle.device_calls.specs.event_model.Events.{Seen, number_of, seen_of, seen_spans, last_number, first_card}
 use Rattle.log_model.specs.Log.{RunLog, Keeping, cut_in, is_torn_in, kept_after, is_accepting}
 use Rattle.log_model.specs.Slots.{same_card}
+use Rattle.log_model.proofs.Growth.{went-more}
 use Rattle.log_model.specs.Course.{ToldSecond, Course, Visit, Went, has_power, second_told, went, leaves, visits, slot_told, both_told, unmoved, all_acted, cut_told, lit_course}
 use Rattle.device_calls.specs.note_model.Done.{course_powered}
 use Rattle.device_calls.specs.run_unit_course.Lines.{cut_at}
@@ -27,10 +28,11 @@ use Rattle.run_acts.proofs.run_events.Later.{told-number, seen-same}
 use Rattle.run_acts.proofs.run_note_record.Brought.{lit-course, told-speed}
 use Rattle.run_acts.specs.run_note_record.Uses.{notes_in, uses_in}
 use Rattle.run_acts.proofs.run_note_record.Lines.{early}
-use Rattle.run_acts.proofs.run_note_record.Exact.{fewer-none}
+use Rattle.run_acts.proofs.AllStay.{stood-self, known-fewer}
 use Rattle.run_acts.proofs.run_note_record.SoFar.{failed-more}
 use Rattle.run_acts.specs.OnCards.{MetSecond, as_accepted, accepted_in, gaps_on, torn_times, met_behind, met_seconds, met_next}
 use Rattle.run_acts.specs.RunCards.{vehicle_in, sizes_in, CardShown, CardsBehind}
+use Rattle.run_acts.specs.Stood.{is_torn_out_in}
 use Rattle.run_acts.proofs.OnCards.{still-same}
 use Rattle.run_acts.proofs.CardSeconds.{met-more}
 use Rattle.run_acts.proofs.CardCourse.{Finding, findings, behind-same}
@@ -61,6 +63,11 @@ keeping-both : (log later : RunLog) (u : ℕ) (x y : Course) → ((slot : Slot) 
 keeping-both log later u x y torn is =
     ap (both_told later u Keeping (unmoved false)) is ∙ ap (slot_told later u Keeping (unmoved false) CoDriver) (keeping-one log later u Driver x (torn Driver))
     ∙ keeping-one log later u CoDriver (slot_told log u Keeping (unmoved false) Driver x) (torn CoDriver)
+
+-- the last of these seconds, where the other has its number and tore out the same
+last-alike : (c : Card) (u : ℕ) (xs : List ToldSecond) (x y : ToldSecond) → y.second.number ≡ x.second.number → y.course.torn ≡ x.course.torn → is_torn_out_in (xs ++ y ∷ []) c u ≡ is_torn_out_in (xs ++ x ∷ []) c u
+last-alike c u [] x y number torn = λ i. (nat_eq (number i) u && list_any (λ (v : Visit). same_card c v.card) (torn i)) || false
+last-alike c u (z ∷ xs) x y number torn = ap (λ (b : Bool). (nat_eq z.second.number u && list_any (λ (v : Visit). same_card c v.card) z.course.torn) || b) (last-alike c u xs x y number torn)
 
 or-nothing : (b : Bool) → (b || false) ≡ b
 or-nothing true = refl
@@ -130,6 +137,17 @@ module _ (rule : Rule) (start : Start) (from first : ℕ) (p : Progress) (t : To
         ∙ sym (ap (λ (k : Course). length (filter (λ (v : Visit). same_card v.card c) k.torn)) was-course) in omega (arith, same);
   }
 
+  torn-is : (seen_next (and_break p.log (cut_at (p.next - 1) false p.begun)) front r).told.course.torn ≡ (seen_next p.log front r).told.course.torn
+  torn-is = ap (λ (k : Course). k.torn) now-course ∙ moves.torn ∙ sym (ap (λ (k : Course). k.torn) was-course)
+
+  -- what was torn out was
+  torn-same : (c : Card) (u : ℕ) → is_torn_out_in (went (and_break p.log (cut_at (p.next - 1) false p.begun)) (front ++ r ∷ [])).told c u ≡ is_torn_out_in (went p.log (front ++ r ∷ [])).told c u
+  torn-same c u =
+      ap (λ (w : Went). is_torn_out_in w.told c u) (went-more (and_break p.log (cut_at (p.next - 1) false p.begun)) front r)
+      ∙ ap (λ (w : Went). is_torn_out_in (w.told ++ (seen_next (and_break p.log (cut_at (p.next - 1) false p.begun)) front r).told ∷ []) c u) (front-same rule start from first p t span front r f count)
+      ∙ last-alike c u (went p.log front).told (seen_next p.log front r).told (seen_next (and_break p.log (cut_at (p.next - 1) false p.begun)) front r).told number-is torn-is
+      ∙ sym (ap (λ (w : Went). is_torn_out_in w.told c u) (went-more p.log front r))
+
   accepted-is : (c : Card) → accepted_in c (seen_next (and_break p.log (cut_at (p.next - 1) false p.begun)) front r) ≡ accepted_in c (seen_next p.log front r)
   accepted-is c = λ i. flat_map (λ (f : Finding). cond (same_card f.0.card c && is_accepting f.1) (number-is i ∷ []) []) (found-is i)
 
@@ -165,7 +183,7 @@ module _ (rule : Rule) (start : Start) (from first : ℕ) (p : Progress) (t : To
       (goes-on o c p.log (and_break p.log (cut_at (p.next - 1) false p.begun)) (met_seconds p.log front) (met_next p.log front r) (met_next (and_break p.log (cut_at (p.next - 1) false p.begun)) front r)
       (uses_in o c (notes_in p.log (front ++ r ∷ []))) (uses_in o c (notes_in (and_break p.log (cut_at (p.next - 1) false p.begun)) (front ++ r ∷ []))) d d
       (subst (λ (ms : List MetSecond). CardShown o c p.log ms (uses_in o c (notes_in p.log (front ++ r ∷ []))) d) (met-more p.log front r) (h c valid))
-      (λ none. (fewer-none p.log (and_break p.log (cut_at (p.next - 1) false p.begun)) (cut_at (p.next - 1) false p.begun ∷ []) refl none, ap (uses_in o c) (notes-same rule start from first p t span front r f count)))
+      (λ whose in_ known. (known-fewer whose o p.log (and_break p.log (cut_at (p.next - 1) false p.begun)) (cut_at (p.next - 1) false p.begun ∷ []) d d refl (stood-self o d) known, ap (uses_in o c) (notes-same rule start from first p t span front r f count)))
       (failed-more p.log (and_break p.log (cut_at (p.next - 1) false p.begun)) (cut_at (p.next - 1) false p.begun ∷ [], refl)) (follows c) (accepted-is c) (ap (gaps_on c (vehicle_in o)) gap) (λ z there. there) (still-same (sizes_in o c) (card_of d c)))
 
 -- THE LAST SECOND OF A SPAN TURNS OUT TO BE A CUT'S
@@ -178,3 +196,15 @@ off-cut-cards rule start from first done p t span f some o d h =
     let here = number rule start from first p t span had.before r g had.count in
     subst (λ (ss : List TraceSecond). CardsBehind o ss (and_break p.log (cut_at (p.next - 1) false p.begun)) d) (sym had.are)
     (cut-behind rule start from first p t span had.before r g had.count (omega (arith, here, some)) o d (subst (λ (ss : List TraceSecond). CardsBehind o ss p.log d) had.are h))
+
+-- what was torn out in these seconds was
+pub off-cut-torn : (rule : Rule) (start : Start) (from first : ℕ) (done : List TraceSecond) (p : Progress) (t : ToldSecond) (span : List ToldSecond) → BookFollowsRun rule start from first done (record p { supply = Lit (t ∷ span); waiting = [] }) → 1 < p.next →
+    (c : Card) (u : ℕ) → is_torn_out_in (went p.log done).told c u ≡ true → is_torn_out_in (went (and_break p.log (cut_at (p.next - 1) false p.begun)) done).told c u ≡ true
+off-cut-torn rule start from first done p t span f some c u has =
+    let had : HadActions done p.begun = f.last in
+    let r : TraceSecond = record { number = had.number; has_power = true; speed = had.speed; actions = had.actions } in
+    let g = subst (λ (ss : List TraceSecond). BookFollowsRun rule start from first ss (record p { supply = Lit (t ∷ span); waiting = [] })) had.are f in
+    let here = number rule start from first p t span had.before r g had.count in
+    ap (λ (ss : List TraceSecond). is_torn_out_in (went (and_break p.log (cut_at (p.next - 1) false p.begun)) ss).told c u) had.are
+    ∙ torn-same rule start from first p t span had.before r g had.count (omega (arith, here, some)) c u
+    ∙ sym (ap (λ (ss : List TraceSecond). is_torn_out_in (went p.log ss).told c u) had.are) ∙ has

@@ -1,5 +1,5 @@
 -- The last second turns out to be a cut's, as an `off` line says: it has noted the same, all odometers are the same, and all readings of them.
-use Rattle.std.proofs.Common.{◌≡◌, ◌∙◌, ℕ, ◌+◌, ◌-◌, ◌/◌, ◌<◌, min, Bool, true, false, cond, not, ◌&&◌, ◌||◌, nat_eq, Option, Some, None, is_some, List, [], ◌∷◌, ◌++◌, All, length, map, filter, sum, refl, ap, sym, subst, arith, append-nil, length-append}
+use Rattle.std.proofs.Common.{◌≡◌, ◌∙◌, ℕ, ◌+◌, ◌-◌, ◌/◌, ◌<◌, min, Bool, true, false, cond, not, ◌&&◌, ◌||◌, nat_eq, Option, Some, None, is_some, List, [], ◌∷◌, ◌++◌, All, Contains, length, map, filter, sum, refl, ap, sym, subst, arith, append-nil, length-append}
 use Rattle.std.specs.Prelude.{nat_lt, sum_by}
 use Rattle.std.specs.List.{list_any}
 use Rattle.std.proofs.lemmas.Bool.Decides.{nat_tests}
@@ -44,7 +44,9 @@ use Rattle.run_acts.specs.run_note_record.Ringed.{Seating, Ringed, notes_in, not
 use Rattle.run_acts.specs.run_note_record.OnCards.{IsReading}
 use Rattle.run_acts.specs.run_note_record.RingsSoFar.{AreEarlier, RingedBehind, AreFewer}
 use Rattle.run_acts.proofs.run_note_record.Noted.{second-notes}
+use Rattle.run_acts.specs.run_note_record.Moved.{Move, moves_in, moves_so_far}
 use Rattle.run_acts.specs.run_note_record.Sessions.{IsBrokenSince}
+use Rattle.run_acts.proofs.run_note_record.Moved.{moves-later, moves-on, by-power, moves-ended}
 use Rattle.run_acts.proofs.run_note_record.OnCards.{call-failed-more, stay-itself}
 use Rattle.run_acts.proofs.run_note_record.Sessions.{stay-may}
 use Rattle.run_acts.proofs.run_note_record.Rings.{fewer-sit, rings-stay, come-before}
@@ -222,6 +224,14 @@ module _ (rule : Rule) (start : Start) (from first : ℕ) (p : Progress) (t : To
       second-notes p.log later front r same ∙ ap (λ (l : List Note). notes_in p.log front ++ l) next-same
       ∙ sym (second-notes p.log p.log front r (same-all p.log front))
 
+  -- and moved the same cards
+  moves-stay : (m : Move) → Contains (moves_in p.log (front ++ r ∷ [])) m → Contains (moves_in later (front ++ r ∷ [])) m
+  moves-stay m at =
+      let was : Before = (went p.log front).before in
+      let whole : moves_in p.log (front ++ r ∷ []) ≡ moves_so_far p.log front p.log r r.actions = moves-on p.log front r ∙ ap (λ (l : List Move). moves_in p.log front ++ l) (by-power p.log was r power) in
+      moves-ended p.log later front r r.actions [] same before-same power (sym (append-nil r.actions)) m
+      (subst (λ (l : List Move). Contains l m) (whole ∙ ap (λ (l : List Move). moves_in p.log front ++ l) (sym (moves-later p.log later r was r.actions tells))) at)
+
   off : IsCutOff p.log later r
   off = record {
     uncut = uncut;
@@ -239,10 +249,10 @@ module _ (rule : Rule) (start : Start) (from first : ℕ) (p : Progress) (t : To
     off-behind =
         let done : List TraceSecond = front ++ r ∷ [] in
         let ringed : Ringed (since_behind o p.log done) later (cut_off spans) (notes_in p.log done) seats d =
-        rings-stay d d (since_behind o p.log done) p.log later spans (cut_off spans) (notes_in p.log done) seats v.ringed (rings-left d.unit) (left-itself o d) (stay-may o (cut_off spans) (λ c t. IsBrokenSince later c (notes_in p.log done) t) d d (stay-itself o (cut_off spans) d))
+        rings-stay d d (since_behind o p.log done) p.log later spans (cut_off spans) (notes_in p.log done) seats v.ringed (rings-left d.unit) (left-itself o d) (stay-may o (cut_off spans) (λ c t. IsBrokenSince (moves_in p.log done) later c (notes_in p.log done) t) d d (stay-itself o (cut_off spans) d))
         (goes-alike p.log later spans (cut_off spans) (notes_in p.log done) (failed-more p.log later (cut ∷ [], refl)) (call-failed-more p.log later (cut ∷ [], refl)) (cut-odometer spans) (reads-cut spans)) in
         let now : Ringed (since_behind o later done) later (cut_off spans) (notes_in p.log done) seats d =
-        come-before d o (went p.log done).told (went later done).told done done (come-as p.log later front r front-same entered-same done) later (cut_off spans) (notes_in p.log done) seats ringed in
+        come-before d o (went p.log done).told (went later done).told done done (moves_in p.log done) (moves_in later done) (come-as p.log later front r front-same entered-same done) moves-stay later (cut_off spans) (notes_in p.log done) seats ringed in
         record {
           spans_are = cut-are spans ∙ ap cut_spans (v.spans_are ∙ f.spans) ∙ cut-spans-last f.ended (t ∷ span) ∙ sym (spans-cut rule start from first done p t span f);
           before = cut-before p.next spans v.before;

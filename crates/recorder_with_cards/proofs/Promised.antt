@@ -112,6 +112,7 @@ use Rattle.recorder_with_cards.proofs.Written.{are-written, keep-holders, keep-v
 use Rattle.recorder_with_cards.specs.Placed.{ShowsPlaces}
 use Rattle.recorder_with_cards.specs.Measured.{MeasuresVehicles}
 use Rattle.recorder_with_cards.specs.Sessions.{TellsSession}
+use Rattle.run_acts.specs.run_note_record.Moved.{moves_in}
 use Rattle.run_acts.specs.run_note_record.Sessions.{MayTell, session_told}
 use Rattle.recorder_with_cards.proofs.KeptAfter.{end-kept}
 use Rattle.recorder_with_cards.specs.LastKept.{TellsLast}
@@ -329,7 +330,7 @@ module _ (x a b : List ℕ) (start : ℕ) (items : List Item) (began now : Devic
           uses = one.uses;
           are = subst (λ (n : ℕ). AreUses ((card_of now c).left_since n) one.uses (accepted_on c (seen_of r.log r.trace))) (clocks c)
               (subst (AreUses ((card_of now c).left_since (found_of o.found c).began) one.uses) (accepted-met c r.log [] (seen_of r.log r.trace)) one.are);
-          exact = λ none. one.exact none ∙ ap (λ (i : List ℕ). uses_from (vehicle_of x) (use_in i) (insertions_on c (notes_in (log_of out) (seconds_of start items)))) (sym (images c));
+          exact = λ on. let k = known-of c on in one.exact k.0 k.2 k.1 ∙ ap (λ (i : List ℕ). uses_from (vehicle_of x) (use_in i) (insertions_on c (notes_in (log_of out) (seconds_of start items)))) (sym (images c));
           left = λ on y there.
               let k = known-of c on in
               shown-use (vehicle_of x) (card_image r c) ((stays-at k.0 k.1).stays c) (insertions_on c (notes_in (log_of out) (seconds_of start items))) (card_of now c) (own-closed k.0 k.1 c k.2 valid) (own-shows k.0 k.1 c k.2 valid) y there;
@@ -348,7 +349,7 @@ module _ (x a b : List ℕ) (start : ℕ) (items : List Item) (began now : Devic
       images = both (λ c. card_image r c ≡ card_image o.recording c) refl refl
 
       -- what stands hangs on the image of the card at the start, and on seconds and log
-      stood-as : (c : Card) → StoodExactly (recording_by o (seconds_of start items) (log_of out)) c (found_of o.found c).began (card_of now c) → StoodExactly r c (card_of began c).clock (card_of now c)
+      stood-as : (c : Card) → StoodExactly (recording_by o (seconds_of start items) (log_of out)) c (found_of o.found c).began (o.breakdowns (device_of c)) (card_of now c) → StoodExactly r c (card_of began c).clock (breakdowns_of began (device_of c)) (card_of now c)
       stood-as A s = record { front = s.front; rest = s.rest; are = s.are; told = s.told; tells = s.tells; image = s.image; exact = s.exact; was = s.was; stands = s.stands; until = s.until }
       stood-as B s = record { front = s.front; rest = s.rest; are = s.are; told = s.told; tells = s.tells; image = s.image; exact = s.exact; was = s.was; stands = s.stands; until = s.until }
 
@@ -438,7 +439,7 @@ module _ (x a b : List ℕ) (start : ℕ) (items : List Item) (began now : Devic
       -- it tells of the session that is carried with the rings
       tells-session : (c : Card) → IsOwnValid (card_image r c) → (y : List ℕ) → (card_of now c).may_leave y → TellsSession r c y
       tells-session c valid y left =
-          subst (λ (i : List ℕ). MayTell (log_of out) c (session_told i i) (notes_in (log_of out) (seconds_of start items)) (session_told i y)) (sym (images c))
+          subst (λ (i : List ℕ). MayTell (moves_in (log_of out) (seconds_of start items)) (log_of out) c (session_told i i) (notes_in (log_of out) (seconds_of start items)) (session_told i y)) (sym (images c))
           (h.ringed.ringed.sessions c (subst IsOwnValid (images c) valid) y left)
 
       -- and that of its places
@@ -701,12 +702,12 @@ module _ (x a b : List ℕ) (start : ℕ) (began now : Devices) (opened : Opened
       vehicle = ap (λ (bs : List ℕ). record { 0 = bs }) (ap (λ (i : UnitFacts). i.registration.0) memory ∙ ready.memory.registration);
       cards = λ c valid. record {
         uses = [];
-        exact = λ none. ap (uses_in first-o c) (sym (no-notes (log_of out)));
+        exact = λ whose in_ known. ap (uses_in first-o c) (sym (no-notes (log_of out)));
         are = subst (λ (seen : List Seen). AreUses (images_in first-o now c) [] (met_accepted c (met_behind (log_of out) [] seen))) (sym (no-seen (log_of out))) tt;
         shows = subst (λ (seen : List Seen). ShowsOn c (vehicle_in first-o) (images_in first-o now c) [] (card_image first-o.recording c) (log_of out) (met_behind (log_of out) [] seen) (card_of now c)) (sym (no-seen (log_of out)))
             (start-shown c (vehicle_in first-o) (images_in first-o now c) (card_image first-o.recording c) (log_of out) (card_of now c) (λ y left. only c y ((whole c).counts_now (found_of f c).began y (there.clocks c) left)));
       };
-      past = λ c valid. inl (ap (λ (bs : List Break). filter failed_cut bs) breaks, ap (λ (bs : List Break). filter failed_tear bs) breaks);
+      past = λ c valid. inl (inl (ap (λ (bs : List Break). filter failed_cut bs) breaks, ap (λ (bs : List Break). filter failed_tear bs) breaks));
       speeds = record {
         watched = λ on. absurd (let bad : Due ≡ Lit = sym due ∙ on in cc);
         blocks = λ ring.

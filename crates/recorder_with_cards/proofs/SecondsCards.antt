@@ -193,7 +193,7 @@ module _ (o : Origin) (done : List TraceSecond) (old : Run) (before : Outcome) (
 
       past-so : (q : Power) (s : UnitPower) → r.supply ≡ s → Supplies q s → HaveStoodBehind o (done ++ dark (suc n) old.next) (log_of (record before { breaks = with_lines (off_cut (is_lit q) (old.next - 1) old.begun) before.breaks })) d
       past-so Lit (IsLit []) at powers = absurd powers
-      past-so Lit (IsLit (t ∷ span)) at powers = off-stood o done p t span (with-supply (rule_of o) (start_at o) o.from (first_of o) done p (IsLit (t ∷ span)) at f) (dark (suc n) old.next) d h.past
+      past-so Lit (IsLit (t ∷ span)) at powers = off-stood o done p t span (with-supply (rule_of o) (start_at o) o.from (first_of o) done p (IsLit (t ∷ span)) at f) (omega (arith, low)) (dark (suc n) old.next) d h.past
       past-so Lit IsDue at powers = absurd powers
       past-so Lit IsLost at powers = absurd powers
       past-so Due (IsLit span) at powers = absurd powers

@@ -1,7 +1,7 @@
 -- The actions that wait for their second, item by item.
 use Rattle.std.proofs.Common.{◌≡◌, ◌⊎◌, inl, inr, ⊎_elim, ℕ, zero, suc, ◌+◌, ◌-◌, ◌≤◌, Some, List, [], ◌∷◌, ◌++◌, length, take, drop, refl, ap, sym, ◌∙◌, arith, length-append, append_assoc}
 use Rattle.std.specs.List.{slice_get}
-use Rattle.std.proofs.lemmas.List.{take_more, append-nil}
+use Rattle.std.proofs.lemmas.List.{take_more, append-nil, drop-drop}
 use Rattle.std.proofs.lemmas.Option.{slice_get_within, get_or_from_slice_get}
 use Rattle.trace_model.specs.declared.Action.{Action}
 use Rattle.trace_model.specs.declared.Item.{Item}
@@ -10,9 +10,11 @@ use Rattle.trace_model.specs.Trace.{seconds_of, seconds_at, number_after, item_s
 use Rattle.std.proofs.lemmas.List.Sums.{sum_by-cons}
 use Rattle.trace_model.proofs.LeftToRight.{seconds_of-more}
 use Rattle.trace_text.specs.Trace.{RunComes, HasRuns}
+use Rattle.run_outcome.proofs.Items.{left-here}
 use Rattle.recorder_with_cards.specs.Gone.{first_waiting}
 use Rattle.recorder_with_cards.specs.Items.{between}
 use Rattle.recorder_with_cards.specs.Recorded.{action_of, actions_in}
+use Rattle.recorder_with_cards.specs.Writes.{acts_at}
 use Rattle.recorder_with_cards.proofs.Acted.{between-none, between-more}
 
 -- ---- the actions among items
@@ -97,7 +99,7 @@ none-from items n is =
 pub waits-none : (items : List Item) → Waits items 0 0
 waits-none items = none-from items 0 refl
 
-taken-more : (items : List Item) (i : ℕ) (item : Item) → slice_get items i ≡ Some item → take (i + 1) items ≡ take i items ++ item ∷ []
+pub taken-more : (items : List Item) (i : ℕ) (item : Item) → slice_get items i ≡ Some item → take (i + 1) items ≡ take i items ++ item ∷ []
 taken-more items i item here = take_more items i item (slice_get_within items i item here) ∙ ap (λ (x : Item). take i items ++ x ∷ []) (get_or_from_slice_get items i item item here)
 
 pub waits-more : (items : List Item) (i first : ℕ) (item : Item) → slice_get items i ≡ Some item → first ≤ i → HasRuns items → Waits items first i → Waits items (first_waiting item first i) (i + 1)
@@ -111,6 +113,43 @@ waits-more items i first (Act action) here le runs w =
       are = more ∙ ap (λ (acts : List Action). acts ++ action ∷ []) w.are ∙ sym (ap waiting_after (taken-more items i (Act action) here) ∙ waiting-more [] (take i items) (Act action));
       count = ap length more ∙ length-append (actions_in (between first i items)) (action ∷ []) ∙ (let n = w.count in let e : length (actions_in (between first i items)) + 1 ≡ i + 1 - first = omega (arith, n, le) in e);
     }
+
+-- ---- how many actions there are among the first items, and among those behind them
+
+acts-parts : (items : List Item) (n : ℕ) → length (actions_in (take n items)) + length (actions_in (drop n items)) ≡ length (actions_in items)
+acts-parts items zero = omega arith
+acts-parts [] (suc n) = omega arith
+acts-parts (item ∷ items) (suc n) = omega (arith, length-append (action_of item) (actions_in (take n items)), length-append (action_of item) (actions_in items), acts-parts items n)
+
+pub acts-within : (items : List Item) (n : ℕ) → length (actions_in (take n items)) ≤ length (actions_in items)
+acts-within items n = let parts = acts-parts items n in omega (arith, parts)
+
+acts-left : (items : List Item) (first i : ℕ) → first ≤ i → length (actions_in (drop first items)) ≡ length (actions_in (between first i items)) + length (actions_in (drop i items))
+acts-left items first i le =
+    let parts = acts-parts (drop first items) (i - first) in
+    let behind = ap (λ (l : List Item). length (actions_in l)) (drop-drop (i - first) first items ∙ ap (λ (n : ℕ). drop n items) (let e : first + (i - first) ≡ i = omega (arith, le) in e)) in
+    omega (arith, parts, behind)
+
+acts-here : (items : List Item) (i : ℕ) (item : Item) → slice_get items i ≡ Some item → length (actions_in (drop i items)) ≡ length (action_of item) + length (actions_in (drop (i + 1) items))
+acts-here items i item here = ap (λ (l : List Item). length (actions_in l)) (left-here items i item here) ∙ length-append (action_of item) (actions_in (drop (i + 1) items))
+
+-- those that waited for the first second of an item come to those before
+pub acts-more : (items : List Item) (i first : ℕ) (item : Item) → slice_get items i ≡ Some item → first ≤ i → Waits items first i
+    → length (actions_in (take first items)) + acts_at (i - first) item ≤ length (actions_in (take (first_waiting item first i) items))
+acts-more items i first (Run seconds speed) here le w =
+    let left = acts-left items first i le in
+    let now = acts-here items i (Run seconds speed) here in
+    let was = acts-parts items first in
+    let is = acts-parts items (i + 1) in
+    let many = w.count in
+    omega (arith, left, now, was, is, many)
+acts-more items i first (Off seconds) here le w =
+    let left = acts-left items first i le in
+    let now = acts-here items i (Off seconds) here in
+    let was = acts-parts items first in
+    let is = acts-parts items (i + 1) in
+    omega (arith, left, now, was, is)
+acts-more items i first (Act action) here le w = omega arith
 
 -- ---- the seconds of the items so far
 

@@ -24,10 +24,11 @@ use Rattle.run_acts.specs.run_course.Seconds.{GoesOnBy}
 use Rattle.run_acts.proofs.run_course.Logs.{all-before, found_log, same-found, kept-found}
 use Rattle.run_acts.specs.run_events.Gaps.{AreKnownGaps}
 use Rattle.run_acts.proofs.run_events.Later.{seen-same}
-use Rattle.run_acts.specs.run_note_record.Uses.{notes_in, uses_in}
+use Rattle.run_acts.specs.run_note_record.Uses.{notes_in, notes_now, uses_in}
 use Rattle.run_acts.proofs.run_note_record.Lines.{early-before}
 use Rattle.run_acts.proofs.run_note_record.Noted.{notes-alike}
-use Rattle.run_acts.proofs.run_note_record.Exact.{no-cut, found-none}
+use Rattle.run_acts.proofs.AllStay.{stood-unit, known-still, known-found}
+use Rattle.run_acts.proofs.CardUses.{cut-still}
 use Rattle.run_outcome.specs.declared.outcome.Outcome.{Outcome}
 use Rattle.run_minutes.specs.declared.keeper.Moment.{Moment}
 use Rattle.run_minutes.specs.Books.{HaveTime}
@@ -60,8 +61,8 @@ use Rattle.recorder_with_cards.proofs.WokenCards.{slot-cards, slot-cut, cut-waki
 
 -- ---- calls of the unit leave the cards
 pub unit-alone : (o : Origin) (done : List TraceSecond) (log : RunLog) (U W X Y : State) → CardsBehind o done log (devices U X Y) → CardsBehind o done log (devices W X Y)
-unit-alone o done log U W X Y h A valid = let one = h A valid in record { uses = one.uses; are = one.are; exact = one.exact; shows = one.shows }
-unit-alone o done log U W X Y h B valid = let one = h B valid in record { uses = one.uses; are = one.are; exact = one.exact; shows = one.shows }
+unit-alone o done log U W X Y h A valid = let one = h A valid in record { uses = one.uses; are = one.are; exact = λ whose in_ known. one.exact whose in_ (known-still whose o log (devices U X Y) (devices W X Y) (stood-unit o U W X Y) known); shows = one.shows }
+unit-alone o done log U W X Y h B valid = let one = h B valid in record { uses = one.uses; are = one.are; exact = λ whose in_ known. one.exact whose in_ (known-still whose o log (devices U X Y) (devices W X Y) (stood-unit o U W X Y) known); shows = one.shows }
 
 -- ---- WHAT WAS KEPT is found, and changes no event but those that are not sure, of which none was noted
 pub learned-cards : (o : Origin) (done : List TraceSecond) (log : RunLog) (i k : ℕ) (d : Devices) → AreInOrder o.from done → AreKnownGaps log (take i log.breaks) (seen_spans (seen_of log done)) → CardsBehind o done log d → CardsBehind o done (found_log i k log) d
@@ -70,7 +71,7 @@ learned-cards o done log i k d order known h c valid =
     let alike = all-before (λ (u : ℕ). SameAt log later u) o.from done order (λ u lt. same-found log i k u) in
     subst (λ (xs : List Seen). CardShown o c later (met_behind later [] xs) (uses_in o c (notes_in later done)) d) (sym (seen-same log later done alike))
     (card-told o c log later (seen_of log done) (uses_in o c (notes_in log done)) (uses_in o c (notes_in later done)) d (h c valid)
-    (λ none. (found-none i k log none, ap (uses_in o c) (notes-alike log later done alike))) (still-failed log i k)
+    (λ whose in_ known. (known-found whose o i k log d known, ap (uses_in o c) (notes-alike log later done alike))) (still-failed log i k)
     (gaps-found c (vehicle_in o) log later (take i log.breaks) done known (λ u told. sym (kept-found log i k u told)) (still-failed log i k)))
 
 -- ---- lines that a second told
@@ -103,7 +104,7 @@ module _ (o : Origin) (done : List TraceSecond) (s : TraceSecond) (p : Progress)
   waking =
       waking-passed o done s p.log p.log (with_cut p.log s []) d d comes.running (λ slot is. cut-torn p.log s.number 0 at_once.none.cut (In 0) slot ∙ is) (failed-more p.log (with_cut p.log s []) (cut_at s.number true 0 ∷ [], refl)) (left-itself o d)
       (waking-begins o done s p.log d h comes.running (λ slot. at_once.none.found (In 0) slot) at_once.power (λ k slot lt. at_once.none.found (In k) slot))
-      (found-same p.log (with_cut p.log s []) (went p.log done).before s comes.running (λ slot is. cut-torn p.log s.number 0 at_once.none.cut (In 0) slot ∙ is) (λ slot. cut-found p.log s.number 0 at_once.none.cut (In 0) slot)) (λ c failed. no-cut p.log s.number 0 failed) (shows-self o d)
+      (found-same p.log (with_cut p.log s []) (went p.log done).before s comes.running (λ slot is. cut-torn p.log s.number 0 at_once.none.cut (In 0) slot ∙ is) (λ slot. cut-found p.log s.number 0 at_once.none.cut (In 0) slot)) (λ c. cut-still o c p.log p.log s.number 0 d d (uses_in o c (notes_now p.log done p.log s)) (uses_in o c (notes_now p.log done (with_cut p.log s []) s))) (shows-self o d)
 
   pub unpowered-cards : CardsBehind o (done ++ s ∷ []) (with_cut p.log s []) d
   unpowered-cards = cut-waking o done s p.log (with_cut p.log s []) d later at_once.power comes.running (cut-is p.log s.number 0 at_once.none.cut) (cut-failed p.log s.number 0 at_once.none.cut) waking

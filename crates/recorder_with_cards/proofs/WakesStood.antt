@@ -14,7 +14,7 @@ use Rattle.log_model.specs.Course.{Visit}
 use Rattle.run_minutes.specs.card_slots.Calls.{card_in}
 use Rattle.device_calls.specs.safety_model.Safe.{Devices}
 use Rattle.run_acts.proofs.run_course.Logs.{all-before, found_log, other-number, same-at, same-found}
-use Rattle.run_acts.proofs.run_note_record.RingsWaking.{still-call-failed}
+use Rattle.run_acts.proofs.run_note_record.RingsWaking.{still-failed, still-call-failed}
 use Rattle.run_outcome.specs.declared.outcome.Outcome.{Outcome}
 use Rattle.run_outcome.specs.Lines.{Listed}
 use Rattle.run_minutes.specs.declared.keeper.Moment.{Moment}
@@ -31,7 +31,7 @@ use Rattle.run_acts.specs.Recording.{log_of, values_of, RunWithin}
 use Rattle.run_acts.specs.RunCards.{vehicle_in}
 use Rattle.run_acts.specs.Stood.{LetStand, TellsOn}
 use Rattle.run_acts.proofs.CardPlaces.{leave-stays}
-use Rattle.run_acts.proofs.Stood.{failed-still, stand-itself, tells-beside, tells-self, vehicles-let}
+use Rattle.run_acts.proofs.Stood.{failed-still, cut-still, stand-itself, tells-beside, tells-self, vehicles-let}
 use Rattle.recorder_with_cards.specs.Accepting.{IsBare, IsAnew}
 use Rattle.recorder_with_cards.specs.Judged.{moment_in, RunNext}
 use Rattle.recorder_with_cards.specs.JudgedRings.{TellsHere}
@@ -47,6 +47,7 @@ pub here-tells : (done : List TraceSecond) (from : ℕ) (log later : RunLog) (n 
 here-tells done from log later n order late h = record {
   same = all-before (λ (u : ℕ). SameAt log later u) from done order (λ u lt. same-at log later n h.breaks.0 h.breaks.1 h.breaks.2 h.finds.0 h.finds.1 h.finds.2 u (other-number n u (omega (arith, lt, late))));
   still = failed-still log later h.breaks.0 h.breaks.1;
+  cut = cut-still log later h.breaks.0 h.breaks.1;
 }
 
 -- what was kept, once that is found
@@ -54,6 +55,7 @@ pub found-tells : (done : List TraceSecond) (from : ℕ) (log : RunLog) (i k : �
 found-tells done from log i k order = record {
   same = all-before (λ (u : ℕ). SameAt log (found_log i k log) u) from done order (λ u lt. same-found log i k u);
   still = λ u has. still-call-failed log i k u has;
+  cut = λ u has. still-failed log i k u has;
 }
 
 -- nothing more is told yet

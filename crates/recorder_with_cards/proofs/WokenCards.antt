@@ -23,10 +23,10 @@ use Rattle.device_calls.specs.note_model.Done.{has_failed_in, course_powered}
 use Rattle.device_calls.specs.safety_model.Safe.{Devices}
 use Rattle.run_outcome.specs.declared.outcome.Outcome.{Outcome}
 use Rattle.run_minutes.specs.run_promise.Origin.{Origin}
-use Rattle.run_minutes.specs.run_promise.Whole.{NothingFailed}
 use Rattle.run_acts.specs.run_note_record.Evented.{images_in}
 use Rattle.run_acts.specs.run_note_record.Uses.{notes_now, uses_in}
-use Rattle.run_acts.proofs.run_note_record.Exact.{fewer-none, no-cut}
+use Rattle.run_acts.specs.Stays.{Whose, AreKnown}
+use Rattle.run_acts.proofs.AllStay.{known-uncut, no-cut}
 use Rattle.run_acts.specs.run_note_record.RingsSoFar.{HasMoreBreaks}
 use Rattle.run_acts.specs.run_note_record.Waking.{NoneFound, IsFoundAnew}
 use Rattle.run_acts.proofs.run_note_record.SoFar.{left-itself, failed-more}
@@ -114,15 +114,15 @@ module _ (o : Origin) (done : List TraceSecond) (s : TraceSecond) (slot : Slot) 
 
   -- by a log in which the same is found
   in-log : (later : RunLog) → HasMoreBreaks (log_of before) later → ((sl : Slot) → found_in later s.number (In 0) sl ≡ found_in (log_of after) s.number (In 0) sl) → is_torn_in later s.number (In 0) slot ≡ is_torn_in (log_of after) s.number (In 0) slot
-      → (NothingFailed later → later ≡ log_of after) → (failed ≡ true → has_failed_in later s.number ≡ true) → CardsWaking o done s began later e
+      → ((whose : Whose) → AreKnown whose o later e → later ≡ log_of after) → (failed ≡ true → has_failed_in later s.number ≡ true) → CardsWaking o done s began later e
   in-log later more found torn alike fails =
       waking-judged o done s began (log_of before) later d e off (λ sl is. torn-more (log_of before) later s.number (In 0) sl more is) (failed-more (log_of before) later more) j.left cards slot q sits (found_in (log_of after) s.number (In 0) slot)
       (anew-by (log_of before) later s.number slot (found_in (log_of after) s.number (In 0) slot) first own_none (found (other_slot slot) ∙ j.others) (found slot))
       (λ c valid other. j.beside c valid (ap (λ (k : Card). same_card k c) (sym card_is) ∙ other))
-      (λ c other none.
-      let is : later ≡ log_of after = alike none in (
-        fewer-none (log_of before) later more.0 more.1 none,
-        ap (λ (l : RunLog). uses_in o c (notes_now began done l s)) is ∙ j.still (subst NothingFailed is none) c (ap (λ (k : Card). same_card k c) (sym card_is) ∙ other),
+      (λ c other whose in_ known.
+      let is : later ≡ log_of after = alike whose known in (
+        j.known whose (subst (λ (l : RunLog). AreKnown whose o l e) is known),
+        ap (λ (l : RunLog). uses_in o c (notes_now began done l s)) is ∙ j.still c (ap (λ (k : Card). same_card k c) (sym card_is) ∙ other),
       ))
       (λ c valid own entered.
       let x : Seen = seen_behind began done s [] later in
@@ -130,9 +130,10 @@ module _ (o : Origin) (done : List TraceSecond) (s : TraceSecond) (slot : Slot) 
       let kept : (sl : Slot) → is_torn_in (log_of before) s.number (In 0) sl ≡ true → is_torn_in later s.number (In 0) sl ≡ true = λ sl is. torn-more (log_of before) later s.number (In 0) sl more is in
       let b = j.own c valid (ap (λ (k : Card). same_card k c) (sym card_is) ∙ own) in (
         b.uses,
-        (λ none.
-            let is : later ≡ log_of after = alike none in
-            (fewer-none (log_of before) later more.0 more.1 none, ap (λ (l : RunLog). uses_in o c (notes_now began done l s)) is ∙ b.exact (subst NothingFailed is none))),
+        (λ whose in_ known.
+            let is : later ≡ log_of after = alike whose known in
+            let then : AreKnown whose o (log_of after) e = subst (λ (l : RunLog). AreKnown whose o l e) is known in
+            (j.known whose then, ap (λ (l : RunLog). uses_in o c (notes_now began done l s)) is ∙ b.exact whose in_ then)),
         b.are,
         once_torn torn_,
         subst (λ (t : Bool). torn_times c (seen_behind began done s [] (log_of before)) + once_torn t ≤ torn_times c (seen_behind began done s [] later)) torn (once-torn (log_of before) later (went began done).before s off kept c slot q sits own whole),
@@ -141,12 +142,12 @@ module _ (o : Origin) (done : List TraceSecond) (s : TraceSecond) (slot : Slot) 
 
   -- the second goes on, or the cut is told next
   pub slot-cards : failed ≡ false → CardsWaking o done s began (log_of after) e
-  slot-cards well = in-log (log_of after) (here-more (log_of before) (log_of after) s.number j.here) (λ sl. refl) refl (λ none. refl) (λ fails. absurd (let clash : true ≡ false = sym fails ∙ well in cc))
+  slot-cards well = in-log (log_of after) (here-more (log_of before) (log_of after) s.number j.here) (λ sl. refl) refl (λ whose is. refl) (λ fails. absurd (let clash : true ≡ false = sym fails ∙ well in cc))
 
   pub slot-cut : CardsWaking o done s began (with_cut (log_of after) s []) e
   slot-cut =
       in-log (with_cut (log_of after) s []) (here-more (log_of before) (with_cut (log_of after) s []) s.number (here-then (log_of before) (log_of after) (with_cut (log_of after) s []) s.number j.here (here-cut (log_of after) s [])))
-      (λ sl. cut-found (log_of after) s.number 0 uncut (In 0) sl) (cut-torn (log_of after) s.number 0 uncut (In 0) slot) (λ none. no-cut (log_of after) s.number 0 none) (λ fails. cut-failed (log_of after) s.number 0 uncut)
+      (λ sl. cut-found (log_of after) s.number 0 uncut (In 0) sl) (cut-torn (log_of after) s.number 0 uncut (In 0) slot) (λ whose is. no-cut (log_of after) s.number 0 (known-uncut whose o (with_cut (log_of after) s []) e is)) (λ fails. cut-failed (log_of after) s.number 0 uncut)
 
 -- ---- THE UNIT FAILED in that, and power is cut: of the interruption nothing is sure
 
@@ -224,11 +225,11 @@ module _ (o : Origin) (done : List TraceSecond) (s : TraceSecond) (began cut : R
   pub cut-waking : CardsWaking o done s began cut e → CardsBehind o (done ++ s ∷ []) cut e
   cut-waking cards =
       ends-shown o done s began cut l power [] cut e e
-      (gap-noted o done s began cut cut e e off (λ slot is. is) (λ u is. is) (left-itself o e) cards (λ slot. refl) (λ c none. (none, refl))
+      (gap-noted o done s began cut cut e e off (λ slot is. is) (λ u is. is) (left-itself o e) cards (λ slot. refl) (λ c whose in_ known. (known, refl))
       (λ c valid z there. (
         z,
         there,
         λ kind. brought-nothing (images_in o e c) kind (is_sure_in c kind cut (seen_behind began done s [] cut)) (interrupting s.number (gaps_on c (vehicle_in o) (gap_behind began done s [] cut))) (λ sure. nothing c kind sure)
             (events_in (sizes_in o c) kind z) (events_in (sizes_in o c) kind z) refl,
       )))
-      (λ c none. (none, refl)) (λ u is. is) quiet (left-itself o e) (shows-self o e)
+      (λ c whose in_ known. (known, refl)) (λ u is. is) quiet (left-itself o e) (shows-self o e)

@@ -49,8 +49,9 @@ use Rattle.run_acts.specs.run_rings.Spans.{with_second}
 use Rattle.run_acts.specs.run_rings.Same.{LeavesRings}
 use Rattle.run_acts.proofs.run_rings.Same.{behind-same, rings-left, rings-moments}
 use Rattle.run_acts.specs.run_note_record.OnCards.{has_call_failed_in, PlacesStay, IsReading, VehiclesGo, SessionsGo, NoOtherComes, CardsGo, CardsStay}
-use Rattle.run_acts.specs.run_note_record.Sessions.{FailsIn, OpensIn, Opens}
-use Rattle.run_acts.proofs.run_note_record.Sessions.{stay-may}
+use Rattle.run_acts.specs.run_note_record.Moved.{goes_in, moves_to}
+use Rattle.run_acts.specs.run_note_record.Sessions.{OpensIn, Opens}
+use Rattle.run_acts.proofs.run_note_record.Moved.{woken-moves}
 use Rattle.run_acts.specs.run_note_record.Ringed.{Seating, IsInsertionIn, since_in}
 use Rattle.run_acts.specs.run_note_record.RingsSoFar.{RingedBehind, IsSecond, RingedIn, HasMoreBreaks, GoesBehind}
 use Rattle.run_acts.specs.run_note_record.Steps.{nobody, spans_cut}
@@ -225,7 +226,7 @@ module _ (o : Origin) (done : List TraceSecond) (s : TraceSecond) (p : Progress)
         begun_later = λ k lt. absurd (omega (arith, lt));
         torn = λ k slot le. cut-torn p.log s.number 0 at_once.none.cut (In k) slot;
         found = λ k slot le. cut-found p.log s.number 0 at_once.none.cut (In k) slot;
-      }) (rings-left d.unit) (left-itself o d) (stay-may o (with_second spans base t) (FailsIn (with_cut p.log s []) s.number) d d (stay-itself o (with_second spans base t) d)) (λ c. inl refl) in
+      }) (rings-left d.unit) (left-itself o d) (stay-itself o (with_second spans base t) d) (λ c. inl refl) in
       cut-ends d o done s p.log (with_cut p.log s []) [] s.actions spans base t nobody nobody told at_once.behind at_once.power refl (cut-is p.log s.number 0 at_once.none.cut) (λ c. inl refl)
 
 -- power may come with the next second
@@ -331,6 +332,12 @@ module _ (o : Origin) (done : List TraceSecond) (s : TraceSecond) (waits fewer :
   none-more : HasMoreBreaks (log_of after) (log_of after)
   none-more = ([], sym (append-nil (log_of after).breaks))
 
+  -- as power begins it is put in anew
+  put-anew : (log : RunLog) → Contains (moves_to log (went next.goes.within.b.run.log done).before s []) (goes_in s.number card)
+  put-anew log =
+      subst (λ (c : Card). Contains (moves_to log (went next.goes.within.b.run.log done).before s []) (goes_in s.number c)) sat.2
+      (woken-moves log (went next.goes.within.b.run.log done).before s off slot sat.0 sat.1)
+
   -- of who sits there
   sitter-opens : (log : RunLog) → CardsGo o (with_second spans old.keeper.odometer t) (OpensIn log (record { second = s.number; slot = slot; card = card })) d e → CardsGo o (with_second spans old.keeper.odometer t) (OpensIn log (record { second = s.number; slot = slot; card = sat.0.card })) d e
   sitter-opens log cards = subst (λ (c : Card). CardsGo o (with_second spans old.keeper.odometer t) (OpensIn log (record { second = s.number; slot = slot; card = c })) d e) (sym sat.2) cards
@@ -352,7 +359,7 @@ module _ (o : Origin) (done : List TraceSecond) (s : TraceSecond) (waits fewer :
     counted = j.counted;
     ringed = subst (λ (n : ℕ). RingedIn o done s next.goes.within.b.run.log [] (log_of after) spans n t (seats_of new) e) (sym j.odometer) (⊎_elim
         (λ p. passed-anew d e o done s next.goes.within.b.run.log (log_of before) (log_of after) spans old.keeper.odometer t (seats_of old) (seats_of new) rings.ringed off (here-more (log_of before) (log_of after) s.number j.here) slot (found_in (log_of after) s.number (In 0) slot)
-        (anew-by (log_of before) (log_of after) slot (found_in (log_of after) s.number (In 0) slot) first next.none j.others refl) (inr p.none) p.stays j.left (cards-fail o (with_second spans old.keeper.odometer t) d e failed (log_of after) (log_of after) none-more acceptance verdicts j.places (not-failed well) p.none) p.fewer_sit)
+        (anew-by (log_of before) (log_of after) slot (found_in (log_of after) s.number (In 0) slot) first next.none j.others refl) (inr p.none) p.stays j.left (cards-fail o (with_second spans old.keeper.odometer t) d e failed (log_of after) (log_of after) none-more acceptance verdicts j.places (not-failed well) (moves_to (log_of after) (went next.goes.within.b.run.log done).before s []) (put-anew (log_of after)) p.none) p.fewer_sit)
         (λ i. accepted-anew d e o done s next.goes.within.b.run.log (log_of before) (log_of after) spans old.keeper.odometer t (seats_of old) i.now (seats_of new) rings.ringed off (here-more (log_of before) (log_of after) s.number j.here) slot sat.0 sat.1 i.verdict
         (anew-by (log_of before) (log_of after) slot (i.verdict ∷ []) first next.none j.others i.found) i.accepting i.head i.index i.writes i.inserts.long (of-sitter (log_of after) i.head (i.inserts.is (log_of after)))
         (subst (λ (c : Card). AreSeatedWith c i.index (seats_of old) i.now) (sym sat.2) i.seated) j.left (sitter-opens (log_of after) (cards-open o (with_second spans old.keeper.odometer t) d e failed (log_of after) (log_of after) none-more acceptance verdicts j.places (not-failed well))) (sitter-told (log_of after) (j.opens well i.verdict i.found i.accepting)) i.fewer_sit)
@@ -369,7 +376,7 @@ module _ (o : Origin) (done : List TraceSecond) (s : TraceSecond) (waits fewer :
             (λ p.
             let passed : RingedIn o done s next.goes.within.b.run.log [] cut spans old.keeper.odometer t nobody e =
             passed-anew d e o done s next.goes.within.b.run.log (log_of before) cut spans old.keeper.odometer t (seats_of old) nobody rings.ringed off cut-more slot (found_in (log_of after) s.number (In 0) slot)
-            (anew-by (log_of before) cut slot (found_in (log_of after) s.number (In 0) slot) first next.none (cut-found_ (other_slot slot) ∙ j.others) (cut-found_ slot)) (inr p.0) p.1 j.left (cards-fail o (with_second spans old.keeper.odometer t) d e failed (log_of after) cut after-more acceptance verdicts j.places cut-fails p.0) (λ c. inr refl) in
+            (anew-by (log_of before) cut slot (found_in (log_of after) s.number (In 0) slot) first next.none (cut-found_ (other_slot slot) ∙ j.others) (cut-found_ slot)) (inr p.0) p.1 j.left (cards-fail o (with_second spans old.keeper.odometer t) d e failed (log_of after) cut after-more acceptance verdicts j.places cut-fails (moves_to cut (went next.goes.within.b.run.log done).before s []) (put-anew cut) p.0) (λ c. inr refl) in
             cut-ends e o done s next.goes.within.b.run.log cut [] s.actions spans old.keeper.odometer t nobody nobody passed behind-cut power-then refl (cut-is (log_of after) s.number 0 uncut) (λ c. inl refl))
             (λ i. cut-anew d e o done s next.goes.within.b.run.log (log_of before) cut spans old.keeper.odometer t (seats_of old) rings.ringed off cut-more slot sat.0 sat.1 i.verdict
             (anew-by (log_of before) cut slot (i.verdict ∷ []) first next.none (cut-found_ (other_slot slot) ∙ j.others) (cut-found_ slot ∙ i.found)) i.accepting behind-cut power-then (cut-is (log_of after) s.number 0 uncut) (cut-failed (log_of after) s.number 0 uncut)

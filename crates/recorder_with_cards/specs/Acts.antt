@@ -49,7 +49,7 @@ use Rattle.recorder_with_cards.specs.Recorded.{actions_in}
 use Rattle.recorder_with_cards.specs.Waking.{IsAwake}
 use Rattle.recorder_with_cards.specs.Woken.{EventsResuming, EventsWaking, ResumesSo, RingsResuming, RingsWaking}
 use Rattle.recorder_with_cards.specs.Woken.{WakesSo}
-use Rattle.recorder_with_cards.specs.Writes.{WritesFor}
+use Rattle.recorder_with_cards.specs.Writes.{WritesFor, WritesIn}
 use Rattle.unit_minutes.specs.declared.notes.Notes.{Notes}
 use Rattle.minute_rules.specs.minute_model.declared.Rule.{Rule}
 use Rattle.run_opening.specs.Units.{IsLoaded}
@@ -334,11 +334,11 @@ pub record CardGoes (on_unit on_card : ℕ) (before after : List Break) (U V x y
 
 -- ALL GOES ON over an item of the trace: no clock and no count of a device falls, none breaks down but in a call that
 -- failed, the unit breaks down where the power is lost, and so many writes at most were begun
-pub record ItemGoes (seconds actions : ℕ) (before after : List Break) (d e : Devices) : Type 0 where
+pub record ItemGoes (turns actions : ℕ) (before after : List Break) (d e : Devices) : Type 0 where
   pub later : AreAfter d e
   pub calm : AreCalm before after d e
   pub broke : BreaksDown before after d.unit e.unit
-  pub most : WritesFor seconds actions d e
+  pub most : WritesFor turns actions d e
 
 -- What a run promises goes on with these actions, in a second with power
 pub record PromisesWithPower (has_power : Bool) (actions : List Action) (begun speed : ℕ) (old new : Run)
@@ -426,8 +426,8 @@ pub record AreAmong (items : List Item) (from to : ℕ) : Type 0 where
   pub first : from ≤ to
   pub last : to ≤ length items
 
--- A RUN GOES ON: no clock and no count of a device falls; and so many writes it begins at most, by its seconds and its
--- items, whatever fails
-pub record RunGoes (seconds items : ℕ) (d e : Devices) : Type 0 where
+-- A RUN GOES ON: no clock and no count of a device falls; and so many writes it begins at most, by its turns and its
+-- actions, whatever fails
+pub record RunGoes (start : ℕ) (items : List Item) (d e : Devices) : Type 0 where
   pub later : AreAfter d e
-  pub most : WritesFor seconds items d e
+  pub most : WritesIn start items d e

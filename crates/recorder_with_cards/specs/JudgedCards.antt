@@ -15,7 +15,6 @@ use Rattle.device_calls.specs.safety_model.Recording.{card_image}
 use Rattle.device_calls.specs.safety_model.Safe.{Devices, card_of}
 use Rattle.run_minutes.specs.run_promise.Origin.{Origin}
 use Rattle.run_minutes.specs.run_promise.Beside.{HaveLeftMore}
-use Rattle.run_minutes.specs.run_promise.Whole.{NothingFailed}
 use Rattle.run_minutes.specs.run_devices.Measured.{MakesOn}
 use Rattle.run_minutes.specs.declared.keeper.Moment.{Moment}
 use Rattle.run_minutes.specs.Books.{HaveTime}
@@ -27,6 +26,7 @@ use Rattle.run_acts.specs.declared.run.Run.{Run}
 use Rattle.run_acts.specs.Recording.{log_of}
 use Rattle.run_acts.specs.OnCards.{accepts, judging, ComesTo, StillShows, AreUses}
 use Rattle.run_acts.specs.RunCards.{vehicle_in, sizes_in}
+use Rattle.run_acts.specs.Stays.{Whose, covers, AreKnown}
 use Rattle.recorder_with_cards.specs.Judged.{moment_in, RunNext}
 use Rattle.recorder_with_cards.specs.JudgedRings.{TellsHere}
 
@@ -43,13 +43,13 @@ IsSureHere failed torn kind speed = ((failed ≡ false) × (torn ≡ false)) ⊎
 abbrev pub once_torn : Bool → ℕ
 once_torn torn = if torn then 1 else 0
 
--- A CARD OF WHICH THIS WAS FOUND in a second: at its acceptance an image of it told a use, which where no call failed
--- by this log is one more of these; and each image shows what comes of it on the events of one before, which is sure
--- of no more types than those.
+-- A CARD OF WHICH THIS WAS FOUND in a second: at its acceptance an image of it told a use, which where its stays are
+-- known by this log is one more of these; and each image shows what comes of it on the events of one before, which is
+-- sure of no more types than those.
 pub record BringsNow (o : Origin) (c : Card) (second speed : ℕ) (failed torn : Bool) (verdicts : List Verdict)
     (log : RunLog) (was found : List CurrentUse) (d e : Devices) : Type 0 where
   pub uses : List CurrentUse
-  pub exact : NothingFailed log → found ≡ was ++ uses
+  pub exact : (whose : Whose) → covers whose c ≡ true → AreKnown whose o log e → found ≡ was ++ uses
   pub are : AreUses (images_in o e c) uses (accepts second verdicts)
   pub notes : (sure : ℕ → Bool) → ((kind : ℕ) → sure kind ≡ true → IsSureHere failed torn kind speed)
       → ComesTo (images_in o e c) (sizes_in o c) sure
@@ -61,7 +61,8 @@ abbrev pub uses_then : Origin → (began : RunLog) → List TraceSecond → Trac
 uses_then o began done s c out = uses_in o c (notes_now began done (log_of out) s)
 
 -- A CARD WAS JUDGED in a second, behind so many of its actions: what it brings this card, and none other; its lines are
--- of that second, and tell nothing of earlier moments, nor of a cut, nor of a find in the other slot.
+-- of that second, and tell nothing of earlier moments, nor of a cut, nor of a find in the other slot; and the stays
+-- that are known behind it were known before.
 pub record IsJudgedOnCards (failed : Bool) (o : Origin) (began : RunLog) (done : List TraceSecond) (s : TraceSecond)
     (n : ℕ) (slot : Slot) (card : Card) (before after : Outcome) (d e : Devices) : Type 0 where
   pub own : (c : Card) → IsOwnValid (card_image o.recording c) → same_card card c ≡ true →
@@ -72,8 +73,9 @@ pub record IsJudgedOnCards (failed : Bool) (o : Origin) (began : RunLog) (done :
       → StillShows (sizes_in o c) (card_of d c) (card_of e c)
   pub others : found_in (log_of after) s.number (In n) (other_slot slot)
       ≡ found_in (log_of before) s.number (In n) (other_slot slot)
-  pub still : NothingFailed (log_of after) → (c : Card) → same_card card c ≡ false
+  pub still : (c : Card) → same_card card c ≡ false
       → uses_then o began done s c after ≡ uses_then o began done s c before
+  pub known : (whose : Whose) → AreKnown whose o (log_of after) e → AreKnown whose o (log_of before) d
   pub here : TellsHere (log_of before) (log_of after) s.number
   pub cut : cut_in (log_of after) s.number ≡ cut_in (log_of before) s.number
   pub same : (m : ℕ) → n ≡ suc m → TellSameTo (log_of before) (log_of after) s.number m

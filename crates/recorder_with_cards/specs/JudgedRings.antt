@@ -25,8 +25,8 @@ use Rattle.run_minutes.specs.run_promise.Beside.{HaveLeftMore}
 use Rattle.run_acts.specs.run_note_record.Ringed.{Seating, one_behind, StaysInRings, WritesRing, IsInsertionIn}
 use Rattle.run_acts.specs.run_note_record.Ringed.{IsAddedAt}
 use Rattle.run_acts.specs.run_note_record.Ringed.{MayBeAdded, Since, since_in}
-use Rattle.run_acts.specs.run_note_record.OnCards.{IsReading, CardsGo}
-use Rattle.run_acts.specs.run_note_record.Sessions.{FailsIn, Opens}
+use Rattle.run_acts.specs.run_note_record.OnCards.{has_call_failed_in, IsReading, CardsGo}
+use Rattle.run_acts.specs.run_note_record.Sessions.{Opens}
 use Rattle.run_acts.specs.run_note_record.RingsSoFar.{AreFewer}
 use Rattle.run_minutes.specs.declared.keeper.Moment.{Moment}
 use Rattle.run_minutes.specs.Minutes.{odometer_by}
@@ -48,12 +48,12 @@ AreSeatedWith card index seats now = (c : Card)
     → ((same_card card c ≡ false) × (now c ≡ option_map one_behind (seats c)))
     ⊎ ((same_card card c ≡ true) × (now c ≡ Some (record { index = index; behind = 0 })))
 
--- WHICH SESSION A CARD THAT IS JUDGED MAY TELL: one of this second, where it is accepted; none, where the unit failed;
--- and either, where a call failed in it
+-- WHICH SESSION A CARD MAY TELL that is judged, and no other card: one of this second, where it is accepted; none, where
+-- the unit failed; and either, where a call failed in it
 abbrev pub JudgesIn : (failed : Bool) → RunLog → Acceptance → (verdicts : List Verdict) → Card → ℕ → Type 0
-JudgesIn failed log a verdicts c t =
-    ((same_card a.card c ≡ true) × (filter is_accepting verdicts ≢ []) × (t ≡ a.second))
-    ⊎ (((failed ≡ true) × (t ≡ 0)) ⊎ FailsIn log a.second c t)
+JudgesIn failed log a verdicts c t = (same_card a.card c ≡ true)
+    × (((filter is_accepting verdicts ≢ []) × (t ≡ a.second))
+    ⊎ (((failed ≡ true) × (t ≡ 0)) ⊎ (((t ≡ 0) ⊎ (t ≡ a.second)) × (has_call_failed_in log a.second ≡ true))))
 
 -- NOTHING WAS FOUND, or it is turned away, and no ring is written;
 pub record PassesInRings (verdicts : List Verdict) (seats fewer : Card → Option Seating) (d e : Devices) : Type 0 where

@@ -6,15 +6,16 @@ use Rattle.device_calls.specs.card_image.Own.{IsOwnValid}
 use Rattle.device_calls.specs.safety_model.Recording.{Recording, card_image}
 use Rattle.device_calls.specs.safety_model.Safe.{Devices, card_of}
 use Rattle.device_calls.specs.safety_model.Side.{notes_in}
+use Rattle.run_acts.specs.run_note_record.Moved.{moves_in}
 use Rattle.run_acts.specs.run_note_record.Sessions.{MayTell, session_told}
 
 -- an image of a card tells of the session that it is sure to have behind what the run has noted: that of its last
 -- acceptance in a second in which no call failed, none where it was withdrawn since in a second in which no call on the
 -- unit failed, or that of its image at the start; or a call failed in a second no earlier than these, and it tells of
--- none, or of that second
+-- none, or of that second, where it was put in then, and of none, where it was withdrawn then
 abbrev pub TellsSession : Recording → Card → (x : List ℕ) → Type 0
-TellsSession r c x = MayTell r.log c (session_told (card_image r c) (card_image r c)) (notes_in r)
-    (session_told (card_image r c) x)
+TellsSession r c x = MayTell (moves_in r.log r.trace) r.log c (session_told (card_image r c) (card_image r c))
+    (notes_in r) (session_told (card_image r c) x)
 
 -- so does each that a stop may leave of a card that was valid at the start
 abbrev pub KeepsSession : Recording → Card → State → Type 0

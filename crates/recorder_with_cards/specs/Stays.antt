@@ -1,6 +1,6 @@
 -- What a run leaves on a card on which no call failed, where none on the unit did (profile): exactly what its stays in
 -- the slots make of it, one for each acceptance that the log tells, withdrawn where the run notes that, and nowhere
--- else. And that what stood on a card before the first failed call stands.
+-- else. And that what stood on a card before the first call that failed on it, or on the unit, stands.
 use Rattle.std.specs.Prelude.{◌≡◌, ◌⊎◌, ◌<◌, true, List, [], All}
 use Rattle.std.specs.List.{AllByRecursion}
 use Rattle.activity_codec.specs.declared.entries.Entry.{Entry}
@@ -61,7 +61,8 @@ pub record LeaveStays (r : Recording) (marks : List Mark) (now : Devices) : Type
 abbrev pub HasAllStays : Recording → List Mark → Devices → Type 0
 HasAllStays r marks now = NothingFailed r.log → LeaveStays r marks now
 
--- WHAT STOOD ON A CARD BEFORE THE FIRST FAILED CALL STANDS, of each that was valid at the start, whatever failed.
+-- WHAT STOOD ON A CARD BEFORE THE FIRST CALL THAT FAILED ON IT, or on the unit, STANDS, of each that was valid at the
+-- start, whatever failed.
 abbrev pub HaveStoodExactly : Recording → (began now : Devices) → Type 0
 HaveStoodExactly r began now = (c : Card) → IsOwnValid (card_image r c)
-    → StoodExactly r c (card_of began c).clock (card_of now c)
+    → StoodExactly r c (card_of began c).clock (breakdowns_of began (device_of c)) (card_of now c)

@@ -32,12 +32,13 @@ abbrev pub KeepTheirHolders : Recording → (began now : Devices) → Type 0
 KeepTheirHolders r began now = (c : Card) → KeepsHolder r c (card_of began c).clock (card_of now c)
 
 -- each vehicle entry of each image that a card might have left since a clock has the registration that the unit's
--- image says, or that of an entry at the start, and its current use tells of no open session, is that of the start, or
--- has the registration that the unit's image says, where the card's image at the start was valid
+-- image says, or is one of the start that stands as it stood, at its place; no minute has come in another vehicle; and
+-- its current use tells of no open session, is that of the start, or has the registration that the unit's image says,
+-- where the card's image at the start was valid
 abbrev pub KeepsVehicles : Recording → Card → (since : ℕ) → State → Type 0
 KeepsVehicles r c since card = IsOwnValid (card_image r c) → (x : List ℕ) → card.left_since since x
     → TellsOfTwo (own_sizes (card_image r c)) (registration_of r.unit) (card_image r c) x
 
--- NO CARD TELLS OF A THIRD VEHICLE, whatever calls failed.
+-- NO CARD TELLS OF ANOTHER VEHICLE than at the start, but of the unit's, whatever calls failed.
 abbrev pub KeepTheirVehicles : Recording → (began now : Devices) → Type 0
 KeepTheirVehicles r began now = (c : Card) → KeepsVehicles r c (card_of began c).clock (card_of now c)

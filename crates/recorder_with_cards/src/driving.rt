@@ -1,5 +1,6 @@
 //! Seconds at one speed.
-ghost use Rattle.std.specs.Prelude.{ℕ, ◌+◌, ◌-◌, ◌<◌, OnOk};
+ghost use Rattle.std.specs.Prelude.{ℕ, ◌+◌, ◌-◌, ◌<◌, OnOk, []};
+ghost use Rattle.trace_model.specs.Trace.{driven};
 ghost use Rattle.run_minutes.specs.run_promise.Between.{devices};
 ghost use Rattle.run_acts.specs.Going.{IsBetweenSeconds, IsStretch};
 ghost use Rattle.run_acts.specs.Room.{HasRoom};
@@ -8,6 +9,7 @@ ghost use Rattle.recorder_with_cards.specs.Recorded.{actions_in};
 ghost use Rattle.recorder_with_cards.specs.Acts.{ItemGoes, PromisesMore, PromisesSeconds};
 ghost use Rattle.recorder_with_cards.specs.Acts.{AreAmong, HasRoomFor, MayGoOn};
 ghost use Rattle.recorder_with_cards.specs.Gone.{HasGone};
+ghost use Rattle.recorder_with_cards.specs.Writes.{turns_among};
 
 use crate::acts::{SecondDue, act_all, number_of};
 use crate::resuming::begin_second;
@@ -55,8 +57,9 @@ pub(crate) fn drive<M: Medium, C: Chip, D: Chip>(
         (actions_in (between due.entry.from due.entry.to due.entry.items.now)) run.old run.new outcome.old outcome.new
         (devices (M.state unit.old) (C.state card_a.old) (D.state card_b.old))
         (devices (M.state unit.new) (C.state card_a.new) (D.state card_b.new)) }
-    ensures goes { ItemGoes due.entry.seconds (due.entry.to - due.entry.from) outcome.old.breaks.items
-        outcome.new.breaks.items
+    // Its first two seconds are turns, and of the others each that opens.
+    ensures goes { ItemGoes (turns_among 2 (driven due.entry.seconds run.old.next due.entry.speed []))
+        (due.entry.to - due.entry.from) outcome.old.breaks.items outcome.new.breaks.items
         (devices (M.state unit.old) (C.state card_a.old) (D.state card_b.old))
         (devices (M.state unit.new) (C.state card_a.new) (D.state card_b.new)) }
     ensures gone { HasGone result due.entry.seconds run.old run.new outcome.new (M.state unit.new) (C.card card_a.new)
@@ -106,7 +109,9 @@ fn drive_on<M: Medium, C: Chip, D: Chip>(
     ensures promises { PromisesMore result more.seconds more.speed run.old run.new outcome.old outcome.new
         (devices (M.state unit.old) (C.state card_a.old) (D.state card_b.old))
         (devices (M.state unit.new) (C.state card_a.new) (D.state card_b.new)) }
-    ensures goes { ItemGoes more.seconds 0 outcome.old.breaks.items outcome.new.breaks.items
+    // The first of them is a turn, and of the others each that opens.
+    ensures goes { ItemGoes (turns_among 1 (driven more.seconds run.old.next more.speed [])) 0
+        outcome.old.breaks.items outcome.new.breaks.items
         (devices (M.state unit.old) (C.state card_a.old) (D.state card_b.old))
         (devices (M.state unit.new) (C.state card_a.new) (D.state card_b.new)) }
     ensures gone { HasGone result more.seconds run.old run.new outcome.new (M.state unit.new) (C.card card_a.new)
@@ -145,7 +150,7 @@ fn step<M: Medium, C: Chip, D: Chip>(
     ensures promises { PromisesMore result more.seconds more.speed run.old run.new outcome.old outcome.new
         (devices (M.state unit.old) (C.state card_a.old) (D.state card_b.old))
         (devices (M.state unit.new) (C.state card_a.new) (D.state card_b.new)) }
-    ensures goes { ItemGoes more.seconds 0 outcome.old.breaks.items outcome.new.breaks.items
+    ensures goes { ItemGoes 1 0 outcome.old.breaks.items outcome.new.breaks.items
         (devices (M.state unit.old) (C.state card_a.old) (D.state card_b.old))
         (devices (M.state unit.new) (C.state card_a.new) (D.state card_b.new)) }
     ensures gone { HasGone result more.seconds run.old run.new outcome.new (M.state unit.new) (C.card card_a.new)

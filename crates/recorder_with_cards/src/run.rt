@@ -1,6 +1,6 @@
 //! A run: the seconds of a trace, one after another.
-ghost use Rattle.std.specs.Prelude.{◌≡◌, ℕ, ◌+◌, ◌-◌, ◌<◌, ◌≤◌, ◌^◌, List, OnOk, IfErr, length, true, false};
-ghost use Rattle.trace_model.specs.Trace.{item_seconds, total_seconds};
+ghost use Rattle.std.specs.Prelude.{◌≡◌, ℕ, ◌+◌, ◌-◌, ◌<◌, ◌≤◌, ◌^◌, List, OnOk, IfErr, true, false};
+ghost use Rattle.trace_model.specs.Trace.{item_seconds};
 ghost use Rattle.trace_text.specs.Trace.{IsWellFormed};
 ghost use Rattle.trace_text.specs.Line.{InRange};
 ghost use Rattle.tach_media.specs.card_layout.declared.files.TheConstants.{LARGEST_IMAGE};
@@ -13,6 +13,7 @@ ghost use Rattle.recorder_with_cards.specs.Items.{between, insertions_in};
 ghost use Rattle.recorder_with_cards.specs.Recorded.{actions_in};
 ghost use Rattle.recorder_with_cards.specs.Ends.{BeginAs, IsTold, RecordsTrace, MayRecord, IsKeptFrom};
 ghost use Rattle.recorder_with_cards.specs.Gone.{first_waiting, has_seconds, HasGone, IsRefusedBy, TellsBreakdowns};
+ghost use Rattle.recorder_with_cards.specs.Writes.{turns_at, acts_at};
 ghost use Rattle.recorder_with_cards.specs.Acts.{ItemGoes, PromisesItem, AreAmong, MayGoOn, RunGoes};
 
 use crate::driving::{SecondsDue, drive};
@@ -65,8 +66,8 @@ pub fn run_trace<U: Medium, C: Chip>(
     ensures refused { IfErr result (IsRefusedBy trace.now.start outcome.old outcome.new (U.state unit.old)
         (U.state unit.new) (C.state card_a.old) (C.state card_a.new) (C.state card_b.old) (C.state card_b.new)) }
     ensures unit { IsUnit (U.state unit.new) }
-    // No clock falls; and so many writes it begins at most, by its seconds and its items, whatever fails.
-    ensures goes { RunGoes (total_seconds trace.now.items) (length trace.now.items)
+    // No clock falls; and so many writes it begins at most, by its turns and its actions, whatever fails.
+    ensures goes { RunGoes trace.now.start trace.now.items
         (devices (U.state unit.old) (C.state card_a.old) (C.state card_b.old))
         (devices (U.state unit.new) (C.state card_a.new) (C.state card_b.new)) }
     // Each cut that a failed call made is a breakdown of the unit more, whatever it tells. And each breakdown has its
@@ -136,9 +137,8 @@ fn go_on<M: Medium, C: Chip, D: Chip>(
         (actions_in (between due.entry.from due.entry.to due.entry.items.now)) run.old run.new outcome.old outcome.new
         (devices (M.state unit.old) (C.state card_a.old) (D.state card_b.old))
         (devices (M.state unit.new) (C.state card_a.new) (D.state card_b.new)) }
-    ensures goes { ItemGoes (item_seconds due.entry.item)
-        (first_waiting due.entry.item due.entry.from due.entry.to - due.entry.from) outcome.old.breaks.items
-        outcome.new.breaks.items
+    ensures goes { ItemGoes (turns_at run.old.next due.entry.item) (acts_at (due.entry.to - due.entry.from)
+        due.entry.item) outcome.old.breaks.items outcome.new.breaks.items
         (devices (M.state unit.old) (C.state card_a.old) (D.state card_b.old))
         (devices (M.state unit.new) (C.state card_a.new) (D.state card_b.new)) }
     ensures gone { HasGone result (item_seconds due.entry.item) run.old run.new outcome.new (M.state unit.new)

@@ -111,6 +111,15 @@ pub known-before : (whose : Whose) (o : Origin) (log : RunLog) (more : List Brea
 known-before Both o log more d e stood known = fewer-none log more known
 known-before (Only c) o log more d e stood known = record { uncut = fewer-uncut log more known.uncut; low = known.low; stands = stood c known.low known.stands }
 
+-- by a log that has these more
+pub known-fewer : (whose : Whose) (o : Origin) (log later : RunLog) (more : List Break) (d e : Devices) → later.breaks ≡ log.breaks ++ more → StoodBefore o d e → AreKnown whose o later e → AreKnown whose o log d
+known-fewer Both o log later more d e is stood known = fewer-none log more (ap (λ (bs : List Break). filter failed_cut bs) (sym is) ∙ known.0, ap (λ (bs : List Break). filter failed_tear bs) (sym is) ∙ known.1)
+known-fewer (Only c) o log later more d e is stood known = record {
+  uncut = fewer-uncut log more (ap (λ (bs : List Break). filter failed_cut bs) (sym is) ∙ known.uncut);
+  low = known.low;
+  stands = stood c known.low known.stands;
+}
+
 -- by the same log
 pub known-still : (whose : Whose) (o : Origin) (log : RunLog) (d e : Devices) → StoodBefore o d e → AreKnown whose o log e → AreKnown whose o log d
 known-still Both o log d e stood known = known
@@ -1042,7 +1051,7 @@ found-tears (suc i) k (Tear s slot false begun late ∷ bs) none = found-tears i
 pub found-none : (i k : ℕ) (log : RunLog) → NothingFailed (record log { breaks = found_from i k log.breaks }) → NothingFailed log
 found-none i k log none = (found-cuts i k log.breaks none.0, found-tears i k log.breaks none.1)
 
-known-found : (whose : Whose) (o : Origin) (i k : ℕ) (log : RunLog) (d : Devices) → AreKnown whose o (record log { breaks = found_from i k log.breaks }) d → AreKnown whose o log d
+pub known-found : (whose : Whose) (o : Origin) (i k : ℕ) (log : RunLog) (d : Devices) → AreKnown whose o (record log { breaks = found_from i k log.breaks }) d → AreKnown whose o log d
 known-found Both o i k log d known = found-none i k log known
 known-found (Only c) o i k log d known = record { uncut = found-cuts i k log.breaks known.uncut; low = known.low; stands = known.stands }
 

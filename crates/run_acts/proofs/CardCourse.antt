@@ -1,5 +1,5 @@
 -- What the course of a second tells of the cards that entered, were judged and were torn out in it, action by action.
-use Rattle.std.proofs.Common.{◌≡◌, ◌∙◌, ◌⊎◌, inl, inr, ℕ, suc, ◌+◌, ◌≤◌, ◌<◌, Bool, true, false, cond, not, ◌||◌, Option, Some, None, option_map, List, [], ◌∷◌, ◌++◌, length, map, refl, ap, sym, subst, arith, append_assoc, append-nil}
+use Rattle.std.proofs.Common.{◌≡◌, ◌∙◌, ◌⊎◌, inl, inr, ℕ, suc, ◌+◌, ◌≤◌, Bool, true, false, cond, not, ◌||◌, Option, Some, None, option_map, List, [], ◌∷◌, ◌++◌, length, map, refl, ap, sym, subst, arith, append_assoc, append-nil}
 use Rattle.std.specs.Prelude.{flat_map}
 use Rattle.std.specs.List.{list_any}
 use Rattle.activity_codec.specs.declared.values.Slot.{Slot}
@@ -15,6 +15,7 @@ use Rattle.log_model.specs.Slots.{Slots, Sitting, in_slot, refusal}
 use Rattle.log_model.specs.Course.{Course, Visit, Before, Moved, card_in, visits, leaves, with_slot, carried_out, answered, unmoved, moved_by, fresh, slot_told, both_told, begins, is_settling, acted, all_acted}
 use Rattle.unit_notes.specs.note_model.Done.{course_powered}
 use Rattle.run_events.specs.run_rings.Notes.{TellSameTo, course_behind}
+use Rattle.run_note_record.proofs.Moved.{both-to, acted-to}
 
 abbrev pub Finding : Type 0
 Finding = Visit × Verdict
@@ -302,27 +303,12 @@ module _ (log later : RunLog) (s : TraceSecond) where
   abbrev u : ℕ
   u = s.number
 
-  both-same : (p : Phase) (moved : Moved) (c : Course) → ((slot : Slot) → is_torn_in later s.number p slot ≡ is_torn_in log s.number p slot) → ((slot : Slot) → found_in later s.number p slot ≡ found_in log s.number p slot) → both_told later s.number p moved c ≡ both_told log s.number p moved c
-  both-same p moved c torn found = one CoDriver (slot_told later s.number p moved Driver c) ∙ ap (λ (x : Course). slot_told log s.number p moved CoDriver x) (one Driver c)
-    where
-      one : (slot : Slot) (x : Course) → slot_told later s.number p moved slot x ≡ slot_told log s.number p moved slot x
-      one slot x = λ i.
-          cond (torn slot i) (record (leaves slot (record x { found = x.found ++ findings (cond (moved.enters slot) (found slot i) []) (visits p slot x.slots) })) { torn = x.torn ++ (moved.leaving slot ++ visits p slot x.slots) })
-          (cond (list_any is_accepting (cond (moved.enters slot) (found slot i) [])) (record x { found = x.found ++ findings (cond (moved.enters slot) (found slot i) []) (visits p slot x.slots); slots = with_slot x.slots slot (option_map {T = Sitting} (λ y. record y { accepted = Some s.number }) (in_slot x.slots slot)) })
-          (record x { found = x.found ++ findings (cond (moved.enters slot) (found slot i) []) (visits p slot x.slots) }))
-
-  acted-same : (n m : ℕ) (a : Action) (c : Course) → TellSameTo log later s.number m → n < m → acted later s n a c ≡ acted log s n a c
-  acted-same n m a c t lt =
-      ap (λ (b : Bool). cond b (both_told later s.number (In (n + 1)) (moved_by n (refusal c.slots s.speed a) a c.slots) (answered n (refusal c.slots s.speed a) a c)) (record c { settled = c.settled || is_settling a })) (t.begun_later n lt)
-      ∙ both-same (In (n + 1)) (moved_by n (refusal c.slots s.speed a) a c.slots) (answered n (refusal c.slots s.speed a) a c) (λ slot. t.torn (n + 1) slot (omega (arith, lt))) (λ slot. t.found (n + 1) slot (omega (arith, lt)))
-      ∙ sym (ap (λ (b : Bool). cond b (both_told log s.number (In (n + 1)) (moved_by n (refusal c.slots s.speed a) a c.slots) (answered n (refusal c.slots s.speed a) a c)) (record c { settled = c.settled || is_settling a })) (t.begun n lt))
-
   all-same : (n m : ℕ) (xs : List Action) (c : Course) → TellSameTo log later s.number m → n + length xs ≤ m → all_acted later s n xs c ≡ all_acted log s n xs c
   all-same n m [] c t le = refl
   all-same n m (x ∷ xs) c t le =
-      ap (λ (d : Course). all_acted later s (n + 1) xs d) (acted-same n m x c t (omega (arith, le))) ∙ all-same (n + 1) m xs (acted log s n x c) t (omega (arith, le))
+      ap (λ (d : Course). all_acted later s (n + 1) xs d) (acted-to log later s n m x c t (omega (arith, le))) ∙ all-same (n + 1) m xs (acted log s n x c) t (omega (arith, le))
 
   pub behind-same : (was : Before) (front : List Action) → TellSameTo log later s.number (length front) → course_behind later was s front ≡ course_behind log was s front
   behind-same was front t =
-      ap (λ (d : Course). all_acted later s 0 front d) (both-same (In 0) (unmoved (not was.running)) (fresh (not was.running) was.slots) (λ slot. t.torn 0 slot (omega arith)) (λ slot. t.found 0 slot (omega arith)))
+      ap (λ (d : Course). all_acted later s 0 front d) (both-to log later s (In 0) (unmoved (not was.running)) (fresh (not was.running) was.slots) (λ slot. t.torn 0 slot (omega arith)) (λ slot. t.found 0 slot (omega arith)))
       ∙ all-same 0 (length front) front (course_powered log was s) t (omega arith)

@@ -28,13 +28,14 @@ use Rattle.run_minutes.specs.run_promise.Origin.{Origin}
 use Rattle.run_minutes.specs.run_promise.Beside.{HaveLeftMore}
 use Rattle.run_note_record.specs.Uses.{notes_in, noted_next, notes_now, uses_in}
 use Rattle.run_note_record.proofs.Noted.{second-notes}
-use Rattle.run_note_record.proofs.Exact.{fewer-none, next-notes, idle-notes, dark-notes}
+use Rattle.run_note_record.proofs.Exact.{next-notes, idle-notes, dark-notes}
 use Rattle.run_note_record.specs.RingsSoFar.{GoesBehind}
 use Rattle.run_note_record.proofs.SoFar.{failed-more}
 use Rattle.run_acts.specs.OnCards.{MetSecond, as_accepted, accepted_in, gaps_on, met_behind, met_seconds, met_next}
 use Rattle.run_acts.specs.RunCards.{vehicle_in, CardShown, CardsBehind, seen_behind, gap_behind, met_so, CardsIn, CardsWaking, StillShow}
 use Rattle.run_acts.proofs.CardSeconds.{met-more}
 use Rattle.run_acts.proofs.CardCourse.{Finding, findings, IsQuiet, quiet-same, quiet-then, both-quiet, behind-same, cut-quiet, acted-append, powered-quiet, powered-as, sitting_at}
+use Rattle.run_acts.proofs.AllStay.{stood-self, known-fewer}
 use Rattle.run_acts.proofs.CardShown.{FindsStill, KeepsFailed, Follows, goes-on, card-next}
 use Rattle.run_acts.proofs.CardUses.{FoundTo, none-sits, uses-to}
 use Rattle.run_acts.proofs.CardSecond.{is_now, any-more, count-more, standing-is}
@@ -64,9 +65,9 @@ module _ (o : Origin) (done : List TraceSecond) (s : TraceSecond) (log : RunLog)
   was = (went log done).before
 
   -- no log tells of a find in it yet, so it finds no use
-  begins-still : has_power (went log done).before s ≡ true → FoundTo log s.number 0 → notes_to log (went log done).before s [] ≡ [] → (c : Card) → FindsStill log log (uses_in o c (notes_in log done)) (uses_in o c (notes_now log done log s))
-  begins-still power told none c failed = (
-    failed,
+  begins-still : has_power (went log done).before s ≡ true → FoundTo log s.number 0 → notes_to log (went log done).before s [] ≡ [] → (c : Card) → FindsStill o c log log d d (uses_in o c (notes_in log done)) (uses_in o c (notes_now log done log s))
+  begins-still power told none c whose in_ known = (
+    known,
     uses-to o log done s power c log [] s.actions refl told ∙ ap (λ (l : List Note). uses_in o c (notes_in log done ++ l)) none ∙ ap (uses_in o c) (append-nil (notes_in log done)),
   )
 
@@ -154,13 +155,13 @@ module _ (o : Origin) (done : List TraceSecond) (s : TraceSecond) (began later :
   ended-notes = second-notes began later done s l.behind.same ∙ ap (λ (w : Went). notes_in began done ++ noted_in later (done_by later w.before s)) l.behind.went_is
 
   -- behind these actions, which are all that were carried out
-  pub ends-shown : (front : List Action) (log : RunLog) (d e : Devices) → CardsIn o done s began front log d → ((c : Card) → FindsStill log later (uses_in o c (notes_now began done log s)) (uses_in o c (notes_now began done later s))) → KeepsFailed log later
+  pub ends-shown : (front : List Action) (log : RunLog) (d e : Devices) → CardsIn o done s began front log d → ((c : Card) → FindsStill o c log later d e (uses_in o c (notes_now began done log s)) (uses_in o c (notes_now began done later s))) → KeepsFailed log later
       → IsQuiet (course_behind log (went began done).before s front) (lit_course later s (not (went began done).before.running) (went began done).before.slots) → HaveLeftMore o d e → StillShow o d e → CardsBehind o (done ++ s ∷ []) later e
   ends-shown front log d e h finds keeps q left still c valid =
       subst (λ (ms : List MetSecond). CardShown o c later ms (uses_in o c (notes_in later (done ++ s ∷ []))) e) (sym met-is)
       (goes-on o c log later (met_seconds began done) (met_so began done s front log (gap_behind began done s front log)) (met_next later done s)
       (uses_in o c (notes_now began done log s)) (uses_in o c (notes_in later (done ++ s ∷ []))) d e
-      (h c valid) (λ none. let told = finds c none in (told.0, ap (uses_in o c) ended-notes ∙ told.1)) keeps follows accepted (ap (gaps_on c (vehicle_in o)) gap) (left.card c) (still c valid))
+      (h c valid) (λ whose in_ known. let told = finds c whose in_ known in (told.0, ap (uses_in o c) ended-notes ∙ told.1)) keeps follows accepted (ap (gaps_on c (vehicle_in o)) gap) (left.card c) (still c valid))
     where
       k : Course
       k = course_behind log (went began done).before s front
@@ -246,8 +247,8 @@ pub plain-second : (o : Origin) (done : List TraceSecond) (s : TraceSecond) (log
 plain-second o done s log later d l plain h c valid =
     subst (λ (ms : List MetSecond). CardShown o c later ms (uses_in o c (notes_in later (done ++ s ∷ []))) d) (sym met)
     (card-next o c log later (met_seconds log done) (met_next later done s) (uses_in o c (notes_in log done)) (uses_in o c (notes_in later (done ++ s ∷ []))) d (h c valid)
-    (λ none. (
-      fewer-none log later l.more l.breaks none,
+    (λ whose in_ known. (
+      known-fewer whose o log later l.more d d l.breaks (stood-self o d) known,
       ap (uses_in o c) (second-notes log later done s l.behind.same ∙ ap (λ (ns : List Note). notes_in log done ++ ns) (plain-notes later done s plain) ∙ append-nil (notes_in log done)),
     ))
     (failed-more log later (l.more, l.breaks))
@@ -269,6 +270,6 @@ plain-same o done s log d plain h c valid =
     let is = plain-next log done s plain in
     subst (λ (ms : List MetSecond). CardShown o c log ms (uses_in o c (notes_in log (done ++ s ∷ []))) d) (sym (met-more log done s))
     (card-next o c log log (met_seconds log done) (met_next log done s) (uses_in o c (notes_in log done)) (uses_in o c (notes_in log (done ++ s ∷ []))) d (h c valid)
-    (λ none. (none, ap (uses_in o c) (next-notes log done s ∙ ap (λ (ns : List Note). notes_in log done ++ ns) (plain-notes log done s plain) ∙ append-nil (notes_in log done))))
+    (λ whose in_ known. (known, ap (uses_in o c) (next-notes log done s ∙ ap (λ (ns : List Note). notes_in log done ++ ns) (plain-notes log done s plain) ∙ append-nil (notes_in log done))))
     (λ u is. is)
     (plain-found c (seen_next log done s) is.0) (ap (gaps_on c (vehicle_in o)) (gap-off log (seen_spans (seen_of log done)) (seen_next log done s) is.1)))

@@ -152,7 +152,7 @@ movings-append c own speed us vs = by (nat_lt 0 speed) us
 -- THE SECOND GOES ON, and this is found of the card
 pub judged-on : (o : Origin) (c : Card) (log later : RunLog) (front : List MetSecond) (m n : MetSecond) (was found : List CurrentUse) (d e : Devices) → CardShown o c log (front ++ m ∷ []) was d → KeepsFailed log later → Follows c m.seen n.seen
     → (us : List ℕ) (times : ℕ) → accepted_in c n.seen ≡ accepted_in c m.seen ++ us → torn_times c m.seen + times ≤ torn_times c n.seen → gaps_on c (vehicle_in o) n.gap ≡ gaps_on c (vehicle_in o) m.gap → ((z : List ℕ) → images_in o d c z → images_in o e c z)
-    → (more : List CurrentUse) → FindsUses log later was more found → AreUses (images_in o e c) more us
+    → (more : List CurrentUse) → FindsUses o c log later d e was more found → AreUses (images_in o e c) more us
     → ComesTo (images_in o e c) (sizes_in o c) (λ kind. is_sure_in c kind later n.seen) (judging c (vehicle_in o) (number_of n.seen) n.seen.told.second.speed times us more) (card_of d c) (card_of e c)
     → CardShown o c later (front ++ n ∷ []) found e
 judged-on o c log later front m n was found d e h keeps f us times accepted often gap left more finds are comes =
@@ -183,7 +183,7 @@ module _ (o : Origin) (done : List TraceSecond) (s : TraceSecond) (began : RunLo
   spans = seen_spans (seen_of began done)
 
   -- AN ACTION of which nothing is found, or lines alone
-  pub quiet-shown : (front back : List Action) (log later : RunLog) (d e : Devices) → CardsIn o done s began front log d → ((c : Card) → FindsStill log later (uses_in o c (notes_now began done log s)) (uses_in o c (notes_now began done later s))) → KeepsFailed log later → IsQuiet (course_behind log (went began done).before s front) (course_behind later (went began done).before s back)
+  pub quiet-shown : (front back : List Action) (log later : RunLog) (d e : Devices) → CardsIn o done s began front log d → ((c : Card) → FindsStill o c log later d e (uses_in o c (notes_now began done log s)) (uses_in o c (notes_now began done later s))) → KeepsFailed log later → IsQuiet (course_behind log (went began done).before s front) (course_behind later (went began done).before s back)
       → HaveLeftMore o d e → StillShow o d e → CardsIn o done s began back later e
   quiet-shown front back log later d e h finds keeps q left still c valid =
       goes-on o c log later (met_seconds began done) (met_so began done s front log (gap_behind began done s front log)) (met_so began done s back later (gap_behind began done s back later))
@@ -204,10 +204,10 @@ module _ (o : Origin) (done : List TraceSecond) (s : TraceSecond) (began : RunLo
   pub put-shown : (front : List Action) (slot : Slot) (card : Card) (log later : RunLog) (d e : Devices) → CardsIn o done s began front log d → KeepsFailed log later → TellSameTo log later s.number (length front) → begins (cut_in later s.number) (length front) ≡ true
       → refusal (course_behind later (went began done).before s front).slots s.speed (Insert slot card) ≡ None → HaveLeftMore o d e
       → ((c : Card) → IsOwnValid (card_image o.recording c) → same_card card c ≡ false → StillShows (sizes_in o c) (card_of d c) (card_of e c))
-      → ((c : Card) → same_card card c ≡ false → FindsStill log later (uses_in o c (notes_now began done log s)) (uses_in o c (notes_now began done later s)))
+      → ((c : Card) → same_card card c ≡ false → FindsStill o c log later d e (uses_in o c (notes_now began done log s)) (uses_in o c (notes_now began done later s)))
       → ((c : Card) → IsOwnValid (card_image o.recording c) → same_card card c ≡ true → enters c (seen_behind began done s (front ++ Insert slot card ∷ []) later) ≡ true
       → torn_times c (seen_behind began done s front log) ≤ torn_times c (seen_behind began done s (front ++ Insert slot card ∷ []) later) →
-      (more : List CurrentUse) × FindsUses log later (uses_in o c (notes_now began done log s)) more (uses_in o c (notes_now began done later s))
+      (more : List CurrentUse) × FindsUses o c log later d e (uses_in o c (notes_now began done log s)) more (uses_in o c (notes_now began done later s))
       × AreUses (images_in o e c) more (accepts s.number (found_in later s.number (In (length front + 1)) slot))
       × (times : ℕ) × (torn_times c (seen_behind began done s front log) + times ≤ torn_times c (seen_behind began done s (front ++ Insert slot card ∷ []) later))
       × ComesTo (images_in o e c) (sizes_in o c) (λ kind. is_sure_in c kind later (seen_behind began done s (front ++ Insert slot card ∷ []) later))

@@ -14,22 +14,22 @@ use Rattle.device_calls.specs.safety_model.Safe.{Devices, card_of}
 use Rattle.run_insertion.specs.CardEvents.{events_in}
 use Rattle.run_note_record.specs.Evented.{images_in}
 use Rattle.run_minutes.specs.run_promise.Origin.{Origin}
-use Rattle.run_minutes.specs.run_promise.Whole.{NothingFailed}
 use Rattle.run_acts.specs.OnCards.{MetSecond, Bringing, unclosed_by, events_by, accepted_in, accepted_on, attempts_in, torn_times, moving_at, moved_in, gaps_on, enters, falls, may_note, is_sure_in, uses_past, met_behind, met_accepted, bringing, IsBrought, AreBrought, ComesTo, StillShows, AreUses}
 use Rattle.run_acts.specs.RunCards.{vehicle_in, sizes_in, CardShown}
+use Rattle.run_acts.specs.Stays.{Whose, covers, AreKnown as StaysKnown}
 use Rattle.run_acts.proofs.OnCards.{uses-append, uses-still, uses-long, uses-past, past-longer, unclosed-append, unclosed-none, events-none}
 use Rattle.run_acts.proofs.CardBrings.{AreBoth, AreKnown, known-of, brought-nothing, brought-both}
 use Rattle.run_acts.proofs.CardSeconds.{IsSureOfLess, GapsGo, accepted-met, accepted-one, brought-one, brought-split, brought-longer, brought-later, brought-told, brought-images}
 
--- ---- the uses that were found, where no call failed: these more, or none
-abbrev pub FindsUses : (log later : RunLog) → (was more found : List CurrentUse) → Type 0
-FindsUses log later was more found = NothingFailed later → NothingFailed log × (found ≡ was ++ more)
+-- ---- the uses that were found on a card whose stays are known, as they were before: these more, or none
+abbrev pub FindsUses : Origin → Card → (log later : RunLog) → (d e : Devices) → (was more found : List CurrentUse) → Type 0
+FindsUses o c log later d e was more found = (whose : Whose) → covers whose c ≡ true → StaysKnown whose o later e → StaysKnown whose o log d × (found ≡ was ++ more)
 
-abbrev pub FindsStill : (log later : RunLog) → (was found : List CurrentUse) → Type 0
-FindsStill log later was found = NothingFailed later → NothingFailed log × (found ≡ was)
+abbrev pub FindsStill : Origin → Card → (log later : RunLog) → (d e : Devices) → (was found : List CurrentUse) → Type 0
+FindsStill o c log later d e was found = (whose : Whose) → covers whose c ≡ true → StaysKnown whose o later e → StaysKnown whose o log d × (found ≡ was)
 
-pub still-finds : (log later : RunLog) (was found : List CurrentUse) → FindsStill log later was found → FindsUses log later was [] found
-still-finds log later was found h none = let g = h none in (g.0, g.1 ∙ sym (append-nil was))
+pub still-finds : (o : Origin) (c : Card) (log later : RunLog) (d e : Devices) (was found : List CurrentUse) → FindsStill o c log later d e was found → FindsUses o c log later d e was [] found
+still-finds o c log later d e was found h whose in_ known = let g = h whose in_ known in (g.0, g.1 ∙ sym (append-nil was))
 
 -- ---- what is sure goes on
 
@@ -100,12 +100,12 @@ module _ (o : Origin) (c : Card) (log later : RunLog) (front : List MetSecond) (
   abbrev held : ℕ → List ℕ → List (List ℕ)
   held kind x = events_in (sizes_in o c) kind x
 
-  pub card-goes : (us : List ℕ) (more : List CurrentUse) (b : Bringing) → CardShown o c log (front ++ m ∷ []) was d → FindsUses log later was more found → KeepsFailed log later → GoesOn c (vehicle_in o) m n us b → b.unclosed ≡ unclosed_by more us → ((x : List ℕ) → images_in o d c x → images_in o e c x) → AreUses (images_in o e c) more us
+  pub card-goes : (us : List ℕ) (more : List CurrentUse) (b : Bringing) → CardShown o c log (front ++ m ∷ []) was d → FindsUses o c log later d e was more found → KeepsFailed log later → GoesOn c (vehicle_in o) m n us b → b.unclosed ≡ unclosed_by more us → ((x : List ℕ) → images_in o d c x → images_in o e c x) → AreUses (images_in o e c) more us
       → ComesTo (images_in o e c) (sizes_in o c) (λ kind. is_sure_in c kind later n.seen) b (card_of d c) (card_of e c) → CardShown o c later (front ++ n ∷ []) found e
   card-goes us more b h finds keeps g unclosed left are comes = record {
     uses = h.uses ++ more;
     are = subst (AreUses (images_in o e c) (h.uses ++ more)) (sym now) (uses-append (images_in o e c) h.uses more (met_accepted c (front ++ m ∷ [])) us all are);
-    exact = λ none. let told = finds none in ap (λ (l : List CurrentUse). l ++ more) (h.exact told.0) ∙ sym told.1;
+    exact = λ whose in_ known. let told = finds whose in_ known in ap (λ (l : List CurrentUse). l ++ more) (h.exact whose in_ told.0) ∙ sym told.1;
     shows = λ y at kind. let before = comes y at in shown kind before.0 y (h.shows before.0 before.1 kind) (before.2 kind);
   }
     where
@@ -154,9 +154,9 @@ module _ (o : Origin) (c : Card) (log later : RunLog) (front : List MetSecond) (
           (brought-both (images_in o e c) kind (is_sure_in c kind log m.seen) (is_sure_in c kind later n.seen) (sure-in c kind log later m.seen n.seen keeps g.follows) first b whole sum known split.0 (held kind x) (held kind y) split.2 step)
 
   -- it is not accepted more, and nothing is noted of it
-  pub goes-on : CardShown o c log (front ++ m ∷ []) was d → FindsStill log later was found → KeepsFailed log later → Follows c m.seen n.seen → accepted_in c n.seen ≡ accepted_in c m.seen → gaps_on c (vehicle_in o) n.gap ≡ gaps_on c (vehicle_in o) m.gap
+  pub goes-on : CardShown o c log (front ++ m ∷ []) was d → FindsStill o c log later d e was found → KeepsFailed log later → Follows c m.seen n.seen → accepted_in c n.seen ≡ accepted_in c m.seen → gaps_on c (vehicle_in o) n.gap ≡ gaps_on c (vehicle_in o) m.gap
       → ((x : List ℕ) → images_in o d c x → images_in o e c x) → StillShows (sizes_in o c) (card_of d c) (card_of e c) → CardShown o c later (front ++ n ∷ []) found e
-  goes-on h finds keeps f accepted gap left still = card-goes [] [] (idle_in n.seen) h (still-finds log later was found finds) keeps goes refl left tt comes
+  goes-on h finds keeps f accepted gap left still = card-goes [] [] (idle_in n.seen) h (still-finds o c log later d e was found finds) keeps goes refl left tt comes
     where
       goes : GoesOn c (vehicle_in o) m n [] (idle_in n.seen)
       goes = record {
@@ -182,12 +182,12 @@ plain-moved c own x none = by (nat_lt 0 x.told.second.speed)
     by true = ap (map (moving_at c own)) none
     by false = refl
 
-pub card-next : (o : Origin) (c : Card) (log later : RunLog) (ms : List MetSecond) (n : MetSecond) (was found : List CurrentUse) (d : Devices) → CardShown o c log ms was d → FindsStill log later was found → KeepsFailed log later → accepted_in c n.seen ≡ [] → gaps_on c (vehicle_in o) n.gap ≡ []
+pub card-next : (o : Origin) (c : Card) (log later : RunLog) (ms : List MetSecond) (n : MetSecond) (was found : List CurrentUse) (d : Devices) → CardShown o c log ms was d → FindsStill o c log later d d was found → KeepsFailed log later → accepted_in c n.seen ≡ [] → gaps_on c (vehicle_in o) n.gap ≡ []
     → CardShown o c later (ms ++ n ∷ []) found d
 card-next o c log later ms n was found d h finds keeps none gap = record {
   uses = h.uses;
   are = subst (AreUses (images_in o d c) h.uses) (sym (accepted-one c ms n ∙ ap (λ (us : List ℕ). met_accepted c ms ++ us) none ∙ append-nil (met_accepted c ms))) h.are;
-  exact = λ fine. let told = finds fine in h.exact told.0 ∙ sym told.1;
+  exact = λ whose in_ known. let told = finds whose in_ known in h.exact whose in_ told.0 ∙ sym told.1;
   shows = λ y at kind.
       let start : List (List ℕ) = events_in (sizes_in o c) kind (card_image o.recording c) in
       let now : List (List ℕ) = events_in (sizes_in o c) kind y in
@@ -202,12 +202,12 @@ card-next o c log later ms n was found d h finds keeps none gap = record {
         ∙ ap (events_by kind [] []) (unclosed-none (uses_past (met_accepted c ms) h.uses)) ∙ events-none kind
 
 -- ---- A LOG TELLS MORE of the interruptions
-pub card-told : (o : Origin) (c : Card) (log later : RunLog) (xs : List Seen) (was found : List CurrentUse) (d : Devices) → CardShown o c log (met_behind log [] xs) was d → FindsStill log later was found → KeepsFailed log later → GapsGo c (vehicle_in o) log later [] xs
+pub card-told : (o : Origin) (c : Card) (log later : RunLog) (xs : List Seen) (was found : List CurrentUse) (d : Devices) → CardShown o c log (met_behind log [] xs) was d → FindsStill o c log later d d was found → KeepsFailed log later → GapsGo c (vehicle_in o) log later [] xs
     → CardShown o c later (met_behind later [] xs) found d
 card-told o c log later xs was found d h finds keeps go = record {
   uses = h.uses;
   are = subst (AreUses (images_in o d c) h.uses) (accepted-met c log [] xs ∙ sym (accepted-met c later [] xs)) h.are;
-  exact = λ fine. let told = finds fine in h.exact told.0 ∙ sym told.1;
+  exact = λ whose in_ known. let told = finds whose in_ known in h.exact whose in_ told.0 ∙ sym told.1;
   shows = λ y at kind. brought-told c (vehicle_in o) (images_in o d c) kind log later (less-sure c log later keeps kind) [] xs [] h.uses (events_in (sizes_in o c) kind (card_image o.recording c)) (events_in (sizes_in o c) kind y)
       (subst (AreUses (images_in o d c) h.uses) (accepted-met c log [] xs ∙ sym (append-nil (accepted_on c xs))) h.are) go (h.shows y at kind);
 }

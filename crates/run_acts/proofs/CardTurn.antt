@@ -2,6 +2,7 @@
 use Rattle.std.proofs.Common.{◌≡◌, ◌∙◌, ◌⊎◌, inl, inr, ⊎_elim, ℕ, zero, suc, ◌+◌, ◌-◌, ◌/◌, ◌%◌, ◌<◌, ◌≤◌, Bool, true, false, Option, Some, None, List, [], ◌∷◌, ◌++◌, length, refl, sym, ap, subst, arith, append_assoc, append-nil}
 use Rattle.std.specs.List.{AllByRecursion}
 use Rattle.std.proofs.lemmas.Bool.{lt-ltb}
+use Rattle.trace_model.specs.declared.Card.{Card}
 use Rattle.trace_model.specs.Trace.{TraceSecond, driven}
 use Rattle.tach_media.specs.Medium.{State}
 use Rattle.card_files.specs.card_layout.declared.command.CardState.{CardState}
@@ -44,9 +45,11 @@ use Rattle.run_acts.proofs.RingedLines.{AreTears, TellsBeside, TellsTears, tears
 use Rattle.run_acts.proofs.RingedSecond.{cut-is, cut-torn, cut-found, here-append, tears-here_, goes-by, goes-behind, power-here, more-left}
 use Rattle.run_acts.proofs.CardEnds.{IsLater, second-begins, ends-shown, whole-quiet, plain-same}
 use Rattle.run_acts.proofs.CardStays.{timed-still}
-use Rattle.run_minutes.specs.run_promise.Whole.{NothingFailed}
-use Rattle.run_note_record.proofs.Exact.{no-cut}
-use Rattle.run_acts.proofs.CardUses.{FoundTo, tears-none, lines-still, untold-to}
+use Rattle.run_acts.proofs.AllStay.{StoodBefore}
+use Rattle.run_acts.proofs.KeptSeats.{floor-in, stood-kept}
+use Rattle.run_note_record.specs.Uses.{notes_now, uses_in}
+use Rattle.run_acts.proofs.CardShown.{FindsStill}
+use Rattle.run_acts.proofs.CardUses.{FoundTo, lines-still, cut-still, untold-to}
 
 -- lines of a second more
 pub lines-later : (o : Origin) (done : List TraceSecond) (s : TraceSecond) (at : Phase) (waits : List Visit) (speed : Option ℕ) (rest : List Minute) (v : Values) (d : Devices) (w : RecordInSecond o done s at waits speed rest v d) (lines : List Break) (later : RunLog) → later ≡ record v.log { breaks = v.log.breaks ++ lines } →
@@ -136,7 +139,7 @@ module _ {U A0 B0 : State} {chip_a chip_b : CardState} (n speed begun : ℕ) (ol
 
   -- THE LAST SECOND, once its actions are noted
   module _ (o : Origin) (origin : IsOrigin o) (D : List TraceSecond) (L : TraceSecond) (rest : List Minute) (next_ gone : ℕ) (w : RecordInSecond o D L Keeping [] (Some L.speed) rest (record (values_of old before) { minutes = T.fed.minutes; next = next_; begun = gone }) d)
-      (number : L.number ≡ old.next + n - 1) (acts : length L.actions ≡ begun) (values : List ℕ) (timed : AreTimedOn o.found values d e) (r : CardsIn o D L w.b.run.log L.actions (log_of before) d) where
+      (number : L.number ≡ old.next + n - 1) (acts : length L.actions ≡ begun) (values : List ℕ) (timed : AreTimedOn o.found values d e) (r : CardsIn o D L w.b.run.log L.actions (log_of before) d) (to : FoundTo (log_of before) L.number (length L.actions)) where
     abbrev log : RunLog
     log = log_of before
 
@@ -167,12 +170,16 @@ module _ {U A0 B0 : State} {chip_a chip_b : CardState} (n speed begun : ℕ) (ol
     left : HaveLeftMore o d e
     left = more-left o d e (w.powered.lit.unit.unit_holds [] []).later w.there.clocks (record { unit = h.4.keeps; card_a = h.4.card_a.keeps; card_b = h.4.card_b.keeps })
 
+    -- no card's count has fallen
+    stood : StoodBefore o d e
+    stood = stood-kept o T.failed old.keeper.cabin.cards T.between.keeper.cabin.cards d e h.4 (floor-in o D L Keeping [] (Some L.speed) rest v d w)
+
     -- by a log behind it
-    ended : (later : RunLog) (lines : List Break) → later ≡ record log { breaks = log.breaks ++ lines } → (NothingFailed later → lines ≡ []) → AllByRecursion (λ (b : Break). second_of b ≡ L.number) lines → TellSameTo log later L.number (length L.actions) → CardsBehind o (D ++ L ∷ []) later e
-    ended later lines is quiet_ here same =
+    ended : (later : RunLog) (lines : List Break) → later ≡ record log { breaks = log.breaks ++ lines } → ((c : Card) → FindsStill o c log later d e (uses_in o c (notes_now w.b.run.log D log L)) (uses_in o c (notes_now w.b.run.log D later L))) → AllByRecursion (λ (b : Break). second_of b ≡ L.number) lines → TellSameTo log later L.number (length L.actions) → CardsBehind o (D ++ L ∷ []) later e
+    ended later lines is finds here same =
         let l = lines-later o D L Keeping [] (Some L.speed) rest v d w lines later is here (omega (arith, number, low, some)) in
         let power = power-here o D L Keeping [] (Some L.speed) rest v d w in
-        ends-shown o D L w.b.run.log later l power L.actions log d e r (lines-still o w.b.run.log D L log later lines is quiet_) (failed-more log later (lines, ap (λ (x : RunLog). x.breaks) is)) (whole-quiet o D L w.b.run.log later l power log same) left (timed-still o origin values d e timed)
+        ends-shown o D L w.b.run.log later l power L.actions log d e r finds (failed-more log later (lines, ap (λ (x : RunLog). x.breaks) is)) (whole-quiet o D L w.b.run.log later l power log same) left (timed-still o origin values d e timed)
 
     same-kept : TellSameTo log kept_log L.number (length L.actions)
     same-kept = record {
@@ -202,12 +209,13 @@ module _ {U A0 B0 : State} {chip_a chip_b : CardState} (n speed begun : ℕ) (ol
         by false fine =
             let after_is : after ≡ T.told = T.outcome ∙ ap (λ (b : Bool). cut_breaks b (old.next + n - 1) begun T.told) fine in
             subst (λ (out : Outcome). CardsBehind o (D ++ L ∷ []) (log_of out) e) (sym after_is) (ended kept_log told-tears.lines told-is
-            (λ failed. tears-none (record { second = L.number; begun = length L.actions; late = true }) told-tears.lines log tears (subst NothingFailed told-is failed)) lines-here same-kept)
+            (lines-still o w.b.run.log D L (power-here o D L Keeping [] (Some L.speed) rest v d w) log kept_log L.actions [] (sym (append-nil L.actions)) same-kept to (λ k x lt. told.found (In k) x ∙ to k x lt) told-tears.lines (ap (λ (l : RunLog). l.breaks) told-is) d e stood) lines-here same-kept)
         by true broke =
             let after_is : after ≡ cut_breaks true (old.next + n - 1) begun T.told = T.outcome ∙ ap (λ (b : Bool). cut_breaks b (old.next + n - 1) begun T.told) broke in
             let log_is : and_break kept_log (cut_at L.number true (length L.actions)) ≡ log_of after = (λ i. and_break kept_log (cut_at (number i) true (acts i))) ∙ sym (ap log_of after_is) in
             subst (λ (l : RunLog). CardsBehind o (D ++ L ∷ []) l e) log_is
-            (ended (and_break kept_log (cut_at L.number true (length L.actions))) (told-tears.lines ++ cut_at L.number true (length L.actions) ∷ []) cut-lines (λ failed. no-cut kept_log L.number (length L.actions) failed) (here-append L.number told-tears.lines (cut_at L.number true (length L.actions) ∷ []) lines-here (refl, tt)) same-cut)
+            (ended (and_break kept_log (cut_at L.number true (length L.actions))) (told-tears.lines ++ cut_at L.number true (length L.actions) ∷ []) cut-lines
+            (λ c. cut-still o c kept_log log L.number (length L.actions) d e (uses_in o c (notes_now w.b.run.log D log L)) (uses_in o c (notes_now w.b.run.log D (and_break kept_log (cut_at L.number true (length L.actions))) L))) (here-append L.number told-tears.lines (cut_at L.number true (length L.actions) ∷ []) lines-here (refl, tt)) same-cut)
 
   -- ---- ONE SECOND, OR SEVERAL
   module _ (o : Origin) (done : List TraceSecond) (s : TraceSecond) (now : IsNow s speed old) (actions : length s.actions ≡ begun) (none : 0 < n - 1 → s.actions ≡ []) (r : RunWithin o done s (In (length s.actions)) [] [] old before d) (time : HaveTime e)
@@ -223,7 +231,7 @@ module _ {U A0 B0 : State} {chip_a chip_b : CardState} (n speed begun : ℕ) (ol
         let l = lines-later o done s (In (length s.actions)) [] None [] v d r.within [] log_ (ap (λ (bs : List Break). record log_ { breaks = bs }) (sym (append-nil log_.breaks))) tt (omega (arith, at_, low)) in
         let power = power-here o done s (In (length s.actions)) [] None [] v d r.within in
         let uncut = r.within.moment.up_to.uncut in
-        ends-shown o done s r.within.b.run.log log_ l power s.actions log_ d d cards (λ c failed. (failed, refl)) (λ u is. is)
+        ends-shown o done s r.within.b.run.log log_ l power s.actions log_ d d cards (λ c whose in_ known. (known, refl)) (λ u is. is)
         (whole-quiet o done s r.within.b.run.log log_ l power log_ (record { begun = λ k lt. ap (λ (q : Option ℕ). begins q k) uncut; begun_later = λ k lt. ap (λ (q : Option ℕ). begins q k) uncut; torn = λ k slot le. refl; found = λ k slot le. refl }))
         (left-itself o d) (stay-self o d)
 
@@ -275,13 +283,13 @@ module _ {U A0 B0 : State} {chip_a chip_b : CardState} (n speed begun : ℕ) (ol
           let log_is = (x.goes_on (omega arith)).0 in
           last-shown o r.origin D L T.decided (old.next + suc c) x.begun x.fed (number-of (suc c) is) (acts-of (suc c) is) (odometers_of old.keeper T.decided)
           (timed-last n speed begun old new before after d e g lit some minute small h o done s now actions none r time (suc c) is D L (old.next + suc c) x.begun (last-number (suc c) s) refl (acts-of (suc c) is) x.fed x.travelled_before x.from)
-          (subst (λ (l : RunLog). CardsIn o D L l [] log_ d) (sym log_is) begun_)
+          (subst (λ (l : RunLog). CardsIn o D L l [] log_ d) (sym log_is) begun_) untold_
 
     by-count : (c : ℕ) → c ≡ n - 1 → IsTurned o done s c T.decided T.fed.minutes (values_of old before) d r.within → CardsBehind o (before_last c s done ++ last_of c s ∷ []) (log_of after) e
     by-count zero is x =
         last-shown o r.origin done s T.decided (old.next + 0) x.begun x.fed (number-of zero is) (acts-of zero is) (odometers_of old.keeper T.decided)
         (timed-last n speed begun old new before after d e g lit some minute small h o done s now actions none r time zero is done s (old.next + 0) x.begun (last-number zero s) refl (acts-of zero is) x.fed x.travelled_before x.from)
-        (subst (λ (b : Beginning). CardsIn o done s b.run.log s.actions log_ d) (sym (x.first refl)) cards)
+        (subst (λ (b : Beginning). CardsIn o done s b.run.log s.actions log_ d) (sym (x.first refl)) cards) (λ k slot lt. r.within.moment.up_to.found (In k) slot lt)
     by-count (suc c) is x = several-shown c x is
 
     pub seconds-shown : CardsBehind o (done ++ s ∷ driven (n - 1) (s.number + 1) speed []) (log_of after) e

@@ -1,6 +1,5 @@
 -- The uses that are found on the cards of a second, by its log so far.
 use Rattle.std.proofs.Common.{◌≡◌, ◌∙◌, ℕ, ◌+◌, ◌<◌, ◌≤◌, Bool, true, false, cond, ◌||◌, Option, Some, None, List, [], ◌∷◌, ◌++◌, length, refl, sym, ap, subst, arith, append_assoc, append-nil, length-append}
-use Rattle.std.specs.Prelude.{filter}
 use Rattle.std.specs.List.{AllByRecursion}
 use Rattle.activity_codec.specs.declared.values.Slot.{Slot}
 use Rattle.activity_codec.specs.declared.values.Slot.TheVariants.{Driver, CoDriver}
@@ -17,21 +16,21 @@ use Rattle.log_model.specs.Course.{Course, Visit, Before, Moved, visits, answere
 use Rattle.unit_notes.specs.note_model.Done.{CarriedOut}
 use Rattle.unit_notes.specs.note_model.Noted.{Note, noted_by}
 use Rattle.device_calls.specs.safety_model.Recording.{card_image}
+use Rattle.device_calls.specs.safety_model.Safe.{Devices}
+use Rattle.device_calls.specs.run_unit_course.Lines.{cut_at}
+use Rattle.run_events.specs.run_course.Moments.{and_break}
 use Rattle.run_events.specs.run_rings.Notes.{accepted_in, noted_if, action_notes, notes_from, notes_to, TellSameTo, course_behind, accepts_by, sits_accepted}
 use Rattle.run_events.proofs.run_rings.Notes.{answered-found, action-notes, later-lines, second-noted}
 use Rattle.run_events.proofs.run_rings.Actions.{none-ahead, power-notes}
 use Rattle.run_minutes.specs.run_promise.Origin.{Origin, rule_of, start_at, first_of}
-use Rattle.run_minutes.specs.run_promise.Whole.{NothingFailed}
 use Rattle.run_events.specs.run_course.Followed.{Progress, BookFollowsRun}
 use Rattle.run_events.proofs.run_course.Reached.{nothing-told}
-use Rattle.run_minutes.specs.declared.keeper.Moment.{Moment}
-use Rattle.run_minutes.specs.Keeping.{tear_of}
 use Rattle.run_note_record.specs.Uses.{uses_from, insertions_on, insertions_at, notes_in, notes_now, vehicle_in, use_in, uses_in, use_now}
 use Rattle.run_note_record.proofs.Uses.{NotAccepted, uses-append, uses-quiet, accepted-insertions, accepts-other, card-is, card-turned}
-use Rattle.run_note_record.proofs.Exact.{failed_tear, back-none, by-quiet}
+use Rattle.run_note_record.proofs.Exact.{by-quiet}
 use Rattle.run_acts.proofs.CardCourse.{findings, no-verdicts, slot-found}
-use Rattle.run_acts.proofs.CardShown.{FindsStill}
-use Rattle.run_acts.proofs.RingedLines.{AreTears}
+use Rattle.run_acts.proofs.CardShown.{FindsUses, FindsStill}
+use Rattle.run_acts.proofs.AllStay.{StoodBefore, known-fewer, known-uncut, no-cut}
 
 -- ---- where a log tells of no find at a moment, an action accepts no card
 
@@ -165,20 +164,20 @@ module _ (o : Origin) (began : RunLog) (done : List TraceSecond) (s : TraceSecon
       ∙ sym ((power-notes log (went began done).before s).0 off))
       ∙ sym (uses-to c log [] s.actions refl to)
 
--- ---- lines of failed calls: where none failed there is none
+-- ---- lines that are told behind what was found so far, over calls: no use is found more
+pub lines-still : (o : Origin) (began : RunLog) (done : List TraceSecond) (s : TraceSecond) → has_power (went began done).before s ≡ true → (log later : RunLog) (front rest : List Action) → s.actions ≡ front ++ rest → TellSameTo log later s.number (length front) → FoundTo log s.number (length front) → FoundTo later s.number (length front) →
+    (lines : List Break) → later.breaks ≡ log.breaks ++ lines → (d e : Devices) → StoodBefore o d e → (c : Card) → FindsStill o c log later d e (uses_in o c (notes_now began done log s)) (uses_in o c (notes_now began done later s))
+lines-still o began done s power log later front rest are same to to_later lines more d e stood c whose in_ known = (
+  known-fewer whose o log later lines d e more stood known,
+  still-found o began done s power c log later front rest are same to to_later,
+)
 
-pub tears-none : (at : Moment) (lines : List Break) (log : RunLog) → AreTears at lines → NothingFailed (record log { breaks = log.breaks ++ lines }) → lines ≡ []
-tears-none at [] log h none = refl
-tears-none at (b ∷ lines) log h none =
-    let some : filter failed_tear (tear_of h.0.0 at ∷ lines) ≡ [] = subst (λ (x : Break). filter failed_tear (x ∷ lines) ≡ []) h.0.1 (back-none failed_tear log.breaks (b ∷ lines) none.1) in
-    absurd (cc)
+-- the unit failed: of no card anything is known then
+pub cut-unknown : (o : Origin) (c : Card) (log first : RunLog) (u begun : ℕ) (d e : Devices) (was more found : List CurrentUse) → FindsUses o c first (and_break log (cut_at u true begun)) d e was more found
+cut-unknown o c log first u begun d e was more found whose in_ known = no-cut log u begun (known-uncut whose o (and_break log (cut_at u true begun)) e known)
 
--- so the log is the same, and the uses are
-pub lines-still : (o : Origin) (began : RunLog) (done : List TraceSecond) (s : TraceSecond) (log later : RunLog) (lines : List Break) → later ≡ record log { breaks = log.breaks ++ lines } → (NothingFailed later → lines ≡ []) → (c : Card) →
-    FindsStill log later (uses_in o c (notes_now began done log s)) (uses_in o c (notes_now began done later s))
-lines-still o began done s log later lines is quiet c none =
-    let same : later ≡ log = is ∙ ap (λ (ls : List Break). record log { breaks = log.breaks ++ ls }) (quiet none) ∙ ap (λ (bs : List Break). record log { breaks = bs }) (append-nil log.breaks) in
-    (subst NothingFailed same none, ap (λ (l : RunLog). uses_in o c (notes_now began done l s)) same)
+pub cut-still : (o : Origin) (c : Card) (log first : RunLog) (u begun : ℕ) (d e : Devices) (was found : List CurrentUse) → FindsStill o c first (and_break log (cut_at u true begun)) d e was found
+cut-still o c log first u begun d e was found whose in_ known = no-cut log u begun (known-uncut whose o (and_break log (cut_at u true begun)) e known)
 
 -- a run has told of no find in a later second
 pub untold-to : (o : Origin) (done : List TraceSecond) (p : Progress) → BookFollowsRun (rule_of o) (start_at o) o.from (first_of o) done p → (u : ℕ) → p.next ≤ u → (n : ℕ) → FoundTo p.log u n

@@ -208,7 +208,7 @@ module _ (o : Origin) (done : List TraceSecond) (s : TraceSecond) (began log lat
       ∙ flat-append (λ (f : Finding). cond (same_card f.0.card c && is_accepting f.1) (s.number ∷ []) []) (course_powered log (went began done).before s).found fs
 
   -- NOTHING IS FOUND MORE
-  pub waking-passed : CardsWaking o done s began log d → (course_powered later (went began done).before s).found ≡ (course_powered log (went began done).before s).found → ((c : Card) → FindsStill log later (uses_in o c (notes_now began done log s)) (uses_in o c (notes_now began done later s))) → StillShow o d e → CardsWaking o done s began later e
+  pub waking-passed : CardsWaking o done s began log d → (course_powered later (went began done).before s).found ≡ (course_powered log (went began done).before s).found → ((c : Card) → FindsStill o c log later d e (uses_in o c (notes_now began done log s)) (uses_in o c (notes_now began done later s))) → StillShow o d e → CardsWaking o done s began later e
   waking-passed h found finds still c valid =
       goes-on o c log later (met_seconds began done) (met_so began done s [] log []) (met_so began done s [] later []) (before_them c) (behind_them c) d e (h c valid) (finds c) keeps (follows-powered log later (went began done).before s off torn c)
       (accepted-of c [] (found ∙ sym (append-nil (course_powered log (went began done).before s).found)) ∙ append-nil (accepted_in c (seen_behind began done s [] log))) refl (left.card c) (still c valid)
@@ -216,9 +216,9 @@ module _ (o : Origin) (done : List TraceSecond) (s : TraceSecond) (began log lat
   -- THE CARD OF A SLOT IS JUDGED ANEW
   pub waking-judged : CardsWaking o done s began log d → (slot : Slot) (q : Sitting) → in_slot (went began done).before.slots slot ≡ Some q → (verdicts : List Verdict) → IsFoundAnew log later s.number slot verdicts
       → ((c : Card) → IsOwnValid (card_image o.recording c) → same_card q.card c ≡ false → StillShows (sizes_in o c) (card_of d c) (card_of e c))
-      → ((c : Card) → same_card q.card c ≡ false → FindsStill log later (uses_in o c (notes_now began done log s)) (uses_in o c (notes_now began done later s)))
+      → ((c : Card) → same_card q.card c ≡ false → FindsStill o c log later d e (uses_in o c (notes_now began done log s)) (uses_in o c (notes_now began done later s)))
       → ((c : Card) → IsOwnValid (card_image o.recording c) → same_card q.card c ≡ true → enters c (seen_behind began done s [] later) ≡ true →
-      (more : List CurrentUse) × FindsUses log later (uses_in o c (notes_now began done log s)) more (uses_in o c (notes_now began done later s))
+      (more : List CurrentUse) × FindsUses o c log later d e (uses_in o c (notes_now began done log s)) more (uses_in o c (notes_now began done later s))
       × AreUses (images_in o e c) more (accepts s.number verdicts)
       × (times : ℕ) × (torn_times c (seen_behind began done s [] log) + times ≤ torn_times c (seen_behind began done s [] later))
       × ComesTo (images_in o e c) (sizes_in o c) (λ kind. is_sure_in c kind later (seen_behind began done s [] later)) (judging c (vehicle_in o) s.number s.speed times (accepts s.number verdicts) more) (card_of d c) (card_of e c))
@@ -250,13 +250,13 @@ module _ (o : Origin) (done : List TraceSecond) (s : TraceSecond) (began log lat
 
   -- THE INTERRUPTION IS NOTED
   pub gap-noted : CardsWaking o done s began log d → ((slot : Slot) → found_in later s.number (In 0) slot ≡ found_in log s.number (In 0) slot)
-      → ((c : Card) → FindsStill log later (uses_in o c (notes_now began done log s)) (uses_in o c (notes_now began done later s)))
+      → ((c : Card) → FindsStill o c log later d e (uses_in o c (notes_now began done log s)) (uses_in o c (notes_now began done later s)))
       → ((c : Card) → IsOwnValid (card_image o.recording c) →
       ComesTo (images_in o e c) (sizes_in o c) (λ kind. is_sure_in c kind later (seen_behind began done s [] later)) (interrupting s.number (gaps_on c (vehicle_in o) (gap_behind began done s [] later))) (card_of d c) (card_of e c))
       → CardsIn o done s began [] later e
   gap-noted h same finds notes c valid =
       card-goes o c log later (met_seconds began done) (met_so began done s [] log []) (met_so began done s [] later (gap_behind began done s [] later)) (before_them c) (behind_them c) d e [] []
-      (interrupting s.number (gaps_on c (vehicle_in o) (gap_behind began done s [] later))) (h c valid) (still-finds log later (before_them c) (behind_them c) (finds c)) keeps goes refl (left.card c) tt (notes c valid)
+      (interrupting s.number (gaps_on c (vehicle_in o) (gap_behind began done s [] later))) (h c valid) (still-finds o c log later d e (before_them c) (behind_them c) (finds c)) keeps goes refl (left.card c) tt (notes c valid)
     where
       accepted : accepted_in c (seen_behind began done s [] later) ≡ accepted_in c (seen_behind began done s [] log)
       accepted =

@@ -111,7 +111,7 @@ pub record NotesFind (e : Entering) (log : RunLog) (notes : RunLog → List Note
   pub lost : spells_of (other e.which) (notes (and_break (and_find log (find_of e verdict)) (tear_of e.slot e.at))) ≡ spells_of (other e.which) (notes log)
 
 -- its tear is one of the moment
-tear-at : (s : TraceSecond) (n : ℕ) (slot : Slot) (m : Moment) → n ≤ length s.actions → m ≡ record { second = s.number; begun = n; late = false } → IsTearAt s (In n) slot true (tear_of slot m)
+pub tear-at : (s : TraceSecond) (n : ℕ) (slot : Slot) (m : Moment) → n ≤ length s.actions → m ≡ record { second = s.number; begun = n; late = false } → IsTearAt s (In n) slot true (tear_of slot m)
 tear-at s n slot m few at = (n, false, ap (λ (x : Moment). tear_of slot x) at, refl, few, λ late. absurd (cc))
 
 -- so it is within a second

@@ -21,6 +21,7 @@ use Rattle.run_events.specs.run_course.Lines.{times_of}
 use Rattle.run_events.specs.run_course.Reached.{course_at}
 use Rattle.run_minutes.specs.run_promise.Origin.{Origin}
 use Rattle.run_minutes.specs.run_promise.Whole.{NothingFailed}
+use Rattle.run_minutes.specs.Later.{AreLater}
 use Rattle.run_record.specs.Recorded.{Values}
 use Rattle.run_record.specs.Within.{RecordInSecond}
 use Rattle.run_minutes.specs.declared.keeper.Keeper.{Keeper}
@@ -103,6 +104,14 @@ stood-kept o failed cards after d e devices floor = stood-grown o d e floor grow
     grows : (c : Card) → breakdowns_of d (device_of c) ≤ breakdowns_of e (device_of c)
     grows A = devices.card_a.more
     grows B = devices.card_b.more
+
+-- nor in any calls behind which the devices are later
+pub stood-later : (o : Origin) (done : List TraceSecond) (s : TraceSecond) (at : Phase) (waits : List Visit) (speed : Option ℕ) (rest : List Minute) (v : Values) (d : Devices) → RecordInSecond o done s at waits speed rest v d → (e : Devices) → AreLater d e → StoodBefore o d e
+stood-later o done s at waits speed rest v d w e later = stood-grown o d e (floor-in o done s at waits speed rest v d w) grows
+  where
+    grows : (c : Card) → breakdowns_of d (device_of c) ≤ breakdowns_of e (device_of c)
+    grows A = later.card_a.breakdowns
+    grows B = later.card_b.breakdowns
 
 -- ---- its session
 

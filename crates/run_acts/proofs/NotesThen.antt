@@ -682,13 +682,14 @@ module _ (o : Origin) (done : List TraceSecond) (s : TraceSecond) (n : ℕ) (wai
       (break-more log b s.number).cut ∙ ap (λ (q : Option ℕ). cond (is_some q) q (cut_of s.number b)) uncut ∙ ap (λ (c : Break). cut_of s.number c) here.2
 
   -- alone: nothing is noted
-  pub fallen-now : (c : Card) → spells_of c (notes_within w.b done s (In n) (and_break v.log b)) ≡ spells_of c (notes_within w.b done s (In n) v.log)
-  fallen-now c =
+  pub fallen-notes : notes_within w.b done s (In n) (and_break v.log b) ≡ notes_within w.b done s (In n) v.log ++ []
+  fallen-notes =
       let torn = tear-seen v.log was_ s (In n) slot true b here w.moment.up_to untorn in
-      ap (λ (l : List Note). spells_of c l)
-      (noted-then o done s n waits fewer v d w slot card next (and_break v.log b) (uncut-torn v.log w.moment.up_to.uncut) (λ k m x is le. (earlier-torn v.log k m x is le, (break-more v.log b s.number).found (In k) x)) []
+      noted-then o done s n waits fewer v d w slot card next (and_break v.log b) (uncut-torn v.log w.moment.up_to.uncut) (λ k m x is le. (earlier-torn v.log k m x is le, (break-more v.log b s.number).found (In k) x)) []
       (ap (λ (l : List Finding). accepted_in s.number (In n) l) torn.is.found ∙ sym (append-nil (accepted_in s.number (In n) (course_at v.log was_ s (In n)).found)))
-      ∙ append-nil (notes_within w.b done s (In n) v.log))
+
+  pub fallen-now : (c : Card) → spells_of c (notes_within w.b done s (In n) (and_break v.log b)) ≡ spells_of c (notes_within w.b done s (In n) v.log)
+  fallen-now c = ap (λ (l : List Note). spells_of c l) (fallen-notes ∙ append-nil (notes_within w.b done s (In n) v.log))
 
   -- behind what was found of it: of another card nothing is
   module _ (none : found_in v.log s.number (In n) slot ≡ [])
@@ -713,7 +714,7 @@ module _ (o : Origin) (done : List TraceSecond) (s : TraceSecond) (n : ℕ) (wai
         let torn = tear-seen with_find was_ s (In n) slot true b here found-up ((find-more v.log f s.number).torn (In n) slot ∙ untorn) in
         ap (λ (l : List Finding). accepted_in s.number (In n) l) torn.is.found ∙ noted-more o done s n waits fewer v d w slot card next none order f found_here slot_is
 
-    lost-notes : notes_within w.b done s (In n) (and_break with_find b) ≡ notes_within w.b done s (In n) v.log ++ accepts_by s.number slot card (f.verdict ∷ [])
+    pub lost-notes : notes_within w.b done s (In n) (and_break with_find b) ≡ notes_within w.b done s (In n) v.log ++ accepts_by s.number slot card (f.verdict ∷ [])
     lost-notes =
         noted-then o done s n waits fewer v d w slot card next (and_break with_find b) (uncut-torn with_find ((find-more v.log f s.number).cut ∙ w.moment.up_to.uncut))
         (λ k m x is le. (earlier-torn with_find k m x is le ∙ (find-more v.log f s.number).torn (In k) x, (break-more with_find b s.number).found (In k) x ∙ not-found o done s n waits fewer v d w slot card next none order f found_here slot_is k m x is le)) (accepts_by s.number slot card (f.verdict ∷ [])) noted-lost

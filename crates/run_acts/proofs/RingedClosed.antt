@@ -106,15 +106,18 @@ module _ (o : Origin) (done : List TraceSecond) (s : TraceSecond) (front rest : 
   noted-is : between.noted ≡ run.noted
   noted-is = ap (λ (r : Run). r.noted) kept.only
 
+  bare-false : false ≡ true → is_some (session_of run.keeper.cabin.cards c) ≡ true
+  bare-false none = absurd (let wrong : false ≡ true = none in cc)
+
   -- THE UNIT FAILED as the minutes were kept
   pub settling-ringed : CardsStay o (with_second spans run.keeper.odometer t) d e → LeavesRings d.unit e.unit → RingsGoOn true o done s w.within.b (front ++ a ∷ []) between (log_of told) spans t e
   settling-ringed stays leaves = record {
-    counted = counted-on o done s front rest slot are run before d e w told-tears.lines (log_of told) told-is told-tears.tears left spans t c false (stay-may o (with_second spans run.keeper.odometer t) (EndsIf false c) d e stays) rings seat low stands speed now allowed small between noted-is;
+    counted = counted-on o done s front rest slot are run before d e w told-tears.lines (log_of told) told-is told-tears.tears left spans t c false (stay-may o (with_second spans run.keeper.odometer t) (EndsIf false c) d e stays) bare-false rings seat low stands speed now allowed small between noted-is;
     lines = since-begun o done s (In (length front)) [] None [] (values_of run before) d w.within (log_of told) (told-tears.lines, ap (λ (l : RunLog). l.breaks) told-is);
     behind = (is-cut o done s front rest a are (values_of run before) d w.within told-tears.lines (log_of told) told-is told-tears.tears).behind;
     odometer = told-tears.odometer ∙ w.odometer;
     ringed = subst (λ (b : ℕ). RingedBehind o (done ++ s ∷ []) (with_cut (log_of told) s (front ++ a ∷ [])) (suc s.number) (spans_cut spans b (with_cut (log_of told) s (front ++ a ∷ [])) done s) nobody e) (sym told-tears.odometer)
-        (cut-leaves o done s front rest slot are run before d e w told-tears.lines (log_of told) told-is told-tears.tears left spans t c false (stay-may o (with_second spans run.keeper.odometer t) (EndsIf false c) d e stays) rings seat low stands speed now allowed small entries leaves);
+        (cut-leaves o done s front rest slot are run before d e w told-tears.lines (log_of told) told-is told-tears.tears left spans t c false (stay-may o (with_second spans run.keeper.odometer t) (EndsIf false c) d e stays) bare-false rings seat low stands speed now allowed small entries leaves);
   }
 
   -- THEY ARE KEPT, and its session is closed
@@ -124,6 +127,14 @@ module _ (o : Origin) (done : List TraceSecond) (s : TraceSecond) (front rest : 
 
     abbrev had_session : Bool
     had_session = is_some (session_of between.keeper.cabin.cards c)
+
+    -- one that has a session behind the minutes had one before
+    sat-then : is_some (session_of between.keeper.cabin.cards c) ≡ true → is_some (session_of run.keeper.cabin.cards c) ≡ true
+    sat-then some = by (session_of between.keeper.cabin.cards c) refl some
+      where
+        by : (q : Option Accepted) → session_of between.keeper.cabin.cards c ≡ q → is_some q ≡ true → is_some (session_of run.keeper.cabin.cards c) ≡ true
+        by None is sat = absurd (let wrong : false ≡ true = sat in cc)
+        by (Some x) is sat = let went = went-of run.keeper.cabin.cards between.keeper.cabin.cards c x told-tears.sessions is in ap (λ (q : Option Accepted). is_some q) went.is
 
     abbrev lines : List Break
     lines = told-tears.lines ++ closed_breaks closing slot at
@@ -176,12 +187,12 @@ module _ (o : Origin) (done : List TraceSecond) (s : TraceSecond) (front rest : 
         (shuts : closing ≡ Closed → Shuts o later (record { second = s.number; card = c }) e) where
       broken : (k : Closing) → closing ≡ k → (q : Option Accepted) → session_of between.keeper.cabin.cards c ≡ q → ClosesRings k q at true between d.unit e.unit →
           RingedBehind o (done ++ s ∷ []) (with_cut later s (front ++ a ∷ [])) (suc s.number) (spans_cut spans run.keeper.odometer (with_cut later s (front ++ a ∷ [])) done s) nobody e
-      broken Bare k q is h = cut-leaves o done s front rest slot are run before d e w lines later later-is tears left spans t c had_session places rings seat low stands speed now allowed small entries h
-      broken Fell k q is h = cut-leaves o done s front rest slot are run before d e w lines later later-is tears left spans t c had_session places rings seat low stands speed now allowed small entries h
+      broken Bare k q is h = cut-leaves o done s front rest slot are run before d e w lines later later-is tears left spans t c had_session places sat-then rings seat low stands speed now allowed small entries h
+      broken Fell k q is h = cut-leaves o done s front rest slot are run before d e w lines later later-is tears left spans t c had_session places sat-then rings seat low stands speed now allowed small entries h
       broken Closed k None is h = absurd h
       broken Closed k (Some x) is h =
           let went = went-of run.keeper.cabin.cards between.keeper.cabin.cards c x told-tears.sessions is in
-          cut-writes o done s front rest slot are run before d e w lines later later-is tears left spans t c had_session places rings seat low stands speed now allowed small went.was went.is
+          cut-writes o done s front rest slot are run before d e w lines later later-is tears left spans t c had_session places sat-then rings seat low stands speed now allowed small went.was went.is
           (subst (λ (q : Option Accepted). IfSome q (λ r. r.entry < insertion_ring.count)) went.is entries)
           (subst (λ (l : RunLog). is_torn_in l s.number (In (suc (length front))) slot ≡ false) (same-log (ap (λ (j : Closing). closed_breaks j slot at) k)) (untorn (ap (λ (q : Option Accepted). is_some q) went.is) (ap (λ (q : Option Accepted). is_some q) is)))
           (same-writes true x went (h (settled w.within.sp) stands_))
@@ -194,10 +205,10 @@ module _ (o : Origin) (done : List TraceSecond) (s : TraceSecond) (front rest : 
           bare-sat sat = let clash : false ≡ true = sym (ap (λ (q : Option Accepted). is_some q) none) ∙ sat in cc
 
           by : (q : Option Accepted) → session_of run.keeper.cabin.cards c ≡ q → RingsWithin o done s w.within.b.run.log (front ++ a ∷ []) new later spans t e
-          by None is = quiet-bare o done s front rest slot are run before d e w lines later later-is tears left spans t c had_session places rings seat low stands speed now allowed small new fewer new-odometer new-noted h (λ sat. absurd (bare-sat sat)) is
+          by None is = quiet-bare o done s front rest slot are run before d e w lines later later-is tears left spans t c had_session places sat-then rings seat low stands speed now allowed small new fewer new-odometer new-noted h (λ sat. absurd (bare-sat sat)) is
           by (Some x) is =
               let some : is_some (session_of run.keeper.cabin.cards c) ≡ true = ap (λ (q : Option Accepted). is_some q) is in
-              quiet-torn o done s front rest slot are run before d e w lines later later-is tears left spans t c had_session places rings seat low stands speed now allowed small new fewer new-odometer new-noted h (λ sat. absurd (bare-sat sat)) some
+              quiet-torn o done s front rest slot are run before d e w lines later later-is tears left spans t c had_session places sat-then rings seat low stands speed now allowed small new fewer new-odometer new-noted h (λ sat. absurd (bare-sat sat)) some
               (subst (λ (l : RunLog). is_torn_in l s.number (In (suc (length front))) slot ≡ true) (same-log (ap (λ (j : Closing). closed_breaks j slot at) k)) (torn some none))
 
       -- it fell in the closing: a call failed
@@ -213,13 +224,13 @@ module _ (o : Origin) (done : List TraceSecond) (s : TraceSecond) (front rest : 
       noted Fell k None is of h = absurd of
       noted Fell k (Some x) is of h =
           let went = went-of run.keeper.cabin.cards between.keeper.cabin.cards c x told-tears.sessions is in
-          quiet-torn o done s front rest slot are run before d e w lines later later-is tears left spans t c had_session places rings seat low stands speed now allowed small new fewer new-odometer new-noted h (λ sat. fell-told k) (ap (λ (q : Option Accepted). is_some q) went.is)
+          quiet-torn o done s front rest slot are run before d e w lines later later-is tears left spans t c had_session places sat-then rings seat low stands speed now allowed small new fewer new-odometer new-noted h (λ sat. fell-told k) (ap (λ (q : Option Accepted). is_some q) went.is)
           (tear-told slot at lines (log_of before) later later-is
           (subst (λ (j : Closing). TellsTear slot at (told-tears.lines ++ closed_breaks j slot at)) (sym k) (tear-behind slot at told-tears.lines (tear_of slot at ∷ []) ([], [], refl))))
       noted Closed k None is of h = absurd of
       noted Closed k (Some x) is of h =
           let went = went-of run.keeper.cabin.cards between.keeper.cabin.cards c x told-tears.sessions is in
-          withdrawn o done s front rest slot are run before d e w lines later later-is tears left spans t c had_session places rings seat low stands speed now allowed small went.was went.is
+          withdrawn o done s front rest slot are run before d e w lines later later-is tears left spans t c had_session places sat-then rings seat low stands speed now allowed small went.was went.is
           (subst (λ (q : Option Accepted). IfSome q (λ r. r.entry < insertion_ring.count)) went.is entries) new fewer gone new-odometer new-noted
           (subst (λ (l : RunLog). is_torn_in l s.number (In (suc (length front))) slot ≡ false) (same-log (ap (λ (j : Closing). closed_breaks j slot at) k)) (untorn (ap (λ (q : Option Accepted). is_some q) went.is) (ap (λ (q : Option Accepted). is_some q) is)))
           (same-writes false x went (h (settled w.within.sp) stands_)) (shuts k)
@@ -227,7 +238,7 @@ module _ (o : Origin) (done : List TraceSecond) (s : TraceSecond) (front rest : 
       pub closing-ringed : (fails : Bool) → ClosesRings closing (session_of between.keeper.cabin.cards c) at fails between d.unit e.unit → RingsGoOn fails o done s w.within.b (front ++ a ∷ []) new later spans t e
       closing-ringed false h = noted closing refl (session_of between.keeper.cabin.cards c) refl closed.is h
       closing-ringed true h = record {
-        counted = counted-on o done s front rest slot are run before d e w lines later later-is tears left spans t c had_session places rings seat low stands speed now allowed small new new-noted;
+        counted = counted-on o done s front rest slot are run before d e w lines later later-is tears left spans t c had_session places sat-then rings seat low stands speed now allowed small new new-noted;
         lines = since-begun o done s (In (length front)) [] None [] (values_of run before) d w.within later (lines, ap (λ (l : RunLog). l.breaks) later-is);
         behind = (is-cut o done s front rest a are (values_of run before) d w.within lines later later-is tears).behind;
         odometer = new-odometer ∙ w.odometer;

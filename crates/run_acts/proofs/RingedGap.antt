@@ -23,7 +23,8 @@ use Rattle.run_events.specs.run_rings.Spans.{with_second}
 use Rattle.run_events.proofs.run_rings.Actions.{power-notes}
 use Rattle.run_minutes.specs.run_promise.Origin.{Origin}
 use Rattle.run_minutes.specs.run_promise.Beside.{HaveLeftMore}
-use Rattle.run_note_record.specs.Ringed.{Ringed, LeavesRings, notes_in, since_in}
+use Rattle.run_note_record.specs.Moved.{moves_so_far}
+use Rattle.run_note_record.specs.Ringed.{Ringed, LeavesRings, notes_in, since_at}
 use Rattle.run_note_record.specs.RingsSoFar.{RingedBehind, RingedIn, AreFewer, HasMoreBreaks, GoesBehind, notes_so_far}
 use Rattle.run_note_record.specs.Steps.{nobody, spans_cut}
 use Rattle.run_note_record.specs.OnCards.{CardsStay}
@@ -152,14 +153,14 @@ module _ (o : Origin) (done : List TraceSecond) (s : TraceSecond) (old new : Run
   ringed-by y more found =
       let now : List SpanFrom = with_second spans old.keeper.odometer t in
       let notes : List Note = notes_so_far w.within.b.run.log done log s [] in
-      let stays : Ringed (since_in o w.within.b.run.log done s) y now notes (seats_of old) e = rings-stay d e (since_in o w.within.b.run.log done s) log y now now notes (seats_of old) rings.ringed.ringed leaves left (stay-may o now (λ c t. IsBrokenSince y c notes t) d e places) (goes-alike log y now now notes (failed-more log y more) (call-failed-more log y more) (λ u. refl) (λ k is. is)) in
+      let stays : Ringed (since_at o w.within.b.run.log done y s []) y now notes (seats_of old) e = rings-stay d e (since_at o w.within.b.run.log done y s []) log y now now notes (seats_of old) rings.ringed.ringed leaves left (stay-may o now (λ c t. IsBrokenSince (moves_so_far w.within.b.run.log done y s []) y c notes t) d e places) (goes-alike log y now now notes (failed-more log y more) (call-failed-more log y more) (λ u. refl) (λ k is. is)) in
       record {
         spans_are = rings.ringed.spans_are;
         before = rings.ringed.before;
         early = rings.ringed.early;
         second = rings.ringed.second;
-        ringed = subst (λ (l : List Note). Ringed (since_in o w.within.b.run.log done s) y now l (seats_of new) e) (ap (λ (l : List Note). notes_in w.within.b.run.log done ++ l) (sym (same-notes log y found)))
-            (fewer-sit e (since_in o w.within.b.run.log done s) y now notes (seats_of old) (seats_of new) stays fewer);
+        ringed = subst (λ (l : List Note). Ringed (since_at o w.within.b.run.log done y s []) y now l (seats_of new) e) (ap (λ (l : List Note). notes_in w.within.b.run.log done ++ l) (sym (same-notes log y found)))
+            (fewer-sit e (since_at o w.within.b.run.log done y s []) y now notes (seats_of old) (seats_of new) stays fewer);
       }
 
   abbrev log_cut : RunLog

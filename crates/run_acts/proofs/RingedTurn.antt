@@ -53,8 +53,6 @@ use Rattle.run_acts.specs.Recording.{log_of, values_of, IsOrigin, IsNow, RunWith
 use Rattle.run_acts.specs.RunRinged.{seats_of, IsLastFrom, RingsWithin, TurnedRings}
 use Rattle.run_acts.specs.Turning.{late_moment, told_of, cut_where, cut_breaks, IsLitTurn}
 use Rattle.run_note_record.specs.OnCards.{CardsStay}
-use Rattle.run_note_record.specs.Sessions.{FailsIn}
-use Rattle.run_note_record.proofs.Sessions.{stay-may}
 use Rattle.run_acts.proofs.CardPlaces.{timed-stays}
 use Rattle.run_acts.proofs.Readings.{values-read}
 use Rattle.run_acts.proofs.TurnRecorded.{last-actions, last-number, turned, fails-last, timed-last}
@@ -292,7 +290,7 @@ module _ {U A0 B0 : State} {chip_a chip_b : CardState} (n speed begun : ℕ) (ol
           RingedBehind o (D ++ L ∷ []) later (suc L.number) (with_second spans old.keeper.odometer (second_told later (went later D).before L)) seats e
       ended seats few same =
           let moved : RingedIn o D L w.b.run.log L.actions later spans old.keeper.odometer t seats e =
-          go-on-in d e o D L w.b.run.log L.actions log later spans old.keeper.odometer t (seats_of old) seats r (lines, ap (λ (l : RunLog). l.breaks) is) same leaves left (stay-may o (with_second spans old.keeper.odometer t) (FailsIn later L.number) d e places) few in
+          go-on-in d e o D L w.b.run.log L.actions log later spans old.keeper.odometer t (seats_of old) seats r (lines, ap (λ (l : RunLog). l.breaks) is) same leaves left places few in
           second-ends e o D L w.b.run.log later spans old.keeper.odometer t seats moved behind power
 
       ended-base : IsLastFrom old.keeper.odometer (with_second spans old.keeper.odometer (second_told later (went later D).before L))

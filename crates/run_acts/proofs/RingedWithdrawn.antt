@@ -1,5 +1,5 @@
 -- A card is withdrawn, and so the rings go on.
-use Rattle.std.proofs.Common.{◌≡◌, ◌∙◌, ◌⊎◌, inl, inr, ⊎_elim, ℕ, suc, ◌+◌, ◌-◌, ◌^◌, ◌<◌, ◌≤◌, Bool, true, false, not, cond, Option, Some, None, IfSome, is_some, option_map, List, [], ◌∷◌, ◌++◌, length, refl, ap, sym, subst, arith}
+use Rattle.std.proofs.Common.{◌≡◌, ◌∙◌, ◌⊎◌, inl, inr, ⊎_elim, ℕ, suc, ◌+◌, ◌-◌, ◌^◌, ◌<◌, ◌≤◌, Bool, true, false, not, cond, Option, Some, None, IfSome, is_some, option_map, List, [], ◌∷◌, ◌++◌, Contains, length, refl, ap, sym, subst, arith}
 use Rattle.std.specs.Prelude.{nat_lt}
 use Rattle.std.proofs.lemmas.Bool.{cases_lt}
 use Rattle.activity_codec.specs.declared.values.Slot.{Slot}
@@ -36,8 +36,10 @@ use Rattle.run_note_record.specs.Ringed.{Seating, LeavesRings, WritesRing, MayBe
 use Rattle.run_note_record.specs.RingsSoFar.{RingedBehind, RingedIn, AreFewer}
 use Rattle.run_note_record.specs.Steps.{GoesOnTo, IsCutIn, nobody, spans_cut}
 use Rattle.run_note_record.specs.OnCards.{has_call_failed_in, CardsGo}
+use Rattle.run_note_record.specs.Moved.{goes_out, moves_to}
 use Rattle.run_note_record.specs.Sessions.{EndsIf, Shuts}
 use Rattle.run_note_record.proofs.OnCards.{call-failed}
+use Rattle.run_note_record.proofs.Moved.{taken-moves}
 use Rattle.run_note_record.proofs.Sessions.{ends-all, ends-fail}
 use Rattle.run_note_record.proofs.RingSteps.{passes, action-cut, card-withdrawn, withdrawal-is-cut}
 use Rattle.run_record.specs.Recorded.{Values}
@@ -73,7 +75,7 @@ none-written q time odometer d e leaves = λ y at.
 
 module _ (o : Origin) (done : List TraceSecond) (s : TraceSecond) (front rest : List Action) (slot : Slot) (are : s.actions ≡ front ++ Withdraw slot ∷ rest) (run : Run) (before : Outcome) (d e : Devices)
     (w : RunWithin o done s (In (length front)) [] [] run before d) (lines : List Break) (later : RunLog) (is : later ≡ record (log_of before) { breaks = (log_of before).breaks ++ lines })
-    (tears : AreTears (record { second = s.number; begun = suc (length front); late = false }) lines) (left : HaveLeftMore o d e) (spans : List SpanFrom) (t : ToldSecond) (card : Card) (had : Bool) (places : CardsGo o (with_second spans run.keeper.odometer t) (EndsIf had card) d e) (rings : RingsWithin o done s w.within.b.run.log front run (log_of before) spans t d)
+    (tears : AreTears (record { second = s.number; begun = suc (length front); late = false }) lines) (left : HaveLeftMore o d e) (spans : List SpanFrom) (t : ToldSecond) (card : Card) (had : Bool) (places : CardsGo o (with_second spans run.keeper.odometer t) (EndsIf had card) d e) (sat : had ≡ true → is_some (session_of run.keeper.cabin.cards card) ≡ true) (rings : RingsWithin o done s w.within.b.run.log front run (log_of before) spans t d)
     (seat : card_in (seat_in run.keeper.cabin.slots.seats slot) ≡ Some card) (low : ℕ) (stands : CabinIsSound low None run.keeper.cabin) (speed : ℕ) (now : s.speed ≡ speed)
     (allowed : refusal (logged run.keeper.cabin.slots.seats) speed (Withdraw slot) ≡ None) (small : s.number < 2 ^ 32) where
   abbrev v : Values
@@ -124,6 +126,13 @@ module _ (o : Origin) (done : List TraceSecond) (s : TraceSecond) (front rest : 
   then-cut : (x : Sitting) → in_slot (course_in w.within.b done s (In (length front)) (log_of before)).slots slot ≡ Some x → in_slot (course_behind log_cut was s front).slots slot ≡ Some x
   then-cut x there = sits-cut o done s front rest a are v d w.within lines later is tears slot x there
 
+  -- it is withdrawn, by either log
+  out-then : had ≡ true → Contains (moves_to later was s (front ++ a ∷ [])) (goes_out s.number card)
+  out-then some = let x = sits-some (sat some) in taken-moves later was s front goes.begun slot (record { card = card; accepted = Some x.0 }) (then_ (record { card = card; accepted = Some x.0 }) x.1) still refl
+
+  out-cut : had ≡ true → Contains (moves_to log_cut was s (front ++ a ∷ [])) (goes_out s.number card)
+  out-cut some = let x = sits-some (sat some) in taken-moves log_cut was s front cuts.goes.begun slot (record { card = card; accepted = Some x.0 }) (then-cut (record { card = card; accepted = Some x.0 }) x.1) still refl
+
   torn-alike : is_torn_in log_cut s.number (In (suc (length front))) slot ≡ is_torn_in later s.number (In (suc (length front))) slot
   torn-alike = torn-cut o done s front rest a are v d w.within lines later is tears (In (suc (length front))) slot
 
@@ -152,7 +161,7 @@ module _ (o : Origin) (done : List TraceSecond) (s : TraceSecond) (front rest : 
     base = subst (λ (b : ℕ). IsLastFrom b (with_second spans b t)) (sym same) rings.base;
     counted = counted-on new noted;
     ringed = subst (λ (b : ℕ). RingedIn o done s w.within.b.run.log (front ++ a ∷ []) later spans b t (seats_of new) e) (sym same)
-        (passes d e o done s w.within.b.run.log (log_of before) later front a spans run.keeper.odometer t (seats_of run) (seats_of new) rings.ringed goes none leaves left (ends-fail o (with_second spans run.keeper.odometer t) had card later s.number d e fails places) fewer);
+        (passes d e o done s w.within.b.run.log (log_of before) later front a spans run.keeper.odometer t (seats_of run) (seats_of new) rings.ringed goes none leaves left (ends-fail o (with_second spans run.keeper.odometer t) had card later (moves_to later was s (front ++ a ∷ [])) s.number d e out-then fails places) fewer);
   }
 
   pub quiet-torn : (new : Run) → AreFewer (seats_of run) (seats_of new) → new.keeper.odometer ≡ run.keeper.odometer → new.noted ≡ run.noted → LeavesRings d.unit e.unit → (had ≡ true → has_call_failed_in later s.number ≡ true) → is_some (session_of run.keeper.cabin.cards card) ≡ true →
@@ -221,7 +230,7 @@ module _ (o : Origin) (done : List TraceSecond) (s : TraceSecond) (front rest : 
 
   -- THE UNIT FAILED, and no withdrawal is written, or this one may be
   cut-quiet : LeavesRings d.unit e.unit → NotesMore log_cut was s front a [] → RingedBehind o (done ++ s ∷ []) log_cut (suc s.number) (spans_cut spans run.keeper.odometer log_cut done s) nobody e
-  cut-quiet leaves none = action-cut d e o done s w.within.b.run.log (log_of before) log_cut front a rest spans run.keeper.odometer t (seats_of run) rings.ringed cuts none leaves left (ends-fail o (with_second spans run.keeper.odometer t) had card log_cut s.number d e (λ sat. call-failed log_cut s.number cuts.failed) places)
+  cut-quiet leaves none = action-cut d e o done s w.within.b.run.log (log_of before) log_cut front a rest spans run.keeper.odometer t (seats_of run) rings.ringed cuts none leaves left (ends-fail o (with_second spans run.keeper.odometer t) had card log_cut (moves_to log_cut was s (front ++ a ∷ [])) s.number d e out-cut (λ some. call-failed log_cut s.number cuts.failed) places)
 
   pub cut-leaves : IfSome (session_of run.keeper.cabin.cards card) (λ q. q.entry < insertion_ring.count) → LeavesRings d.unit e.unit →
       RingedBehind o (done ++ s ∷ []) log_cut (suc s.number) (spans_cut spans run.keeper.odometer log_cut done s) nobody e

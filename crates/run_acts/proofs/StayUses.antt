@@ -1,5 +1,5 @@
 -- The current use of a card by its stays is the one that its noted insertions have left.
-use Rattle.std.proofs.Common.{◌≡◌, ◌∙◌, ℕ, cond, Option, Some, None, is_some, List, [], ◌∷◌, map, refl, sym, ap, subst}
+use Rattle.std.proofs.Common.{◌≡◌, ◌∙◌, ℕ, true, cond, Option, Some, None, is_some, List, [], ◌∷◌, map, refl, sym, ap, subst}
 use Rattle.std.specs.Prelude.{option_map}
 use Rattle.trace_model.specs.declared.Card.{Card}
 use Rattle.tach_media.specs.Medium.{State}
@@ -16,13 +16,12 @@ use Rattle.run_crew.specs.declared.cabin.Cabin.{Cabin}
 use Rattle.run_crew.specs.Cards.{session_of}
 use Rattle.run_minutes.specs.run_promise.Found.{found_of}
 use Rattle.run_minutes.specs.run_promise.Origin.{Origin}
-use Rattle.run_minutes.specs.run_promise.Whole.{NothingFailed}
 use Rattle.run_note_record.specs.Uses.{left_open, left_by, use_behind, insertions_on, vehicle_in, use_in, use_now}
 use Rattle.run_acts.specs.Closings.{Spell, spell_of, spells_of}
 use Rattle.run_acts.specs.Recording.{IsOrigin}
 use Rattle.run_acts.specs.RunCards.{sizes_in}
 use Rattle.run_acts.specs.Truths.{Truths}
-use Rattle.run_acts.specs.Stays.{Shut, Stay, Shown, open_from, after_stay, after_stays, start_shown, acceptances_told, spells, sits_in, as_noted, ShowsStays, Both, AreStays, AllStay, judged_told}
+use Rattle.run_acts.specs.Stays.{Shut, Stay, Shown, open_from, after_stay, after_stays, start_shown, acceptances_told, spells, sits_in, as_noted, ShowsStays, Whose, covers, AreKnown, AreStays, AllStay, judged_told}
 
 -- what a spell leaves, and some
 abbrev spell_use : Registration → Spell → CurrentUse
@@ -60,13 +59,13 @@ shown-use vehicle image ss is card same shows x left =
     ∙ ap (spells_use vehicle (use_in image)) same
     ∙ sym (by-notes vehicle (use_in image) is)
 
--- EACH IMAGE that a card may leave now tells this use, where it has no session
-pub use-now : (o : Origin) → IsOrigin o → (t : Truths) (u : ℕ) (log : RunLog) (notes : List Note) (vehicle : Registration) (cabin : Cabin) (d : Devices) → AllStay o t u log notes vehicle cabin d → NothingFailed log → (c : Card) → IsOwnValid (card_image o.recording c) → session_of cabin.cards c ≡ None →
+-- EACH IMAGE that a card may leave now tells this use, where its stays are known, and it has no session
+pub use-now : (o : Origin) → IsOrigin o → (t : Truths) (u : ℕ) (log : RunLog) (notes : List Note) (vehicle : Registration) (cabin : Cabin) (d : Devices) → AllStay o t u log notes vehicle cabin d → (c : Card) (whose : Whose) → covers whose c ≡ true → AreKnown whose o log d → IsOwnValid (card_image o.recording c) → session_of cabin.cards c ≡ None →
     (x : List ℕ) → (card_of d c).may_leave x → current_use (sizes_in o c) x ≡ use_now o c notes
-use-now o origin t u log notes vehicle cabin d all none c valid bare x left =
-    let are : AreStays Both o t u notes (acceptances_told log) (judged_told log) vehicle cabin d = all Both none in
+use-now o origin t u log notes vehicle cabin d all c whose in_ known valid bare x left =
+    let are : AreStays whose o t u notes (acceptances_told log) (judged_told log) vehicle cabin d = all whose known in
     let image : (found_of o.found c).image ≡ card_image o.recording c = origin.image c in
-    let h = are.each c refl (subst IsOwnValid (sym image) valid) in
+    let h = are.each c in_ (subst IsOwnValid (sym image) valid) in
     let same : spells (are.stays c) ≡ spells_of c notes = sym (ap (λ (q : Option Accepted). as_noted u q (sits_in cabin.slots.seats c) (spells (are.stays c))) bare) ∙ h.spell in
     let own : vehicle ≡ vehicle_in o = λ i. record { 0 = are.says i } in
     sym (ap (λ (y : List ℕ). current_use (own_sizes y) x) image)

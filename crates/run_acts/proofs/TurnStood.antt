@@ -31,7 +31,7 @@ use Rattle.run_acts.proofs.RingedSecond.{here-append, tears-here_, more-left}
 use Rattle.run_acts.proofs.CardEnds.{IsLater}
 use Rattle.run_acts.proofs.CardTurn.{told-tears, told-is, lines-later}
 use Rattle.log_model.specs.Same.{SameAt}
-use Rattle.run_acts.proofs.Stood.{timed-let, tells-beside, all-front, failed-still}
+use Rattle.run_acts.proofs.Stood.{timed-let, tells-beside, all-front, failed-still, cut-still}
 
 module _ {U A0 B0 : State} {chip_a chip_b : CardState} (n speed begun : ℕ) (old new : Run) (before after : Outcome) (d e : Devices) (g : RunHasPower None (old.next / 60) old U chip_a chip_b A0 B0) (lit : old.power ≡ Lit) (some : 0 < n)
     (minute : old.next % 60 + n ≤ 60) (small : old.next + n ≤ end_of_seconds) (low : 0 < old.next) (h : IsBookedTurn n speed begun old new before after d e) where
@@ -112,6 +112,7 @@ module _ {U A0 B0 : State} {chip_a chip_b : CardState} (n speed begun : ℕ) (ol
             same = all-front (λ (t : TraceSecond). SameAt (log_of before) (log_of after) t.number) done (s ∷ driven c (s.number + 1) s.speed [])
                 (subst (λ (l : RunLog). All (λ (t : TraceSecond). SameAt l (log_of after) t.number) D) (x.goes_on (omega arith)).0 next.behind.same);
             still = failed-still (log_of before) (log_of after) lines.0 (ap (λ (l : RunLog). l.breaks) lines.1);
+            cut = cut-still (log_of before) (log_of after) lines.0 (ap (λ (l : RunLog). l.breaks) lines.1);
           },
         )
 

@@ -25,7 +25,6 @@ pub use Rattle.run_note_record.specs.Uses.{vehicle_of, vehicle_in}
 use Rattle.run_note_record.specs.Uses.{notes_in, notes_now, uses_in}
 use Rattle.run_events.specs.run_rings.Notes.{course_behind}
 use Rattle.run_minutes.specs.run_promise.Origin.{Origin}
-use Rattle.run_minutes.specs.run_promise.Whole.{NothingFailed}
 use Rattle.run_note_record.specs.OnCards.{CardsStay}
 use Rattle.log_model.specs.declared.lines.Break.{Break}
 use Rattle.run_outcome.specs.Lines.{Listed}
@@ -38,19 +37,20 @@ use Rattle.run_acts.specs.Recording.{log_of, RunWithin, RunCut, IsNow}
 use Rattle.run_acts.specs.RunRinged.{with_cut, AreSpansNow}
 use Rattle.run_acts.specs.Settling.{settled_run}
 use Rattle.run_acts.specs.OnCards.{MetSecond, as_accepted, met_seconds, met_accepted, ShowsOn, StillShows, AreUses}
+use Rattle.run_acts.specs.Stays.{Whose, covers, AreKnown}
 
 -- the sizes of a card, by its image at the start
 abbrev pub sizes_in : Origin → Card → Application
 sizes_in o c = own_sizes (card_image o.recording c)
 
 -- A CARD SHOWS the events of these seconds: at each of its acceptances a use was found on it, which an image of it
--- told, and this one where no call failed; each image that it may leave shows what the seconds brought, on the events
--- of its image at the start.
+-- told, and this one where its stays are known; each image that it may leave shows what the seconds brought, on the
+-- events of its image at the start.
 pub record CardShown (o : Origin) (c : Card) (log : RunLog) (seconds : List MetSecond) (found : List CurrentUse)
     (d : Devices) : Type 0 where
   pub uses : List CurrentUse
   pub are : AreUses (images_in o d c) uses (met_accepted c seconds)
-  pub exact : NothingFailed log → uses ≡ found
+  pub exact : (whose : Whose) → covers whose c ≡ true → AreKnown whose o log d → uses ≡ found
   pub shows : ShowsOn c (vehicle_in o) (images_in o d c) uses (card_image o.recording c) log seconds (card_of d c)
 
 -- so does each that was valid

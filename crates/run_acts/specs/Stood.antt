@@ -1,7 +1,7 @@
 -- What a card showed exactly of its stays, and what stands of that, whatever calls failed later (profile).
 use Rattle.std.specs.Prelude.{◌≡◌, ◌⊎◌, ◌+◌, ◌*◌, ◌/◌, ◌<◌, ◌≤◌, ℕ, suc, Bool, true, false, IfSome, None, List, []}
-use Rattle.std.specs.Prelude.{◌∷◌, ◌++◌, All, length}
-use Rattle.std.specs.List.{AllByRecursion}
+use Rattle.std.specs.Prelude.{◌&&◌, ◌∷◌, ◌++◌, All, length, nat_eq}
+use Rattle.std.specs.List.{AllByRecursion, list_any}
 use Rattle.activity_codec.specs.declared.values.Slot.{Slot}
 use Rattle.trace_model.specs.declared.Action.{Action}
 use Rattle.trace_model.specs.declared.Action.TheVariants.{Withdraw, Place}
@@ -9,12 +9,13 @@ use Rattle.trace_model.specs.declared.Card.{Card}
 use Rattle.trace_model.specs.Trace.{TraceSecond}
 use Rattle.unit_model.specs.minute_model.declared.Minute.{Minute}
 use Rattle.unit_model.specs.Image.{odometer_at}
-use Rattle.tach_media.specs.Medium.{State}
+use Rattle.tach_media.specs.Medium.{State, last_count}
 use Rattle.run_events.specs.gated_ring.Ring.{PointsInside}
 use Rattle.log_model.specs.Log.{RunLog, In}
-use Rattle.log_model.specs.Course.{Visit}
+use Rattle.log_model.specs.Causes.{device_of}
+use Rattle.log_model.specs.Course.{Visit, ToldSecond, went}
 use Rattle.log_model.specs.Same.{SameAt}
-use Rattle.log_model.specs.Slots.{refusal}
+use Rattle.log_model.specs.Slots.{refusal, same_card}
 use Rattle.log_model.specs.declared.lines.Break.{Break}
 use Rattle.log_model.specs.declared.lines.Find.{Find}
 use Rattle.hand_model.specs.card_image.Own.{own_sizes, IsOwnValid}
@@ -37,6 +38,7 @@ use Rattle.run_minutes.specs.run_promise.Whole.{NothingFailed}
 use Rattle.run_minutes.specs.run_devices.Measured.{MakesOn}
 use Rattle.run_minutes.specs.declared.keeper.Moment.{Moment}
 use Rattle.run_minutes.specs.Books.{HaveTime}
+use Rattle.unit_notes.specs.note_model.Done.{has_failed_in}
 use Rattle.run_note_record.specs.OnCards.{has_call_failed_in}
 use Rattle.run_note_record.specs.Ringed.{notes_in}
 use Rattle.run_note_record.specs.Uses.{vehicle_of}
@@ -44,6 +46,7 @@ use Rattle.run_acts.specs.declared.run.Run.{Run}
 use Rattle.run_acts.specs.Closings.{spells_of}
 use Rattle.run_acts.specs.Truths.{past_of, IsOdometerBefore, IsOdometerBehind, IsWordIn, IsLineOf}
 use Rattle.run_acts.specs.Stays.{Stay, after_stays, start_shown, spells, AreMerged, judged_told, judged_in, AreJudged}
+use Rattle.run_acts.specs.Stays.{IsUnhurt}
 use Rattle.run_acts.specs.Settling.{settled_run}
 use Rattle.run_acts.specs.Recording.{log_of, RunWithin, InSecond, IsNow}
 use Rattle.run_acts.specs.RunCards.{sizes_in}
@@ -106,18 +109,32 @@ pub record HasExactStays (r : Recording) (c : Card) (shown : List ℕ → Type 0
 abbrev pub recording_to : Recording → (front : List TraceSecond) → (told : RunLog) → Recording
 recording_to r front told = record r { trace = front; log = told; stops = [] }
 
--- a call has failed in the minute of the first of these seconds, or before
-abbrev pub HasFailedBy : RunLog → List TraceSecond → Type 0
-HasFailedBy log [] = ⊥
-HasFailedBy log (s ∷ ss) = (u : ℕ) × (has_call_failed_in log u ≡ true) × (u / 60 ≤ s.number / 60)
+-- a failed call tore a card out in a second, as these seconds tell
+abbrev pub is_torn_out_in : List ToldSecond → Card → ℕ → Bool
+is_torn_out_in told c u = list_any (λ (t : ToldSecond). nat_eq t.second.number u
+    && list_any (λ (v : Visit). same_card c v.card) t.course.torn) told
 
--- WHAT A CARD SHOWED BEFORE THE FIRST FAILED CALL STANDS. Behind these first seconds of the run (`front`), of each of
--- which the log tells the same as another (`tells`), it showed an image, which it might have left since the run began
--- (`was`), and which had exactly the stays of these seconds by that log (`exact`). Each image that a stop may leave of
--- it now is made of that one, by keeps of minutes that it did not count yet, entries by hand, closings and cuts, each
--- done or broken off (`stands`). And these seconds are all; or a call has failed in the minute of the first second
--- behind them, or before (`until`).
-pub record StoodExactly (r : Recording) (c : Card) (began : ℕ) (card : State) : Type 0 where
+-- A CALL FAILED ON A CARD, or on the unit, in a second: the log tells of a cut in it that a failed call made; or, by
+-- the log, one tore the card out in it; or one on any device failed in it, and the card's count of breakdowns stood at
+-- its last value as the run began.
+abbrev pub HasFailedOnIn : Recording → Card → (count : ℕ) → ℕ → Type 0
+HasFailedOnIn r c count u = (has_failed_in r.log u ≡ true)
+    ⊎ ((is_torn_out_in (went r.log r.trace).told c u ≡ true)
+    ⊎ ((last_count ≤ count) × (has_call_failed_in r.log u ≡ true)))
+
+-- so one has in the minute of the first of these seconds, or before
+abbrev pub HasFailedOnBy : Recording → Card → (count : ℕ) → List TraceSecond → Type 0
+HasFailedOnBy r c count [] = ⊥
+HasFailedOnBy r c count (s ∷ ss) = (u : ℕ) × HasFailedOnIn r c count u × (u / 60 ≤ s.number / 60)
+
+-- WHAT A CARD SHOWED BEFORE THE FIRST CALL THAT FAILED ON IT, or on the unit, STANDS. Behind these first seconds of the
+-- run (`front`), of each of which the log tells the same as another (`tells`), it showed an image, which it might have
+-- left since the run began (`was`), and which had exactly the stays of these seconds by that log (`exact`). Each image
+-- that a stop may leave of it now is made of that one, by keeps of minutes that it did not count yet, entries by hand,
+-- closings and cuts, each done or broken off (`stands`). And these seconds are all; or a call on the card or on the
+-- unit has failed in the minute of the first second behind them, or before (`until`): calls on the other card count for
+-- nothing, but where the card's count of breakdowns stood at its last value as the run began.
+pub record StoodExactly (r : Recording) (c : Card) (began count : ℕ) (card : State) : Type 0 where
   pub front : List TraceSecond
   pub rest : List TraceSecond
   pub are : r.trace ≡ front ++ rest
@@ -128,26 +145,31 @@ pub record StoodExactly (r : Recording) (c : Card) (began : ℕ) (card : State) 
   pub was : card.left_since began image
   pub stands : (x : List ℕ) → card.may_leave x
       → IsMadeSince (own_sizes (card_image r c)) (mark_of (book_of (own_sizes (card_image r c)) image)) image x
-  pub until : (rest ≡ []) ⊎ HasFailedBy r.log rest
+  pub until : (rest ≡ []) ⊎ HasFailedOnBy r c count rest
 
 -- and in each image that it may leave the pointer of the vehicle entries is an index
-abbrev pub StandsStill : (r : Recording) → (c : Card) → (began : ℕ) → (card : State) → Type 0
-StandsStill r c began card = StoodExactly r c began card
+abbrev pub StandsStill : (r : Recording) → (c : Card) → (began count : ℕ) → (card : State) → Type 0
+StandsStill r c began count card = StoodExactly r c began count card
     × ((x : List ℕ) → card.may_leave x → PointsInside (vehicle_ring (own_sizes (card_image r c))) x)
 
 -- so it is of each card that was valid, in a second behind these, by the log of then
 abbrev pub HaveStood : Origin → List TraceSecond → RunLog → Devices → Type 0
 HaveStood o done log d = (c : Card) → IsOwnValid (card_image o.recording c)
-    → StandsStill (recording_by o done log) c (found_of o.found c).began (card_of d c)
+    → StandsStill (recording_by o done log) c (found_of o.found c).began (o.breakdowns (device_of c)) (card_of d c)
 
--- and between two seconds, once a call has failed
+-- no call has failed; or none on a card, nor on the unit
+abbrev pub IsCalm : Origin → RunLog → Card → Devices → Type 0
+IsCalm o log c d = NothingFailed log ⊎ IsUnhurt o log c d
+
+-- and between two seconds, once one has failed
 abbrev pub HasStood : Origin → List TraceSecond → RunLog → Card → Devices → Type 0
-HasStood o done log c d = (s : StandsStill (recording_by o done log) c (found_of o.found c).began (card_of d c))
-    × HasFailedBy log s.0.rest
+HasStood o done log c d = (s : StandsStill (recording_by o done log) c (found_of o.found c).began
+    (o.breakdowns (device_of c)) (card_of d c))
+    × HasFailedOnBy (recording_by o done log) c (o.breakdowns (device_of c)) s.0.rest
 
 abbrev pub HaveStoodBehind : Origin → List TraceSecond → RunLog → Devices → Type 0
 HaveStoodBehind o done log d = (c : Card) → IsOwnValid (card_image o.recording c)
-    → NothingFailed log ⊎ HasStood o done log c d
+    → IsCalm o log c d ⊎ HasStood o done log c d
 
 -- ---- what calls say of it
 
@@ -157,10 +179,11 @@ pub record LetStand (o : Origin) (d e : Devices) : Type 0 where
   pub left : HaveLeftMore o d e
   pub made : (c : Card) → IsOwnValid (card_image o.recording c) → MakesOn (sizes_in o c) (card_of d c) (card_of e c)
 
--- A LOG TELLS MORE: of these seconds the same; and what had failed has failed
+-- A LOG TELLS MORE: of these seconds the same; and what had failed has failed, each call and each of the unit
 pub record TellsOn (log later : RunLog) (done : List TraceSecond) : Type 0 where
   pub same : All (λ (s : TraceSecond). SameAt log later s.number) done
   pub still : (u : ℕ) → has_call_failed_in log u ≡ true → has_call_failed_in later u ≡ true
+  pub cut : (u : ℕ) → has_failed_in log u ≡ true → has_failed_in later u ≡ true
 
 -- THE MINUTES THAT A SETTLING DECIDES were to be kept in an action
 abbrev pub StandsSettling : (decided : List Minute) → Moment → (old new : Run) → (before : Outcome) → (d e : Devices)

@@ -15,6 +15,8 @@ pub fn turn_length(next: u32, left: u32) -> u32
     ensures some { 0 < result }
     ensures most { result ≤ left }
     ensures minute { next % 60 + result ≤ 60 }
+    // Behind it, where seconds are left, a minute begins, or its first second is over.
+    ensures opens { result < left → (next + result) % 60 ≤ 1 }
 {
     if next % 60 == 0 {
         return 1;

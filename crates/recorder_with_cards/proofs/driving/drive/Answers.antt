@@ -45,6 +45,8 @@ use Rattle.recorder_with_cards.proofs.Resumed.{same-devices}
 use Rattle.recorder_with_cards.proofs.Time.{later-time, after-time}
 use Rattle.recorder_with_cards.proofs.driving.drive.Given.{Over}
 use Rattle.recorder_with_cards.proofs.driving.drive.Goals.{After-drive_on}
+use Rattle.recorder_with_cards.specs.Writes.{turns_among}
+use Rattle.recorder_with_cards.proofs.Turns.{all-turns}
 use Rattle.recorder_with_cards.proofs.Writes.{writes-begun, writes-driven}
 use Rattle.recorder_with_cards.proofs.driving.drive.Goals as goal
 
@@ -291,7 +293,12 @@ returns-clause-goes g c = record {
   later = after-then (dev0 g c) (dev1 g c) (dev4 g c) (after-of (dev0 g c) (dev1 g c) c.in_ok-has_power.ensures.goes.later) (after-then (dev1 g c) (dev2 g c) (dev4 g c) (after-of (dev1 g c) (dev2 g c) c.act_all.ensures.goes.later) (after-then (dev2 g c) (dev3 g c) (dev4 g c) c.turn.ensures.goes.later c.drive_on.ensures.goes.later));
   calm = calm-then (dev0 g c) (dev1 g c) (dev4 g c) c.in_ok-has_power.ensures.goes.calm (calm-then (dev1 g c) (dev2 g c) (dev4 g c) c.act_all.ensures.goes.calm (calm-then (dev2 g c) (dev3 g c) (dev4 g c) c.turn.ensures.goes.calm c.drive_on.ensures.goes.calm));
   broke = broke-then c.in_ok-has_power.ensures.goes.broke (broke-then c.act_all.ensures.goes.broke (broke-then c.turn.ensures.goes.broke c.drive_on.ensures.goes.broke));
-  most = writes-driven c.args.due.seconds (c.args.due.to - c.args.due.from) (dev0 g c) (dev1 g c) (dev2 g c) (dev3 g c) (dev4 g c) c.requires.some c.in_ok-has_power.ensures.goes.most c.act_all.ensures.goes.most c.turn.ensures.goes.most c.drive_on.ensures.goes.most;
+  most =
+      let s : ℕ = c.args.due.seconds in
+      let k : ℕ = c.args.run.now.next in
+      let v : ℕ = c.args.due.speed in
+      writes-driven (turns_among 2 (driven s k v [])) (turns_among 1 (driven (s - 1) c.turn.new.run.next v [])) (c.args.due.to - c.args.due.from) (dev0 g c) (dev1 g c) (dev2 g c) (dev3 g c) (dev4 g c)
+      (all-turns s k v c.requires.some ∙ ap (λ (n : ℕ). 1 + turns_among 1 (driven (s - 1) n v [])) (sym (later-by-one g c))) c.in_ok-has_power.ensures.goes.most c.act_all.ensures.goes.most c.turn.ensures.goes.most c.drive_on.ensures.goes.most;
 }
 
 pub returns-in_err-has_power-clause-goes : goal.returns-in_err-has_power-clause-goes
@@ -301,7 +308,9 @@ returns-in_err-has_power-clause-goes g c = record {
       c.in_err-has_power.ensures.goes.later;
   calm = c.in_err-has_power.ensures.goes.calm;
   broke = c.in_err-has_power.ensures.goes.broke;
-  most = writes-begun c.args.due.seconds (c.args.due.to - c.args.due.from) (devices (g.M.Medium.state c.args.unit.now) (g.C.Chip.state c.args.card_a.now) (g.D.Chip.state c.args.card_b.now)) (devices (g.M.Medium.state c.begin_second.new.unit) (g.C.Chip.state c.begin_second.new.card_a) (g.D.Chip.state c.begin_second.new.card_b)) c.requires.some c.in_err-has_power.ensures.goes.most;
+  most =
+      let all = all-turns c.args.due.seconds c.args.run.now.next c.args.due.speed c.requires.some in
+      writes-begun (turns_among 2 (driven c.args.due.seconds c.args.run.now.next c.args.due.speed [])) (c.args.due.to - c.args.due.from) (devices (g.M.Medium.state c.args.unit.now) (g.C.Chip.state c.args.card_a.now) (g.D.Chip.state c.args.card_b.now)) (devices (g.M.Medium.state c.begin_second.new.unit) (g.C.Chip.state c.begin_second.new.card_a) (g.D.Chip.state c.begin_second.new.card_b)) (omega (arith, all)) c.in_err-has_power.ensures.goes.most;
 }
 
 -- ---- what is recorded, with its events and rings

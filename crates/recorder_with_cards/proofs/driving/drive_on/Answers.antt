@@ -1,4 +1,4 @@
-use Rattle.std.proofs.Common.{rules, ◌≡◌, ◌∙◌, ℕ, ◌+◌, ◌-◌, List, [], ◌++◌, refl, ap, sym, subst, arith, append_assoc}
+use Rattle.std.proofs.Common.{rules, ◌≡◌, ◌∙◌, inl, inr, ℕ, ◌+◌, ◌-◌, ◌%◌, ◌<◌, ◌≤◌, List, [], ◌++◌, refl, ap, sym, subst, arith, append_assoc}
 use Rattle.std.proofs.lemmas.List.{append-nil}
 use Rattle.trace_model.specs.Trace.{TraceSecond, driven}
 use Rattle.device_calls.specs.safety_model.Safe.{Devices}
@@ -15,6 +15,8 @@ use Rattle.run_minutes.proofs.Later.{after-same, after-then}
 use Rattle.run_outcome.proofs.Broken.{broke-none, broke-then}
 use Rattle.run_minutes.proofs.Calm.{calm-then, calm-same}
 use Rattle.recorder_with_cards.proofs.Time.{after-time}
+use Rattle.recorder_with_cards.specs.Writes.{WritesFor, turns_among}
+use Rattle.recorder_with_cards.proofs.Turns.{behind-more}
 use Rattle.recorder_with_cards.proofs.Writes.{writes-none, writes-then, writes-more}
 use Rattle.recorder_with_cards.proofs.driving.drive_on.Goals as goal
 
@@ -36,7 +38,8 @@ loop-left-init g c = record {
   later = after-same (devices (g.M.Medium.state c.args.unit.now) (g.C.Chip.state c.args.card_a.now) (g.D.Chip.state c.args.card_b.now));
   calm = calm-same (devices (g.M.Medium.state c.args.unit.now) (g.C.Chip.state c.args.card_a.now) (g.D.Chip.state c.args.card_b.now));
   broke = broke-none c.args.outcome.now.breaks.items {old = (g.M.Medium.state c.args.unit.now)} {new = (g.M.Medium.state c.args.unit.now)} (omega arith);
-  most = writes-none (c.args.more.seconds - c.args.more.seconds) 0 (devices (g.M.Medium.state c.args.unit.now) (g.C.Chip.state c.args.card_a.now) (g.D.Chip.state c.args.card_b.now));
+  opens = λ some. inl (omega arith);
+  most = writes-none (turns_among 1 (driven (c.args.more.seconds - c.args.more.seconds) c.args.run.now.next c.args.more.speed [])) 0 (devices (g.M.Medium.state c.args.unit.now) (g.C.Chip.state c.args.card_a.now) (g.D.Chip.state c.args.card_b.now));
   unfound = c.requires.may.unfound;
 }
 
@@ -91,10 +94,20 @@ loop-left-preserved g c =
           (last-more n c.loop-left.run.next c.args.more.speed (done ++ driven so c.args.run.now.next c.args.more.speed []) was.0, c.in_ok-step.ensures.promises.cards o (done ++ driven so c.args.run.now.next c.args.more.speed []) was.0 was.1 time);
       later = after-then (devices (g.M.Medium.state c.args.unit.now) (g.C.Chip.state c.args.card_a.now) (g.D.Chip.state c.args.card_b.now)) (devices (g.M.Medium.state c.loop-left.unit) (g.C.Chip.state c.loop-left.card_a) (g.D.Chip.state c.loop-left.card_b)) (devices (g.M.Medium.state c.step.new.unit) (g.C.Chip.state c.step.new.card_a) (g.D.Chip.state c.step.new.card_b)) v.later c.in_ok-step.ensures.goes.later;
       calm = calm-then (devices (g.M.Medium.state c.args.unit.now) (g.C.Chip.state c.args.card_a.now) (g.D.Chip.state c.args.card_b.now)) (devices (g.M.Medium.state c.loop-left.unit) (g.C.Chip.state c.loop-left.card_a) (g.D.Chip.state c.loop-left.card_b)) (devices (g.M.Medium.state c.step.new.unit) (g.C.Chip.state c.step.new.card_a) (g.D.Chip.state c.step.new.card_b)) v.calm c.in_ok-step.ensures.goes.calm;
+      opens = λ still.
+          let few = v.few in
+          let start = v.next in
+          let e : c.loop-left.run.next + n ≡ c.args.run.now.next + (c.args.more.seconds - (left - n)) = omega (arith, start, few, most) in
+          inr (subst (λ (k : ℕ). k % 60 ≤ 1) e (c.turn_length-n.ensures.opens (omega (arith, still))));
       most =
           let few = v.few in
-          writes-more (c.args.more.seconds - left + n) (c.args.more.seconds - (left - n)) 0 0 (devices (g.M.Medium.state c.args.unit.now) (g.C.Chip.state c.args.card_a.now) (g.D.Chip.state c.args.card_b.now)) (devices (g.M.Medium.state c.step.new.unit) (g.C.Chip.state c.step.new.card_a) (g.D.Chip.state c.step.new.card_b)) (omega (arith, few, most)) (omega arith)
-          (writes-then (c.args.more.seconds - left) n 0 0 (devices (g.M.Medium.state c.args.unit.now) (g.C.Chip.state c.args.card_a.now) (g.D.Chip.state c.args.card_b.now)) (devices (g.M.Medium.state c.loop-left.unit) (g.C.Chip.state c.loop-left.card_a) (g.D.Chip.state c.loop-left.card_b)) (devices (g.M.Medium.state c.step.new.unit) (g.C.Chip.state c.step.new.card_a) (g.D.Chip.state c.step.new.card_b)) v.most c.in_ok-step.ensures.goes.most);
+          let some = c.loop-left-test.true in
+          let still : 0 < left = omega (arith, some) in
+          let so : ℕ = c.args.more.seconds - left in
+          let one = behind-more so n c.args.run.now.next c.args.more.speed c.turn_length-n.ensures.some (v.opens still) in
+          let all = ap (λ (k : ℕ). turns_among 1 (driven k c.args.run.now.next c.args.more.speed [])) (let e : so + n ≡ c.args.more.seconds - (left - n) = omega (arith, few, most) in e) in
+          writes-more (turns_among 1 (driven so c.args.run.now.next c.args.more.speed []) + 1) (turns_among 1 (driven (c.args.more.seconds - (left - n)) c.args.run.now.next c.args.more.speed [])) 0 0 (devices (g.M.Medium.state c.args.unit.now) (g.C.Chip.state c.args.card_a.now) (g.D.Chip.state c.args.card_b.now)) (devices (g.M.Medium.state c.step.new.unit) (g.C.Chip.state c.step.new.card_a) (g.D.Chip.state c.step.new.card_b)) (omega (arith, one, all)) (omega arith)
+          (writes-then (turns_among 1 (driven so c.args.run.now.next c.args.more.speed [])) 1 0 0 (devices (g.M.Medium.state c.args.unit.now) (g.C.Chip.state c.args.card_a.now) (g.D.Chip.state c.args.card_b.now)) (devices (g.M.Medium.state c.loop-left.unit) (g.C.Chip.state c.loop-left.card_a) (g.D.Chip.state c.loop-left.card_b)) (devices (g.M.Medium.state c.step.new.unit) (g.C.Chip.state c.step.new.card_a) (g.D.Chip.state c.step.new.card_b)) v.most c.in_ok-step.ensures.goes.most);
       broke = broke-then c.loop-left.invariant.broke c.in_ok-step.ensures.goes.broke;
       unfound = e.unfound;
     }
@@ -129,7 +142,10 @@ returns-clause-goes g c = record {
   later = c.loop-left.invariant.later;
   calm = c.loop-left.invariant.calm;
   broke = c.loop-left.invariant.broke;
-  most = writes-more (c.args.more.seconds - c.loop-left.left) c.args.more.seconds 0 0 (devices (g.M.Medium.state c.args.unit.now) (g.C.Chip.state c.args.card_a.now) (g.D.Chip.state c.args.card_b.now)) (devices (g.M.Medium.state c.loop-left.unit) (g.C.Chip.state c.loop-left.card_a) (g.D.Chip.state c.loop-left.card_b)) (omega arith) (omega arith) c.loop-left.invariant.most;
+  most =
+      let none = c.loop-left-test.false in
+      subst (λ (n : ℕ). WritesFor (turns_among 1 (driven n c.args.run.now.next c.args.more.speed [])) 0 (devices (g.M.Medium.state c.args.unit.now) (g.C.Chip.state c.args.card_a.now) (g.D.Chip.state c.args.card_b.now)) (devices (g.M.Medium.state c.loop-left.unit) (g.C.Chip.state c.loop-left.card_a) (g.D.Chip.state c.loop-left.card_b))) (let e : c.args.more.seconds - c.loop-left.left ≡ c.args.more.seconds = omega (arith, none) in e)
+      c.loop-left.invariant.most;
 }
 
 pub returns-in_err-step-clause-goes : goal.returns-in_err-step-clause-goes
@@ -138,10 +154,16 @@ returns-in_err-step-clause-goes g c = record {
   calm = calm-then (devices (g.M.Medium.state c.args.unit.now) (g.C.Chip.state c.args.card_a.now) (g.D.Chip.state c.args.card_b.now)) (devices (g.M.Medium.state c.loop-left.unit) (g.C.Chip.state c.loop-left.card_a) (g.D.Chip.state c.loop-left.card_b)) (devices (g.M.Medium.state c.step.new.unit) (g.C.Chip.state c.step.new.card_a) (g.D.Chip.state c.step.new.card_b)) c.loop-left.invariant.calm c.in_err-step.ensures.goes.calm;
   broke = broke-then c.loop-left.invariant.broke c.in_err-step.ensures.goes.broke;
   most =
-      let few = c.loop-left.invariant.few in
-      let most = c.turn_length-n.ensures.most in
-      writes-more (c.args.more.seconds - c.loop-left.left + c.turn_length-n.result) c.args.more.seconds 0 0 (devices (g.M.Medium.state c.args.unit.now) (g.C.Chip.state c.args.card_a.now) (g.D.Chip.state c.args.card_b.now)) (devices (g.M.Medium.state c.step.new.unit) (g.C.Chip.state c.step.new.card_a) (g.D.Chip.state c.step.new.card_b)) (omega (arith, few, most)) (omega arith)
-      (writes-then (c.args.more.seconds - c.loop-left.left) c.turn_length-n.result 0 0 (devices (g.M.Medium.state c.args.unit.now) (g.C.Chip.state c.args.card_a.now) (g.D.Chip.state c.args.card_b.now)) (devices (g.M.Medium.state c.loop-left.unit) (g.C.Chip.state c.loop-left.card_a) (g.D.Chip.state c.loop-left.card_b)) (devices (g.M.Medium.state c.step.new.unit) (g.C.Chip.state c.step.new.card_a) (g.D.Chip.state c.step.new.card_b)) c.loop-left.invariant.most c.in_err-step.ensures.goes.most);
+      let v = c.loop-left.invariant in
+      let few = v.few in
+      let some = c.loop-left-test.true in
+      let left : ℕ = c.loop-left.left in
+      let still : 0 < left = omega (arith, some) in
+      let so : ℕ = c.args.more.seconds - left in
+      let one = behind-more so left c.args.run.now.next c.args.more.speed still (v.opens still) in
+      let all = ap (λ (k : ℕ). turns_among 1 (driven k c.args.run.now.next c.args.more.speed [])) (let e : so + left ≡ c.args.more.seconds = omega (arith, few) in e) in
+      writes-more (turns_among 1 (driven so c.args.run.now.next c.args.more.speed []) + 1) (turns_among 1 (driven c.args.more.seconds c.args.run.now.next c.args.more.speed [])) 0 0 (devices (g.M.Medium.state c.args.unit.now) (g.C.Chip.state c.args.card_a.now) (g.D.Chip.state c.args.card_b.now)) (devices (g.M.Medium.state c.step.new.unit) (g.C.Chip.state c.step.new.card_a) (g.D.Chip.state c.step.new.card_b)) (omega (arith, one, all)) (omega arith)
+      (writes-then (turns_among 1 (driven so c.args.run.now.next c.args.more.speed [])) 1 0 0 (devices (g.M.Medium.state c.args.unit.now) (g.C.Chip.state c.args.card_a.now) (g.D.Chip.state c.args.card_b.now)) (devices (g.M.Medium.state c.loop-left.unit) (g.C.Chip.state c.loop-left.card_a) (g.D.Chip.state c.loop-left.card_b)) (devices (g.M.Medium.state c.step.new.unit) (g.C.Chip.state c.step.new.card_a) (g.D.Chip.state c.step.new.card_b)) v.most c.in_err-step.ensures.goes.most);
 }
 
 -- ---- what is recorded, with its events and rings

@@ -1,4 +1,4 @@
-use Rattle.std.proofs.Common.{◌≡◌, ℕ, ◌+◌, ◌-◌, ◌≤◌, List, [], ◌++◌, length}
+use Rattle.std.proofs.Common.{◌≡◌, ◌⊎◌, ℕ, ◌+◌, ◌-◌, ◌%◌, ◌<◌, ◌≤◌, List, [], ◌++◌, length}
 use Rattle.trace_model.specs.Trace.{TraceSecond, driven}
 use Rattle.run_minutes.specs.run_promise.Between.{devices}
 use Rattle.run_minutes.specs.run_promise.Origin.{Origin}
@@ -9,7 +9,7 @@ use Rattle.run_acts.specs.Room.{HasRoom}
 use Rattle.run_acts.specs.Evented.{LastAt}
 use Rattle.run_acts.specs.RunRinged.{RunRinged}
 use Rattle.recorder_with_cards.specs.Carded.{RunTimely}
-use Rattle.recorder_with_cards.specs.Writes.{WritesFor}
+use Rattle.recorder_with_cards.specs.Writes.{WritesFor, turns_among}
 use Rattle.run_outcome.specs.Broken.{BreaksDown}
 use Rattle.recorder_with_cards.proofs.driving.drive_on.Given as goal
 
@@ -24,7 +24,8 @@ invariant-loop-left g l = record {
   cards : (o : Origin) (done : List TraceSecond) → LastAt done l.fn.more.speed → RunTimely o done l.fn.run l.fn.outcome (devices (g.M.Medium.state l.fn.unit) (g.C.Chip.state l.fn.card_a) (g.D.Chip.state l.fn.card_b)) → HaveTime (devices (g.M.Medium.state l.unit) (g.C.Chip.state l.card_a) (g.D.Chip.state l.card_b)) → LastAt (done ++ driven (l.fn.more.seconds - l.left) l.fn.run.next l.fn.more.speed []) l.fn.more.speed × RunTimely o (done ++ driven (l.fn.more.seconds - l.left) l.fn.run.next l.fn.more.speed []) l.run l.outcome (devices (g.M.Medium.state l.unit) (g.C.Chip.state l.card_a) (g.D.Chip.state l.card_b));
   later : AreAfter (devices (g.M.Medium.state l.fn.unit) (g.C.Chip.state l.fn.card_a) (g.D.Chip.state l.fn.card_b)) (devices (g.M.Medium.state l.unit) (g.C.Chip.state l.card_a) (g.D.Chip.state l.card_b));
   calm : AreCalm l.fn.outcome.breaks.items l.outcome.breaks.items (devices (g.M.Medium.state l.fn.unit) (g.C.Chip.state l.fn.card_a) (g.D.Chip.state l.fn.card_b)) (devices (g.M.Medium.state l.unit) (g.C.Chip.state l.card_a) (g.D.Chip.state l.card_b));
-  most : WritesFor (l.fn.more.seconds - l.left) 0 (devices (g.M.Medium.state l.fn.unit) (g.C.Chip.state l.fn.card_a) (g.D.Chip.state l.fn.card_b)) (devices (g.M.Medium.state l.unit) (g.C.Chip.state l.card_a) (g.D.Chip.state l.card_b));
+  opens : 0 < l.left → (l.fn.more.seconds - l.left ≡ 0) ⊎ ((l.fn.run.next + (l.fn.more.seconds - l.left)) % 60 ≤ 1);
+  most : WritesFor (turns_among 1 (driven (l.fn.more.seconds - l.left) l.fn.run.next l.fn.more.speed [])) 0 (devices (g.M.Medium.state l.fn.unit) (g.C.Chip.state l.fn.card_a) (g.D.Chip.state l.fn.card_b)) (devices (g.M.Medium.state l.unit) (g.C.Chip.state l.card_a) (g.D.Chip.state l.card_b));
   broke : BreaksDown l.fn.outcome.breaks.items l.outcome.breaks.items (g.M.Medium.state l.fn.unit) (g.M.Medium.state l.unit);
   unfound : l.run.unfound ≤ length l.outcome.breaks.items;
 }

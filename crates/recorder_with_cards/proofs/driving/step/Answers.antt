@@ -36,7 +36,7 @@ use Rattle.recorder_with_cards.proofs.Resumed.{same-devices}
 use Rattle.recorder_with_cards.proofs.Time.{after-time}
 use Rattle.recorder_with_cards.proofs.driving.step.Given.{Over}
 use Rattle.recorder_with_cards.proofs.driving.step.Goals.{After-turn}
-use Rattle.recorder_with_cards.proofs.Writes.{writes-begun, writes-second}
+use Rattle.recorder_with_cards.proofs.Writes.{writes-begun, writes-turn}
 use Rattle.recorder_with_cards.proofs.driving.step.Goals as goal
 
 -- ---- THE SECOND THAT BEGINS, and those up to the turn
@@ -174,7 +174,7 @@ returns-clause-goes g c = record {
   later = after-then (dev0 g c) (dev1 g c) (dev2 g c) (after-of (dev0 g c) (dev1 g c) c.in_ok-begin_second.ensures.goes.later) c.turn.ensures.goes.later;
   calm = calm-then (dev0 g c) (dev1 g c) (dev2 g c) c.in_ok-begin_second.ensures.goes.calm c.turn.ensures.goes.calm;
   broke = broke-then c.in_ok-begin_second.ensures.goes.broke c.turn.ensures.goes.broke;
-  most = writes-second c.args.more.seconds (dev0 g c) (dev1 g c) (dev2 g c) c.requires.stretch.some c.in_ok-begin_second.ensures.goes.most c.turn.ensures.goes.most;
+  most = writes-turn (dev0 g c) (dev1 g c) (dev2 g c) c.in_ok-begin_second.ensures.goes.most c.turn.ensures.goes.most;
 }
 
 pub returns-in_err-begin_second-clause-goes : goal.returns-in_err-begin_second-clause-goes
@@ -184,7 +184,7 @@ returns-in_err-begin_second-clause-goes g c = record {
       c.in_err-begin_second.ensures.goes.later;
   calm = c.in_err-begin_second.ensures.goes.calm;
   broke = c.in_err-begin_second.ensures.goes.broke;
-  most = writes-begun c.args.more.seconds 0 (devices (g.M.Medium.state c.args.unit.now) (g.C.Chip.state c.args.card_a.now) (g.D.Chip.state c.args.card_b.now)) (devices (g.M.Medium.state c.begin_second.new.unit) (g.C.Chip.state c.begin_second.new.card_a) (g.D.Chip.state c.begin_second.new.card_b)) c.requires.stretch.some c.in_err-begin_second.ensures.goes.most;
+  most = writes-begun 1 0 (devices (g.M.Medium.state c.args.unit.now) (g.C.Chip.state c.args.card_a.now) (g.D.Chip.state c.args.card_b.now)) (devices (g.M.Medium.state c.begin_second.new.unit) (g.C.Chip.state c.begin_second.new.card_a) (g.D.Chip.state c.begin_second.new.card_b)) (omega arith) c.in_err-begin_second.ensures.goes.most;
 }
 
 -- ---- what is recorded, with its events and rings

@@ -19,7 +19,8 @@ use Rattle.run_minutes.proofs.DecidedBooked.{time-before}
 use Rattle.minute_rules.specs.Kept.{Kept as Minutes}
 use Rattle.run_acts.specs.declared.run.Run.{Run}
 use Rattle.run_acts.specs.declared.run.Power.{Power}
-use Rattle.run_acts.specs.Recording.{log_of, GoesOnOrFails}
+use Rattle.run_acts.specs.Recording.{log_of, values_of, GoesOnOrFails}
+use Rattle.run_acts.proofs.KeptSeats.{stood-later}
 use Rattle.run_acts.specs.Settling.{RecordsSettling}
 use Rattle.run_acts.specs.run_note_record.Noting.{Acting}
 use Rattle.run_acts.specs.Evented.{EventsGoOn, EventsSettling}
@@ -254,6 +255,7 @@ returns-in_err-settle-clause-promises g c = record {
       (waits-within c.args.put.slot c.args.put.card c.args.put.at c.args.put.speed run out d o done s now front rest actions c.requires.may.at begun late allowed within (ungiven_of c.requires.acting.going.span) c.requires.acting.going.cabin mid told true settles v.decided v.given) time in
       let goes = unsettled-cards o done s front rest c.args.put.slot c.args.put.card actions run out d within cards (refuses o done s c.args.put.speed run out d now front (Insert c.args.put.slot c.args.put.card) rest actions within None allowed)
       told e lines.lines (ap log_of settles.outcome ∙ ap (λ (bs : List Break). record (log_of out) { breaks = bs }) lines.are) (subst (λ (m : Moment). AreTears m lines.lines) at lines.tears)
+      (stood-later o done s (In (length front)) [] None [] (values_of run out) d within.within e (settled-later c.settle.ensures.goes.keeping c.settle.ensures.goes.speeds))
       (more-left o d e (within.within.powered.lit.unit.unit_holds [] []).later within.within.there.clocks (settled-left c.settle.ensures.goes.keeping)) still in
       subst (λ (f : Bool). CardsGoOn f o done s within.within.b.run.log (front ++ Insert c.args.put.slot c.args.put.card ∷ []) (log_of told) e) (failed g c) goes;
   stands =
@@ -411,7 +413,8 @@ returns-clause-promises g c = record {
       let own : mid.keeper.memory.registration ≡ vehicle_in o = ap (λ m. m.registration) (settled-watched c.args.put.at false put mid out told settles).memory ∙ vehicle in
       let j = next-cards c.args.put.slot c.args.put.card c.args.put.at c.args.put.speed run out d o done s now front rest actions c.requires.may.at begun late allowed within (ungiven_of c.requires.acting.going.span) c.requires.acting.going.cabin mid told false settles q.decided q.given e (records g c) before refl (seat-there g (goal.at.returns-clause-promises g c).In_ok-settle)
       (is_err c.accept_in.result) c.accept_in.new.outcome last (c.accept_in.ensures.promises.cards (room-then g c room)) own time in
-      inserted-cards o done s front rest c.args.put.slot c.args.put.card actions run out d within cards fine told e lines.lines log tears left still (is_err c.accept_in.result) c.accept_in.new.outcome last j;
+      inserted-cards o done s front rest c.args.put.slot c.args.put.card actions run out d within cards fine told e lines.lines log tears
+      (stood-later o done s (In (length front)) [] None [] (values_of run out) d within.within e (settled-later c.settle.ensures.goes.keeping c.settle.ensures.goes.speeds)) left still (is_err c.accept_in.result) c.accept_in.new.outcome last j;
   stands =
       λ late room o done s now front rest actions begun allowed within time.
       let run = c.args.run.now in

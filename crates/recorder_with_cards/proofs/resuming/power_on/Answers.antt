@@ -30,7 +30,7 @@ use Rattle.run_acts.specs.run_note_record.Steps.{spans_cut}
 use Rattle.run_acts.proofs.run_note_record.RingsWaking.{behind-stays}
 use Rattle.run_acts.specs.RunRinged.{seats_of, with_cut, InSecondRinged, RunRinged}
 use Rattle.run_acts.specs.Stood.{LetStand, TellsOn, HaveStood}
-use Rattle.run_acts.proofs.Stood.{behind-on, stood-on, unit-makes}
+use Rattle.run_acts.proofs.Stood.{behind-on, stood-on, unit-makes, unit-rests}
 use Rattle.recorder_with_cards.proofs.Resumed.{wholes-of}
 use Rattle.recorder_with_cards.proofs.FreshStood.{begins-stood}
 use Rattle.recorder_with_cards.proofs.StoodSeconds.{cut-ends}
@@ -276,7 +276,7 @@ returns-in-Ok-clause-promises g c = record {
   cards =
       λ room o done s now all has time.
       let at = (goal.at.returns-in-Ok-clause-promises g c).After-open_unit in
-      c.found.ensures.promises.cards room o done s now (record { ringed = ringed g at o done has all.ringed; vehicle = all.vehicle; cards = shown g at o done all.cards; past = behind-on o done (log_of (out g at)) (dev0 g at) (dev1 g at) all.past (stands g at o done has all.ringed.evented.recorded); speeds = speeds g at o done all.speeds }) has time;
+      c.found.ensures.promises.cards room o done s now (record { ringed = ringed g at o done has all.ringed; vehicle = all.vehicle; cards = shown g at o done all.cards; past = behind-on o done (log_of (out g at)) (dev0 g at) (dev1 g at) all.past (stands g at o done has all.ringed.evented.recorded) (unit-rests o (log_of (out g at)) (g.M.Medium.state c.args.unit.now) (g.M.Medium.state c.open_unit.new.unit) (g.C.Chip.state c.args.card_a.now) (g.D.Chip.state c.args.card_b.now)); speeds = speeds g at o done all.speeds }) has time;
 }
 
 pub returns-in-Ok-clause-goes : goal.returns-in-Ok-clause-goes

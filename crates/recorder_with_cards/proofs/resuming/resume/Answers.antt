@@ -98,6 +98,8 @@ use Rattle.run_minutes.specs.run_promise.Origin.{Origin, rule_of, start_at, firs
 use Rattle.run_minutes.specs.run_promise.Beside.{HaveLeftMore}
 use Rattle.run_acts.specs.run_record.Powering.{read_values}
 use Rattle.run_acts.specs.Stays.{AllStay}
+use Rattle.run_acts.proofs.AllStay.{stood-self}
+use Rattle.run_acts.proofs.KeptSeats.{stood-later}
 use Rattle.run_acts.specs.Truths.{truths_of, marked}
 use Rattle.run_acts.specs.run_note_record.Ringed.{Seating, notes_in}
 use Rattle.run_acts.specs.declared.run.Power.TheVariants.{Lit}
@@ -1165,7 +1167,7 @@ returns-then-is_first-clause-promises g c = record {
       woken-all false o done s x.within.b.run.log (log_of (out g at)) (two g cards) (log_of (out2 g cards)) (dev2 g cards) (began-here g cards p time well_two) (vehicle-two g cards o vehicle)
       (gap-shown o done s (two g cards) (out2 g cards) (dev2 g cards) (dev2 g cards) x (ungiven_of stands_so.span) stands_so.cabin (off-here g cards p time well_two) (bare-here g cards p time well_two e) (positive g at p) None
       (none-list o done s supply v (dev0 g at) (mended g at) r may number given c.args.waking.journal.kept evented (quiet g at) (is g at p).2 (woken g at p e).2 x.within.b.run.log (log-here g cards p time well_two) untold) (vehicle-two g cards o vehicle) (cards-here g cards p time well_two speed_is vehicle shown)
-      false (two g cards) (out2 g cards).breaks NoGap (refl, refl, refl) (left-itself o (dev2 g cards)) (λ bad. none-fails bad) (none-noted (two g cards).keeper.cabin.cards (two g cards).keeper.memory.registration (dev2 g cards)));
+      false (two g cards) (out2 g cards).breaks NoGap (refl, refl, refl) (stood-self o (dev2 g cards)) (left-itself o (dev2 g cards)) (λ bad. none-fails bad) (none-noted (two g cards).keeper.cabin.cards (two g cards).keeper.memory.registration (dev2 g cards)));
   stands =
       λ room o origin done s supply v r stay may number given speed_is values evented limit vehicle time.
       let cards = (goal.at.returns-then-is_first-clause-promises g c).After-accept_anew-2 in
@@ -1260,7 +1262,8 @@ returns-clause-promises g c = record {
       (gap-shown o done s (two g cards) (out2 g cards) (dev2 g cards) (dev3 g c) x (ungiven_of stands_so.span) stands_so.cabin (off-here g cards p past (fine g c)) (bare-here g cards p past (fine g c) e) (positive g at p) (gap_of c.last_kept-kept.result (two g cards).next)
       (λ crew. some-list o done s supply v (dev0 g at) (mended g at) r may number given c.args.waking.journal.kept evented (quiet g at) (is g at p).2 (woken g at p e).2 x.within.b.run.log (log-here g cards p past (fine g c)) (told-before g c p time) crew ∙ ap (λ (q : Option Span). gap_list q crew) same_gap)
       (vehicle-two g cards o vehicle) (cards-here g cards p past (fine g c) speed_is vehicle shown)
-      (is_err c.note_gap.result) (new g c) c.note_gap.new.breaks c.note_gap.ensures.noted.reach.0 c.note_gap.ensures.noted.reach.1 (c.note_gap.ensures.leaves.beside o done s (out2 g cards) x (comes g cards p past (fine g c))).0
+      (is_err c.note_gap.result) (new g c) c.note_gap.new.breaks c.note_gap.ensures.noted.reach.0 c.note_gap.ensures.noted.reach.1
+      (stood-later o done s (In 0) [] None [] (values_of (two g cards) (out2 g cards)) (dev2 g cards) x.within (dev3 g c) c.note_gap.ensures.goes.later) (c.note_gap.ensures.leaves.beside o done s (out2 g cards) x (comes g cards p past (fine g c))).0
       (λ fails. (subst (λ (f : Bool). GoesOnOrFails f o done s (In 0) [] (new g c) (out3 g c) (dev3 g c) x.within.b) fails (goes g c p time)).within.moment.up_to.uncut) c.note_gap.ensures.leaves.card_events);
   stands =
       λ room o origin done s supply v r stay may number given speed_is values evented limit vehicle time.

@@ -38,9 +38,8 @@ use Rattle.run_minutes.proofs.Later.{after-same}
 use Rattle.run_outcome.proofs.Broken.{broke-none, broke-behind}
 use Rattle.recorder_with_cards.proofs.Uncut.{off-uncut, off-calm}
 use Rattle.run_minutes.proofs.Calm.{calm-told, calm-same}
-use Rattle.recorder_with_cards.proofs.Writes.{writes-none, writes-more}
-use Rattle.recorder_with_cards.specs.Writes.{WritesFor}
-use Rattle.recorder_with_cards.specs.Gone.{first_waiting}
+use Rattle.recorder_with_cards.proofs.Writes.{writes-none}
+use Rattle.recorder_with_cards.specs.Writes.{WritesFor, turns_at, acts_at}
 use Rattle.recorder_with_cards.proofs.run.go_on.Goals as goal
 
 -- ---- an action waits
@@ -200,7 +199,7 @@ returns-in-Act-clause-goes g c = record {
   later = after-same (devices (g.M.Medium.state c.args.unit.now) (g.C.Chip.state c.args.card_a.now) (g.D.Chip.state c.args.card_b.now));
   calm = calm-same (devices (g.M.Medium.state c.args.unit.now) (g.C.Chip.state c.args.card_a.now) (g.D.Chip.state c.args.card_b.now));
   broke = broke-none c.args.outcome.now.breaks.items {old = (g.M.Medium.state c.args.unit.now)} {new = (g.M.Medium.state c.args.unit.now)} (omega arith);
-  most = writes-none (item_seconds c.args.due.item) (first_waiting c.args.due.item c.args.due.from c.args.due.to - c.args.due.from) (devices (g.M.Medium.state c.args.unit.now) (g.C.Chip.state c.args.card_a.now) (g.D.Chip.state c.args.card_b.now));
+  most = writes-none (turns_at c.args.run.now.next c.args.due.item) (acts_at (c.args.due.to - c.args.due.from) c.args.due.item) (devices (g.M.Medium.state c.args.unit.now) (g.C.Chip.state c.args.card_a.now) (g.D.Chip.state c.args.card_b.now));
 }
 
 pub returns-in-Off-clause-goes : goal.returns-in-Off-clause-goes
@@ -208,7 +207,7 @@ returns-in-Off-clause-goes g c = record {
   later = after-same (devices (g.M.Medium.state c.args.unit.now) (g.C.Chip.state c.args.card_a.now) (g.D.Chip.state c.args.card_b.now));
   calm = calm-told (devices (g.M.Medium.state c.args.unit.now) (g.C.Chip.state c.args.card_a.now) (g.D.Chip.state c.args.card_b.now)) _ (ap (λ (l : Listed Break). l.items) c.off.ensures.breaks) (off-calm _ _ _);
   broke = broke-behind _ {old = (g.M.Medium.state c.args.unit.now)} {new = (g.M.Medium.state c.args.unit.now)} (ap (λ (l : Listed Break). l.items) c.off.ensures.breaks) (off-uncut _ _ _) (omega arith);
-  most = writes-none (item_seconds c.args.due.item) (first_waiting c.args.due.item c.args.due.from c.args.due.to - c.args.due.from) (devices (g.M.Medium.state c.args.unit.now) (g.C.Chip.state c.args.card_a.now) (g.D.Chip.state c.args.card_b.now));
+  most = writes-none (turns_at c.args.run.now.next c.args.due.item) (acts_at (c.args.due.to - c.args.due.from) c.args.due.item) (devices (g.M.Medium.state c.args.unit.now) (g.C.Chip.state c.args.card_a.now) (g.D.Chip.state c.args.card_b.now));
 }
 
 pub returns-in-Run-clause-goes : goal.returns-in-Run-clause-goes
@@ -217,8 +216,7 @@ returns-in-Run-clause-goes g c = record {
   calm = c.drive.ensures.goes.calm;
   broke = c.drive.ensures.goes.broke;
   most =
-      subst (λ (i : Item). WritesFor (item_seconds i) (first_waiting i c.args.due.from c.args.due.to - c.args.due.from) (devices (g.M.Medium.state c.args.unit.now) (g.C.Chip.state c.args.card_a.now) (g.D.Chip.state c.args.card_b.now)) (devices (g.M.Medium.state c.drive.new.unit) (g.C.Chip.state c.drive.new.card_a) (g.D.Chip.state c.drive.new.card_b))) (sym c.in-Run.is)
-      (writes-more c.in-Run.seconds c.in-Run.seconds (c.args.due.to - c.args.due.from) (c.args.due.to + 1 - c.args.due.from) (devices (g.M.Medium.state c.args.unit.now) (g.C.Chip.state c.args.card_a.now) (g.D.Chip.state c.args.card_b.now)) (devices (g.M.Medium.state c.drive.new.unit) (g.C.Chip.state c.drive.new.card_a) (g.D.Chip.state c.drive.new.card_b)) (omega arith) (omega arith) c.drive.ensures.goes.most);
+      subst (λ (i : Item). WritesFor (turns_at c.args.run.now.next i) (acts_at (c.args.due.to - c.args.due.from) i) (devices (g.M.Medium.state c.args.unit.now) (g.C.Chip.state c.args.card_a.now) (g.D.Chip.state c.args.card_b.now)) (devices (g.M.Medium.state c.drive.new.unit) (g.C.Chip.state c.drive.new.card_a) (g.D.Chip.state c.drive.new.card_b))) (sym c.in-Run.is) c.drive.ensures.goes.most;
 }
 
 pub drive-requires-clause-among : goal.drive-requires-clause-among

@@ -43,9 +43,9 @@ use Rattle.run_acts.specs.Recording.{log_of}
 use Rattle.run_outcome.proofs.Broken.{broke-none, broke-then, broke-all, broke-nothing, calm-all, most-all}
 use Rattle.run_minutes.proofs.Calm.{calm-rests, calm-then, still-all, most-still}
 use Rattle.recorder_with_cards.proofs.Time.{after-time}
-use Rattle.recorder_with_cards.proofs.Writes.{writes-then, writes-more, waiting-on}
+use Rattle.recorder_with_cards.proofs.Writes.{writes-item, writes-within}
 use Rattle.recorder_with_cards.specs.Gone.{first_waiting}
-use Rattle.recorder_with_cards.specs.Writes.{WritesFor}
+use Rattle.recorder_with_cards.specs.Writes.{WritesFor, turns_of}
 use Rattle.recorder_with_cards.proofs.run.run_trace.Goals as goal
 
 -- ---- the opening
@@ -192,13 +192,12 @@ loop-i-preserved g c =
       later = after-then (devices (g.U.Medium.state c.args.unit.now) (g.C.Chip.state c.args.card_a.now) (g.C.Chip.state c.args.card_b.now)) (devices (g.U.Medium.state c.loop-i.unit) (g.C.Chip.state c.loop-i.card_a) (g.C.Chip.state c.loop-i.card_b)) (devices (g.U.Medium.state c.go_on.new.unit) (g.C.Chip.state c.go_on.new.card_a) (g.C.Chip.state c.go_on.new.card_b)) v.later f.goes.later;
       calm = calm-then (devices (g.U.Medium.state c.args.unit.now) (g.C.Chip.state c.args.card_a.now) (g.C.Chip.state c.args.card_b.now)) (devices (g.U.Medium.state c.loop-i.unit) (g.C.Chip.state c.loop-i.card_a) (g.C.Chip.state c.loop-i.card_b)) (devices (g.U.Medium.state c.go_on.new.unit) (g.C.Chip.state c.go_on.new.card_a) (g.C.Chip.state c.go_on.new.card_b)) v.calm f.goes.calm;
       most =
-          let was = total-parts items i in
-          let now = total-parts items (i + 1) in
-          let on = waiting-on item c.loop-i.first i v.first in
-          subst (λ (n : ℕ). WritesFor (total_seconds (take (i + 1) items)) n (devices (g.U.Medium.state c.args.unit.now) (g.C.Chip.state c.args.card_a.now) (g.C.Chip.state c.args.card_b.now)) (devices (g.U.Medium.state c.go_on.new.unit) (g.C.Chip.state c.go_on.new.card_a) (g.C.Chip.state c.go_on.new.card_b))) (sym waits)
-          (writes-more (total_seconds (take i items) + item_seconds item) (total_seconds (take (i + 1) items)) (c.loop-i.first + (first_waiting item c.loop-i.first i - c.loop-i.first)) (first_waiting item c.loop-i.first i)
-          (devices (g.U.Medium.state c.args.unit.now) (g.C.Chip.state c.args.card_a.now) (g.C.Chip.state c.args.card_b.now)) (devices (g.U.Medium.state c.go_on.new.unit) (g.C.Chip.state c.go_on.new.card_a) (g.C.Chip.state c.go_on.new.card_b)) (omega (arith, was, now, s)) (omega (arith, on))
-          (writes-then (total_seconds (take i items)) (item_seconds item) c.loop-i.first (first_waiting item c.loop-i.first i - c.loop-i.first) (devices (g.U.Medium.state c.args.unit.now) (g.C.Chip.state c.args.card_a.now) (g.C.Chip.state c.args.card_b.now)) (devices (g.U.Medium.state c.loop-i.unit) (g.C.Chip.state c.loop-i.card_a) (g.C.Chip.state c.loop-i.card_b)) (devices (g.U.Medium.state c.go_on.new.unit) (g.C.Chip.state c.go_on.new.card_a) (g.C.Chip.state c.go_on.new.card_b)) v.most f.goes.most));
+          let start : ℕ = c.args.trace.now.start in
+          let parts = total-parts items i in
+          let at = v.next in
+          let here : number_after start (take i items) ≡ c.loop-i.run.next = omega (arith, parts, at) in
+          subst (λ (n : ℕ). WritesFor (turns_of start (take (i + 1) items)) (length (actions_in (take n items))) (devices (g.U.Medium.state c.args.unit.now) (g.C.Chip.state c.args.card_a.now) (g.C.Chip.state c.args.card_b.now)) (devices (g.U.Medium.state c.go_on.new.unit) (g.C.Chip.state c.go_on.new.card_a) (g.C.Chip.state c.go_on.new.card_b))) (sym waits)
+          (writes-item start items i c.loop-i.first c.loop-i.run.next item (devices (g.U.Medium.state c.args.unit.now) (g.C.Chip.state c.args.card_a.now) (g.C.Chip.state c.args.card_b.now)) (devices (g.U.Medium.state c.loop-i.unit) (g.C.Chip.state c.loop-i.card_a) (g.C.Chip.state c.loop-i.card_b)) (devices (g.U.Medium.state c.go_on.new.unit) (g.C.Chip.state c.go_on.new.card_a) (g.C.Chip.state c.go_on.new.card_b)) c.get-item.ensures here v.first v.waits v.most f.goes.most);
       broke = broke-then v.broke f.goes.broke;
       told = v.told;
       cards = λ x a b h time few.
@@ -261,30 +260,23 @@ returns-in_err-go_on-clause-fault g c = λ x a b told.
 pub returns-clause-goes : goal.returns-clause-goes
 returns-clause-goes g c = record {
   later = c.loop-i.invariant.later;
-  most =
-      let items = c.args.trace.now.items in
-      let all = total-parts items c.loop-i.i in
-      let first = c.loop-i.invariant.first in
-      let len = c.len-i-end.ensures in
-      writes-more (total_seconds (take c.loop-i.i items)) (total_seconds items) c.loop-i.first (length items) (devices (g.U.Medium.state c.args.unit.now) (g.C.Chip.state c.args.card_a.now) (g.C.Chip.state c.args.card_b.now)) (devices (g.U.Medium.state c.loop-i.unit) (g.C.Chip.state c.loop-i.card_a) (g.C.Chip.state c.loop-i.card_b)) (omega (arith, all)) (omega (arith, first, c.loop-i.auto.i-end, len)) c.loop-i.invariant.most;
+  most = writes-within c.args.trace.now.start c.args.trace.now.items c.loop-i.i c.loop-i.first (devices (g.U.Medium.state c.args.unit.now) (g.C.Chip.state c.args.card_a.now) (g.C.Chip.state c.args.card_b.now)) (devices (g.U.Medium.state c.loop-i.unit) (g.C.Chip.state c.loop-i.card_a) (g.C.Chip.state c.loop-i.card_b)) c.loop-i.invariant.most;
 }
 
 pub returns-in_err-go_on-clause-goes : goal.returns-in_err-go_on-clause-goes
 returns-in_err-go_on-clause-goes g c = record {
   later = after-then (devices (g.U.Medium.state c.args.unit.now) (g.C.Chip.state c.args.card_a.now) (g.C.Chip.state c.args.card_b.now)) (devices (g.U.Medium.state c.loop-i.unit) (g.C.Chip.state c.loop-i.card_a) (g.C.Chip.state c.loop-i.card_b)) (devices (g.U.Medium.state c.go_on.new.unit) (g.C.Chip.state c.go_on.new.card_a) (g.C.Chip.state c.go_on.new.card_b)) c.loop-i.invariant.later c.in_err-go_on.ensures.goes.later;
   most =
+      let start : ℕ = c.args.trace.now.start in
       let items = c.args.trace.now.items in
       let i : ℕ = c.loop-i.i in
       let item = c.get-item.result.now in
       let v = c.loop-i.invariant in
-      let s = seconds-here items i item c.get-item.ensures in
-      let all = total-parts items i in
-      let on = waiting-on item c.loop-i.first i v.first in
-      let most = waiting-most item c.loop-i.first i v.first in
-      let low : i < length items = omega (arith, c.loop-i-test.true, c.len-i-end.ensures) in
-      writes-more (total_seconds (take i items) + item_seconds item) (total_seconds items) (c.loop-i.first + (first_waiting item c.loop-i.first i - c.loop-i.first)) (length items) (devices (g.U.Medium.state c.args.unit.now) (g.C.Chip.state c.args.card_a.now) (g.C.Chip.state c.args.card_b.now)) (devices (g.U.Medium.state c.go_on.new.unit) (g.C.Chip.state c.go_on.new.card_a) (g.C.Chip.state c.go_on.new.card_b))
-      (omega (arith, all, s)) (omega (arith, on, most, low))
-      (writes-then (total_seconds (take i items)) (item_seconds item) c.loop-i.first (first_waiting item c.loop-i.first i - c.loop-i.first) (devices (g.U.Medium.state c.args.unit.now) (g.C.Chip.state c.args.card_a.now) (g.C.Chip.state c.args.card_b.now)) (devices (g.U.Medium.state c.loop-i.unit) (g.C.Chip.state c.loop-i.card_a) (g.C.Chip.state c.loop-i.card_b)) (devices (g.U.Medium.state c.go_on.new.unit) (g.C.Chip.state c.go_on.new.card_a) (g.C.Chip.state c.go_on.new.card_b)) v.most c.in_err-go_on.ensures.goes.most);
+      let parts = total-parts items i in
+      let at = v.next in
+      let here : number_after start (take i items) ≡ c.loop-i.run.next = omega (arith, parts, at) in
+      writes-within start items (i + 1) (first_waiting item c.loop-i.first i) (devices (g.U.Medium.state c.args.unit.now) (g.C.Chip.state c.args.card_a.now) (g.C.Chip.state c.args.card_b.now)) (devices (g.U.Medium.state c.go_on.new.unit) (g.C.Chip.state c.go_on.new.card_a) (g.C.Chip.state c.go_on.new.card_b))
+      (writes-item start items i c.loop-i.first c.loop-i.run.next item (devices (g.U.Medium.state c.args.unit.now) (g.C.Chip.state c.args.card_a.now) (g.C.Chip.state c.args.card_b.now)) (devices (g.U.Medium.state c.loop-i.unit) (g.C.Chip.state c.loop-i.card_a) (g.C.Chip.state c.loop-i.card_b)) (devices (g.U.Medium.state c.go_on.new.unit) (g.C.Chip.state c.go_on.new.card_a) (g.C.Chip.state c.go_on.new.card_b)) c.get-item.ensures here v.first v.waits v.most c.in_err-go_on.ensures.goes.most);
 }
 
 pub returns-in_err-opened-clause-goes : goal.returns-in_err-opened-clause-goes

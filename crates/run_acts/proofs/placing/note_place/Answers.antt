@@ -211,7 +211,7 @@ module _ (g : Over) (c : In_ok-note_place g) (k : OneCard c.in-Some.card (g.C.Ch
       (some-left (session_of c.args.run.now.keeper.cabin.cards k.which) (λ a. IsNote a.session.application) (k.state k.before) (k.state k.after) some e.known.moments)
 
   shown : CardsPlace c.args.place.slot c.args.place.at (is_err k.result) c.args.run.now c.args.breaks.now k.breaks (first g c) last
-  shown = place-cards c.args.place.slot c.args.place.at (is_err k.result) e.noted.0 c.args.run.now k.new c.args.breaks.now k.breaks (first g c) last c.requires.at e.noted.1.told card-events keeps
+  shown = place-cards c.args.place.slot c.args.place.at (is_err k.result) e.noted.0 c.args.run.now k.new c.args.breaks.now k.breaks (first g c) last c.requires.at e.noted.1.told card-events keeps later
 
   ringed : RingsPlace c.args.place.slot c.args.place.entry c.args.place.at (is_err k.result) c.args.run.now k.new c.args.breaks.now k.breaks (first g c) last
   ringed =
@@ -599,7 +599,9 @@ returns-in_err-note_place-clause-promises g c = record {
       let B0 = g.D.Chip.state c.args.card_b.now in
       let none : breaks ≡ with_lines [] breaks = ap (λ (bs : List Break). record breaks { items = bs }) (sym (append-nil breaks.items)) in
       place-cards c.args.place.slot c.args.place.at (is_err c.from_residual.result) false run run breaks breaks (devices U A0 B0) (devices V A0 B0) c.requires.at none ((returns-in_err-note_place-clause-leaves g c).card_events)
-      (record { unit = c.note_place.ensures.journal.keeps; card_a = λ t x le at. at; card_b = λ t x le at. at });
+      (record { unit = c.note_place.ensures.journal.keeps; card_a = λ t x le at. at; card_b = λ t x le at. at })
+      (later-of-unit U V A0 B0 (state-by U V _ c.note_place.ensures.journal.later c.note_place.ensures.alters.cause)
+      (place-leaves (unit_place_bytes c.in-Some-number_in.number c.args.place.entry) U V (g.met.M.Medium.coherent c.args.unit.now) c.note_place.ensures.alters.moments));
   stands =
       let run = c.args.run.now in
       let U = g.M.Medium.state c.args.unit.now in

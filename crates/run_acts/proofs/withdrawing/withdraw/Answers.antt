@@ -33,7 +33,7 @@ use Rattle.run_acts.specs.Acting.{Closing, told_of, IsSettled, IsWithdrawn, clos
 use Rattle.run_acts.proofs.Leaving.{left-going, left-held, left-falls, closed-falls}
 use Rattle.run_acts.proofs.Cabins.{cabin-only}
 use Rattle.log_model.specs.Log.{In}
-use Rattle.run_acts.specs.Recording.{RunFails, GoesOnOrFails, log_of, IsNow, RunWithin}
+use Rattle.run_acts.specs.Recording.{RunFails, GoesOnOrFails, log_of, values_of, IsNow, RunWithin}
 use Rattle.run_acts.specs.Settling.{RecordsSettling}
 use Rattle.run_acts.proofs.Asked.{withdraws-one}
 use Rattle.run_acts.proofs.WithdrawnRecorded.{acting_at, moment-is, settling-cut, closing-recorded, settled-evented, closing-evented, untorn-then, sat-there, settled-still, settled-places, settled-stands, closed-places, closed-still, closed-shuts}
@@ -72,6 +72,7 @@ use Rattle.run_acts.specs.RunCards.{CardsSettling, PlacesSettling, StillShow, Ca
 use Rattle.run_acts.specs.Stood.{LetStand, StandsSettling}
 use Rattle.run_acts.proofs.Stood.{let-left, vehicles-make}
 use Rattle.run_acts.proofs.CardStays.{shows-then}
+use Rattle.run_acts.proofs.KeptSeats.{stood-later}
 use Rattle.run_acts.proofs.CardActs.{TellsLines, settled-lines, closed-lines, quiet-goes}
 use Rattle.run_acts.specs.CardWrites.{ClosesCard, ShutsThen, WithdrawsShut, IsShut}
 use Rattle.run_acts.proofs.CardWrites.{withdrawn-shut}
@@ -447,7 +448,8 @@ module _ (g : Over) (c : In_ok-settle g) (k : OneCard c.in-Some.card (g.C.Chip.s
         let n_ = closes.closed in
         let t : TellsLines (acting_at s.number (suc (length front))) c.args.outcome.now told = subst (λ (m : Moment). TellsLines m c.args.outcome.now told) moment
         (closed-lines c.args.withdrawal.at c.args.outcome.now c.settle.new.outcome k.breaks n_.0 c.args.withdrawal.slot (settled-lines c.args.withdrawal.at false (with_cabin c.leave.new.self c.args.run.now) c.settle.new.run c.args.outcome.now c.settle.new.outcome c.in_ok-settle.ensures.settled) n_.1.told) in
-        quiet-goes o done s front rest (Withdraw c.args.withdrawal.slot) are c.args.run.now c.args.outcome.now first_ last w tt t.lines (log_of told) t.are t.tears left shows before (is_err k.result)
+        quiet-goes o done s front rest (Withdraw c.args.withdrawal.slot) are c.args.run.now c.args.outcome.now first_ last w tt t.lines (log_of told) t.are t.tears
+        (stood-later o done s (In (length front)) [] None [] (values_of c.args.run.now c.args.outcome.now) first_ w.within last later) left shows before (is_err k.result)
 
     ringed : (spans : List SpanFrom) (t : Rattle.log_model.specs.Course.ToldSecond) → RingsWithin o done s w.within.b.run.log front c.args.run.now (log_of c.args.outcome.now) spans t first_ → RingsGoOn (is_err k.result) o done s w.within.b (front ++ Withdraw c.args.withdrawal.slot ∷ []) k.new (log_of told) spans t last
     ringed spans t rings =
@@ -628,7 +630,8 @@ module _ (g : Over) (c : After-from_residual g) where
         let still = settled-still o done s front rest c.args.withdrawal.slot are speed now.speed_is c.in-Some.card c.args.run.now c.settle.new.run c.args.outcome.now c.settle.new.outcome start w seat-left allowed (ungiven_of c.requires.acting.going.span) c.requires.acting.going.cabin (c.in_err-settle.ensures.settled.minutes w.within.sp w.within.minutes) v.decided (v.given w.within.sp w.within.minutes) end (left-there (λ m run. CardsSettling v.decided m run c.settle.new.run c.args.outcome.now start end) c.args.withdrawal.slot c.args.withdrawal.at (acting_at s.number (suc (length front))) c.args.run.now c.leave.new.self c.leave.ensures.kept at-moment v.cards) time in
         let t : TellsLines (acting_at s.number (suc (length front))) c.args.outcome.now c.settle.new.outcome = subst (λ (m : Moment). TellsLines m c.args.outcome.now c.settle.new.outcome) at-moment
         (settled-lines c.args.withdrawal.at true (with_cabin c.leave.new.self c.args.run.now) c.settle.new.run c.args.outcome.now c.settle.new.outcome c.in_err-settle.ensures.settled) in
-        quiet-goes o done s front rest (Withdraw c.args.withdrawal.slot) are c.args.run.now c.args.outcome.now start end w tt t.lines (log_of c.settle.new.outcome) t.are t.tears cut-left still cards (is_err c.from_residual.result)
+        quiet-goes o done s front rest (Withdraw c.args.withdrawal.slot) are c.args.run.now c.args.outcome.now start end w tt t.lines (log_of c.settle.new.outcome) t.are t.tears
+        (stood-later o done s (In (length front)) [] None [] (values_of c.args.run.now c.args.outcome.now) start w.within end (settled-later c.settle.ensures.goes.keeping c.settle.ensures.goes.speeds)) cut-left still cards (is_err c.from_residual.result)
 
 pub returns-in_err-settle-clause-withdrawn : goal.returns-in_err-settle-clause-withdrawn
 returns-in_err-settle-clause-withdrawn g c = record {
