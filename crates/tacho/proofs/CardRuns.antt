@@ -11,7 +11,8 @@ use Rattle.recorder_with_cards.specs.Words.{AreAfter, log_of, IsFoundLater, Have
 use Rattle.trace_model.specs.declared.Card.TheVariants.{A, B}
 use Rattle.trace_model.specs.declared.Item.{Item}
 use Rattle.trace_model.specs.Trace.{total_seconds}
-use Rattle.recorder_with_cards.specs.Writes.{WritesFor}
+use Rattle.recorder_with_cards.specs.Writes.{WritesIn}
+use Rattle.recorder_with_cards.proofs.Writes.{writes-few}
 use Rattle.recorder_with_cards.specs.Breakdowns.{BreakdownsAreTold}
 use Rattle.trace_text.specs.declared.lines_trace.Form.TheVariants.{Whole}
 use Rattle.trace_text.specs.Judged.{IsTraceText}
@@ -88,21 +89,27 @@ card-unbroken old new later A sound = ⊎_elim (λ rose. absurd (sound rose)) (�
 card-unbroken old new later B sound = ⊎_elim (λ rose. absurd (sound rose)) (λ same. same) later.card_b.unbroken
 
 module _ (old new : Outside) (outcome : Outcome) (start : ℕ) (items : List Item) (not_unit : IsForUnit items → ⊥)
-    (later : AreAfter (devices_of old) (devices_of new)) (broke : HasBroken old.unit new.unit (length (cuts true (log_of outcome)))) (writes : WritesFor (total_seconds items) (length items) (devices_of old) (devices_of new))
+    (later : AreAfter (devices_of old) (devices_of new)) (broke : HasBroken old.unit new.unit (length (cuts true (log_of outcome)))) (writes : WritesIn start items (devices_of old) (devices_of new))
     (short : total_seconds items ≤ 2 ^ 32) (few : length items ≤ 2 ^ 32)
     (is_read : (text : List ℕ) (s : ℕ) (is : List Item) → old.source.left ≡ Some text → IsTraceText Whole text s is → (start ≡ s) × (items ≡ is)) where
   same-trace : (s : ℕ) (is : List Item) → SourceTells old s is → (start ≡ s) × (items ≡ is)
   same-trace s is told = is_read told.text s is told.told told.trace
 
   time-left : HaveLongTime (devices_of old) → HaveTime (devices_of new)
-  time-left long = record {
-    unit = (let a = writes.unit in let b = long.unit in omega (arith, a, b, short, few));
-    card_a = (let a = writes.card_a in let b = long.card_a in omega (arith, a, b, short, few));
-    card_b = (let a = writes.card_b in let b = long.card_b in omega (arith, a, b, short, few));
-  }
+  time-left long =
+      let most = writes-few start items in
+      let on_unit = most.0 in
+      let on_card = most.1 in
+      record {
+        unit = (let a = writes.unit in let b = long.unit in omega (arith, a, b, on_unit, short, few));
+        card_a = (let a = writes.card_a in let b = long.card_a in omega (arith, a, b, on_card, short, few));
+        card_b = (let a = writes.card_b in let b = long.card_b in omega (arith, a, b, on_card, short, few));
+      }
 
-  writes-by : (s : ℕ) (is : List Item) → SourceTells old s is → WritesFor (total_seconds is) (length is) (devices_of old) (devices_of new)
-  writes-by s is told = subst (λ (l : List Item). WritesFor (total_seconds l) (length l) (devices_of old) (devices_of new)) (same-trace s is told).1 writes
+  writes-by : (s : ℕ) (is : List Item) → SourceTells old s is → WritesIn s is (devices_of old) (devices_of new)
+  writes-by s is told =
+      let same = same-trace s is told in
+      subst (λ (l : List Item). WritesIn s l (devices_of old) (devices_of new)) same.1 (subst (λ (n : ℕ). WritesIn n items (devices_of old) (devices_of new)) same.0 writes)
 
   uncut-by : (Rose old.unit.faults new.unit.faults → ⊥) → old.unit.breakdowns < last_count → cuts true (log_of outcome) ≡ []
   uncut-by sound low = cut-none old.unit new.unit (log_of outcome) later.unit.unbroken broke sound low

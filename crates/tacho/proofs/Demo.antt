@@ -24,6 +24,7 @@ use Rattle.unit_download.specs.declared.fault.DownloadFault.TheVariants as downl
 use Rattle.unit_download.specs.Ending.{has_failed, IfBad}
 use Rattle.trace_text.specs.declared.drawn_trace.TheConstants.{PARTS, DAYS, DAY_SECONDS, FIRST_SECOND}
 use Rattle.trace_text.specs.Demo.{starts, part_of, parts_of, day_of, days_of, demo_items}
+use Rattle.recorder_with_cards.proofs.Writes.{writes-few}
 use Rattle.trace_text.proofs.Groups.{length-starts, demo-whole}
 use Rattle.tacho.specs.declared.anew.AnewFault.{AnewFault}
 use Rattle.tacho.specs.declared.anew.AnewFault.TheVariants.{Unmade, Kept}
@@ -156,18 +157,21 @@ unread-unfinished seed old new outcome unit b u download.WriteFault sound memory
 unread-unfinished seed old new outcome unit b u download.Memory sound memory before whole reads bad changed recorded told = memory refl
 
 -- and so no clock comes to its end
-demo-time : (seed : ℕ) (old new : Devices) → WritesAnew (total_seconds (demo_items seed)) (length (demo_items seed)) old new → HaveLongTime old → HaveTime new
+demo-time : (seed : ℕ) (old new : Devices) → WritesAnew FIRST_SECOND (demo_items seed) old new → HaveLongTime old → HaveTime new
 demo-time seed old new few long =
     let seconds = demo-whole seed in
     let items = items-few seed in
+    let most = writes-few FIRST_SECOND (demo_items seed) in
+    let on_unit = most.0 in
+    let on_card = most.1 in
     record {
-      unit = (let a = few.unit in let b = long.unit in omega (arith, a, b, seconds, items));
-      card_a = (let a = few.card_a in let b = long.card_a in omega (arith, a, b, seconds, items));
-      card_b = (let a = few.card_b in let b = long.card_b in omega (arith, a, b, seconds, items));
+      unit = (let a = few.unit in let b = long.unit in omega (arith, a, b, on_unit, seconds, items));
+      card_a = (let a = few.card_a in let b = long.card_a in omega (arith, a, b, on_card, seconds, items));
+      card_b = (let a = few.card_b in let b = long.card_b in omega (arith, a, b, on_card, seconds, items));
     }
 
 -- THERE WAS NO MEMORY, before a device was used
-pub demo-memory : (seed : ℕ) (old new : Outside) (outcome : Outcome) → new.sink.held ≡ old.sink.held → IsEmpty outcome → IsAsItWas old.card_b.memory new.card_b.memory → WritesAnew (total_seconds (demo_items seed)) (length (demo_items seed)) (devices_of old) (devices_of new) → EndsDemo seed old new outcome Memory
+pub demo-memory : (seed : ℕ) (old new : Outside) (outcome : Outcome) → new.sink.held ≡ old.sink.held → IsEmpty outcome → IsAsItWas old.card_b.memory new.card_b.memory → WritesAnew FIRST_SECOND (demo_items seed) (devices_of old) (devices_of new) → EndsDemo seed old new outcome Memory
 demo-memory seed old new outcome sink empty same few = record {
   ends = tt;
   writes = few;
@@ -183,7 +187,7 @@ demo-memory seed old new outcome sink empty same few = record {
 
 -- THE DEVICES WERE NOT MADE NEW, or the trace was kept from being recorded
 pub demo-refused : (seed : ℕ) (old new : Outside) (outcome : Outcome) (fault : AnewFault) → new.sink.held ≡ old.sink.held → ((b : List ℕ) → StartAnew b old new → IsEmpty outcome × IsAsItWas old.card_b.memory new.card_b.memory)
-    → IsFailed fault (devices_of old) (devices_of new) → ((b : List ℕ) → StartAnew b old new → MayRecord (unit_image VEHICLE) (card_image CARD) b FIRST_SECOND → IsFailure fault) → WritesAnew (total_seconds (demo_items seed)) (length (demo_items seed)) (devices_of old) (devices_of new) → EndsDemo seed old new outcome (refusal_anew fault)
+    → IsFailed fault (devices_of old) (devices_of new) → ((b : List ℕ) → StartAnew b old new → MayRecord (unit_image VEHICLE) (card_image CARD) b FIRST_SECOND → IsFailure fault) → WritesAnew FIRST_SECOND (demo_items seed) (devices_of old) (devices_of new) → EndsDemo seed old new outcome (refusal_anew fault)
 demo-refused seed old new outcome fault sink empty failed only few = record {
   ends = anew-ends fault;
   writes = few;
@@ -207,7 +211,7 @@ recorded-so seed old new outcome unit failed reads recorded b starts =
     (recorded b starts.may (record { unit = omega (arith, starts.clocks.unit, is.clock); card_a = starts.clocks.card_a; card_b = starts.clocks.card_b }))
 
 -- so many writes began till then, and no more
-written-so : (seed : ℕ) (old new : Outside) (unit : State) (failed : Bool) → ReadsIfAny unit new.unit failed → WritesAnew (total_seconds (demo_items seed)) (length (demo_items seed)) (devices_of old) (devices unit new.card_a.memory new.card_b.memory) → WritesAnew (total_seconds (demo_items seed)) (length (demo_items seed)) (devices_of old) (devices_of new)
+written-so : (seed : ℕ) (old new : Outside) (unit : State) (failed : Bool) → ReadsIfAny unit new.unit failed → WritesAnew FIRST_SECOND (demo_items seed) (devices_of old) (devices unit new.card_a.memory new.card_b.memory) → WritesAnew FIRST_SECOND (demo_items seed) (devices_of old) (devices_of new)
 written-so seed old new unit failed reads few =
     let is = is-read unit new.unit failed reads in
     record { unit = (let same = is.clock in let most = few.unit in omega (arith, same, most)); card_a = few.card_a; card_b = few.card_b }
@@ -217,7 +221,7 @@ pub demo-unread : (seed : ℕ) (old new : Outside) (outcome : Outcome) (unit : S
     → ((b : List ℕ) → MayBeAnew b (devices_of old) → HaveTime (devices unit new.card_a.memory new.card_b.memory) → EndsAnew (unit_image VEHICLE) (card_image CARD) b FIRST_SECOND (demo_items seed) outcome (devices_of old) (devices unit new.card_a.memory new.card_b.memory))
     → (fault ≡ download.Changed → IfSome unit.image (λ x. ⊥))
     → old.unit.faults ≤ unit.faults → IsCoherent new.unit → IfBad fault (λ place. IfSome unit.image (λ x. first_bad_place x ≡ Some place))
-    → WritesAnew (total_seconds (demo_items seed)) (length (demo_items seed)) (devices_of old) (devices unit new.card_a.memory new.card_b.memory)
+    → WritesAnew FIRST_SECOND (demo_items seed) (devices_of old) (devices unit new.card_a.memory new.card_b.memory)
     → EndsDemo seed old new outcome (refusal_of_file fault)
 demo-unread seed old new outcome unit fault sink reads recorded changed before whole bad few = record {
   ends = file-ends fault;
@@ -243,7 +247,7 @@ pub demo-done : {T : Type 0} (seed : ℕ) (old new : Outside) (outcome : Outcome
     → OnOk r (Appends old.sink.held new.sink.held (demo_text outcome size))
     → IfErr r (λ fault. (fault ≡ WriteFault) × AppendsFront old.sink.held new.sink.held (demo_text outcome size))
     → IfErr r (λ fault. Rose old.sink.faults new.sink.faults)
-    → WritesAnew (total_seconds (demo_items seed)) (length (demo_items seed)) (devices_of old) (devices unit new.card_a.memory new.card_b.memory)
+    → WritesAnew FIRST_SECOND (demo_items seed) (devices_of old) (devices unit new.card_a.memory new.card_b.memory)
     → EndsDemo seed old new outcome (end_of r)
 demo-done seed old new outcome unit size (Ok u) reads recorded measured appends front rose few = record {
   ends = tt;
@@ -326,8 +330,9 @@ as-demo seed x a b start items out old now image first all h =
     (subst (λ (l : List ℕ). EndsAnew x l b start items out old now) image h))
 
 -- so many writes began as the demonstration takes
-pub writes-demo : (seed : ℕ) (items : List Item) (old now : Devices) → items ≡ demo_items seed → WritesAnew (total_seconds items) (length items) old now → WritesAnew (total_seconds (demo_items seed)) (length (demo_items seed)) old now
-writes-demo seed items old now all few = subst (λ (l : List Item). WritesAnew (total_seconds l) (length l) old now) all few
+pub writes-demo : (seed start : ℕ) (items : List Item) (old now : Devices) → start ≡ FIRST_SECOND → items ≡ demo_items seed → WritesAnew start items old now → WritesAnew FIRST_SECOND (demo_items seed) old now
+writes-demo seed start items old now first all few =
+    subst (λ (l : List Item). WritesAnew FIRST_SECOND l old now) all (subst (λ (n : ℕ). WritesAnew n items old now) first few)
 
 -- so the call ends that was asked for it
 pub demo-ends : {T : Type 0} (seed : ℕ) (old new : Outside) (outcome : Outcome) (r : Result T Fault) → EndsDemo seed old new outcome (end_of r) → HasCauses old new (end_of r) → Ends (Some (Demo seed)) old new (ended_by outcome (end_of r))

@@ -4,7 +4,6 @@ use Rattle.std.proofs.lemmas.List.{drop_all}
 use Rattle.trace_model.specs.declared.Card.{Card}
 use Rattle.trace_model.specs.declared.Card.TheVariants.{A, B}
 use Rattle.trace_model.specs.declared.Item.{Item}
-use Rattle.trace_model.specs.Trace.{total_seconds}
 use Rattle.run_model.specs.declared.Device.{Device}
 use Rattle.run_model.specs.declared.Device.TheVariants.{Unit as Recorder, CardA, CardB}
 use Rattle.tach_media.specs.Medium.{State, IsCoherent, IsSettled, put}
@@ -17,7 +16,7 @@ use Rattle.run_opening.specs.declared.fault.RunFault.{RunFault}
 use Rattle.run_opening.specs.declared.fault.RunFault.TheVariants.{MediumFault, BadUnit, ClockBack, SameCard}
 use Rattle.recorder_with_cards.specs.Ends.{BeginAs, MayRecord, EndsTrace, IsKeptFrom}
 use Rattle.recorder_with_cards.specs.Gone.{IsRefusedBy}
-use Rattle.recorder_with_cards.specs.Writes.{WritesFor}
+use Rattle.recorder_with_cards.specs.Writes.{WritesIn}
 use Rattle.tacho.specs.declared.anew.AnewFault.TheVariants.{Kept}
 use Rattle.tacho.specs.Anew.{began_at, MayBeAnew, EndsAnew, IsFailed, IsFailure}
 use Rattle.tacho.proofs.Recordings.{none-bad}
@@ -47,7 +46,7 @@ card-new image old new whole size behind is tells settled =
 
 -- so the run promises what it does from then on
 pub ends-anew : (x a b : List ℕ) (start : ℕ) (items : List Item) (out : Outcome) (U V X Y Z : State) (now : Devices) → U.clock ≤ V.clock → X.clock ≤ Y.clock → V.breakdowns ≡ U.breakdowns → Y.breakdowns ≡ X.breakdowns → V.clock ≤ now.unit.clock → Y.clock ≤ now.card_a.clock → V.clock ≤ U.clock + 10324 → Y.clock ≤ X.clock + 101 →
-    WritesFor (total_seconds items) (length items) (devices V Y Z) now → EndsTrace x a b start items out (devices V Y Z) now → EndsAnew x a b start items out (devices U X Z) now
+    WritesIn start items (devices V Y Z) now → EndsTrace x a b start items out (devices V Y Z) now → EndsAnew x a b start items out (devices U X Z) now
 ends-anew x a b start items out U V X Y Z now unit card unit_same card_same before before_card made made_card most h = record {
   unit_clock = V.clock;
   card_clock = Y.clock;

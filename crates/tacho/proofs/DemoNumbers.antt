@@ -74,7 +74,7 @@ module _ (x a b : List ℕ) (start : ℕ) (items : List Item) (out : Outcome) (p
       record {
         uses = s.uses;
         are = subst (λ (n : ℕ). AreUses ((card_of now c).left_since n) s.uses (accepted_on c (seen_of r.log r.trace))) (cards c) s.are;
-        exact = s.exact;
+        exact = λ on. s.exact (none-failed c on);
         left = λ on. s.left (none-failed c on);
         shows = subst (λ (n : ℕ). ShowsOn c (vehicle_of r.unit) ((card_of now c).left_since n) s.uses (card_image r c) r.log (met_seconds r.log r.trace) (card_of now c)) (cards c) s.shows;
       }
@@ -115,7 +115,8 @@ module _ (x a b : List ℕ) (start : ℕ) (items : List Item) (out : Outcome) (p
     written = h.written;
     stays = λ c on. h.stays c (none-failed c on);
     both = h.both;
-    stood = λ c valid. subst (λ (n : ℕ). StoodExactly r c n (card_of now c)) (cards c) (h.stood c valid);
+    stood = λ c valid. subst (λ (n : ℕ). StoodExactly r c (card_of q c).clock n (card_of now c)) (broken (device_of c))
+        (subst (λ (n : ℕ). StoodExactly r c n (breakdowns_of p (device_of c)) (card_of now c)) (cards c) (h.stood c valid));
     kept = subst (λ (n : ℕ). TellsKept r n now.unit) unit h.kept;
     last = (safe-by h.ends.safe.unit h.last).1;
     dense = h.dense;

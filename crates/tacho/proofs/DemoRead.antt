@@ -277,7 +277,7 @@ module _ (U V : State) (is : IsRead U V) where
                 owes = s.owes;
                 befores = record { comings = s.befores.comings; lines = s.befores.lines; merged = s.befores.merged; tells = λ dense y left. s.befores.tells dense y (now-back y left) };
               };
-          stood = λ c valid. subst (λ (k : State). StoodExactly r c (card_of p c).clock k) (same-card c) (h.stood c valid);
+          stood = λ c valid. subst (λ (k : State). StoodExactly r c (card_of p c).clock (breakdowns_of p (device_of c)) k) (same-card c) (h.stood c valid);
           rows = λ y left. h.rows y (back p.unit.clock y before left);
           again = λ u ca cb left left_a left_b. h.again u ca cb (back p.unit.clock u before left) left_a left_b;
           speeds = λ ring. speeds-on (is_sure_block r.log) r.unit p.unit.clock (blocks_by r.log r.trace) U V (h.speeds ring) speeds-read;

@@ -1,8 +1,7 @@
 -- A run of a trace on a unit and a card that are made new before it (profile).
-use Rattle.std.specs.Prelude.{◌≡◌, ◌≤◌, ◌+◌, ◌*◌, ℕ, List, true, is_some, length}
+use Rattle.std.specs.Prelude.{◌≡◌, ◌≤◌, ◌+◌, ℕ, List, true, is_some}
 use Rattle.tach_media.specs.Medium.{State, Rose}
 use Rattle.trace_model.specs.declared.Item.{Item}
-use Rattle.trace_model.specs.Trace.{total_seconds}
 use Rattle.unit_model.specs.NewImage.{new_image}
 use Rattle.unit_memory.specs.declared.format.Identity.{Identity}
 use Rattle.safety_model.specs.Safe.{Devices}
@@ -11,7 +10,7 @@ use Rattle.run_opening.specs.Opening.{faults_of}
 use Rattle.run_opening.specs.declared.fault.RunFault.TheVariants.{MediumFault, BadUnit, ClockBack, SameCard}
 use Rattle.run_outcome.specs.declared.outcome.Outcome.{Outcome}
 use Rattle.recorder_with_cards.specs.Ends.{EndsTrace}
-use Rattle.recorder_with_cards.specs.Writes.{WritesFor}
+use Rattle.recorder_with_cards.specs.Writes.{WritesIn, unit_writes, card_writes}
 use Rattle.tacho.specs.declared.anew.AnewFault.{AnewFault}
 use Rattle.tacho.specs.declared.anew.AnewFault.TheVariants.{Unmade, Kept}
 
@@ -38,8 +37,8 @@ pub record MayBeAnew (card_b : List ℕ) (old : Devices) : Type 0 where
   pub of_b : BeginsAs card_b old.card_b
 
 -- THE TRACE WAS RECORDED on a new unit, a new card a, and card b, with these images: once those were made, at these
--- clocks, all is recorded that a run promises, and so many writes began at most: to make them, and then by the seconds
--- of the trace and by its items.
+-- clocks, all is recorded that a run promises, and so many writes began at most: to make them, and then by the turns
+-- of the trace and by its actions.
 pub record EndsAnew (unit card_a card_b : List ℕ) (start : ℕ) (items : List Item) (out : Outcome)
     (old now : Devices) : Type 0 where
   pub unit_clock : ℕ
@@ -51,14 +50,14 @@ pub record EndsAnew (unit card_a card_b : List ℕ) (start : ℕ) (items : List 
   pub unit_made : unit_clock ≤ old.unit.clock + 10324
   pub card_made : card_clock ≤ old.card_a.clock + 101
   pub ends : EndsTrace unit card_a card_b start items out (began_at unit_clock card_clock old) now
-  pub writes : WritesFor (total_seconds items) (length items) (began_at unit_clock card_clock old) now
+  pub writes : WritesIn start items (began_at unit_clock card_clock old) now
 
--- SO MANY WRITES BEGIN AT MOST, whatever fails: to make unit and card a new, and by the seconds of a trace and by its
--- items.
-pub record WritesAnew (seconds items : ℕ) (old now : Devices) : Type 0 where
-  pub unit : now.unit.clock ≤ old.unit.clock + (10324 + (187 * seconds + 102 * items))
-  pub card_a : now.card_a.clock ≤ old.card_a.clock + (101 + (2446 * seconds + 1366 * items))
-  pub card_b : now.card_b.clock ≤ old.card_b.clock + (2446 * seconds + 1366 * items)
+-- SO MANY WRITES BEGIN AT MOST, whatever fails: to make unit and card a new, and by the turns of a trace and by its
+-- actions.
+pub record WritesAnew (start : ℕ) (items : List Item) (old now : Devices) : Type 0 where
+  pub unit : now.unit.clock ≤ old.unit.clock + (10324 + unit_writes start items)
+  pub card_a : now.card_a.clock ≤ old.card_a.clock + (101 + card_writes start items)
+  pub card_b : now.card_b.clock ≤ old.card_b.clock + card_writes start items
 
 -- a device that is told to have failed has failed
 abbrev pub IsFailed : AnewFault → (old now : Devices) → Type 0

@@ -16,8 +16,7 @@ use Rattle.recorder_with_cards.specs.Breakdowns.{BreakdownsAreTold, BreakdownsAr
 use Rattle.recorder_with_cards.specs.Ends.{recording_of, BeginAs, MayRecord, EndsTrace, IsKeptFrom}
 use Rattle.run_outcome.specs.declared.outcome.Outcome.{Outcome}
 use Rattle.trace_model.specs.declared.Item.{Item}
-use Rattle.trace_model.specs.Trace.{total_seconds}
-use Rattle.recorder_with_cards.specs.Writes.{WritesFor}
+use Rattle.recorder_with_cards.specs.Writes.{WritesIn}
 use Rattle.tacho.specs.declared.end.Fault.{Fault}
 use Rattle.tacho.specs.declared.end.Fault.TheVariants.{Done}
 use Rattle.tacho.specs.Outside.{Outside}
@@ -99,9 +98,9 @@ pub record EndsWithCards (old new : Outside) (outcome : Outcome) (fault : Fault)
   pub later : AreAfter (devices_of old) (devices_of new)
   pub early : (start : ℕ) (items : List Item) → SourceTells old start items → IsRefusal fault
       → IsNotRecorded start (devices_of old) (devices_of new) outcome fault
-  -- So many writes began at most on each device, by the seconds of the trace and by its items.
+  -- So many writes began at most on each device, by the turns of the trace, two for each minute, and by its actions.
   pub writes : (start : ℕ) (items : List Item) → SourceTells old start items
-      → WritesFor (total_seconds items) (length items) (devices_of old) (devices_of new)
+      → WritesIn start items (devices_of old) (devices_of new)
   -- So a clock comes to its end in no run that it began in its lower half.
   pub time : (start : ℕ) (items : List Item) → SourceTells old start items → HaveLongTime (devices_of old)
       → HaveTime (devices_of new)

@@ -1,6 +1,6 @@
 -- How `demo` ends: a unit and a card are made new, a demonstration is recorded on them, and the unit is downloaded
 -- (profile).
-use Rattle.std.specs.Prelude.{◌≡◌, ◌⊎◌, ℕ, List, ◌++◌, codes, length, Some, IfSome}
+use Rattle.std.specs.Prelude.{◌≡◌, ◌⊎◌, ℕ, List, ◌++◌, codes, Some, IfSome}
 use Rattle.std.specs.Io.KnownBytes.{Appends, Keeps}
 use Rattle.tach_media.specs.Medium.{State}
 use Rattle.tach_media.specs.Streams.{AppendsFront}
@@ -11,7 +11,6 @@ use Rattle.run_opening.specs.Opening.{IsAsItWas}
 use Rattle.run_outcome.specs.declared.outcome.Outcome.{Outcome}
 use Rattle.unit_download.specs.declared.fault.DownloadFault.{DownloadFault}
 use Rattle.unit_download.specs.declared.fault.DownloadFault.TheVariants as download
-use Rattle.trace_model.specs.Trace.{total_seconds}
 use Rattle.trace_text.specs.declared.drawn_trace.TheConstants.{FIRST_SECOND}
 use Rattle.trace_text.specs.Demo.{demo_items}
 use Rattle.tacho.specs.declared.anew.AnewFault.{AnewFault}
@@ -85,7 +84,7 @@ pub record EndsDemo (seed : ℕ) (old new : Outside) (outcome : Outcome) (fault 
       → IsDemonstrated seed card_b old new outcome
       ⊎ (IsEmpty outcome × IsAsItWas old.card_b.memory new.card_b.memory)
   -- Whatever fails, so many writes began at most on each device.
-  pub writes : WritesAnew (total_seconds (demo_items seed)) (length (demo_items seed)) (devices_of old) (devices_of new)
+  pub writes : WritesAnew FIRST_SECOND (demo_items seed) (devices_of old) (devices_of new)
   -- So a clock comes to its end in no demonstration that it began in its lower half.
   pub time : HaveLongTime (devices_of old) → HaveTime (devices_of new)
   -- Done: exactly the seven lines were printed; at a write fault a front of them; and else nothing.

@@ -1,5 +1,5 @@
 -- How a trace without a card's line is recorded on the unit alone (profile).
-use Rattle.std.specs.Prelude.{◌≡◌, ◌⊎◌, ℕ, ◌+◌, ◌*◌, ◌/◌, ◌^◌, ◌<◌, ◌≤◌, true, Some, List, [], length}
+use Rattle.std.specs.Prelude.{◌≡◌, ◌⊎◌, ℕ, ◌+◌, ◌/◌, ◌^◌, ◌<◌, ◌≤◌, true, Some, List, [], length}
 use Rattle.tach_media.specs.Medium.{State, Rose, HasBroken, HasBrokenAtMost, LeavesOnly, Unchanged, last_count}
 use Rattle.run_model.specs.declared.Device.{Device}
 use Rattle.run_model.specs.declared.Device.TheVariants.{Unit as OfUnit}
@@ -12,9 +12,10 @@ use Rattle.run_promise.specs.Whole.{NothingFailed}
 use Rattle.run_opening.specs.Units.{IsUnitRefused}
 use Rattle.run_opening.specs.declared.fault.RunFault.{RunFault}
 use Rattle.recorder_with_cards.specs.Words.{log_of, IsFoundLater, IsLater}
+use Rattle.recorder_with_cards.specs.Writes.{unit_writes}
 use Rattle.run_outcome.specs.declared.outcome.Outcome.{Outcome}
 use Rattle.trace_model.specs.declared.Item.{Item}
-use Rattle.trace_model.specs.Trace.{seconds_of, total_seconds}
+use Rattle.trace_model.specs.Trace.{seconds_of}
 use Rattle.unit_minutes.specs.DayOdometers.{RecordsDay}
 use Rattle.unit_model.specs.Image.{recorded, last_kept, odometer_at}
 use Rattle.unit_model.specs.Versions.{rule_of}
@@ -107,9 +108,9 @@ pub record EndsOnUnit (old new : Outside) (outcome : Outcome) (fault : Fault) : 
   pub finds_clock_back : (start : ℕ) (items : List Item) (x : List ℕ) → SourceTells old start items
       → Starts x old.unit new.unit → IsSound old new
       → Decodes x → start / 60 ≤ last_kept x → fault ≡ ClockBack (last_kept x) start
-  -- So many writes began at most on the unit, by the seconds of the trace and by its items.
+  -- So many writes began at most on the unit, by the turns of the trace, two for each minute, and by its actions.
   pub writes : (start : ℕ) (items : List Item) → SourceTells old start items
-      → new.unit.clock ≤ old.unit.clock + (187 * total_seconds items + 102 * length items)
+      → new.unit.clock ≤ old.unit.clock + unit_writes start items
   -- So its clock comes to its end in no run that it began in its lower half.
   pub time : (start : ℕ) (items : List Item) → SourceTells old start items → old.unit.clock < 2 ^ 63
       → new.unit.clock < last_count

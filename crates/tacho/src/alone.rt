@@ -1,14 +1,15 @@
 //! A trace without a card's line is recorded on the unit alone.
-ghost use Rattle.std.specs.Prelude.{◌≡◌, ◌+◌, ◌*◌, ◌/◌, ◌≤◌, ◌<◌, ℕ, List, true, false, length, OnOk};
+ghost use Rattle.std.specs.Prelude.{◌≡◌, ◌+◌, ◌/◌, ◌≤◌, ◌<◌, ℕ, List, true, false, length, OnOk};
 ghost use Rattle.tach_media.specs.Medium.{last_count};
 ghost use Rattle.log_model.specs.Causes.{HasCauses};
-ghost use Rattle.trace_model.specs.Trace.{seconds_of, total_seconds};
+ghost use Rattle.trace_model.specs.Trace.{seconds_of};
 ghost use Rattle.trace_text.specs.Trace.{IsWellFormed};
 ghost use Rattle.history_model.specs.Presence.{Start};
 ghost use Rattle.unit_model.specs.Decoding.{Decodes};
 ghost use Rattle.unit_model.specs.Image.{IsUnit, last_kept};
 ghost use Rattle.run_outcome.specs.Room.{IsReserved};
 ghost use Rattle.recorder_with_cards.specs.Words.{log_of, largest_number};
+ghost use Rattle.recorder_with_cards.specs.Writes.{unit_writes};
 ghost use Rattle.tacho.specs.Alone.{needs_no_card, IsForUnit, NoVerdict, counts, StartsAs, IsAlone};
 ghost use Rattle.tacho.specs.Alone.{TellsRefusal, TellsUnitBreakdowns};
 
@@ -68,9 +69,9 @@ pub fn record_alone<U: Medium>(
         → length trace.now.items ≤ largest_number
         → OnOk result (HasCauses NoVerdict (counts (U.state unit.old).breakdowns a b)
         (counts (U.state unit.new).breakdowns a b) (seconds_of trace.now.start trace.now.items) (log_of outcome.new)) }
-    // So many writes it begins at most, by the seconds of the trace and by its items.
+    // So many writes it begins at most, by the turns of the trace and by its actions.
     ensures most { (U.state unit.new).clock ≤ (U.state unit.old).clock
-        + (187 * total_seconds trace.now.items + 102 * length trace.now.items) }
+        + unit_writes trace.now.start trace.now.items }
     // Each cut that a failed call made is a breakdown of the unit more; and where none has cut the power of a run that
     // is recorded, it has not broken down, nor where no call on it failed. Nor has it more often than those cuts. No
     // clock and no count of it falls.

@@ -2,7 +2,6 @@
 ghost use Rattle.std.specs.Prelude.{◌≡◌, ◌≤◌, ℕ, List, OnOk, IfErr, length};
 ghost use Rattle.card_layout.specs.declared.files.TheConstants.{LARGEST_IMAGE};
 ghost use Rattle.unit_model.specs.Image.{IsUnit};
-ghost use Rattle.trace_model.specs.Trace.{total_seconds};
 ghost use Rattle.trace_text.specs.Trace.{IsWellFormed};
 ghost use Rattle.run_outcome.specs.Room.{IsReserved};
 ghost use Rattle.run_promise.specs.Between.{devices};
@@ -72,7 +71,7 @@ pub fn run_anew<U: Medium, C: Chip>(
         (devices (U.state unit.new) (C.state card_a.new) (C.state card_b.new))) }
     ensures faults { (U.state unit.old).faults ≤ (U.state unit.new).faults }
     ensures unit { IsUnit (U.state unit.new) }
-    ensures most { WritesAnew (total_seconds trace.now.items) (length trace.now.items)
+    ensures most { WritesAnew trace.now.start trace.now.items
         (devices (U.state unit.old) (C.state card_a.old) (C.state card_b.old))
         (devices (U.state unit.new) (C.state card_a.new) (C.state card_b.new)) }
 {

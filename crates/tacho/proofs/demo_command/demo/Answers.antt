@@ -21,7 +21,7 @@ returns-in-Err-clause-ends g c =
     (subst IsEmpty (sym kept.0) (reserved-empty c.in-Ok.trace.items c.in-Ok-reserve.reserved c.in-Ok-reserve.ensures), kept.1))
     e.failed
     (λ b starts may. e.kept b starts.may starts.clocks (rw c.in-Ok.ensures.items (items-few c.args.seed)) (rw (c.as_slice.ensures.value ∙ c.in-Ok-blank_card.ensures.image, c.in-Ok.ensures.start) may))
-    (writes-demo c.args.seed c.in-Ok.trace.items _ _ c.in-Ok.ensures.items e.most))
+    (writes-demo c.args.seed c.in-Ok.trace.start c.in-Ok.trace.items _ _ c.in-Ok.ensures.start c.in-Ok.ensures.items e.most))
 
 pub returns-in-Err-measure-clause-ends : goal.returns-in-Err-measure-clause-ends
 returns-in-Err-measure-clause-ends g c =
@@ -32,7 +32,7 @@ returns-in-Err-measure-clause-ends g c =
     (λ b may time. as-demo c.args.seed _ c.as_slice.result.now b c.in-Ok.trace.start c.in-Ok.trace.items c.run_anew.new.outcome _ _ (c.as_slice.ensures.value ∙ c.in-Ok-blank_card.ensures.image) c.in-Ok.ensures.start c.in-Ok.ensures.items
     (e.recorded b may time (rw c.in-Ok.ensures.items (items-few c.args.seed))))
     (λ is. f.changed (ap Err is)) e.faults (g.met.U.Medium.coherent c.measure.new.unit) f.bad
-    (writes-demo c.args.seed c.in-Ok.trace.items _ _ c.in-Ok.ensures.items e.most))
+    (writes-demo c.args.seed c.in-Ok.trace.start c.in-Ok.trace.items _ _ c.in-Ok.ensures.start c.in-Ok.ensures.items e.most))
 
 pub returns-in-Err-measure-clause-causes : goal.returns-in-Err-measure-clause-causes
 returns-in-Err-measure-clause-causes g c =
@@ -54,7 +54,7 @@ returns-clause-ends g c =
     (λ b may time. as-demo c.args.seed _ c.as_slice.result.now b c.in-Ok.trace.start c.in-Ok.trace.items c.run_anew.new.outcome _ _ (c.as_slice.ensures.value ∙ c.in-Ok-blank_card.ensures.image) c.in-Ok.ensures.start c.in-Ok.ensures.items
     (e.recorded b may time (rw c.in-Ok.ensures.items (items-few c.args.seed))))
     f.measured c.print_demo.ensures.ok c.print_demo.ensures.err c.print_demo.ensures.cause
-    (writes-demo c.args.seed c.in-Ok.trace.items _ _ c.in-Ok.ensures.items e.most)
+    (writes-demo c.args.seed c.in-Ok.trace.start c.in-Ok.trace.items _ _ c.in-Ok.ensures.start c.in-Ok.ensures.items e.most)
 
 -- ---- there was no memory
 
