@@ -21,7 +21,9 @@ pub fn manual_word(entry: &Manual) -> u16
 /// The entry by hand that a word tells of a day with this date, in seconds, if it tells one. One whose minute is no
 /// minute of a day tells none.
 pub fn told_by_hand(date: u32, word: u16) -> Option<Manual>
-    ensures { word_minute word < 1440 → result ≡ (if is_by_hand word then Some (tells_by_hand date word) else None) }
+    ensures told { word_minute word < 1440 → result
+        ≡ (if is_by_hand word then Some (tells_by_hand date word) else None) }
+    ensures none { 1440 ≤ word_minute word → result ≡ None }
 {
     let change = decode_change(word).ok()?;
     if change.absent && change.crew_or_known {
