@@ -1,26 +1,14 @@
 -- What is told of the failed calls of a run (profile).
-use Rattle.std.specs.Prelude.{◌≡◌, ℕ, ◌+◌, ◌/◌, ◌%◌, ◌==◌, Bool, true, false, List, [], ◌∷◌, ◌++◌, codes, decimal}
+use Rattle.std.specs.Prelude.{◌≡◌, ℕ, ◌==◌, Bool, true, false, List, [], ◌∷◌, ◌++◌, codes, decimal}
 use Rattle.std.specs.Prelude.{count_by, if◌then◌else◌}
 use Rattle.activity_codec.specs.Names.{slot_name}
 use Rattle.log_model.specs.declared.lines.Break.{Break}
 use Rattle.log_model.specs.declared.lines.Break.TheVariants.{Cut, Tear}
-use Rattle.calendar_days.specs.Calendar.{IsDateText}
-
--- a number below 100
-abbrev pub two_digits : ℕ → List ℕ
-two_digits n = (48 + n / 10) ∷ (48 + n % 10) ∷ []
-
--- the time of day of a second, as `06:12:03`
-abbrev pub seconds_text : ℕ → List ℕ
-seconds_text second = two_digits (second % 86400 / 3600) ++ codes ":" ++ two_digits (second % 3600 / 60) ++ codes ":"
-    ++ two_digits (second % 60)
+use Rattle.failure_lines.specs.Timed.{IsTimedText}
 
 -- a line: `WHO failed at 2010-03-01 06:12:03: WHAT`
 abbrev pub IsFailureText : (who : List ℕ) → (second : ℕ) → (what : List ℕ) → List ℕ → Type 0
-IsFailureText who second what text =
-    (date : List ℕ) × IsDateText (second / 86400) date
-    × (text ≡ who ++ codes " failed at " ++ date ++ codes " " ++ seconds_text second ++ codes ": " ++ what
-    ++ codes "\n")
+IsFailureText who second what text = IsTimedText who (codes " failed at ") second what text
 
 -- the line of a break that a failed call made; nothing of any other
 abbrev pub IsBreakLine : Break → List ℕ → Type 0

@@ -1,10 +1,11 @@
 //! The line of a device whose file system lacks what its medium asks of it.
 ghost use Rattle.std.specs.Prelude.{◌≡◌, ◌≤◌, length, OnOk};
 ghost use Rattle.std.specs.Io.KnownBytes.{Appends};
+ghost use Rattle.tach_media.specs.Streams.{CountsFaults};
 ghost use Rattle.run_model.specs.Names.{device_name};
 ghost use Rattle.failure_lines.specs.Lacks.{missing_name, missing_line, missing_text};
 
-use crate::line::{MOST, add};
+use crate::timed::{MOST, add};
 use arrayvec::ArrayVec;
 use run_model::Device;
 use tach_media::{Failed, Missing, Sink, put_all};
@@ -21,7 +22,8 @@ pub fn put_missing<K: Sink>(
     card_a: Option<Missing>,
     card_b: Option<Missing>,
 ) -> Result<(), Failed>
-    ensures { OnOk result (Appends (K.held sink.old) (K.held sink.new) (missing_text unit card_a card_b)) }
+    ensures told { OnOk result (Appends (K.held sink.old) (K.held sink.new) (missing_text unit card_a card_b)) }
+    ensures cause { CountsFaults (K.faults sink.old) (K.faults sink.new) result }
 {
     put_all(sink, missing_text(unit, card_a, card_b).as_slice())?;
     Ok(())

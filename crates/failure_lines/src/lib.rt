@@ -1,10 +1,16 @@
-//! What is told of failures on standard error (profile): a line for each break that a failed call of a run made, and
-//! behind them how many there are; and a line of what the file system of a device lacks.
+//! What is told of a run on standard error (profile): a line for each line of the trace that was refused, one for each
+//! card that was turned away, one for each break that a failed call made, and behind these how many there are; and a
+//! line of what the file system of a device lacks.
 #![tactic(auto)]
 
 mod lack;
 mod line;
 mod lines;
+mod refusals;
+mod timed;
+mod turned_away;
 
 pub use lack::put_missing;
 pub use lines::put_failures;
+pub use refusals::put_refusals;
+pub use turned_away::put_turned_away;

@@ -1,6 +1,7 @@
 //! The lines of all breaks of a run.
 ghost use Rattle.std.specs.Prelude.{◌≡◌, ℕ, List, count_by, IfOk, OnOk};
 ghost use Rattle.std.specs.Io.KnownBytes.{Appends};
+ghost use Rattle.tach_media.specs.Streams.{CountsFaults};
 ghost use Rattle.failure_lines.specs.Failures.{AreTold, IsFailuresText, is_failed};
 
 use crate::line::{failure_line, is_failed, last_line};
@@ -15,8 +16,9 @@ use tach_media::{Failed, Sink, put_all};
 ///
 /// `Failed` where the sink failed.
 pub fn put_failures<K: Sink>(sink: &mut K, breaks: &Lines<Break>) -> Result<(), Failed>
-    ensures { OnOk result ((text : List ℕ) × IsFailuresText breaks.now.items text
+    ensures told { OnOk result ((text : List ℕ) × IsFailuresText breaks.now.items text
         × Appends (K.held sink.old) (K.held sink.new) text) }
+    ensures cause { CountsFaults (K.faults sink.old) (K.faults sink.new) result }
 {
     let failed = put_lines(sink, breaks)?;
     put_all(sink, last_line(failed).as_slice())?;
@@ -25,8 +27,9 @@ pub fn put_failures<K: Sink>(sink: &mut K, breaks: &Lines<Break>) -> Result<(), 
 
 /// Writes these lines, and answers how many there are.
 fn put_lines<K: Sink>(sink: &mut K, breaks: &Lines<Break>) -> Result<usize, Failed>
-    ensures { IfOk result (λ failed. (failed ≡ count_by is_failed breaks.now.items)
+    ensures told { IfOk result (λ failed. (failed ≡ count_by is_failed breaks.now.items)
         × ((text : List ℕ) × AreTold breaks.now.items text × Appends (K.held sink.old) (K.held sink.new) text)) }
+    ensures cause { CountsFaults (K.faults sink.old) (K.faults sink.new) result }
 {
     let mut failed = 0;
     for i in 0..breaks.len() {
