@@ -1,5 +1,6 @@
 -- What the vehicle entries of a card come to at each moment of each call on it: a keep, a closing, an insertion and a note. And so each of them is what it was.
 use Rattle.std.proofs.Common.{◌≡◌, ◌⊎◌, inl, inr, ℕ, suc, ◌+◌, ◌*◌, ◌/◌, ◌≤◌, Bool, true, false, cond, Option, Some, None, IfSome, List, [], ◌∷◌, ◌++◌, length, refl, sym, ◌∙◌, ap, subst, arith, option_map}
+use Rattle.std.specs.Prelude.{nat_lt}
 use Rattle.device_calls.specs.activity_codec.declared.values.Activity.{Activity}
 use Rattle.device_calls.specs.activity_codec.declared.values.Activity.TheVariants.{Rest}
 use Rattle.device_calls.specs.activity_codec.declared.entries.Entry.{Entry}
@@ -39,14 +40,35 @@ use Rattle.run_devices.proofs.NotedCard.{note-book}
 abbrev pub OrClosed : (K : Vehicles → Type 0) → Vehicles → Type 0
 OrClosed K v = K v ⊎ ((u : Vehicles) × K u × (v ≡ last_used (60 * suc (last_use_in u / 60)) u))
 
--- or a keep is on its way: the newest one, which goes on, has the odometer value; or the place of a new one is free
-abbrev pub OrKeeping : (K : Vehicles → Type 0) → Registration → (odometer : ℕ) → Vehicles → Type 0
-OrKeeping K registration odometer v =
-    K v ⊎ ((minute : ℕ) × (u : Vehicles) × K u × (((goes_on_with registration minute u.newest ≡ true) × (v ≡ measured_to odometer u)) ⊎ (v ≡ with_room u)))
+-- or a keep is on its way, of a minute that may be: the newest one, which goes on, has the odometer value; or the place of a new one is free
+abbrev pub OrKeeping : (K : Vehicles → Type 0) → (May : ℕ → Type 0) → Registration → (odometer : ℕ) → Vehicles → Type 0
+OrKeeping K May registration odometer v =
+    K v ⊎ ((minute : ℕ) × May minute × (u : Vehicles) × K u × (((goes_on_with registration minute u.newest ≡ true) × (v ≡ measured_to odometer u)) ⊎ (v ≡ with_room u)))
 
 -- one or the other
-abbrev pub OrInserting : (K : Vehicles → Type 0) → Registration → (odometer : ℕ) → Vehicles → Type 0
-OrInserting K registration odometer v = OrClosed K v ⊎ OrKeeping K registration odometer v
+abbrev pub OrInserting : (K : Vehicles → Type 0) → (May : ℕ → Type 0) → Registration → (odometer : ℕ) → Vehicles → Type 0
+OrInserting K May registration odometer v = OrClosed K v ⊎ OrKeeping K May registration odometer v
+
+-- a minute like any other
+abbrev pub AnyMinute : ℕ → Type 0
+AnyMinute minute = Unit {0}
+
+-- each of these entries is of a minute that may be
+abbrev pub AllMay : (May : ℕ → Type 0) → List Entry → Type 0
+AllMay May [] = Unit {0}
+AllMay May (e ∷ es) = May e.minute × AllMay May es
+
+pub any-may : (es : List Entry) → AllMay AnyMinute es
+any-may [] = tt
+any-may (e ∷ es) = (tt, any-may es)
+
+lacked-may : (May : ℕ → Type 0) (mark : ℕ) (es : List Entry) → AllMay May es → AllMay May (lacked mark es)
+lacked-may May mark [] may = tt
+lacked-may May mark (e ∷ es) may = by (nat_lt mark e.minute) (lacked-may May mark es may.1)
+  where
+    by : (b : Bool) → AllMay May (lacked mark es) → AllMay May (cond b (e ∷ es) (lacked mark es))
+    by true rest = may
+    by false rest = rest
 
 module _ (K : Vehicles → Type 0) where
   same-so : (v w : Vehicles) → w ≡ v → K v → K w
@@ -63,36 +85,37 @@ module _ (K : Vehicles → Type 0) where
   closing-so size act b days vehicles is (inl old) = inl (same-so b.vehicles vehicles old.0 is)
   closing-so size act b days vehicles is (inr new) = subst (OrClosed K) (sym new.1) (closed-so size act b is)
 
-  -- where they are so with a minute more, in this vehicle and with this odometer value
-  module _ (size : ℕ) (registration : Registration) (odometer : ℕ) (minute-so : (minute : ℕ) (v : Vehicles) → K v → K (vehicles_with registration odometer minute v)) where
-    use-so : (minute : ℕ) (v w : Vehicles) → K v → IsBeforeUse registration odometer minute v w → OrKeeping K registration odometer w
-    use-so minute v w is (inl same) = inl (same-so v w same is)
-    use-so minute v w is (inr (inl on)) = inr (minute, v, is, inl on)
-    use-so minute v w is (inr (inr room)) = inr (minute, v, is, inr room.1)
+  use-so : (May : ℕ → Type 0) (registration : Registration) (odometer minute : ℕ) → May minute → (v w : Vehicles) → K v → IsBeforeUse registration odometer minute v w → OrKeeping K May registration odometer w
+  use-so May registration odometer minute may v w is (inl same) = inl (same-so v w same is)
+  use-so May registration odometer minute may v w is (inr (inl on)) = inr (minute, may, v, is, inl on)
+  use-so May registration odometer minute may v w is (inr (inr room)) = inr (minute, may, v, is, inr room.1)
 
-    entry-so : (more : ℕ) (b : Book) (e : Entry) → K b.vehicles → K (with_entry size registration odometer more b e).vehicles
-    entry-so more b e is = minute-so e.minute b.vehicles is
+  -- a keep, where they are so with its minute
+  keeping-so : (May : ℕ → Type 0) (size : ℕ) (registration : Registration) (odometer more : ℕ) (e : Entry) → May e.minute → (b : Book) (days : List Day) (vehicles : Vehicles) → K (vehicles_with registration odometer e.minute b.vehicles) → K b.vehicles → IsKeepMoment size registration odometer more e b days vehicles → OrKeeping K May registration odometer vehicles
+  keeping-so May size registration odometer more e may b days vehicles with_it is (inl old) = inl (same-so b.vehicles vehicles old.0 is)
+  keeping-so May size registration odometer more e may b days vehicles with_it is (inr (now, inl before)) = use-so May registration odometer e.minute may b.vehicles vehicles is before
+  keeping-so May size registration odometer more e may b days vehicles with_it is (inr (now, inr new)) = inl (same-so (with_entry size registration odometer more b e).vehicles vehicles new with_it)
 
-    keeping-so : (more : ℕ) (e : Entry) (b : Book) (days : List Day) (vehicles : Vehicles) → K b.vehicles → IsKeepMoment size registration odometer more e b days vehicles → OrKeeping K registration odometer vehicles
-    keeping-so more e b days vehicles is (inl old) = inl (same-so b.vehicles vehicles old.0 is)
-    keeping-so more e b days vehicles is (inr (now, inl before)) = use-so e.minute b.vehicles vehicles is before
-    keeping-so more e b days vehicles is (inr (now, inr new)) = inl (same-so (with_entry size registration odometer more b e).vehicles vehicles new (entry-so more b e is))
+  -- where they are so with each minute more that may be, in this vehicle and with this odometer value
+  module _ (May : ℕ → Type 0) (size : ℕ) (registration : Registration) (odometer : ℕ) (minute-so : (minute : ℕ) → May minute → (v : Vehicles) → K v → K (vehicles_with registration odometer minute v)) where
+    entry-so : (more : ℕ) (b : Book) (e : Entry) → May e.minute → K b.vehicles → K (with_entry size registration odometer more b e).vehicles
+    entry-so more b e may is = minute-so e.minute may b.vehicles is
 
-    pub owed-so : (es : List Entry) (b : Book) → K b.vehicles → K (with_owed size registration odometer es b).vehicles
-    owed-so [] b is = is
-    owed-so (e ∷ es) b is = owed-so es (with_entry size registration odometer 0 b e) (entry-so 0 b e is)
+    pub owed-so : (es : List Entry) (b : Book) → AllMay May es → K b.vehicles → K (with_owed size registration odometer es b).vehicles
+    owed-so [] b may is = is
+    owed-so (e ∷ es) b may is = owed-so es (with_entry size registration odometer 0 b e) may.1 (entry-so 0 b e may.0 is)
 
-    pub replaying-so : (es : List Entry) (b : Book) (days : List Day) (vehicles : Vehicles) → K b.vehicles → IsReplaying size registration odometer es b days vehicles → OrKeeping K registration odometer vehicles
-    replaying-so [] b days vehicles is book = inl (same-so b.vehicles vehicles book.1 is)
-    replaying-so (e ∷ es) b days vehicles is (inl moment) = keeping-so 0 e b days vehicles is moment
-    replaying-so (e ∷ es) b days vehicles is (inr rest) = replaying-so es (with_entry size registration odometer 0 b e) days vehicles (entry-so 0 b e is) rest
+    pub replaying-so : (es : List Entry) (b : Book) (days : List Day) (vehicles : Vehicles) → AllMay May es → K b.vehicles → IsReplaying size registration odometer es b days vehicles → OrKeeping K May registration odometer vehicles
+    replaying-so [] b days vehicles may is book = inl (same-so b.vehicles vehicles book.1 is)
+    replaying-so (e ∷ es) b days vehicles may is (inl moment) = keeping-so May size registration odometer 0 e may.0 b days vehicles (entry-so 0 b e may.0 is) is moment
+    replaying-so (e ∷ es) b days vehicles may is (inr rest) = replaying-so es (with_entry size registration odometer 0 b e) days vehicles may.1 (entry-so 0 b e may.0 is) rest
 
-    repairing-so : (owed : List Entry) (b : Book) (days : List Day) (vehicles : Vehicles) → K b.vehicles → IsRepairMoment size registration odometer owed b days vehicles → OrKeeping K registration odometer vehicles
-    repairing-so owed b days vehicles is (inl cutting) = inl (same-so b.vehicles vehicles cutting.1 is)
-    repairing-so owed b days vehicles is (inr replaying) = replaying-so (lacked (mark_of b) owed) (with_cut (mark_of b) b) days vehicles is replaying
+    repairing-so : (owed : List Entry) (b : Book) (days : List Day) (vehicles : Vehicles) → AllMay May owed → K b.vehicles → IsRepairMoment size registration odometer owed b days vehicles → OrKeeping K May registration odometer vehicles
+    repairing-so owed b days vehicles may is (inl cutting) = inl (same-so b.vehicles vehicles cutting.1 is)
+    repairing-so owed b days vehicles may is (inr replaying) = replaying-so (lacked (mark_of b) owed) (with_cut (mark_of b) b) days vehicles (lacked-may May (mark_of b) owed may) is replaying
 
-    repaired-so : (owed : List Entry) (b : Book) → K b.vehicles → K (repaired size registration odometer owed b).vehicles
-    repaired-so owed b is = owed-so (lacked (mark_of b) owed) (with_cut (mark_of b) b) is
+    repaired-so : (owed : List Entry) (b : Book) → AllMay May owed → K b.vehicles → K (repaired size registration odometer owed b).vehicles
+    repaired-so owed b may is = owed-so (lacked (mark_of b) owed) (with_cut (mark_of b) b) (lacked-may May (mark_of b) owed may) is
 
   -- ---- OF A CARD'S IMAGE
   abbrev On : Application → List ℕ → Type 0
@@ -105,9 +128,9 @@ module _ (K : Vehicles → Type 0) where
   same-closed app x y same is = subst (λ (b : Book). OrClosed K b.vehicles) (sym same) is
 
   -- a keep
-  pub keep-so : (s : Session) (e : Entry) (odometer : ℕ) → ((minute : ℕ) (v : Vehicles) → K v → K (vehicles_with s.registration odometer minute v)) → (x y : List ℕ) → On s.application x → IsCardKeeping s e odometer x y → OrKeeping K s.registration odometer (book_of s.application y).vehicles
+  pub keep-so : (s : Session) (e : Entry) (odometer : ℕ) → ((v : Vehicles) → K v → K (vehicles_with s.registration odometer e.minute v)) → (x y : List ℕ) → On s.application x → IsCardKeeping s e odometer x y → OrKeeping K AnyMinute s.registration odometer (book_of s.application y).vehicles
   keep-so s e odometer minute-so x y is keeping =
-      keeping-so s.application.activity s.registration odometer minute-so (grown s.odometer odometer) e (book_of s.application x) (book_of s.application y).days (book_of s.application y).vehicles is keeping.card.told
+      keeping-so AnyMinute s.application.activity s.registration odometer (grown s.odometer odometer) e tt (book_of s.application x) (book_of s.application y).days (book_of s.application y).vehicles (minute-so (book_of s.application x).vehicles is) is keeping.card.told
 
   shutting-on : (app : Application) (act : Activity) (x y : List ℕ) → On app x → IsCloseMoment app.activity act (book_of app x) (book_of app y).days (book_of app y).vehicles → OrClosed K (book_of app y).vehicles
   shutting-on app act x y is moment = closing-so app.activity act (book_of app x) (book_of app y).days (book_of app y).vehicles is moment
@@ -157,19 +180,19 @@ module _ (K : Vehicles → Type 0) where
           let side = opening_same app registration now long x2 y (omega (arith, use_inside app, fits, still.outside.same_length, shut.outside.same_length)) opening in
           same-closed app x2 y (same_book app sound x2 y shut.points side.0 side.1) (shut-on x1 x2 (still-on x1 still) shut)
 
-      module _ (odometer : ℕ) (minute-so : (minute : ℕ) (v : Vehicles) → K v → K (vehicles_with registration odometer minute v)) (owed : List Entry) where
+      module _ (odometer : ℕ) (May : ℕ → Type 0) (minute-so : (minute : ℕ) → May minute → (v : Vehicles) → K v → K (vehicles_with registration odometer minute v)) (owed : List Entry) (may : AllMay May owed) where
         repaired-on : (x1 x2 : List ℕ) → IsStill app x x1 → IsRepaired app registration odometer owed x1 x2 → On app x2
         repaired-on x1 x2 still mended =
             same-so (repaired app.activity registration odometer owed (book_of app x1)).vehicles (book_of app x2).vehicles mended.told.1
-            (repaired-so app.activity registration odometer minute-so owed (book_of app x1) (still-on x1 still))
+            (repaired-so May app.activity registration odometer minute-so owed (book_of app x1) may (still-on x1 still))
 
-        open-on : (y : List ℕ) → InsertingOpen app registration odometer owed now x y → OrInserting K registration odometer (book_of app y).vehicles
+        open-on : (y : List ℕ) → InsertingOpen app registration odometer owed now x y → OrInserting K May registration odometer (book_of app y).vehicles
         open-on y (inl still) = inl (inl (still-on y still))
         open-on y (inr (x1, still, inl repairing)) =
-            inr (repairing-so app.activity registration odometer minute-so owed (book_of app x1) (book_of app y).days (book_of app y).vehicles (still-on x1 still) repairing.told)
+            inr (repairing-so May app.activity registration odometer minute-so owed (book_of app x1) (book_of app y).days (book_of app y).vehicles may (still-on x1 still) repairing.told)
         open-on y (inr (x1, still, inr (x2, mended, rest))) = inl (mended-on x2 (omega (arith, still.outside.same_length, mended.outside.same_length)) mended.points (repaired-on x1 x2 still mended) y rest)
 
-        pub inserting-so : (y : List ℕ) → IsCardInserting app registration odometer owed now x y → OrInserting K registration odometer (book_of app y).vehicles
+        pub inserting-so : (y : List ℕ) → IsCardInserting app registration odometer owed now x y → OrInserting K May registration odometer (book_of app y).vehicles
         inserting-so y (inl shut) = inl (closed-on y shut.1)
         inserting-so y (inr unclosed) = open-on y unclosed.1
 
@@ -214,21 +237,21 @@ module _ (P : Vehicle → Type 0) (used-is : (seconds : ℕ) (v : Vehicle) → P
   room-in : (v : Vehicles) → AreIn P v → AreIn P (with_room v)
   room-in v is = record { newest = is.newest; ring = behind-in v.ring is.ring }
 
-  -- and with an odometer value at its end, or as an entry of this vehicle begins
-  module _ (registration : Registration) (odometer : ℕ) (measured-is : (v : Vehicle) → P v → P (measured odometer v)) (begun-is : (minute : ℕ) (counter : List ℕ) → P (begun_vehicle registration odometer minute counter)) where
-    vehicles-in : (minute : ℕ) (v : Vehicles) → AreIn P v → AreIn P (vehicles_with registration odometer minute v)
-    vehicles-in minute v is = by (goes_on_with registration minute v.newest)
+  -- and with an odometer value of a minute that may be at its end, or as an entry of this vehicle begins
+  module _ (May : ℕ → Type 0) (registration : Registration) (odometer : ℕ) (measured-is : (minute : ℕ) → May minute → (v : Vehicle) → P v → P (measured odometer v)) where
+    vehicles-in : (minute : ℕ) → May minute → ((counter : List ℕ) → P (begun_vehicle registration odometer minute counter)) → (v : Vehicles) → AreIn P v → AreIn P (vehicles_with registration odometer minute v)
+    vehicles-in minute may begun-is v is = by (goes_on_with registration minute v.newest)
       where
         by : (b : Bool) → AreIn P (cond b (renewed (used_until odometer (60 * minute)) v) (with_vehicle (begun_vehicle registration odometer minute (vehicle_counter v.newest)) v))
-        by true = renewed-in (used_until odometer (60 * minute)) (λ w here. used-is (60 * minute) (measured odometer w) (measured-is w here)) v is
-        by false = record { newest = begun-is minute (vehicle_counter v.newest); ring = one-behind (behind_first v.ring) (begun_vehicle registration odometer minute (vehicle_counter v.newest)) (behind-in v.ring is.ring) (begun-is minute (vehicle_counter v.newest)) }
+        by true = renewed-in (used_until odometer (60 * minute)) (λ w here. used-is (60 * minute) (measured odometer w) (measured-is minute may w here)) v is
+        by false = record { newest = begun-is (vehicle_counter v.newest); ring = one-behind (behind_first v.ring) (begun_vehicle registration odometer minute (vehicle_counter v.newest)) (behind-in v.ring is.ring) (begun-is (vehicle_counter v.newest)) }
 
-    keeping-in : (v : Vehicles) → OrKeeping (AreIn P) registration odometer v → AreIn P v
+    keeping-in : (v : Vehicles) → OrKeeping (AreIn P) May registration odometer v → AreIn P v
     keeping-in v (inl is) = is
-    keeping-in v (inr (minute, u, is, inl on)) = subst (AreIn P) (sym on.1) (renewed-in (measured odometer) measured-is u is)
-    keeping-in v (inr (minute, u, is, inr room)) = subst (AreIn P) (sym room) (room-in u is)
+    keeping-in v (inr (minute, may, u, is, inl on)) = subst (AreIn P) (sym on.1) (renewed-in (measured odometer) (measured-is minute may) u is)
+    keeping-in v (inr (minute, may, u, is, inr room)) = subst (AreIn P) (sym room) (room-in u is)
 
-    inserting-in : (v : Vehicles) → OrInserting (AreIn P) registration odometer v → AreIn P v
+    inserting-in : (v : Vehicles) → OrInserting (AreIn P) May registration odometer v → AreIn P v
     inserting-in v (inl closed) = closed-in v closed
     inserting-in v (inr keeping) = keeping-in v keeping
 
@@ -237,21 +260,21 @@ module _ (P : Vehicle → Type 0) (used-is : (seconds : ℕ) (v : Vehicle) → P
   AreOn app x = AreIn P (book_of app x).vehicles
 
   -- a keep
-  pub keep-is : (s : Session) (e : Entry) (odometer : ℕ) → ((v : Vehicle) → P v → P (measured odometer v)) → ((minute : ℕ) (counter : List ℕ) → P (begun_vehicle s.registration odometer minute counter)) → (x y : List ℕ) → AreOn s.application x → IsCardKeeping s e odometer x y → AreOn s.application y
+  pub keep-is : (s : Session) (e : Entry) (odometer : ℕ) → ((v : Vehicle) → P v → P (measured odometer v)) → ((counter : List ℕ) → P (begun_vehicle s.registration odometer e.minute counter)) → (x y : List ℕ) → AreOn s.application x → IsCardKeeping s e odometer x y → AreOn s.application y
   keep-is s e odometer measured-is begun-is x y is keeping =
-      keeping-in s.registration odometer measured-is begun-is (book_of s.application y).vehicles
-      (keep-so (AreIn P) s e odometer (λ minute v here. vehicles-in s.registration odometer measured-is begun-is minute v here) x y is keeping)
+      keeping-in AnyMinute s.registration odometer (λ minute any. measured-is) (book_of s.application y).vehicles
+      (keep-so (AreIn P) s e odometer (λ v here. vehicles-in AnyMinute s.registration odometer (λ minute any. measured-is) e.minute tt begun-is v here) x y is keeping)
 
   -- a closing
   pub close-is : (s : Session) (act : Activity) (x y : List ℕ) → IsApplication s.application → image_size_of s.application ≤ length x → AreOn s.application x → IsCardClosing s act x y → AreOn s.application y
   close-is s act x y sound fits is closing = closed-in (book_of s.application y).vehicles (close-so (AreIn P) s act x y sound fits is closing)
 
   -- an insertion
-  pub inserting-is : (app : Application) → IsApplication app → (registration : Registration) → length registration.0 ≡ 15 → (now : ℕ) (x : List ℕ) → image_size_of app ≤ length x → AreOn app x → (odometer : ℕ) → ((v : Vehicle) → P v → P (measured odometer v)) → ((minute : ℕ) (counter : List ℕ) → P (begun_vehicle registration odometer minute counter)) → (owed : List Entry) (y : List ℕ)
+  pub inserting-is : (app : Application) → IsApplication app → (registration : Registration) → length registration.0 ≡ 15 → (now : ℕ) (x : List ℕ) → image_size_of app ≤ length x → AreOn app x → (odometer : ℕ) (May : ℕ → Type 0) → ((minute : ℕ) → May minute → (v : Vehicle) → P v → P (measured odometer v)) → ((minute : ℕ) → May minute → (counter : List ℕ) → P (begun_vehicle registration odometer minute counter)) → (owed : List Entry) → AllMay May owed → (y : List ℕ)
       → IsCardInserting app registration odometer owed now x y → AreOn app y
-  inserting-is app sound registration long now x fits is odometer measured-is begun-is owed y inserting =
-      inserting-in registration odometer measured-is begun-is (book_of app y).vehicles
-      (inserting-so (AreIn P) app sound registration long now x fits is odometer (λ minute v here. vehicles-in registration odometer measured-is begun-is minute v here) owed y inserting)
+  inserting-is app sound registration long now x fits is odometer May measured-is begun-is owed may y inserting =
+      inserting-in May registration odometer measured-is (book_of app y).vehicles
+      (inserting-so (AreIn P) app sound registration long now x fits is odometer May (λ minute its v here. vehicles-in May registration odometer measured-is minute its (begun-is minute its) v here) owed may y inserting)
 
 -- ---- THE POINTER of their ring is an index behind each of these
 

@@ -1,12 +1,13 @@
 -- The vehicle entries of a card are measured: over calls one after another, and at each moment of a keep, a closing and an insertion.
-use Rattle.std.proofs.Common.{◌≡◌, ◌∙◌, ◌⊎◌, inl, inr, ⊎_elim, ℕ, ◌+◌, ◌/◌, ◌<◌, ◌≤◌, Bool, true, false, cond, Option, Some, None, List, [], IfSome, ◌∷◌, Contains, filter, length, nat_le, refl, sym, ap, subst, arith}
-use Rattle.std.specs.Prelude.{◌&&◌}
+use Rattle.std.proofs.Common.{◌≡◌, ◌∙◌, ◌⊎◌, inl, inr, ⊎_elim, ℕ, ◌+◌, ◌*◌, ◌/◌, ◌<◌, ◌≤◌, Bool, true, false, cond, Option, Some, None, List, [], IfSome, ◌∷◌, Contains, filter, length, nat_le, refl, sym, ap, subst, arith}
+use Rattle.std.specs.Prelude.{◌&&◌, nat_lt}
 use Rattle.std.proofs.lemmas.Bool.Decides.{nat_tests}
 use Rattle.std.proofs.lemmas.List.Elements.{All-weaker, filter_passes}
 use Rattle.device_calls.specs.activity_codec.declared.values.Activity.{Activity}
 use Rattle.device_calls.specs.activity_codec.declared.entries.Entry.{Entry}
 use Rattle.tach_media.specs.Medium.{State, SameOutside, bytes_at}
 use Rattle.device_calls.specs.tacho_types.declared.numbers.Odometer.{Odometer}
+use Rattle.device_calls.specs.tacho_types.declared.numbers.TimeReal.{TimeReal}
 use Rattle.device_calls.specs.tacho_types.declared.texts.Registration.{Registration}
 use Rattle.tach_media.proofs.card_layout.Images.{part_after, part_before}
 use Rattle.tach_media.specs.card_layout.declared.files.Application.{Application}
@@ -36,10 +37,10 @@ use Rattle.device_calls.specs.Entering.{owed_on}
 use Rattle.device_calls.proofs.card_string.MadeSince.{on_same, on_then, on_close, on_insert}
 use Rattle.device_calls.proofs.card_string.SameBook.{same_book}
 use Rattle.run_devices.specs.Registered.{RingIn, AreIn, HasOne, SomeIs}
-use Rattle.run_devices.specs.Measured.{GoesOnFrom, IsMeasured, AreMeasured, vehicles_by, GoesMeasured, MeasuresOn, MakesOn}
+use Rattle.run_devices.specs.Measured.{Reading, reading_at, GoesOnFrom, IsMeasured, AreMeasured, vehicles_by, GoesMeasured, MeasuresOn, MakesOn}
 use Rattle.run_promise.proofs.OwedRises.{rise-filter, view-rises}
 use Rattle.run_devices.proofs.Power.{follow-of}
-use Rattle.run_devices.proofs.Entries.{keep-is, close-is, close-points, inserting-is, inserting-points, points-by}
+use Rattle.run_devices.proofs.Entries.{AllMay, keep-is, close-is, close-points, inserting-is, inserting-points, points-by}
 
 -- ---- entries of a card
 
@@ -92,7 +93,7 @@ on-then u v w first next = (next.0 ∙ first.0, next.1 ∙ first.1, next.2 ∙ f
 ends-itself : (w v : Vehicle) → w ≡ v → GoesOnFrom w v × (v.odometer_end ≡ w.odometer_end)
 ends-itself w v same = (on-itself w v same, ap (λ (u : Vehicle). u.odometer_end) (sym same))
 
-module _ (Is : ℕ → Type 0) where
+module _ (Is : Reading → Type 0) where
   -- AN IMAGE IS MEASURED BY ITSELF,
   pub measured-itself : (v : Vehicles) → AreMeasured Is v v
   measured-itself v = record { newest = newest v.newest refl; ring = each-there (IsMeasured Is v) v.ring there }
@@ -118,7 +119,7 @@ module _ (Is : ℕ → Type 0) where
         (λ some.
         let y = some-of (IsMeasured Is u) (λ w. GoesOnFrom w z) v first some in
         ⊎_elim
-        (λ value. inl (subst (λ (o : Odometer). Is o.0) (sym y.2.2) value))
+        (λ value. inl (subst (λ (o : Odometer). Is (reading_at (z.first_use.0 / 60) o.0)) (sym y.2.2) (subst (λ (t : TimeReal). Is (reading_at (t.0 / 60) y.0.odometer_begin.0)) (sym y.2.1) value)))
         (λ before. inr (some-as (λ w. GoesOnFrom w y.0) (λ w. GoesOnFrom w z) (λ w on. on-then w y.0 z on y.2) u before))
         y.1.begins)
         is.begins;
@@ -126,7 +127,7 @@ module _ (Is : ℕ → Type 0) where
         (λ some.
         let y = some-of (IsMeasured Is u) (λ w. GoesOnFrom w z × (z.odometer_end ≡ w.odometer_end)) v first some in
         ⊎_elim
-        (λ value. inl (subst (λ (o : Odometer). Is o.0) (sym y.2.1) value))
+        (λ value. inl (value.0, subst (λ (o : Odometer). Is (reading_at value.0 o.0)) (sym y.2.1) value.1))
         (λ before. inr (some-as (λ w. GoesOnFrom w y.0 × (y.0.odometer_end ≡ w.odometer_end)) (λ w. GoesOnFrom w z × (z.odometer_end ≡ w.odometer_end)) (λ w on. (on-then w y.0 z on.0 y.2.0, y.2.1 ∙ on.1)) u before))
         y.1.ends)
         is.ends;
@@ -136,29 +137,31 @@ module _ (Is : ℕ → Type 0) where
   measured-then u v w first next = in-as (IsMeasured Is v) (IsMeasured Is u) (then-one u v first) w next
 
 -- with more values
-pub measured-more : (Is Now : ℕ → Type 0) → ((n : ℕ) → Is n → Now n) → (v w : Vehicles) → AreMeasured Is v w → AreMeasured Now v w
+pub measured-more : (Is Now : Reading → Type 0) → ((r : Reading) → Is r → Now r) → (v w : Vehicles) → AreMeasured Is v w → AreMeasured Now v w
 measured-more Is Now more v w is =
     in-as (IsMeasured Is v) (IsMeasured Now v)
-    (λ z here. record { begins = ⊎_elim (λ value. inl (more z.odometer_begin.0 value)) (λ before. inr before) here.begins; ends = ⊎_elim (λ value. inl (more z.odometer_end.0 value)) (λ before. inr before) here.ends })
+    (λ z here. record { begins = ⊎_elim (λ value. inl (more (reading_at (z.first_use.0 / 60) z.odometer_begin.0) value)) (λ before. inr before) here.begins; ends = ⊎_elim (λ value. inl (value.0, more (reading_at value.0 z.odometer_end.0) value.1)) (λ before. inr before) here.ends })
     w is
 
 -- ---- BY A CALL
 
-module _ (Is : ℕ → Type 0) (old : Vehicles) where
+module _ (Is : Reading → Type 0) (old : Vehicles) where
   used-so : (seconds : ℕ) (v : Vehicle) → IsMeasured Is old v → IsMeasured Is old (used seconds v)
   used-so seconds v is = record { begins = is.begins; ends = is.ends }
 
-  measured-so : (odometer : ℕ) → Is odometer → (v : Vehicle) → IsMeasured Is old v → IsMeasured Is old (measured odometer v)
-  measured-so odometer here v is = record { begins = is.begins; ends = inl here }
+  measured-so : (minute odometer : ℕ) → Is (reading_at minute odometer) → (v : Vehicle) → IsMeasured Is old v → IsMeasured Is old (measured odometer v)
+  measured-so minute odometer here v is = record { begins = is.begins; ends = inl (minute, here) }
 
-  begun-so : (registration : Registration) (odometer : ℕ) → Is odometer → (minute : ℕ) (counter : List ℕ) → IsMeasured Is old (begun_vehicle registration odometer minute counter)
-  begun-so registration odometer here minute counter = record { begins = inl here; ends = inl here }
+  begun-so : (registration : Registration) (minute odometer : ℕ) → Is (reading_at minute odometer) → (counter : List ℕ) → IsMeasured Is old (begun_vehicle registration odometer minute counter)
+  begun-so registration minute odometer here counter =
+      let whole : 60 * minute / 60 ≡ minute = omega arith in
+      record { begins = inl (subst (λ (m : ℕ). Is (reading_at m odometer)) (sym whole) here); ends = inl (minute, here) }
 
 -- an image is measured by another, whatever it is made of
-abbrev pub MeasuresOneOf : Application → (Is : ℕ → Type 0) → (x y : List ℕ) → Type 0
+abbrev pub MeasuresOneOf : Application → (Is : Reading → Type 0) → (x y : List ℕ) → Type 0
 MeasuresOneOf app Is x y = PointsInside (vehicle_ring app) x → PointsInside (vehicle_ring app) y × AreMeasured Is (vehicles_by app x) (vehicles_by app y)
 
-module _ (app : Application) (Is : ℕ → Type 0) where
+module _ (app : Application) (Is : Reading → Type 0) where
   -- no call
   pub goes-itself : (x : List ℕ) → GoesMeasured app Is x x
   goes-itself x points = (points, measured-itself Is (vehicles_by app x), on_same app x x refl)
@@ -171,7 +174,7 @@ module _ (app : Application) (Is : ℕ → Type 0) where
       (two.0, measured-then Is (vehicles_by app x) (vehicles_by app y) (vehicles_by app z) one.1 two.1, on_then app x y z one.2 two.2)
 
   -- with more values
-  pub goes-more : (Now : ℕ → Type 0) → ((n : ℕ) → Is n → Now n) → (x y : List ℕ) → GoesMeasured app Is x y → GoesMeasured app Now x y
+  pub goes-more : (Now : Reading → Type 0) → ((r : Reading) → Is r → Now r) → (x y : List ℕ) → GoesMeasured app Is x y → GoesMeasured app Now x y
   goes-more Now more x y goes points =
       let one = goes points in
       (one.0, measured-more Is Now more (vehicles_by app x) (vehicles_by app y) one.1, one.2)
@@ -183,20 +186,21 @@ module _ (app : Application) (Is : ℕ → Type 0) where
       (points-by app sound x y points same, measured-same Is (vehicles_by app x) (vehicles_by app y) (vehicles_same app (ring_shape app sound) x y same points), on_same app x y (same_book app sound x y points days same))
 
   -- an insertion
-  pub inserting-goes : IsApplication app → (registration : Registration) → length registration.0 ≡ 15 → (odometer : ℕ) → Is odometer → (owed : List Entry) → Follow 1439 owed → (now : ℕ) (x y : List ℕ) → image_size_of app ≤ length x → IsCardInserting app registration odometer owed now x y → GoesMeasured app Is x y
-  inserting-goes sound registration long odometer here owed ordered now x y fits inserting points =
+  pub inserting-goes : IsApplication app → (registration : Registration) → length registration.0 ≡ 15 → (odometer now : ℕ) → ((minute : ℕ) → minute < now / 60 → Is (reading_at minute odometer)) → (owed : List Entry) → Follow 1439 owed → AllMay (λ minute. minute < now / 60) owed → (x y : List ℕ) → image_size_of app ≤ length x → IsCardInserting app registration odometer owed now x y → GoesMeasured app Is x y
+  inserting-goes sound registration long odometer now here owed ordered early x y fits inserting points =
       let old : Vehicles = vehicles_by app x in (
         inserting-points app sound registration long now x fits odometer owed y inserting,
-        inserting-is (IsMeasured Is old) (used-so Is old) app sound registration long now x fits (measured-itself Is old) odometer (measured-so Is old odometer here) (begun-so Is old registration odometer here) owed y inserting,
+        inserting-is (IsMeasured Is old) (used-so Is old) app sound registration long now x fits (measured-itself Is old) odometer (λ minute. minute < now / 60)
+            (λ minute its. measured-so Is old minute odometer (here minute its)) (λ minute its counter. begun-so Is old registration minute odometer (here minute its) counter) owed early y inserting,
         on_insert app sound registration long odometer now owed ordered x y fits inserting,
       )
 
-module _ (Is : ℕ → Type 0) where
+module _ (Is : Reading → Type 0) where
   -- a keep
-  pub keep-measures : (s : Session) (e : Entry) (odometer : ℕ) (x y : List ℕ) → Is odometer → IsCardKeeping s e odometer x y → MeasuresOneOf s.application Is x y
+  pub keep-measures : (s : Session) (e : Entry) (odometer : ℕ) (x y : List ℕ) → Is (reading_at e.minute odometer) → IsCardKeeping s e odometer x y → MeasuresOneOf s.application Is x y
   keep-measures s e odometer x y here keeping points =
       let old : Vehicles = vehicles_by s.application x in
-      (keeping.card.points, keep-is (IsMeasured Is old) (used-so Is old) s e odometer (measured-so Is old odometer here) (begun-so Is old s.registration odometer here) x y (measured-itself Is old) keeping)
+      (keeping.card.points, keep-is (IsMeasured Is old) (used-so Is old) s e odometer (measured-so Is old e.minute odometer here) (λ counter. begun-so Is old s.registration e.minute odometer here counter) x y (measured-itself Is old) keeping)
 
   -- a closing
   pub close-goes : (s : Session) (act : Activity) (x y : List ℕ) → IsApplication s.application → image_size_of s.application ≤ length x → IsCardClosing s act x y → GoesMeasured s.application Is x y
@@ -226,6 +230,35 @@ owed-follows app u x = subst (Follow 1439) (sym (owed-seen u (card_number app x)
     go : (s : Bool) → Follow 1439 (cond s (filter counted cells) [])
     go true = follow-of 1439 (filter counted cells) (rise-filter counted cells (view-rises (card_number app x) u))
         (All-weaker (λ (e : Entry). counted e ≡ true) (λ e. 1439 < e.minute) (λ e is. late e.minute is) (filter counted cells) (filter_passes counted cells))
+    go false = tt
+
+-- and it was kept: each of its minutes is before one before which the last of those is
+second-too : (a b : Bool) → (a && b) ≡ true → b ≡ true
+second-too true b is = is
+second-too false b is = absurd (let wrong : false ≡ true = is in cc)
+
+counts-early : (from mark last n : ℕ) → last < n → (m : ℕ) → counts from mark last m ≡ true → m < n
+counts-early from mark last n early m is =
+    let one : (nat_le from m && (nat_lt mark m && nat_le m last)) ≡ true = second-too (nat_le 1440 m) (nat_le from m && (nat_lt mark m && nat_le m last)) is in
+    let two : (nat_lt mark m && nat_le m last) ≡ true = second-too (nat_le from m) (nat_lt mark m && nat_le m last) one in
+    let three : nat_le m last ≡ true = second-too (nat_lt mark m) (nat_le m last) two in
+    let most : m ≤ last = grind (arith, nat_tests) in
+    omega (arith, most, early)
+
+early-among : (from mark last n : ℕ) → last < n → (es : List Entry) → AllMay (λ minute. minute < n) (filter (λ (e : Entry). counts from mark last e.minute) es)
+early-among from mark last n early [] = tt
+early-among from mark last n early (e ∷ es) = by (counts from mark last e.minute) refl (early-among from mark last n early es)
+  where
+    by : (b : Bool) → counts from mark last e.minute ≡ b → AllMay (λ minute. minute < n) (filter (λ (x : Entry). counts from mark last x.minute) es)
+        → AllMay (λ minute. minute < n) (cond b (e ∷ filter (λ (x : Entry). counts from mark last x.minute) es) (filter (λ (x : Entry). counts from mark last x.minute) es))
+    by true is rest = (counts-early from mark last n early e.minute is, rest)
+    by false is rest = rest
+
+pub owed-early : (app : Application) (u x : List ℕ) (n : ℕ) → last_kept u < n → AllMay (λ minute. minute < n) (owed_on app u x)
+owed-early app u x n early = subst (AllMay (λ minute. minute < n)) (sym (owed-seen u (card_number app x) (session_time app x) (end_mark app x))) (go (is_session (row_view (card_number app x) u).session (session_time app x)))
+  where
+    go : (s : Bool) → AllMay (λ minute. minute < n) (cond s (filter (λ (e : Entry). counts (session_time app x / 60) (end_mark app x) (last_kept u) e.minute) (row_view (card_number app x) u).cells) [])
+    go true = early-among (session_time app x / 60) (end_mark app x) (last_kept u) n early (row_view (card_number app x) u).cells
     go false = tt
 
 -- ---- events and places lie beside them
@@ -283,23 +316,23 @@ module _ (app : Application) (x c : List ℕ) where
 
 -- ---- OF STATES
 
-module _ (app : Application) (values : List ℕ) where
+module _ (app : Application) (values : List Reading) where
   pub measures-self : (X : State) → MeasuresOn app values X X
-  measures-self X y left = (y, left, goes-itself app (λ n. Contains values n) y)
+  measures-self X y left = (y, left, goes-itself app (λ r. Contains values r) y)
 
   pub measures-then : (X Y Z : State) → MeasuresOn app values X Y → MeasuresOn app values Y Z → MeasuresOn app values X Z
   measures-then X Y Z first next z left =
       let behind = next z left in
       let was = first behind.0 behind.1 in
-      (was.0, was.1, goes-then app (λ n. Contains values n) was.0 behind.0 z was.2 behind.2)
+      (was.0, was.1, goes-then app (λ r. Contains values r) was.0 behind.0 z was.2 behind.2)
 
-  pub measures-more : (now : List ℕ) → ((n : ℕ) → Contains values n → Contains now n) → (X Y : State) → MeasuresOn app values X Y → MeasuresOn app now X Y
+  pub measures-more : (now : List Reading) → ((r : Reading) → Contains values r → Contains now r) → (X Y : State) → MeasuresOn app values X Y → MeasuresOn app now X Y
   measures-more now more X Y is y left =
       let was = is y left in
-      (was.0, was.1, goes-more app (λ n. Contains values n) (λ n. Contains now n) more was.0 y was.2)
+      (was.0, was.1, goes-more app (λ r. Contains values r) (λ r. Contains now r) more was.0 y was.2)
 
 -- and its images are made of those before
-pub measures-makes : (app : Application) (values : List ℕ) (X Y : State) → MeasuresOn app values X Y → MakesOn app X Y
+pub measures-makes : (app : Application) (values : List Reading) (X Y : State) → MeasuresOn app values X Y → MakesOn app X Y
 measures-makes app values X Y is y left =
     let was = is y left in
     (was.0, was.1, λ points. let goes = was.2 points in (goes.0, goes.2))

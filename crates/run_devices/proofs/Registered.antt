@@ -34,7 +34,7 @@ use Rattle.device_calls.proofs.Inserted.{bound_of}
 use Rattle.device_calls.proofs.OnCard.{own-is, mark-is}
 use Rattle.device_calls.specs.CardNotes.{IsNote}
 use Rattle.run_devices.specs.Registered.{VehiclesBefore, vehicles_before, IsUsedOn, IsNewestOf, StandsAt, at_first, StandInPlace, StandAsBefore, NewestIsOf, HasNoMinuteElsewhere}
-use Rattle.run_devices.proofs.Entries.{OrClosed, OrKeeping, keep-so, close-so, note-so, inserting-so, mended-on, owed-so, replaying-so}
+use Rattle.run_devices.proofs.Entries.{OrClosed, OrKeeping, AnyMinute, keep-so, close-so, note-so, inserting-so, mended-on, any-may, owed-so, replaying-so}
 
 -- ---- THE LAST THAT STANDS in a ring is the newest one
 
@@ -141,10 +141,10 @@ module _ (registration : Registration) where
   closed-of v (inl is) = is
   closed-of v (inr (u, is, at)) = subst Newest (sym at) (still-of (used (60 * suc (last_use_in u / 60))) (λ w. refl) u.newest is)
 
-  keeping-of : (odometer : ℕ) (v : Vehicles) → OrKeeping Newest registration odometer v → Newest v
+  keeping-of : (odometer : ℕ) (v : Vehicles) → OrKeeping Newest AnyMinute registration odometer v → Newest v
   keeping-of odometer v (inl is) = is
-  keeping-of odometer v (inr (minute, u, is, inl on)) = subst Newest (sym on.1) (still-of (measured odometer) (λ w. refl) u.newest is)
-  keeping-of odometer v (inr (minute, u, is, inr room)) = subst Newest (sym room) is
+  keeping-of odometer v (inr (minute, any, u, is, inl on)) = subst Newest (sym on.1) (still-of (measured odometer) (λ w. refl) u.newest is)
+  keeping-of odometer v (inr (minute, any, u, is, inr room)) = subst Newest (sym room) is
 
   -- a moment of a keep leaves the last use, or makes it so
   moment-of : (size odometer more : ℕ) (e : Entry) (b : Book) (days : List Day) (vehicles : Vehicles) → IsKeepMoment size registration odometer more e b days vehicles → (last_use_in vehicles ≡ last_use_in b.vehicles) ⊎ Newest vehicles
@@ -157,10 +157,10 @@ module _ (registration : Registration) where
   replaying-of size odometer [] b days vehicles book = inl (ap (λ (v : Vehicles). last_use_in v) book.1)
   replaying-of size odometer (e ∷ es) b days vehicles (inl moment) = moment-of size odometer 0 e b days vehicles moment
   replaying-of size odometer (e ∷ es) b days vehicles (inr rest) = inr (keeping-of odometer vehicles
-      (replaying-so Newest size registration odometer (λ minute v here. minute-of odometer minute v) es (with_entry size registration odometer 0 b e) days vehicles (minute-of odometer e.minute b.vehicles) rest))
+      (replaying-so Newest AnyMinute size registration odometer (λ minute its v here. minute-of odometer minute v) es (with_entry size registration odometer 0 b e) days vehicles (any-may es) (minute-of odometer e.minute b.vehicles) rest))
 
   owed-of : (size odometer : ℕ) (e : Entry) (es : List Entry) (b : Book) → Newest (with_owed size registration odometer (e ∷ es) b).vehicles
-  owed-of size odometer e es b = owed-so Newest size registration odometer (λ minute v here. minute-of odometer minute v) es (with_entry size registration odometer 0 b e) (minute-of odometer e.minute b.vehicles)
+  owed-of size odometer e es b = owed-so Newest AnyMinute size registration odometer (λ minute its v here. minute-of odometer minute v) es (with_entry size registration odometer 0 b e) (any-may es) (minute-of odometer e.minute b.vehicles)
 
 -- ---- IN PLACE
 
@@ -240,10 +240,10 @@ module _ (b : VehiclesBefore) where
           last-behind (behind_first v.ring) (begun_vehicle registration odometer minute (vehicle_counter v.newest)),
         )
 
-    stand-keeping : (v : Vehicles) → OrKeeping Stand registration odometer v → StandAsBefore b v
+    stand-keeping : (v : Vehicles) → OrKeeping Stand AnyMinute registration odometer v → StandAsBefore b v
     stand-keeping v (inl is) = is.0
-    stand-keeping v (inr (minute, u, is, inl on)) = subst (StandAsBefore b) (sym on.1) (stand-on (measured odometer) u is (λ w newest. inl (going-on registration minute u.newest on.0 w newest ∙ here)))
-    stand-keeping v (inr (minute, u, is, inr room)) = subst (StandAsBefore b) (sym room) (stand-room u is.0)
+    stand-keeping v (inr (minute, any, u, is, inl on)) = subst (StandAsBefore b) (sym on.1) (stand-on (measured odometer) u is (λ w newest. inl (going-on registration minute u.newest on.0 w newest ∙ here)))
+    stand-keeping v (inr (minute, any, u, is, inr room)) = subst (StandAsBefore b) (sym room) (stand-room u is.0)
 
   -- a closing, where the newest one is of the unit's vehicle, or its last use no later than the newest minute of the start
   abbrev IsBounded : Vehicles → Type 0
@@ -306,7 +306,7 @@ module _ (b : VehiclesBefore) where
   pub keep-stands : (s : Session) (e : Entry) (odometer : ℕ) (x y : List ℕ) → s.registration ≡ b.registration → PointsInside (vehicle_ring s.application) x → StandAsBefore b (book_of s.application x).vehicles → IsCardKeeping s e odometer x y → StandAsBefore b (book_of s.application y).vehicles
   keep-stands s e odometer x y here points is keeping =
       stand-keeping b s.registration here odometer (book_of s.application y).vehicles
-      (keep-so (Stand b) s e odometer (λ minute v stands. stand-minute b s.registration here odometer minute v stands) x y (stand-at s.application x points is) keeping)
+      (keep-so (Stand b) s e odometer (λ v stands. stand-minute b s.registration here odometer e.minute v stands) x y (stand-at s.application x points is) keeping)
 
   -- a closing
   pub close-stands : (s : Session) (act : Activity) (x y : List ℕ) → IsApplication s.application → image_size_of s.application ≤ length x → PointsInside (vehicle_ring s.application) x → StandAsBefore b (book_of s.application x).vehicles → IsCardClosing s act x y → IsBounded b (book_of s.application y).vehicles → StandAsBefore b (book_of s.application y).vehicles
@@ -323,7 +323,7 @@ module _ (b : VehiclesBefore) where
 -- the newest entry behind a keep, and behind a closing
 pub keep-newest : (s : Session) (e : Entry) (odometer : ℕ) (x y : List ℕ) → NewestIsOf s.registration (book_of s.application x).vehicles → IsCardKeeping s e odometer x y → NewestIsOf s.registration (book_of s.application y).vehicles
 keep-newest s e odometer x y is keeping =
-    keeping-of s.registration odometer (book_of s.application y).vehicles (keep-so (Newest s.registration) s e odometer (λ minute v here. minute-of s.registration odometer minute v) x y is keeping)
+    keeping-of s.registration odometer (book_of s.application y).vehicles (keep-so (Newest s.registration) s e odometer (λ v here. minute-of s.registration odometer e.minute v) x y is keeping)
 
 pub keep-moves : (s : Session) (e : Entry) (odometer : ℕ) (x y : List ℕ) → IsCardKeeping s e odometer x y → (last_use_in (book_of s.application y).vehicles ≡ last_use_in (book_of s.application x).vehicles) ⊎ NewestIsOf s.registration (book_of s.application y).vehicles
 keep-moves s e odometer x y keeping =
@@ -357,7 +357,7 @@ module _ (app : Application) (sound : IsApplication app) (registration : Registr
   newest-put y is inserting = ⊎_elim
       (λ closed. closed-of registration (book_of app y).vehicles closed)
       (λ keeping. keeping-of registration odometer (book_of app y).vehicles keeping)
-      (inserting-so (Newest registration) app sound registration long now x fits is odometer (λ minute v here. minute-of registration odometer minute v) owed y inserting)
+      (inserting-so (Newest registration) app sound registration long now x fits is odometer AnyMinute (λ minute its v here. minute-of registration odometer minute v) owed (any-may owed) y inserting)
 
   -- the end mark stays, or one that it lacked has come in this vehicle
   moved-put : (y : List ℕ) (e : Entry) (es : List Entry) → lacked_by app x owed ≡ e ∷ es → InsertingOpen app registration odometer owed now x y → (end_mark app y ≡ end_mark app x) ⊎ NewestIsOf registration (book_of app y).vehicles
@@ -425,4 +425,4 @@ module _ (app : Application) (sound : IsApplication app) (registration : Registr
     inserting-stands points is y inserting bounded = ⊎_elim
         (λ closed. stand-closed b (book_of app y).vehicles closed bounded)
         (λ keeping. stand-keeping b registration here odometer (book_of app y).vehicles keeping)
-        (inserting-so (Stand b) app sound registration long now x fits (stand-at b app x points is) odometer (λ minute v stands. stand-minute b registration here odometer minute v stands) owed y inserting)
+        (inserting-so (Stand b) app sound registration long now x fits (stand-at b app x points is) odometer AnyMinute (λ minute its v stands. stand-minute b registration here odometer minute v stands) owed (any-may owed) y inserting)

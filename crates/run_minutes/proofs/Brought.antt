@@ -30,6 +30,7 @@ use Rattle.run_devices.specs.Told.{AreFoundCards, GoesOwing, AllGo, IsLitOwing, 
 use Rattle.run_devices.proofs.Parts.{both_of, as-rests, of-rests, brought-on, CardOff, powerless-of}
 use Rattle.run_devices.proofs.Noted.{noted-with, go-unit}
 use Rattle.run_minutes.specs.Keeping.{Fate, Still, Has, Fell, cabin_by, marks_by, held_in}
+use Rattle.run_devices.specs.Measured.{Reading, reading_at}
 use Rattle.run_minutes.specs.Books.{StaysOn, AreTimedOn, standing_by, hands_by, firsts_by}
 use Rattle.run_minutes.specs.Deeds.{KeepsOn, AllKeep, kept_for}
 use Rattle.run_minutes.proofs.Deeds.{keep-by, keep-none}
@@ -225,7 +226,7 @@ found-session f B s cards found = record { two = found.two; named = named; told 
     only B = found.only B
 
 -- the other card is as it was
-timed-by : (f : Found) (values : List ℕ) (c : Card) (U V X Y Z : State) → StaysOn (found_of f c) values X Y → AreTimedOn f values (arranged c U X Z) (arranged c V Y Z)
+timed-by : (f : Found) (values : List Reading) (c : Card) (U V X Y Z : State) → StaysOn (found_of f c) values X Y → AreTimedOn f values (arranged c U X Z) (arranged c V Y Z)
 timed-by f values A U V X Y Z on A valid = on
 timed-by f values A U V X Y Z on B valid = stays-self (found_of f B) values Z
 timed-by f values B U V X Y Z on A valid = stays-self (found_of f A) values Z
@@ -276,7 +277,7 @@ module _ (c : Card) (said : Kept) (fate : Fate) (k v : Cabin) (second : ℕ) (U 
       let behind = subst (λ (q : Cards). AllGo f (carried_brought fate by_hand (Some c) m w) (but_to (Some c) owes) q (arranged c U Y Z)) (sym same) (brought-go f w owes k.cards c fate by_hand m session U X Y Z go one) in (
         behind-note-of c f (carried_brought fate by_hand (Some c) m w) (but_to (Some c) owes) v.cards U V Y Z (subst (AreFoundCards f) (sym same) (found-session f c session k.cards found)) whole
             (brought-lit f w owes k.cards c fate by_hand m session U X Y Z lit one) behind run failed works,
-        timed-by f (said.odometer.0 ∷ []) c U V X Y Z card.1,
+        timed-by f (reading_at said.entry.minute said.odometer.0 ∷ []) c U V X Y Z card.1,
         subst (λ (q : Cards). AllKeep f (kept_for (Some c) said) k.cards q (arranged c U X Z) (arranged c V Y Z)) (sym same)
             (keep-by f c said k.cards session U V X Y Z
             (subst (λ (o : Option Accepted). KeepsOn (found_of f c) (said ∷ []) (session_of k.cards c) o X Y) (ap (λ (q : Cards). session_of q c) same ∙ session-set c session k.cards) card.2)),
@@ -286,6 +287,6 @@ module _ (c : Card) (said : Kept) (fate : Fate) (k v : Cabin) (second : ℕ) (U 
 pub nobody-booked : (said : Kept) (cards : Cards) (d : Devices) → BooksBrought None said false Still cards cards d d
 nobody-booked said cards d = λ f w owes found may lit go time. (
   (subst (λ (ms : List Mark). IsLitOwing f (record w { marks = ms }) owes d) (sym (append-nil w.marks)) lit, record { held = go.held; goes = go.goes }),
-  λ c valid. stays-self (found_of f c) (said.odometer.0 ∷ []) (card_of d c),
+  λ c valid. stays-self (found_of f c) (reading_at said.entry.minute said.odometer.0 ∷ []) (card_of d c),
   keep-none f cards d,
 )

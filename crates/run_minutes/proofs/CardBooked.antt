@@ -30,6 +30,7 @@ use Rattle.run_crew.specs.Cabin.{CanKeepNext, MayKeepAt}
 use Rattle.run_devices.specs.run_promise.Found.{Found, found_of}
 use Rattle.run_devices.specs.run_promise.Cards.{FirstKeep}
 use Rattle.run_minutes.specs.Keeping.{Still, Has, Fell, CardMayBeCalled, marks_by, held_in}
+use Rattle.run_devices.specs.Measured.{reading_at}
 use Rattle.run_minutes.specs.Books.{StaysOn, standing_by, hands_by, firsts_by}
 use Rattle.run_minutes.specs.Owing.{CardOwing, BooksCard}
 use Rattle.run_minutes.proofs.CardEvents.{events-keeping, stays-self}
@@ -75,9 +76,9 @@ lie-apart : (after before : ℕ) (hands : List Manual) → LieBetween after befo
 lie-apart after before [] lie = lie
 lie-apart after before (h ∷ hands) lie = let next = lie-apart h.minute before hands lie.1 in let first = lie.0 in omega (arith, first, next)
 
--- a call on a card that has a session leaves what is known of its last use, and its events, and measures with its value alone
+-- a call on a card that has a session leaves what is known of its last use, and its events, and measures with its reading alone
 timed-of : (f : Found) (c : Card) (b : Book) (z : Standing) (hd : Hands) (firsts : List FirstKeep) (ks : List ℕ) (marks : List Mark) (owes : List Entry) (a : Accepted) (U X Y : State) (by_hand : List Manual) (e : Entry) (odometer : ℕ) → IsCoherent X → a.session.minute < e.minute → CardOwing f c b z hd firsts ks marks owes (Some a) U X
-    → LeavesOnly X Y (λ x y. IsSession a.session x → IsFirstKeeping a.session by_hand e odometer x y) → StaysOn (found_of f c) (odometer ∷ []) X Y
+    → LeavesOnly X Y (λ x y. IsSession a.session x → IsFirstKeeping a.session by_hand e odometer x y) → StaysOn (found_of f c) (reading_at e.minute odometer ∷ []) X Y
 timed-of f c b z hd firsts ks marks owes a U X Y by_hand e odometer whole late one run =
     let on = one.goes.goes.0 in (
       λ timed. keeping-timed (found_of f c).image (found_of f c).began X Y one.rule.dark.later whole timed a.session by_hand e odometer
@@ -93,7 +94,7 @@ module _ (c : Card) (said : Kept) (cards : Cards) (U X : State) where
     subst (λ (o : Option Accepted). CardOwing f c w.book (w.standing c) (w.hands c) (w.firsts c) (w.brought c) (w.marks ++ []) [] o U X) (sym gone)
         (card-still f c w.book (w.standing c) (w.hands c) (w.firsts c) (w.brought c) w.marks (said.entry ∷ []) said.entry.minute U X present
         (subst (λ (o : Option Accepted). CardOwing f c w.book (w.standing c) (w.hands c) (w.firsts c) (w.brought c) w.marks (said.entry ∷ []) o U X) gone one)),
-    stays-self (found_of f c) (said.odometer.0 ∷ []) X,
+    stays-self (found_of f c) (reading_at said.entry.minute said.odometer.0 ∷ []) X,
     subst (λ (o : Option Accepted). KeepsOn (found_of f c) (said ∷ []) o o X X) (sym gone) (does-none (own_sizes (found_of f c).image) X),
   )
 

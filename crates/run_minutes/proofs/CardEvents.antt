@@ -12,6 +12,7 @@ use Rattle.device_calls.specs.card_by_hand.First.{IsFirstKeeping}
 use Rattle.run_devices.specs.run_promise.Found.{CardFound}
 use Rattle.run_devices.proofs.Measured.{measures-self, measures-then, measures-more}
 use Rattle.run_minutes.specs.CardEvents.{LeavesEvents}
+use Rattle.run_devices.specs.Measured.{Reading}
 use Rattle.run_minutes.specs.Books.{StaysOn}
 use Rattle.run_minutes.proofs.FirstSame.{HasSameFiles, first-files}
 
@@ -34,12 +35,12 @@ events-keeping app X Y whole s hands e odometer sizes session run =
     subst (λ (a : Application). HasSameFiles a x c) sizes (first-files s hands e odometer x c (moment (at_image (IsSession s) is session))))
 
 -- of a card as it was found
-pub stays-self : (f : CardFound) (values : List ℕ) (X : State) → StaysOn f values X X
+pub stays-self : (f : CardFound) (values : List Reading) (X : State) → StaysOn f values X X
 stays-self f values X = ((λ timed. timed), events-none (own_sizes f.image) X, measures-self (own_sizes f.image) values X)
 
-pub stays-then : (f : CardFound) (values : List ℕ) (X Y Z : State) → StaysOn f values X Y → StaysOn f values Y Z → StaysOn f values X Z
+pub stays-then : (f : CardFound) (values : List Reading) (X Y Z : State) → StaysOn f values X Y → StaysOn f values Y Z → StaysOn f values X Z
 stays-then f values X Y Z first next = ((λ timed. next.0 (first.0 timed)), events-then (own_sizes f.image) X Y Z first.1 next.1, measures-then (own_sizes f.image) values X Y Z first.2 next.2)
 
 -- with more values
-pub stays-more : (f : CardFound) (values now : List ℕ) → ((n : ℕ) → Contains values n → Contains now n) → (X Y : State) → StaysOn f values X Y → StaysOn f now X Y
+pub stays-more : (f : CardFound) (values now : List Reading) → ((r : Reading) → Contains values r → Contains now r) → (X Y : State) → StaysOn f values X Y → StaysOn f now X Y
 stays-more f values now more X Y is = (is.0, is.1, measures-more (own_sizes f.image) values now more X Y is.2)

@@ -26,9 +26,10 @@ use Rattle.run_minutes.specs.Keeping.{Fate, Still, Has, Fell, TellsPresent, cabi
 use Rattle.run_minutes.specs.Minutes.{Round, KeepingState, Done, Reach, Whole, Short, IsRound, IsMinute, IsReach, IsLast, AreRounds, AreDue, told_after, told_by, cabin_after, marks_after, kept_of, minute_of, present_at}
 use Rattle.run_minutes.specs.Deeds.{AllKeep, kept_on, kepts_on}
 use Rattle.run_minutes.proofs.Deeds.{keep-none, keep-then, kepts-snoc}
+use Rattle.run_devices.specs.Measured.{Reading}
 use Rattle.run_minutes.specs.Books.{AreBooked, AreTimedOn, HaveTime, MayBook, MayCome, BooksMinute, carried_after, fate_of, standing_by}
 use Rattle.run_minutes.specs.Faults.{last_faults, faults_of, faults_to, NotesFaults}
-use Rattle.run_minutes.specs.Decided.{MayBookAll, BooksAll, carried_by, decided_minute, odometers_of}
+use Rattle.run_minutes.specs.Decided.{MayBookAll, BooksAll, carried_by, decided_minute, reading_of, readings_of}
 use Rattle.run_minutes.proofs.Brought.{cards-by, found-session}
 use Rattle.run_minutes.proofs.CardEvents.{stays-self}
 use Rattle.run_minutes.proofs.MinuteBooked.{timed-then, timed-more}
@@ -125,12 +126,12 @@ pub record Booked (ds : List Minute) (i : ℕ) (at : Moment) (t u : KeepingState
   pub rounds : AreRounds t.keeper at done t
   pub told : u ≡ told_by t.keeper at done t
   pub books : (f : Found) (w : RunLedger) (start : ℕ) (g : Travel) → MayBookAll f w ds t d → HasTravelled start w.book g d.unit → t.keeper.odometer ≡ odometer_after start g.before → HaveTime e
-      → (AreBooked f (carried_by t.keeper done w) u.keeper.cabin.cards u.marks.items e × HasTravelled start (carried_by t.keeper done w).book (all_travelled (map (λ (x : Done). x.minute) done) g) e.unit) × AreTimedOn f (odometers_of t.keeper ds) d e
+      → (AreBooked f (carried_by t.keeper done w) u.keeper.cabin.cards u.marks.items e × HasTravelled start (carried_by t.keeper done w).book (all_travelled (map (λ (x : Done). x.minute) done) g) e.unit) × AreTimedOn f (readings_of t.keeper ds) d e
       × AllKeep f (kepts_on t.keeper (map (λ (x : Done). x.minute) done)) t.keeper.cabin.cards u.keeper.cabin.cards d e
   pub noted : NotesFaults false (faults_of t.keeper at done t) d.unit e.unit
 
 pub none-booked : (ds : List Minute) (at : Moment) (t : KeepingState) (d : Devices) → Booked ds 0 at t t d d
-none-booked ds at t d = record { done = []; are = refl; rounds = tt; told = refl; books = λ f w start g may gone stored time. ((may.booked, gone), (λ c valid. stays-self (found_of f c) (odometers_of t.keeper ds) (card_of d c)), keep-none f t.keeper.cabin.cards d); noted = notes-none false d.unit }
+none-booked ds at t d = record { done = []; are = refl; rounds = tt; told = refl; books = λ f w start g may gone stored time. ((may.booked, gone), (λ c valid. stays-self (found_of f c) (readings_of t.keeper ds) (card_of d c)), keep-none f t.keeper.cabin.cards d); noted = notes-none false d.unit }
 
 -- all of them
 pub all-booked : (ds : List Minute) (i : ℕ) → length ds ≤ i → (at : Moment) (t u : KeepingState) (d e : Devices) → Booked ds i at t u d e → (reach : Reach) × IsReach ds at false t u reach × BooksAll ds false reach t u d e × NotesFaults false (faults_to t.keeper at reach t) d.unit e.unit
@@ -176,28 +177,28 @@ module _ (ds : List Minute) (i : ℕ) (low : i < length ds) (at : Moment) (t u v
       }
 
   -- its odometer is one of theirs
-  value-here : Contains (odometers_of k ds) (minute_of m k).odometer.0
+  value-here : Contains (readings_of k ds) (reading_of k m)
   value-here =
-      let value : Minute → ℕ = λ (x : Minute). (minute_of x k).odometer.0 in
+      let value : Minute → Reading = λ (x : Minute). reading_of k x in
       subst (λ (zs : List Minute). Contains (map value zs) (value m)) (sym (whole ds i low))
-      (subst (λ (l : List ℕ). Contains l (value m)) (sym (map-append value (take i ds) (m ∷ drop (i + 1) ds)))
+      (subst (λ (l : List Reading). Contains l (value m)) (sym (map-append value (take i ds) (m ∷ drop (i + 1) ds)))
       (Contains-append_right (map value (take i ds)) (value m ∷ map value (drop (i + 1) ds)) (value m) (Contains-append_left (value m ∷ []) (map value (drop (i + 1) ds)) (value m) (Contains-push [] (value m)))))
 
-  timed-here : (f : Found) → AreTimedOn f ((minute_of m k).odometer.0 ∷ []) e g → AreTimedOn f (odometers_of k ds) e g
-  timed-here f = timed-more f ((minute_of m k).odometer.0 ∷ []) (odometers_of k ds) one e g
+  timed-here : (f : Found) → AreTimedOn f (reading_of k m ∷ []) e g → AreTimedOn f (readings_of k ds) e g
+  timed-here f = timed-more f (reading_of k m ∷ []) (readings_of k ds) one e g
     where
-      one : (n : ℕ) → Contains ((minute_of m k).odometer.0 ∷ []) n → Contains (odometers_of k ds) n
-      one n is = ⊎_elim
-          (λ (none : Contains [] n). absurd (let few = none.1 in omega (arith, few)))
-          (λ same. subst (λ (v : ℕ). Contains (odometers_of k ds) v) same value-here)
-          (Contains-push_cases [] (minute_of m k).odometer.0 n is)
+      one : (r : Reading) → Contains (reading_of k m ∷ []) r → Contains (readings_of k ds) r
+      one r is = ⊎_elim
+          (λ (none : Contains [] r). absurd (let few = none.1 in omega (arith, few)))
+          (λ same. subst (λ (v : Reading). Contains (readings_of k ds) v) same value-here)
+          (Contains-push_cases [] (reading_of k m) r is)
 
   -- behind those before
   module _ (f : Found) (w : RunLedger) (start : ℕ) (travel : Travel) (may : MayBookAll f w ds t d) (gone : HasTravelled start w.book travel d.unit) (stored : t.keeper.odometer ≡ odometer_after start travel.before) (time : HaveTime g) where
     abbrev so_far : Travel
     so_far = all_travelled (map (λ (x : Done). x.minute) so.done) travel
 
-    was : (AreBooked f (carried_by k so.done w) u.keeper.cabin.cards u.marks.items e × HasTravelled start (carried_by k so.done w).book so_far e.unit) × AreTimedOn f (odometers_of k ds) d e
+    was : (AreBooked f (carried_by k so.done w) u.keeper.cabin.cards u.marks.items e × HasTravelled start (carried_by k so.done w).book so_far e.unit) × AreTimedOn f (readings_of k ds) d e
         × AllKeep f (kepts_on k (map (λ (x : Done). x.minute) so.done)) k.cabin.cards u.keeper.cabin.cards d e
     was = so.books f w start travel may gone stored (earlier time)
 
@@ -230,7 +231,7 @@ module _ (ds : List Minute) (i : ℕ) (low : i < length ds) (at : Moment) (t u v
     carried_next w = carried_after here (decided_minute k m) r (carried_by k so.done w)
 
     next : (f : Found) (w : RunLedger) (start : ℕ) (travel : Travel) → MayBookAll f w ds t d → HasTravelled start w.book travel d.unit → t.keeper.odometer ≡ odometer_after start travel.before → HaveTime g
-        → (AreBooked f (carried_next w) v.keeper.cabin.cards v.marks.items g × HasTravelled start (carried_next w).book (travelled m.minute m.travelled (all_travelled (map (λ (x : Done). x.minute) so.done) travel)) g.unit) × AreTimedOn f (odometers_of k ds) d g
+        → (AreBooked f (carried_next w) v.keeper.cabin.cards v.marks.items g × HasTravelled start (carried_next w).book (travelled m.minute m.travelled (all_travelled (map (λ (x : Done). x.minute) so.done) travel)) g.unit) × AreTimedOn f (readings_of k ds) d g
         × AllKeep f (kepts_on k (map (λ (x : Done). x.minute) (so.done ++ x ∷ []))) k.cabin.cards v.keeper.cabin.cards d g
     next f w start travel may gone stored time =
         let ahead = was f w start travel may gone stored time in
@@ -246,7 +247,7 @@ module _ (ds : List Minute) (i : ℕ) (low : i < length ds) (at : Moment) (t u v
           early = λ c n at. let lt = before.0.early c n at in omega (arith, lt, late);
         } in (
           (booked, behind.1),
-          timed-then f (odometers_of k ds) d e g ahead.1 (timed-here f all.1),
+          timed-then f (readings_of k ds) d e g ahead.1 (timed-here f all.1),
           keep-then f (kepts_on k (map (λ (y : Done). y.minute) so.done)) (kept_on here (minute_of m k)) (kepts_on k (map (λ (y : Done). y.minute) (so.done ++ x ∷ []))) k.cabin.cards u.keeper.cabin.cards v.keeper.cabin.cards d e g
               (λ c. kepts-snoc k (map (λ (y : Done). y.minute) so.done) m c ∙ ap (λ (ms : List Minute). kepts_on k ms c) (sym (map-append (λ (y : Done). y.minute) so.done (x ∷ [])))) ahead.2 (all.2 refl),
         )
@@ -284,6 +285,6 @@ module _ (ds : List Minute) (i : ℕ) (low : i < length ds) (at : Moment) (t u v
     λ f w start travel may gone stored time.
         let all = books-here true round books f (carried_by k so.done w) start (all_travelled (map (λ (x : Done). x.minute) so.done) travel) m.travelled
         (may-here f w start travel may gone stored time) (was f w start travel may gone stored time).0.1 (odometer-here f w start travel may gone stored time) time in
-        (all.0, timed-then f (odometers_of k ds) d e g (was f w start travel may gone stored time).1 (timed-here f all.1), λ well. clash well),
+        (all.0, timed-then f (readings_of k ds) d e g (was f w start travel may gone stored time).1 (timed-here f all.1), λ well. clash well),
     last-noted k at so.done m.minute round t u p d.unit e.unit g.unit cards so.told so.noted noted,
   )

@@ -38,6 +38,7 @@ use Rattle.run_minutes.specs.Minutes.{Round, KeepingState}
 use Rattle.run_minutes.proofs.CardEvents.{stays-then, stays-more}
 use Rattle.run_minutes.specs.Deeds.{AllKeep, kept_for, kept_on}
 use Rattle.run_minutes.proofs.Deeds.{kept-both, keep-at, keep-then}
+use Rattle.run_devices.specs.Measured.{Reading, reading_at}
 use Rattle.run_minutes.specs.Books.{history_minute, standing_by, hands_by, firsts_by, carried_after, MayCome, MayBook, HaveTime, IsBooked, AreTimedOn, BooksMinute}
 use Rattle.run_minutes.specs.Owing.{owes_minute, but_to, carried_kept, carried_brought, HasTime, MayBring, IsBroughtOrCut, BooksBrought, BooksOwed}
 use Rattle.run_minutes.proofs.Counts.{apart-turned}
@@ -109,14 +110,14 @@ carried-still held (Some k) m w =
     ∙ ap (λ (ms : List Mark). record w { marks = ms }) (append-nil w.marks)
 
 -- the cards alone tell of their last use, and of their events
-pub timed-at : (f : Found) (values : List ℕ) (U V X Y : State) (e : Devices) → AreTimedOn f values (devices V X Y) e → AreTimedOn f values (devices U X Y) e
+pub timed-at : (f : Found) (values : List Reading) (U V X Y : State) (e : Devices) → AreTimedOn f values (devices V X Y) e → AreTimedOn f values (devices U X Y) e
 timed-at f values U V X Y e timed A = timed A
 timed-at f values U V X Y e timed B = timed B
 
-pub timed-then : (f : Found) (values : List ℕ) (d e g : Devices) → AreTimedOn f values d e → AreTimedOn f values e g → AreTimedOn f values d g
+pub timed-then : (f : Found) (values : List Reading) (d e g : Devices) → AreTimedOn f values d e → AreTimedOn f values e g → AreTimedOn f values d g
 timed-then f values d e g first next c valid = stays-then (found_of f c) values (card_of d c) (card_of e c) (card_of g c) (first c valid) (next c valid)
 
-pub timed-more : (f : Found) (values now : List ℕ) → ((n : ℕ) → Contains values n → Contains now n) → (d e : Devices) → AreTimedOn f values d e → AreTimedOn f now d e
+pub timed-more : (f : Found) (values now : List Reading) → ((r : Reading) → Contains values r → Contains now r) → (d e : Devices) → AreTimedOn f values d e → AreTimedOn f now d e
 timed-more f values now more d e is c valid = stays-more (found_of f c) values now more (card_of d c) (card_of e c) (is c valid)
 
 -- the clock of a card that was not asked
@@ -222,7 +223,7 @@ module _ (m : KeptMinute) (present : Present) (says : TellsPresent m present) (t
     has : IsLitOwing f (w1 w) (owes_minute i) (devices V X Y) × AllGo f (w1 w) (owes_minute i) k1.cabin.cards (devices V X Y) × HasTravelled start (kept i w.book) (travelled i.minute leg g) V
     has = owed f w start g leg (record { booked = may.booked; comes = may.comes }) gone odometer time
 
-    first : HasTime present.driver (devices V1 X1 Y1) → IsBroughtOrCut failed1 f (w2 w) (but_to present.driver (owes_minute i)) k2.cabin.cards (devices V1 X1 Y1) × AreTimedOn f (m.odometer.0 ∷ []) (devices V X Y) (devices V1 X1 Y1)
+    first : HasTime present.driver (devices V1 X1 Y1) → IsBroughtOrCut failed1 f (w2 w) (but_to present.driver (owes_minute i)) k2.cabin.cards (devices V1 X1 Y1) × AreTimedOn f (reading_at m.minute m.odometer.0 ∷ []) (devices V X Y) (devices V1 X1 Y1)
         × AllKeep f (kept_for present.driver (kept_in m Driver)) k1.cabin.cards k2.cabin.cards (devices V X Y) (devices V1 X1 Y1)
     first card = one f (w1 w) (owes_minute i) found1
         (may-bring f w i present.driver (kept_in m Driver) (w1 w) (owes_minute i) refl may.comes owes-driver (λ c is. says-some m present says two c (inl (this-driver c is))) (λ c is. refl)) has.0 has.1 card
@@ -245,7 +246,7 @@ module _ (m : KeptMinute) (present : Present) (says : TellsPresent m present) (t
       ∙ ap (λ (x : Fate). carried_brought x qe present.codriver i.minute (carried_brought round.driver round.driver_held present.driver i.minute (carried_kept i round.clock w))) (sym still)
       ∙ carried-both present i round w two in (
         (subst (λ (v : RunLedger). DevicesUnpowered f v (devices V1 X1 Y1)) is cut, travelled-noted start (kept i w.book) (travelled i.minute leg g) (has f w start g leg may gone odometer short).2 whole run),
-        timed-at f (m.odometer.0 ∷ []) U V X Y (devices V1 X1 Y1) here.1,
+        timed-at f (reading_at m.minute m.odometer.0 ∷ []) U V X Y (devices V1 X1 Y1) here.1,
         λ well. clash well,
       )
 
@@ -283,7 +284,7 @@ module _ (m : KeptMinute) (present : Present) (says : TellsPresent m present) (t
         omega (arith, low, here, there)
 
     behind : (f : Found) (w : RunLedger) (start : ℕ) (g : Travel) (leg : ℕ) → MayBook f w present m (told-of k ms bs) (devices U X Y) → HasTravelled start w.book g U → m.odometer.0 ≡ odometer_by (odometer_after start g.before) leg → HaveTime (devices V2 X2 Y2)
-        → IsBroughtOrCut failed f (w3 w) (but_to present.codriver (but_to present.driver (owes_minute i))) k3.cabin.cards (devices V2 X2 Y2) × AreTimedOn f (m.odometer.0 ∷ []) (devices U X Y) (devices V2 X2 Y2)
+        → IsBroughtOrCut failed f (w3 w) (but_to present.codriver (but_to present.driver (owes_minute i))) k3.cabin.cards (devices V2 X2 Y2) × AreTimedOn f (reading_at m.minute m.odometer.0 ∷ []) (devices U X Y) (devices V2 X2 Y2)
         × AllKeep f (kept_on present m) k.cabin.cards k3.cabin.cards (devices U X Y) (devices V2 X2 Y2)
     behind f w start g leg may gone odometer time =
         let here = first f w start g leg may gone odometer (short time) (time-first time present.driver refl) in
@@ -292,7 +293,7 @@ module _ (m : KeptMinute) (present : Present) (says : TellsPresent m present) (t
         (may-bring f w i present.codriver (kept_in m CoDriver) (w2 w) (but_to present.driver (owes_minute i)) refl may.comes owes-codriver (λ c is. says-some m present says two c (inr (this-codriver c is)))
         (λ c is. ap (λ (a : Bool). if a then standing_by fe i.minute (w.standing c) else w.standing c) (not-driver c is))) lit.0 lit.1 (has-time present.codriver (devices V2 X2 Y2) time) in (
           next.0,
-          timed-at f (m.odometer.0 ∷ []) U V X Y (devices V2 X2 Y2) (timed-then f (m.odometer.0 ∷ []) (devices V X Y) (devices V1 X1 Y1) (devices V2 X2 Y2) here.1 next.1),
+          timed-at f (reading_at m.minute m.odometer.0 ∷ []) U V X Y (devices V2 X2 Y2) (timed-then f (reading_at m.minute m.odometer.0 ∷ []) (devices V X Y) (devices V1 X1 Y1) (devices V2 X2 Y2) here.1 next.1),
           subst (λ (q : Cards). AllKeep f (kept_on present m) q k3.cabin.cards (devices U X Y) (devices V2 X2 Y2)) same
               (keep-at f (kept_on present m) k1.cabin.cards k3.cabin.cards U V X Y (devices V2 X2 Y2)
               (keep-then f (kept_for present.driver (kept_in m Driver)) (kept_for present.codriver (kept_in m CoDriver)) (kept_on present m) k1.cabin.cards k2.cabin.cards k3.cabin.cards (devices V X Y) (devices V1 X1 Y1) (devices V2 X2 Y2)

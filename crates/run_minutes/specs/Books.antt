@@ -23,7 +23,7 @@ use Rattle.run_crew.specs.declared.cards.Cards.{Cards}
 use Rattle.run_devices.specs.run_promise.Found.{CardFound, Found, found_of}
 use Rattle.run_devices.specs.run_promise.Cards.{FirstKeep, and_first}
 use Rattle.run_devices.specs.run_promise.Between.{RunLedger}
-use Rattle.run_devices.specs.Measured.{MeasuresOn}
+use Rattle.run_devices.specs.Measured.{Reading, reading_at, MeasuresOn}
 use Rattle.run_devices.specs.Told.{AreFoundCards, DevicesPowered, DevicesUnpowered, AreEarly}
 use Rattle.run_minutes.specs.CardEvents.{LeavesEvents}
 use Rattle.run_minutes.specs.Deeds.{AllKeep, kept_on}
@@ -149,13 +149,13 @@ pub record HaveTime (d : Devices) : Type 0 where
 abbrev pub IsTimedOn : CardFound → (old new : State) → Type 0
 IsTimedOn f old new = AreTimedSince f.image f.began old → AreTimedSince f.image f.began new
 
--- its events are those of before, and its vehicle entries were measured with no other values than these
-abbrev pub StaysOn : CardFound → (values : List ℕ) → (old new : State) → Type 0
+-- its events are those of before, and its vehicle entries were measured with no other readings than these
+abbrev pub StaysOn : CardFound → (values : List Reading) → (old new : State) → Type 0
 StaysOn f values old new = IsTimedOn f old new × LeavesEvents (own_sizes f.image) old new
     × MeasuresOn (own_sizes f.image) values old new
 
 -- so it is of each card that was valid
-abbrev pub AreTimedOn : Found → (values : List ℕ) → (d e : Devices) → Type 0
+abbrev pub AreTimedOn : Found → (values : List Reading) → (d e : Devices) → Type 0
 AreTimedOn f values d e = (c : Card) → IsOwnValid (found_of f c).image
     → StaysOn (found_of f c) values (card_of d c) (card_of e c)
 
@@ -167,5 +167,5 @@ BooksMinute present m failed round t u d e = (f : Found) (w : RunLedger) (start 
     → MayBook f w present m t d → HasTravelled start w.book g d.unit
     → m.odometer.0 ≡ odometer_by (odometer_after start g.before) leg → HaveTime e
     → IsBooked f start w present (history_minute present m) g leg failed round u.keeper.cabin.cards e
-    × AreTimedOn f (m.odometer.0 ∷ []) d e
+    × AreTimedOn f (reading_at m.minute m.odometer.0 ∷ []) d e
     × (failed ≡ false → AllKeep f (kept_on present m) t.keeper.cabin.cards u.keeper.cabin.cards d e)

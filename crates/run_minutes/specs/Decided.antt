@@ -9,6 +9,7 @@ use Rattle.run_devices.specs.safety_model.Safe.{Devices}
 use Rattle.run_devices.specs.run_unit_course.Legs.{Travel, all_travelled}
 use Rattle.device_calls.specs.unit_rule.Odometer.{HasTravelled, odometer_after}
 use Rattle.run_devices.specs.run_promise.Found.{Found, found_of}
+use Rattle.run_devices.specs.Measured.{Reading, reading_at}
 use Rattle.run_devices.specs.run_promise.Between.{RunLedger}
 use Rattle.run_minutes.specs.declared.keeper.Keeper.{Keeper}
 use Rattle.run_minutes.specs.Minutes.{Round, Done, Reach, Whole, Short, KeepingState, present_at, minute_of}
@@ -19,9 +20,12 @@ use Rattle.run_minutes.specs.Books.{AreBooked, AreTimedOn, HaveTime, IsCutIn, ca
 abbrev pub decided_minute : Keeper → Minute → HistoryMinute
 decided_minute k m = history_minute (present_at k.cabin m.minute) (minute_of m k)
 
--- the odometer values at the ends of some
-abbrev pub odometers_of : Keeper → List Minute → List ℕ
-odometers_of k decided = map (λ m. (minute_of m k).odometer.0) decided
+-- the odometer values at the ends of some, each with its minute
+abbrev pub reading_of : Keeper → Minute → Reading
+reading_of k m = reading_at m.minute (minute_of m k).odometer.0
+
+abbrev pub readings_of : Keeper → List Minute → List Reading
+readings_of k decided = map (reading_of k) decided
 
 -- what is carried behind some that are kept
 abbrev pub carried_by : Keeper → List Done → RunLedger → RunLedger
@@ -68,5 +72,5 @@ abbrev pub BooksAll : List Minute → (failed : Bool) → Reach → (t u : Keepi
 BooksAll decided failed reach t u d e = (f : Found) (w : RunLedger) (start : ℕ) (g : Travel)
     → MayBookAll f w decided t d → HasTravelled start w.book g d.unit
     → t.keeper.odometer ≡ odometer_after start g.before → HaveTime e
-    → EndsAll f start w t.keeper failed reach g u e × AreTimedOn f (odometers_of t.keeper decided) d e
+    → EndsAll f start w t.keeper failed reach g u e × AreTimedOn f (readings_of t.keeper decided) d e
     × (failed ≡ false → AllKeep f (kepts_on t.keeper decided) t.keeper.cabin.cards u.keeper.cabin.cards d e)

@@ -29,6 +29,7 @@ use Rattle.run_devices.specs.run_promise.Between.{RunLedger}
 use Rattle.run_devices.specs.Strung.{CardHoldsString}
 use Rattle.run_devices.specs.Told.{GoesOwing, AreFoundCards, AllGo, owes_nothing, IsLitWith, IsLitOwing}
 use Rattle.run_devices.specs.Told.{DevicesUnpowered}
+use Rattle.run_devices.specs.Measured.{reading_at}
 use Rattle.run_minutes.specs.Keeping.{Fate, is_this, marks_by, session_at, held_in}
 use Rattle.run_minutes.specs.Minutes.{KeepingState, unit_mark}
 use Rattle.run_minutes.specs.Deeds.{KeepsOn, AllKeep, kept_for}
@@ -137,7 +138,7 @@ BooksCard c said fate cards cards_after unit card card_after = (f : Found) (w : 
     (hands_by fate (held_in (session_of cards c)) said.entry.minute (w.hands c))
     (firsts_by fate c (held_in (session_of cards c)) said.entry.minute (w.firsts c)) (w.brought c)
     (w.marks ++ marks_by fate (Some c) said.entry.minute) [] (session_of cards_after c) unit card_after
-    × StaysOn (found_of f c) (said.odometer.0 ∷ []) card card_after
+    × StaysOn (found_of f c) (reading_at said.entry.minute said.odometer.0 ∷ []) card card_after
     × KeepsOn (found_of f c) (said ∷ []) (session_of cards c) (session_of cards_after c) card card_after
 
 -- the clock of the card that was present does not stand at its last value
@@ -154,4 +155,4 @@ BooksBrought present said failed fate cards cards_after d e = (f : Found) (w : R
     → IsBroughtOrCut failed f
     (carried_brought fate (held_in (session_at cards present)) present said.entry.minute w) (but_to present owes)
     cards_after e
-    × AreTimedOn f (said.odometer.0 ∷ []) d e × AllKeep f (kept_for present said) cards cards_after d e
+    × AreTimedOn f (reading_at said.entry.minute said.odometer.0 ∷ []) d e × AllKeep f (kept_for present said) cards cards_after d e

@@ -15,6 +15,7 @@ use Rattle.unit_minutes.specs.declared.notes.Notes.{Notes}
 use Rattle.run_minutes.specs.Keeping.{CardMayBeCalled, Still, IsBrought, cabin_by, kept_in, session_at, held_in, state_at, most_tears}
 use Rattle.run_minutes.specs.Minutes.{unit_mark}
 use Rattle.run_minutes.specs.Owing.{BooksBrought}
+use Rattle.run_devices.specs.Measured.{reading_at}
 use Rattle.run_minutes.proofs.CardEvents.{stays-self}
 use Rattle.run_minutes.proofs.MinuteBooked.{timed-at, clock-rests, booked-cut, booked-whole}
 use Rattle.run_minutes.proofs.Faults.{brought-notes, round-cut, round-whole}
@@ -53,7 +54,7 @@ returns-in_err-acknowledge-clause-kept g c =
     subst (λ (f : Bool). Keeps m p c.args.said.at f s t) failed (record {
       round = None;
       is = (refl, told-same c.acknowledge.new.self k c.acknowledge.new.marks c.args.outcome.now.marks c.args.outcome.now.breaks c.args.outcome.now.breaks keeper same.1 refl);
-      books = λ says. λ f w start v leg may gone odometer time. (c.in_err-acknowledge.ensures.booked says f w start v leg (record { booked = may.booked; comes = may.comes }) gone odometer time.unit, timed-at f (m.odometer.0 ∷ []) U V X Y (devices V X Y) (λ card valid. stays-self (found_of f card) (m.odometer.0 ∷ []) (card_of (devices V X Y) card)), λ well. absurd (cc));
+      books = λ says. λ f w start v leg may gone odometer time. (c.in_err-acknowledge.ensures.booked says f w start v leg (record { booked = may.booked; comes = may.comes }) gone odometer time.unit, timed-at f (reading_at m.minute m.odometer.0 ∷ []) U V X Y (devices V X Y) (λ card valid. stays-self (found_of f card) (reading_at m.minute m.odometer.0 ∷ []) (card_of (devices V X Y) card)), λ well. absurd (cc));
       noted = c.in_err-acknowledge.ensures.goes.all.quiet;
       last = λ well. absurd (cc);
       clock = tt;
