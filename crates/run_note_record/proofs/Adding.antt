@@ -6,6 +6,7 @@ use Rattle.run_events.specs.activity_codec.Activity.{same_slot}
 use Rattle.run_devices.specs.trace_model.declared.Card.{Card}
 use Rattle.run_devices.specs.trace_model.Trace.{TraceSecond}
 use Rattle.run_devices.specs.card_image.Own.{IsOwnValid}
+use Rattle.run_devices.specs.log_model.declared.lines.Break.{Break}
 use Rattle.run_devices.specs.log_model.declared.lines.Verdict.{Verdict}
 use Rattle.run_devices.specs.log_model.Log.{RunLog, In, same_phase, is_accepting}
 use Rattle.run_devices.specs.log_model.Course.{ToldSecond, Visit, Before, Course, has_power, second_told, went, Went}
@@ -31,9 +32,8 @@ use Rattle.run_events.proofs.Later.{told-number}
 use Rattle.run_events.proofs.Shows.{nothing-more}
 use Rattle.run_devices.specs.run_promise.Origin.{Origin, rule_of, start_at, first_of}
 use Rattle.run_devices.specs.run_promise.Beside.{HaveLeftMore}
-use Rattle.run_devices.specs.run_promise.Whole.{NothingFailed}
 use Rattle.run_note_record.specs.Opened.{IsOpenSo}
-use Rattle.run_note_record.specs.Uses.{times_of, opened_in, notes_in, notes_now, uses_in, AreExactIn, FindsNone}
+use Rattle.run_note_record.specs.Uses.{times_of, opened_in, notes_in, notes_now, uses_in, told_so_far, NoneFailedOn, AreExactIn}
 use Rattle.run_note_record.specs.Evented.{number_in, limit_in, brought_now}
 use Rattle.run_note_record.specs.Noting.{Stage, Waking, Acting, Ended, is_told, AreOpen, EventedIn}
 use Rattle.run_note_record.specs.EventsSoFar.{planned, FitsSoFar, SoFar, Adds, StepsFollow, EventedNow, BeginsNow, ASecondBegins, ACallNotes, ASecondEnds}
@@ -41,7 +41,7 @@ use Rattle.run_note_record.proofs.Bringing.{brought-as}
 use Rattle.run_note_record.proofs.Brought.{lit-course}
 use Rattle.run_note_record.proofs.Choices.{planned-put, fits-in}
 use Rattle.run_note_record.proofs.Opened.{open-left, all-left}
-use Rattle.run_note_record.proofs.Exact.{notes-before, opened-same, exact-begins}
+use Rattle.run_note_record.proofs.Exact.{TornStay, torn-next, failed-fewer, notes-before, opened-same, exact-begins}
 use Rattle.run_note_record.proofs.Noting.{by-more, noted-more, nothing-brought, second-is_noted}
 use Rattle.run_note_record.proofs.Whole.{whole-told}
 
@@ -152,7 +152,7 @@ module _ (o : Origin) (done : List TraceSecond) (p : Progress) (span : List Told
 
   -- the session times so far, by the log of its beginning
   abbrev pub ExactBy : RunLog → (own : ℕ → Visit → ℕ) → Type 0
-  ExactBy log own = NothingFailed log → (c : Card) → IsOwnValid (card_image o.recording c) →
+  ExactBy log own = (c : Card) → NoneFailedOn o log (told_so_far p.log done log s) c → IsOwnValid (card_image o.recording c) →
       times_of (uses_in o c (notes_in p.log done)) ++ opened_in c own (seen_by log before_it s).told ≡ times_of (uses_in o c (notes_now p.log done log s))
 
   notes-as : (log : RunLog) → GoesOnBy p log s → notes_now log done log s ≡ notes_now p.log done log s
@@ -162,20 +162,26 @@ module _ (o : Origin) (done : List TraceSecond) (p : Progress) (span : List Told
   front-as : (log : RunLog) → GoesOnBy p log s → (own : ℕ → Visit → ℕ) (c : Card) → times_of (uses_in o c (notes_in log done)) ++ opened_in c own (seen_next log done s).told ≡ times_of (uses_in o c (notes_in p.log done)) ++ opened_in c own (seen_by log before_it s).told
   front-as log g own c = λ i. times_of (uses_in o c (notes-before o done p b.followed s log g i)) ++ opened_in c own (next-as log g i).told
 
+  told-as : (log : RunLog) → GoesOnBy p log s → told_so_far log done log s ≡ told_so_far p.log done log s
+  told-as log g = ap (λ (w : Went). w.told ++ second_told log w.before s ∷ []) (went-same_ (rule_of o) (start_at o) o.from (first_of o) done p b.followed.order b.followed.next b.followed.unfound s log g)
+
   pub exact-by : (log : RunLog) → GoesOnBy p log s → (own : ℕ → Visit → ℕ) → AreExactIn o log done s own → ExactBy log own
-  exact-by log g own h none c valid = sym (front-as log g own c) ∙ h none c valid ∙ ap (λ (l : List Note). times_of (uses_in o c l)) (notes-as log g)
+  exact-by log g own h c none valid =
+      sym (front-as log g own c) ∙ h c (subst (λ (ts : List ToldSecond). NoneFailedOn o log ts c) (sym (told-as log g)) none) valid ∙ ap (λ (l : List Note). times_of (uses_in o c l)) (notes-as log g)
 
   pub exact-of : (log : RunLog) → GoesOnBy p log s → (own : ℕ → Visit → ℕ) → ExactBy log own → AreExactIn o log done s own
-  exact-of log g own h none c valid = front-as log g own c ∙ h none c valid ∙ ap (λ (l : List Note). times_of (uses_in o c l)) (sym (notes-as log g))
+  exact-of log g own h c none valid =
+      front-as log g own c ∙ h c (subst (λ (ts : List ToldSecond). NoneFailedOn o log ts c) (told-as log g) none) valid ∙ ap (λ (l : List Note). times_of (uses_in o c l)) (sym (notes-as log g))
 
   -- a line that brings no acceptance
-  pub exact-still : (log later : RunLog) → GoesOnBy p log s → (own : ℕ → Visit → ℕ) → (NothingFailed later → NothingFailed log) → FindsNone o p.log done s log later →
+  pub exact-still : (log later : RunLog) → GoesOnBy p log s → (own : ℕ → Visit → ℕ) → (more : List Break) → later.breaks ≡ log.breaks ++ more → TornStay (second_told log before_it s).course.torn (second_told later before_it s).course.torn →
+      ((c : Card) → uses_in o c (notes_now p.log done later s) ≡ uses_in o c (notes_now p.log done log s)) →
       (seen_by later before_it s).told.course.found ≡ (seen_by log before_it s).told.course.found → AreExactIn o log done s own → ExactBy later own
-  exact-still log later g own fewer finds found h none c valid =
+  exact-still log later g own more lines stay finds found h c none valid =
       ap (λ (us : List ℕ). times_of (uses_in o c (notes_in p.log done)) ++ us)
       (opened-same c own (seen_by later before_it s).told (seen_by log before_it s).told (told-number later before_it s ∙ sym (told-number log before_it s)) found)
-      ∙ exact-by log g own h (fewer none) c valid
-      ∙ sym (ap times_of (finds none c valid))
+      ∙ exact-by log g own h c (failed-fewer o c log later more (told_so_far p.log done log s) (told_so_far p.log done later s) lines (torn-next c (went p.log done).told (second_told log before_it s) (second_told later before_it s) stay) none) valid
+      ∙ sym (ap times_of (finds c))
 
   module _ (stage : Stage) (log later : RunLog) (g : GoesOnBy p log s) (g_later : GoesOnBy p later s) (d : Devices) (more es : List Event) (v : SoFar o done s stage log more d) where
     -- it fits as the second is seen

@@ -14,7 +14,7 @@ use Rattle.run_note_record.specs.Beside.{HaveLeftMore}
 use Rattle.run_note_record.specs.Ringed.{holder_in, TellsIn, IsInsertionIn, Seating, Ringed, HasSameRings, WritesRing, IsAddedAt, MayBeAdded, IsWithdrawnAt, MayBeWithdrawn, AnInsertionIsNoted, APlaceIsNoted, AWithdrawalIsNoted, AWithdrawalIsBroken, AnInsertionIsBroken, APlaceIsBroken, Since}
 use Rattle.run_devices.specs.card_image.Own.{own_sizes}
 use Rattle.run_devices.proofs.Measured.{goes-itself}
-use Rattle.run_note_record.specs.OnCards.{PlacesStay, IsReading, VehiclesGo, SessionsGo, NoOtherComes, CardsGo, CardsStay, PlaceIsTaken}
+use Rattle.run_note_record.specs.OnCards.{PlacesStay, IsReadingOf, VehiclesGo, SessionsGo, NoOtherComes, CardsGo, CardsStay, PlaceIsTaken}
 use Rattle.run_note_record.specs.Sessions.{IsBrokenSince, OpensIn, Ends, Opens, Shuts}
 use Rattle.run_note_record.proofs.Sessions.{stay-may}
 use Rattle.run_note_record.proofs.Stands.{insertion-as}
@@ -70,9 +70,9 @@ module _ (R : List ℕ → List ℕ → Type 0) (d e : Devices) where
         places A valid y left = (y, left, refl)
         places B valid y left = (y, left, refl)
 
-        vehicles : VehiclesGo o.origin spans d before-it
-        vehicles A valid y left = (y, left, goes-itself (own_sizes (card_image o.origin.recording A)) (IsReading spans) y)
-        vehicles B valid y left = (y, left, goes-itself (own_sizes (card_image o.origin.recording B)) (IsReading spans) y)
+        vehicles : VehiclesGo o.origin spans NoOtherComes d before-it
+        vehicles A valid y left = (y, left, goes-itself (own_sizes (card_image o.origin.recording A)) (IsReadingOf spans (NoOtherComes A)) y)
+        vehicles B valid y left = (y, left, goes-itself (own_sizes (card_image o.origin.recording B)) (IsReadingOf spans (NoOtherComes B)) y)
 
         sessions : SessionsGo o.origin NoOtherComes d before-it
         sessions A valid y left = (y, left, inl refl)
@@ -85,24 +85,24 @@ module _ (R : List ℕ → List ℕ → Type 0) (d e : Devices) where
         places A valid y left = (y, left, refl)
         places B valid y left = (y, left, refl)
 
-        vehicles : VehiclesGo o.origin spans behind-it e
-        vehicles A valid y left = (y, left, goes-itself (own_sizes (card_image o.origin.recording A)) (IsReading spans) y)
-        vehicles B valid y left = (y, left, goes-itself (own_sizes (card_image o.origin.recording B)) (IsReading spans) y)
+        vehicles : VehiclesGo o.origin spans NoOtherComes behind-it e
+        vehicles A valid y left = (y, left, goes-itself (own_sizes (card_image o.origin.recording A)) (IsReadingOf spans (NoOtherComes A)) y)
+        vehicles B valid y left = (y, left, goes-itself (own_sizes (card_image o.origin.recording B)) (IsReadingOf spans (NoOtherComes B)) y)
 
         sessions : SessionsGo o.origin NoOtherComes behind-it e
         sessions A valid y left = (y, left, inl refl)
         sessions B valid y left = (y, left, inl refl)
 
-    pub go-between : (spans : List SpanFrom) → VehiclesGo o.origin spans d e → VehiclesGo o.origin spans before-it behind-it
-    go-between spans goes A = goes A
-    go-between spans goes B = goes B
+    pub go-between : (spans : List SpanFrom) (May : Card → ℕ → Type 0) → VehiclesGo o.origin spans May d e → VehiclesGo o.origin spans May before-it behind-it
+    go-between spans May goes A = goes A
+    go-between spans May goes B = goes B
 
     pub sessions-between : (May : Card → ℕ → Type 0) → SessionsGo o.origin May d e → SessionsGo o.origin May before-it behind-it
     sessions-between May goes A = goes A
     sessions-between May goes B = goes B
 
     pub cards-between : (spans : List SpanFrom) (May : Card → ℕ → Type 0) → CardsGo o.origin spans May d e → CardsGo o.origin spans May before-it behind-it
-    cards-between spans May cards = record { places = places; vehicles = go-between spans cards.vehicles; sessions = sessions-between May cards.sessions }
+    cards-between spans May cards = record { places = places; vehicles = go-between spans May cards.vehicles; sessions = sessions-between May cards.sessions }
       where
         places : PlacesStay o.origin before-it behind-it
         places A = cards.places A
@@ -138,15 +138,15 @@ module _ (R : List ℕ → List ℕ → Type 0) (d e : Devices) where
           by (Some u) = refl
 
 pub insertion-around : (d e : Devices) → AnInsertionIsNoted d e
-insertion-around d e o log spans notes seats now v more a cards opens head index writes full is each =
+insertion-around d e o log spans notes seats now v more a put cards opens head index writes full is each =
     ringed-behind (IsAddedAt index head) d e o log spans (notes ++ Accepts a ∷ []) now writes
-    (insertion-noted (before-it (IsAddedAt index head) d e) (behind-it (IsAddedAt index head) d e) o log spans notes seats now (ringed-before (IsAddedAt index head) d e o log spans notes seats v) (to-behind (IsAddedAt index head) d e o more) a (cards-between (IsAddedAt index head) d e o spans (OpensIn log a) cards) (opens-between (IsAddedAt index head) d e o log a opens) head index (λ q left. left) full
+    (insertion-noted (before-it (IsAddedAt index head) d e) (behind-it (IsAddedAt index head) d e) o log spans notes seats now (ringed-before (IsAddedAt index head) d e o log spans notes seats v) (to-behind (IsAddedAt index head) d e o more) a put (cards-between (IsAddedAt index head) d e o spans (OpensIn log a) cards) (opens-between (IsAddedAt index head) d e o log a opens) head index (λ q left. left) full
     (insertion-behind (IsAddedAt index head) d e o log spans notes seats (record { accepted = a; withdrawn = None }) head is) each)
 
 pub place-around : (d e : Devices) → APlaceIsNoted d e
 place-around d e o log spans notes seats v more p head writes full is own long on taken_ goes sessions_ =
     ringed-behind (IsAdded unit_place_ring head) d e o log spans (notes ++ Enters p ∷ []) seats writes
-    (place-noted (before-it (IsAdded unit_place_ring head) d e) (behind-it (IsAdded unit_place_ring head) d e) o log spans notes seats (ringed-before (IsAdded unit_place_ring head) d e o log spans notes seats v) (to-behind (IsAdded unit_place_ring head) d e o more) p head (λ q left. left) full is own long on (taken-between (IsAdded unit_place_ring head) d e o log p own taken_) (go-between (IsAdded unit_place_ring head) d e o spans goes) (sessions-between (IsAdded unit_place_ring head) d e o NoOtherComes sessions_))
+    (place-noted (before-it (IsAdded unit_place_ring head) d e) (behind-it (IsAdded unit_place_ring head) d e) o log spans notes seats (ringed-before (IsAdded unit_place_ring head) d e o log spans notes seats v) (to-behind (IsAdded unit_place_ring head) d e o more) p head (λ q left. left) full is own long on (taken-between (IsAdded unit_place_ring head) d e o log p own taken_) (go-between (IsAdded unit_place_ring head) d e o spans NoOtherComes goes) (sessions-between (IsAdded unit_place_ring head) d e o NoOtherComes sessions_))
 
 pub withdrawal-around : (d e : Devices) → AWithdrawalIsNoted d e
 withdrawal-around d e o log spans notes seats now v more w cards s at below time odometer second stood time_fits odometer_fits writes each shuts =
@@ -154,15 +154,15 @@ withdrawal-around d e o log spans notes seats now v more w cards s at below time
     (withdrawal-noted (before-it (IsWithdrawnAt s time odometer) d e) (behind-it (IsWithdrawnAt s time odometer) d e) o log spans notes seats now (ringed-before (IsWithdrawnAt s time odometer) d e o log spans notes seats v) (to-behind (IsWithdrawnAt s time odometer) d e o more) w (cards-between (IsWithdrawnAt s time odometer) d e o spans (Ends w.card) cards) s at below time odometer second stood time_fits odometer_fits (λ q left. left) each (shuts-between (IsWithdrawnAt s time odometer) d e o log w shuts))
 
 pub insertion-cut : (d e : Devices) → AnInsertionIsBroken d e
-insertion-cut d e o log spans notes seats v more a cards head writes full is has =
+insertion-cut d e o log spans notes seats v more a put cards head writes full is has =
     ringed-behind (MayBeAdded insertion_ring head) d e o log spans (notes ++ Accepts a ∷ []) (λ c. None) writes
-    (insertion-broken (before-it (MayBeAdded insertion_ring head) d e) (behind-it (MayBeAdded insertion_ring head) d e) o log spans notes seats (ringed-before (MayBeAdded insertion_ring head) d e o log spans notes seats v) (to-behind (MayBeAdded insertion_ring head) d e o more) a (cards-between (MayBeAdded insertion_ring head) d e o spans (OpensIn log a) cards) head (λ q left. left) full
+    (insertion-broken (before-it (MayBeAdded insertion_ring head) d e) (behind-it (MayBeAdded insertion_ring head) d e) o log spans notes seats (ringed-before (MayBeAdded insertion_ring head) d e o log spans notes seats v) (to-behind (MayBeAdded insertion_ring head) d e o more) a put (cards-between (MayBeAdded insertion_ring head) d e o spans (OpensIn log a) cards) head (λ q left. left) full
     (insertion-behind (MayBeAdded insertion_ring head) d e o log spans notes seats (record { accepted = a; withdrawn = None }) head is) has)
 
 pub place-cut : (d e : Devices) → APlaceIsBroken d e
 place-cut d e o log spans notes seats v more p head writes full is has own long on taken_ goes sessions_ =
     ringed-behind (MayBeAdded unit_place_ring head) d e o log spans (notes ++ Enters p ∷ []) (λ c. None) writes
-    (place-broken (before-it (MayBeAdded unit_place_ring head) d e) (behind-it (MayBeAdded unit_place_ring head) d e) o log spans notes seats (ringed-before (MayBeAdded unit_place_ring head) d e o log spans notes seats v) (to-behind (MayBeAdded unit_place_ring head) d e o more) p head (λ q left. left) full is has own long on (taken-between (MayBeAdded unit_place_ring head) d e o log p own taken_) (go-between (MayBeAdded unit_place_ring head) d e o spans goes) (sessions-between (MayBeAdded unit_place_ring head) d e o NoOtherComes sessions_))
+    (place-broken (before-it (MayBeAdded unit_place_ring head) d e) (behind-it (MayBeAdded unit_place_ring head) d e) o log spans notes seats (ringed-before (MayBeAdded unit_place_ring head) d e o log spans notes seats v) (to-behind (MayBeAdded unit_place_ring head) d e o more) p head (λ q left. left) full is has own long on (taken-between (MayBeAdded unit_place_ring head) d e o log p own taken_) (go-between (MayBeAdded unit_place_ring head) d e o spans NoOtherComes goes) (sessions-between (MayBeAdded unit_place_ring head) d e o NoOtherComes sessions_))
 
 pub withdrawal-cut : (d e : Devices) → AWithdrawalIsBroken d e
 withdrawal-cut d e o log spans notes seats v more w cards s at below time odometer second stood time_fits odometer_fits writes has =

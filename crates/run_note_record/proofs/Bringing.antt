@@ -162,7 +162,7 @@ paired visit vs = map (λ (verdict : Verdict). (visit, verdict)) vs
 abbrev pair : Visit → Verdict → Visit × Verdict
 pair visit verdict = (visit, verdict)
 
-no-pairs : (vs : List Visit) → flat_map (λ (visit : Visit). map (pair visit) []) vs ≡ []
+pub no-pairs : (vs : List Visit) → flat_map (λ (visit : Visit). map (pair visit) []) vs ≡ []
 no-pairs [] = refl
 no-pairs (visit ∷ vs) = no-pairs vs
 

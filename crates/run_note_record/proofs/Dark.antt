@@ -145,7 +145,7 @@ power-on_broken d e o done p f v may s number given mid later more broke says le
     let choice : IsChosen o cut done s plain own e = record {
       fits = plain-fits x (went p.log done).before.slots (ap (λ (t : ToldSecond). t.course.torn) told) (ap (λ (t : ToldSecond). t.course.entered) told);
       found_open = λ y there accepts. nothing-in y (subst (λ (fs : List (Visit × Verdict)). Contains fs y) found there);
-      exact = λ none_failed c valid. no-cut p.log s.number 0 none_failed;
+      exact = λ c none_failed valid. no-cut p.log s.number 0 none_failed.0;
     } in
     let failed : has_failed_in cut s.number ≡ true = failed-here p.log.breaks s.number 0 in
     broken-on o done p f d e v s cut g plain own choice left failed

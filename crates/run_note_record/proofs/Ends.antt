@@ -1,9 +1,10 @@
 -- The last second turns out to be a cut's; and the start and the end of a run.
-use Rattle.std.proofs.Common.{◌≡◌, ⊎_elim, ℕ, ◌+◌, ◌-◌, ◌<◌, ◌≤◌, Bool, true, false, cond, not, ◌&&◌, ◌||◌, nat_eq, nat_lt, Option, Some, None, is_some, List, [], ◌∷◌, ◌++◌, All, Contains, length, take, refl, ap, sym, subst, ◌∙◌, arith, append-nil, inl, inr}
-use Rattle.std.specs.Prelude.{◌==◌}
+use Rattle.std.proofs.Common.{◌≡◌, ◌⊎◌, ⊎_elim, ℕ, ◌+◌, ◌-◌, ◌<◌, ◌≤◌, Bool, true, false, cond, not, ◌&&◌, ◌||◌, nat_eq, nat_lt, Option, Some, None, is_some, List, [], ◌∷◌, ◌++◌, All, Contains, length, take, refl, ap, sym, subst, ◌∙◌, arith, append-nil, inl, inr}
+use Rattle.std.specs.Prelude.{◌==◌, filter}
 use Rattle.std.specs.List.{AllByRecursion}
 use Rattle.std.proofs.lemmas.Bool.Decides.{nat_tests}
 use Rattle.std.proofs.lemmas.List.Elements.{Contains-push_cases, Contains-append_left, Contains-push}
+use Rattle.tach_media.specs.Medium.{last_count}
 use Rattle.run_devices.specs.trace_model.declared.Card.{Card}
 use Rattle.run_devices.specs.trace_model.Trace.{TraceSecond}
 use Rattle.run_devices.specs.card_image.Own.{own_number, IsOwnValid}
@@ -11,8 +12,9 @@ use Rattle.run_devices.specs.log_model.declared.lines.Break.{Break}
 use Rattle.run_devices.specs.log_model.declared.lines.Break.TheVariants.{Cut, Tear}
 use Rattle.run_devices.specs.log_model.declared.lines.Verdict.{Verdict}
 use Rattle.run_devices.specs.log_model.Log.{RunLog, In, cut_in, is_torn_in, kept_after}
-use Rattle.run_devices.specs.log_model.Causes.{second_of}
+use Rattle.run_devices.specs.log_model.Causes.{second_of, cuts, tears, cards_torn, device_of}
 use Rattle.run_devices.specs.log_model.Same.{SameAt}
+use Rattle.run_devices.specs.log_model.Slots.{same_card}
 use Rattle.run_devices.specs.log_model.Spans.{AreInOrder}
 use Rattle.run_devices.specs.log_model.Course.{ToldSecond, Visit, Went, begins, has_power, second_told, went}
 use Rattle.run_devices.proofs.log_model.Growth.{went-more}
@@ -26,7 +28,7 @@ use Rattle.run_events.specs.unit_events.Noted.{StayFailed}
 use Rattle.run_devices.specs.note_model.Done.{done_of}
 use Rattle.run_devices.specs.note_model.Noted.{Note, notes_of}
 use Rattle.run_devices.specs.safety_model.Recording.{card_image, told_of}
-use Rattle.run_devices.specs.safety_model.Safe.{Devices, card_of}
+use Rattle.run_devices.specs.safety_model.Safe.{Devices, card_of, breakdowns_of}
 use Rattle.run_devices.specs.run_course.Moments.{and_break}
 use Rattle.run_devices.specs.run_course.Followed.{Progress, BookFollowsRun, IsBreakBefore, HadActions}
 use Rattle.run_devices.specs.run_course.Seconds.{next_told}
@@ -46,14 +48,14 @@ use Rattle.run_events.proofs.Shows.{noted-begins, noted-then, nothing-more}
 use Rattle.run_events.specs.run_rings.Notes.{notes_to, TellSameTo}
 use Rattle.run_events.proofs.run_rings.Notes.{later-lines, second-noted}
 use Rattle.run_devices.specs.run_promise.Origin.{Origin, rule_of, start_at, first_of}
-use Rattle.run_devices.specs.run_promise.Whole.{NothingFailed}
+use Rattle.run_devices.specs.run_promise.Whole.{IsUntorn}
 use Rattle.run_note_record.specs.Opened.{IsFirst}
-use Rattle.run_note_record.specs.Uses.{uses_from, vehicle_of, use_in, insertions_on, times_of, opened_on, notes_in, noted_next, uses_in}
+use Rattle.run_note_record.specs.Uses.{uses_from, vehicle_of, use_in, insertions_on, times_of, opened_on, notes_in, noted_next, uses_in, NoneFailedOn}
 use Rattle.run_note_record.proofs.Opened.{come-as}
 use Rattle.run_note_record.specs.Evented.{number_in, limit_in, Evented, NothingIsNoted, AnOffCutBringsNothing, EventsAreShown}
 use Rattle.run_note_record.proofs.Lines.{untold-now}
 use Rattle.run_note_record.proofs.Noted.{second-notes}
-use Rattle.run_note_record.proofs.Exact.{fewer-none, next-notes, opened-append, opened-same}
+use Rattle.run_note_record.proofs.Exact.{stay-alike, torn-next, failed-fewer, next-notes, opened-append, opened-same}
 use Rattle.run_note_record.proofs.Dark.{says-same, nothing-in}
 
 -- ---- a cut behind all of the last second
@@ -147,6 +149,11 @@ module _ (o : Origin) (front : List TraceSecond) (r : TraceSecond) (p : Progress
       ap (λ (w : Went). (second_told later w.before r).course.found) (went-later p.log later r.number (cut_at (p.next - 1) false p.begun ∷ []) refl (second-is, tt) [] (sym (append-nil p.log.finds)) tt o.from front order.0 (let n = order.1 in omega (arith, n)))
       ∙ ap (λ (x : Seen). x.told.course.found) (seen-off p.log later r off (went p.log front).before power)
 
+  torn-same : (next_told later front r).course.torn ≡ (next_told p.log front r).course.torn
+  torn-same =
+      ap (λ (w : Went). (second_told later w.before r).course.torn) (went-later p.log later r.number (cut_at (p.next - 1) false p.begun ∷ []) refl (second-is, tt) [] (sym (append-nil p.log.finds)) tt o.from front order.0 (let n = order.1 in omega (arith, n)))
+      ∙ ap (λ (x : Seen). x.told.course.torn) (seen-off p.log later r off (went p.log front).before power)
+
   entered-same : (next_told later front r).course.entered ≡ (next_told p.log front r).course.entered
   entered-same =
       ap (λ (w : Went). (second_told later w.before r).course.entered) (went-later p.log later r.number (cut_at (p.next - 1) false p.begun ∷ []) refl (second-is, tt) [] (sym (append-nil p.log.finds)) tt o.from front order.0 (let n = order.1 in omega (arith, n)))
@@ -157,6 +164,13 @@ module _ (o : Origin) (front : List TraceSecond) (r : TraceSecond) (p : Progress
 
   front-same : went later front ≡ went p.log front
   front-same = went-later p.log later r.number (cut_at (p.next - 1) false p.begun ∷ []) refl (second-is, tt) [] (sym (append-nil p.log.finds)) tt o.from front order.0 (let n = order.1 in omega (arith, n))
+
+  -- who was not torn out is not by the later log
+  untorn-same : (c : Card) → filter (same_card c) (cards_torn (went later (front ++ r ∷ [])).told) ≡ [] → filter (same_card c) (cards_torn (went p.log (front ++ r ∷ [])).told) ≡ []
+  untorn-same c none =
+      ap (λ (ts : List ToldSecond). filter (same_card c) (cards_torn ts)) (told-as p.log)
+      ∙ torn-next c (went p.log front).told (next_told p.log front r) (next_told later front r) (stay-alike (next_told p.log front r).course.torn (next_told later front r).course.torn torn-same)
+      (ap (λ (ts : List ToldSecond). filter (same_card c) (cards_torn ts)) (sym (told-as later ∙ ap (λ (w : Went). w.told ++ next_told later front r ∷ []) front-same)) ∙ none)
 
   -- it notes the same
   tells : TellSameTo p.log later r.number (length r.actions)
@@ -207,8 +221,9 @@ module _ (o : Origin) (front : List TraceSecond) (r : TraceSecond) (p : Progress
               (first-off x.0.card (next_told p.log front r).second.number (v.sessions (next_told p.log front r).second.number x.0) was.3),
         ))
         (Contains-push_cases (went later front).told (next_told later front r) y (subst (λ (ts : List ToldSecond). Contains ts y) (told-as later) among));
-    exact = λ none_failed c valid.
-        opened-same_ c ∙ v.exact (fewer-none p.log later (cut_at (p.next - 1) false p.begun ∷ []) refl none_failed) c valid ∙ ap (λ (l : List Note). times_of (uses_in o c l)) (sym notes-same);
+    exact = λ c none_failed valid.
+        opened-same_ c
+        ∙ v.exact c (failed-fewer o c p.log later (cut_at (p.next - 1) false p.begun ∷ []) (went p.log (front ++ r ∷ [])).told (went later (front ++ r ∷ [])).told refl (untorn-same c) none_failed) valid ∙ ap (λ (l : List Note). times_of (uses_in o c l)) (sym notes-same);
   }
     where
       first-off : (c : Card) (u session : ℕ) → IsFirst (card_image o.recording) (went p.log (front ++ r ∷ [])).told (front ++ r ∷ []) c u session → IsFirst (card_image o.recording) (went later (front ++ r ∷ [])).told (front ++ r ∷ []) c u session
@@ -266,7 +281,7 @@ nothing-noted d o only few =
       };
       gaps = gaps-begin;
       found_open = λ t f among there accepts. nothing-in t (subst (λ (ts : List ToldSecond). Contains ts t) (told-none log) among);
-      exact = λ none_failed c valid. ap (opened_on c own) (told-none log) ∙ ap (λ (l : List Note). times_of (uses_in o c l)) (sym (notes-none log));
+      exact = λ c none_failed valid. ap (opened_on c own) (told-none log) ∙ ap (λ (l : List Note). times_of (uses_in o c l)) (sym (notes-none log));
     }
 
 -- ---- the end
@@ -275,7 +290,7 @@ ext : {X Y : Type 0} (f g : X → Y) → ((x : X) → f x ≡ g x) → f ≡ g
 ext f g same = λ i x. same x i
 
 pub events-shown : (began now : Devices) → EventsAreShown began now
-events-shown began now o done log unfound next supply v r unit cards trace log_is clocks x there =
+events-shown began now o done log unfound next supply v r unit cards trace log_is clocks counts x there =
     let numbers : (λ (c : Card). own_number (card_image r c)) ≡ number_in o = ext (λ (c : Card). own_number (card_image r c)) (number_in o) (λ c. ap own_number (cards c)) in
     let a : HasEvents (number_in o) r.unit (image.number_of r.unit SPEED_LIMIT) log done now.unit v.tearing v.sessions = subst (λ (u : List ℕ). HasEvents (number_in o) u (image.number_of u SPEED_LIMIT) log done now.unit v.tearing v.sessions) (sym unit) v.events in
     let b : HasEvents (λ (c : Card). own_number (card_image r c)) r.unit (image.number_of r.unit SPEED_LIMIT) log done now.unit v.tearing v.sessions =
@@ -294,12 +309,24 @@ events-shown began now o done log unfound next supply v r unit cards trace log_i
           subst (λ (start : Card → List ℕ). IsFirst start (told_of r) r.trace f.0.card t.second.number (v.sessions t.second.number f.0)) (sym (ext (card_image r) (card_image o.recording) cards))
           (subst (λ (l : RunLog). IsFirst (card_image o.recording) (went l r.trace).told r.trace f.0.card t.second.number (v.sessions t.second.number f.0)) (sym log_is)
           (subst (λ (ss : List TraceSecond). IsFirst (card_image o.recording) (went log ss).told ss f.0.card t.second.number (v.sessions t.second.number f.0)) (sym trace) was.3)));
-      exact = λ none_failed e valid.
+      exact = λ e on valid.
           ap (λ (l : RunLog). opened_on e v.sessions (went l r.trace).told) log_is
           ∙ ap (λ (ss : List TraceSecond). opened_on e v.sessions (went log ss).told) trace
-          ∙ v.exact (subst NothingFailed log_is none_failed) e (subst IsOwnValid (cards e) valid)
+          ∙ v.exact e (counted e on.untorn on.low (subst (λ (l : RunLog). cuts true l ≡ []) log_is on.uncut)) (subst IsOwnValid (cards e) valid)
           ∙ sym (λ i. times_of (uses_from (vehicle_of (unit i)) (use_in (cards e i)) (insertions_on e (notes_of (log_is i) (done_of (log_is i) (trace i))))));
       tearing = v.tearing;
       are_torn = c.torn;
       events = shows;
     }
+  where
+    untorn : (e : Card) → filter (same_card e) (cards_torn (told_of r)) ≡ [] → filter (same_card e) (cards_torn (went log done).told) ≡ []
+    untorn e own = subst (λ (l : RunLog). filter (same_card e) (cards_torn (went l done).told) ≡ []) log_is (subst (λ (ss : List TraceSecond). filter (same_card e) (cards_torn (went r.log ss).told) ≡ []) trace own)
+
+    all : tears true r.log ≡ [] → tears true log ≡ []
+    all none = subst (λ (l : RunLog). tears true l ≡ []) log_is none
+
+    -- none failed on the card by what is carried
+    counted : (e : Card) → IsUntorn r e → (tears true r.log ≡ []) ⊎ (breakdowns_of began (device_of e) < last_count) → cuts true log ≡ [] → NoneFailedOn o log (went log done).told e
+    counted e (inl none) low uncut = (uncut, inl (all none))
+    counted e (inr own) (inl none) uncut = (uncut, inl (all none))
+    counted e (inr own) (inr low) uncut = (uncut, inr (untorn e own, subst (λ (n : ℕ). n < last_count) (sym (counts e)) low))

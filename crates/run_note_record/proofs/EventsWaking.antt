@@ -44,8 +44,8 @@ use Rattle.run_note_record.proofs.Bringing.{kinds-then, one-of, none-of, not-fau
 use Rattle.run_note_record.proofs.Tearing.{and-none, same-self, slot-self, slot-apart, told_slot, both-slot, IsBeside, FirstBeside, turn-second, turn-few, only-other, few-alone, few-first, map-few}
 use Rattle.run_note_record.proofs.Stood.{untorn-slot, stands-as, accepted-as, bare-as}
 use Rattle.run_note_record.proofs.Noting.{by-more, bool-or}
-use Rattle.run_note_record.proofs.Exact.{no-tear}
-use Rattle.run_note_record.proofs.Adding.{power-now, starts-now, fits-now, open-now, added, aside-acting, aside-waking}
+use Rattle.run_note_record.proofs.UsesSoFar.{tear-uses, tear-stays}
+use Rattle.run_note_record.proofs.Adding.{power-now, starts-now, fits-now, open-now, exact-still, added, aside-acting, aside-waking}
 
 slot-cases : (sl slot : Slot) → (sl ≡ slot) ⊎ (sl ≡ other_slot slot)
 slot-cases Driver Driver = inl refl
@@ -319,7 +319,8 @@ waking-tear_adds dev o done p s b log r bare slot sits line tear there turn rest
         waking = was.waking;
       })
       (λ e among accepts. open-now o done p [] s b Waking log later r.goes r_later.goes dev more es v e (subst (λ (l : List (Visit × Verdict)). Contains l e) found among) accepts)
-      (λ none_failed c valid. no-tear s (In 0) slot line log tear none_failed);
+      (exact-still o done p [] s b log later r.goes v.own (line ∷ []) refl (tear-stays log before s (In 0) power r.is r.up_to slot true line tear r_later.up_to untorn)
+      (tear-uses o p.log done s power log (In 0) r.is r.up_to slot true line tear r_later.up_to untorn) found v.exact_now);
 }
   where
     order-in : (slot : Slot) (log : RunLog) (s : TraceSecond) (t : Tearing) (y : Seen) → ComesInTurn slot log s.number → is_codriver_first t y (In 0) ≡ false → is_torn_in log s.number (In 0) (other_slot slot) ≡ true → FirstBeside (In 0) slot t y
@@ -558,7 +559,8 @@ module _ (dev : Devices) (o : Origin) (done : List TraceSecond) (p : Progress) (
               waking = λ is. absurd (awake is);
             })
             (λ e among accepts. open-now o done p [] s b Acting log later r.goes r_later.goes dev more es v e (subst (λ (l : List (Visit × Verdict)). Contains l e) found among) accepts)
-            (λ none_failed c valid. no-tear s (In 0) slot line log tear none_failed),
+            (exact-still o done p [] s b log later r.goes v.own (line ∷ []) refl (tear-stays log before_it s (In 0) has r.is r.up_to slot true line tear r_later.up_to untorn)
+            (tear-uses o p.log done s has log (In 0) r.is r.up_to slot true line tear r_later.up_to untorn) found v.exact_now),
         set-other t slot,
         r_later,
       )

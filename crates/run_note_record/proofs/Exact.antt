@@ -1,5 +1,6 @@
--- The session times that a run tells exactly, where no call failed: as the log goes on, and one second more comes.
-use Rattle.std.proofs.Common.{◌≡◌, ◌∙◌, ℕ, ◌+◌, ◌<◌, Bool, true, false, cond, nat_eq, List, [], ◌∷◌, ◌++◌, All, Contains, take, drop, map, refl, ap, sym, subst, arith, append-nil}
+-- The session times that a run tells exactly of a card on which no call failed: as the log goes on, and one second more
+-- comes.
+use Rattle.std.proofs.Common.{◌≡◌, ◌∙◌, ⊎_elim, inl, inr, ℕ, ◌+◌, ◌<◌, Bool, true, false, cond, nat_eq, List, [], ◌∷◌, ◌++◌, All, Contains, take, drop, map, refl, ap, sym, subst, arith, append-nil}
 use Rattle.std.specs.Prelude.{not, ◌&&◌, filter, flat_map}
 use Rattle.std.specs.List.{AllByRecursion}
 use Rattle.std.proofs.lemmas.Bool.Decides.{nat_tests}
@@ -15,7 +16,7 @@ use Rattle.run_devices.specs.log_model.declared.lines.Break.{Break}
 use Rattle.run_devices.specs.log_model.declared.lines.Break.TheVariants.{Cut, Tear}
 use Rattle.run_devices.specs.log_model.declared.lines.Verdict.{Verdict}
 use Rattle.run_devices.specs.log_model.Log.{RunLog, Phase, In, same_phase, is_torn_in, is_accepting}
-use Rattle.run_devices.specs.log_model.Causes.{is_cut, has_failed}
+use Rattle.run_devices.specs.log_model.Causes.{is_cut, has_failed, cuts, cards_torn}
 use Rattle.run_devices.specs.log_model.Same.{SameAt}
 use Rattle.run_devices.specs.log_model.Slots.{same_card, in_slot}
 use Rattle.run_devices.specs.log_model.Course.{ToldSecond, Visit, Before, Went, has_power, second_told, went}
@@ -27,15 +28,14 @@ use Rattle.run_devices.specs.run_unit_course.Lines.{cut_at, with_kept, found_fro
 use Rattle.run_devices.specs.run_course.Moments.{and_break}
 use Rattle.run_devices.specs.run_course.Followed.{Progress, BookFollowsRun}
 use Rattle.run_devices.specs.run_course.Seconds.{GoesOnBy, next_told}
+use Rattle.run_devices.proofs.run_course.Caused.{cards-more}
 use Rattle.run_devices.proofs.run_course.Logs.{went-refused}
 use Rattle.run_devices.proofs.run_course.Steps.{now-told}
 use Rattle.run_devices.proofs.run_course.Told.{told-lit}
-use Rattle.run_devices.specs.run_course.Reached.{IsTearAt}
 use Rattle.run_events.specs.Seconds.{seen_next}
 use Rattle.run_devices.specs.run_promise.Origin.{Origin, rule_of, start_at, first_of}
-use Rattle.run_devices.specs.run_promise.Whole.{NothingFailed}
 use Rattle.run_devices.proofs.run_promise.Beside.{second-tells}
-use Rattle.run_note_record.specs.Uses.{times_of, opened_in, opened_on, notes_in, noted_next, vehicle_in, use_in, uses_in, AreExact, AreExactIn}
+use Rattle.run_note_record.specs.Uses.{times_of, opened_in, opened_on, notes_in, noted_next, vehicle_in, use_in, uses_in, NoneFailedOn, AreExact, AreExactIn}
 use Rattle.run_note_record.specs.Evented.{sessions_now}
 use Rattle.run_note_record.proofs.Noted.{notes-alike, second-notes}
 use Rattle.run_note_record.proofs.Lines.{same-before, number-next}
@@ -49,32 +49,60 @@ failed_cut b = is_cut b && has_failed b
 abbrev pub failed_tear : Break → Bool
 failed_tear b = not (is_cut b) && has_failed b
 
-front-none : (p : Break → Bool) (xs ys : List Break) → filter p (xs ++ ys) ≡ [] → filter p xs ≡ []
-front-none p xs ys none = by (filter p xs) (sym (filter-append p xs ys) ∙ none)
+pub front-none : {X : Type 0} (p : X → Bool) (xs ys : List X) → filter p (xs ++ ys) ≡ [] → filter p xs ≡ []
+front-none {X} p xs ys none = by (filter p xs) (sym (filter-append p xs ys) ∙ none)
   where
-    by : (zs : List Break) → zs ++ filter p ys ≡ [] → zs ≡ []
+    by : (zs : List X) → zs ++ filter p ys ≡ [] → zs ≡ []
     by [] is = refl
     by (z ∷ zs) is = absurd (cc)
 
-pub back-none : (p : Break → Bool) (xs ys : List Break) → filter p (xs ++ ys) ≡ [] → filter p ys ≡ []
-back-none p xs ys none = by (filter p xs) (sym (filter-append p xs ys) ∙ none)
+pub back-none : {X : Type 0} (p : X → Bool) (xs ys : List X) → filter p (xs ++ ys) ≡ [] → filter p ys ≡ []
+back-none {X} p xs ys none = by (filter p xs) (sym (filter-append p xs ys) ∙ none)
   where
-    by : (zs : List Break) → zs ++ filter p ys ≡ [] → filter p ys ≡ []
+    by : (zs : List X) → zs ++ filter p ys ≡ [] → filter p ys ≡ []
     by [] is = is
     by (z ∷ zs) is = absurd (cc)
 
--- nor did it with fewer lines
-pub fewer-none : (log later : RunLog) (more : List Break) → later.breaks ≡ log.breaks ++ more → NothingFailed later → NothingFailed log
-fewer-none log later more is none = (front-none failed_cut log.breaks more (ap (filter failed_cut) (sym is) ∙ none.0), front-none failed_tear log.breaks more (ap (filter failed_tear) (sym is) ∙ none.1))
+-- a cut where a call failed is told
+pub no-cut : {T : Type 0} (log : RunLog) (u begun : ℕ) → cuts true (and_break log (cut_at u true begun)) ≡ [] → T
+no-cut log u begun none = let some = back-none failed_cut log.breaks (cut_at u true begun ∷ []) none in absurd (cc)
 
--- a cut where a call failed, and a card that fell, are told
-pub no-cut : {T : Type 0} (log : RunLog) (u begun : ℕ) → NothingFailed (and_break log (cut_at u true begun)) → T
-no-cut log u begun none = let some = back-none failed_cut log.breaks (cut_at u true begun ∷ []) none.0 in absurd (cc)
+-- ---- and a card was not torn out
 
-pub no-tear : {T : Type 0} (s : TraceSecond) (at : Phase) (slot : Slot) (b : Break) (log : RunLog) → IsTearAt s at slot true b → NothingFailed (and_break log b) → T
-no-tear s at slot b log tear none =
-    let some : filter failed_tear (Tear s.number slot true tear.0 tear.1 ∷ []) ≡ [] = subst (λ (x : Break). filter failed_tear (x ∷ []) ≡ []) tear.2 (back-none failed_tear log.breaks (b ∷ []) none.1) in
-    absurd (cc)
+-- in fewer seconds
+pub torn-front : (c : Card) (ts us : List ToldSecond) → filter (same_card c) (cards_torn (ts ++ us)) ≡ [] → filter (same_card c) (cards_torn ts) ≡ []
+torn-front c ts us none = front-none (same_card c) (cards_torn ts) (cards_torn us) (ap (filter (same_card c)) (sym (cards-more ts us)) ∙ none)
+
+-- in the last one
+abbrev cards_at : ToldSecond → List Card
+cards_at t = map (λ (v : Visit). v.card) t.course.torn
+
+torn-parts : (ts : List ToldSecond) (t : ToldSecond) → cards_torn (ts ++ t ∷ []) ≡ cards_torn ts ++ cards_at t
+torn-parts ts t = cards-more ts (t ∷ []) ∙ ap (λ (cs : List Card). cards_torn ts ++ cs) (append-nil (cards_at t))
+
+pub torn-last : (c : Card) (ts : List ToldSecond) (t : ToldSecond) → filter (same_card c) (cards_torn (ts ++ t ∷ [])) ≡ [] → filter (same_card c) (map (λ (v : Visit). v.card) t.course.torn) ≡ []
+torn-last c ts t none = back-none (same_card c) (cards_torn ts) (cards_at t) (ap (filter (same_card c)) (sym (torn-parts ts t)) ∙ none)
+
+-- WHO IS TORN OUT of these is torn out of those
+abbrev pub TornStay : (xs ys : List Visit) → Type 0
+TornStay xs ys = (c : Card) → filter (same_card c) (map (λ (v : Visit). v.card) ys) ≡ [] → filter (same_card c) (map (λ (v : Visit). v.card) xs) ≡ []
+
+pub stay-alike : (xs ys : List Visit) → ys ≡ xs → TornStay xs ys
+stay-alike xs ys is c none = ap (λ (vs : List Visit). filter (same_card c) (map (λ (v : Visit). v.card) vs)) (sym is) ∙ none
+
+pub torn-next : (c : Card) (ts : List ToldSecond) (t u : ToldSecond) → TornStay t.course.torn u.course.torn → filter (same_card c) (cards_torn (ts ++ u ∷ [])) ≡ [] → filter (same_card c) (cards_torn (ts ++ t ∷ [])) ≡ []
+torn-next c ts t u stay none =
+    let front : filter (same_card c) (cards_torn ts) ≡ [] = torn-front c ts (u ∷ []) none in
+    let here : filter (same_card c) (cards_at t) ≡ [] = stay c (torn-last c ts u none) in
+    ap (filter (same_card c)) (torn-parts ts t) ∙ filter-append (same_card c) (cards_torn ts) (cards_at t) ∙ (λ i. front i ++ here i)
+
+-- NONE HAS FAILED ON IT by fewer lines, and so many seconds
+pub failed-fewer : (o : Origin) (c : Card) (log later : RunLog) (more : List Break) (told now : List ToldSecond) → later.breaks ≡ log.breaks ++ more → (filter (same_card c) (cards_torn now) ≡ [] → filter (same_card c) (cards_torn told) ≡ []) →
+    NoneFailedOn o later now c → NoneFailedOn o log told c
+failed-fewer o c log later more told now is fewer none = (
+  front-none failed_cut log.breaks more (ap (filter failed_cut) (sym is) ∙ none.0),
+  ⊎_elim (λ all. inl (front-none failed_tear log.breaks more (ap (filter failed_tear) (sym is) ∙ all))) (λ own. inr (fewer own.0, own.1)) none.1,
+)
 
 -- what was found kept is told later
 module _ (p : Break → Bool) (k : ℕ) (same : (b : Break) → p (with_kept k b) ≡ p b) where
@@ -92,8 +120,8 @@ module _ (p : Break → Bool) (k : ℕ) (same : (b : Break) → p (with_kept k b
       ap (filter p) (sym (take-append-drop i bs)) ∙ filter-append p (take i bs) (drop i bs)
       ∙ (λ j. front-none p (take i bs) (map (with_kept k) (drop i bs)) none j ++ kept-none (drop i bs) (back-none p (take i bs) (map (with_kept k) (drop i bs)) none) j)
 
-pub found-none : (i k : ℕ) (log : RunLog) → NothingFailed (record log { breaks = found_from i k log.breaks }) → NothingFailed log
-found-none i k log none = (from-none failed_cut k cut_same i log.breaks none.0, from-none failed_tear k tear_same i log.breaks none.1)
+pub found-none : (o : Origin) (c : Card) (told : List ToldSecond) (i k : ℕ) (log : RunLog) → NoneFailedOn o (record log { breaks = found_from i k log.breaks }) told c → NoneFailedOn o log told c
+found-none o c told i k log none = (from-none failed_cut k cut_same i log.breaks none.0, ⊎_elim (λ all. inl (from-none failed_tear k tear_same i log.breaks all)) (λ own. inr own) none.1)
   where
     cut_same : (b : Break) → failed_cut (with_kept k b) ≡ failed_cut b
     cut_same (Cut second kept failed begun) = refl
@@ -113,7 +141,7 @@ pub next-notes : (log : RunLog) (done : List TraceSecond) (s : TraceSecond) → 
 next-notes log done s = second-notes log log done s (same-self log done)
 
 -- where nothing was found in it no card is accepted
-all-quiet : (c : Card) (xs ys : List Note) → AllByRecursion (NotAccepted c) xs → AllByRecursion (NotAccepted c) ys → AllByRecursion (NotAccepted c) (xs ++ ys)
+pub all-quiet : (c : Card) (xs ys : List Note) → AllByRecursion (NotAccepted c) xs → AllByRecursion (NotAccepted c) ys → AllByRecursion (NotAccepted c) (xs ++ ys)
 all-quiet c [] ys one two = two
 all-quiet c (x ∷ xs) ys one two = (one.0, all-quiet c xs ys one.1 two)
 
@@ -210,11 +238,11 @@ module _ (o : Origin) (done : List TraceSecond) (p : Progress) (f : BookFollowsR
   notes-before = notes-alike p.log log done (same-before o done p f s log g)
 
   pub exact-on : (sessions own : ℕ → Visit → ℕ) → AreExact o p.log done sessions → AreExactIn o log done s own → AreExact o log (done ++ s ∷ []) (sessions_now s own sessions)
-  exact-on sessions own before here none c valid =
+  exact-on sessions own before here c none valid =
       ap (opened_on c (sessions_now s own sessions)) (now-told (rule_of o) (start_at o) o.from (first_of o) done p f.order f.next f.unfound s log g)
       ∙ opened-append c (sessions_now s own sessions) (went p.log done).told (next_told log done s ∷ [])
       ∙ (λ i. front i ++ (append-nil (opened_in c (sessions_now s own sessions) (next_told log done s)) ∙ now-is c s own sessions (next_told log done s) (number-next o done p f s log g)) i)
-      ∙ here none c valid
+      ∙ here c (subst (λ (ts : List ToldSecond). NoneFailedOn o log ts c) (ap (λ (w : Went). w.told) (went-more log done s)) none) valid
       ∙ ap (λ (l : List Note). times_of (uses_in o c l)) (sym (next-notes log done s))
     where
       others : (t : ToldSecond) → Contains (went p.log done).told t → nat_eq t.second.number s.number ≡ false
@@ -227,23 +255,25 @@ module _ (o : Origin) (done : List TraceSecond) (p : Progress) (f : BookFollowsR
       front : opened_on c (sessions_now s own sessions) (went p.log done).told ≡ times_of (uses_in o c (notes_in log done))
       front =
           before-is c s own sessions (went p.log done).told others
-          ∙ before (fewer-none p.log log g.breaks.0 g.breaks.1 none) c valid
+          ∙ before c (failed-fewer o c p.log log g.breaks.0 (went p.log done).told ((went p.log done).told ++ next_told log done s ∷ []) g.breaks.1 (torn-front c (went p.log done).told (next_told log done s ∷ []))
+          (subst (λ (ts : List ToldSecond). NoneFailedOn o log ts c) (now-told (rule_of o) (start_at o) o.from (first_of o) done p f.order f.next f.unfound s log g) none)) valid
           ∙ ap (λ (l : List Note). times_of (uses_in o c l)) (sym notes-before)
 
 -- nothing was found yet: as a second begins
 pub exact-begins : (o : Origin) (log : RunLog) (done : List TraceSecond) (s : TraceSecond) (own : ℕ → Visit → ℕ) → (seen_next log done s).told.course.found ≡ [] → AreExactIn o log done s own
-exact-begins o log done s own none_found none c valid =
+exact-begins o log done s own none_found c none valid =
     ap (λ (us : List ℕ). times_of (uses_in o c (notes_in log done)) ++ us) (opened-none c own (seen_next log done s).told none_found) ∙ append-nil (times_of (uses_in o c (notes_in log done)))
     ∙ ap times_of (sym (uses-quiet (vehicle_in o) c (use_in (card_image o.recording c)) (notes_in log done) (noted_next log done s) (none-accepted c log (done_by log (went log done).before s) none_found)))
 
 -- ---- a second without power, of which no break and no find is told
 pub exact-dark : (o : Origin) (log later : RunLog) (done : List TraceSecond) (s : TraceSecond) (sessions : ℕ → Visit → ℕ) → later.breaks ≡ log.breaks → later.finds ≡ log.finds → All (λ (x : TraceSecond). SameAt log later x.number) done →
     (seen_next later done s).told.lit ≡ false → (second_told later (went later done).before s).course.found ≡ [] → AreExact o log done sessions → AreExact o later (done ++ s ∷ []) sessions
-exact-dark o log later done s sessions breaks finds same lit found v none c valid =
+exact-dark o log later done s sessions breaks finds same lit found v c none valid =
     ap (λ (w : Went). opened_on c sessions w.told) (went-more later done s)
     ∙ opened-append c sessions (went later done).told (next_told later done s ∷ [])
     ∙ (λ i. opened_on c sessions (went-refused log later breaks finds done i).told ++ (append-nil (opened_in c sessions (next_told later done s)) ∙ opened-none c sessions (next_told later done s) found) i)
     ∙ append-nil (opened_on c sessions (went log done).told)
-    ∙ v (fewer-none log later [] (breaks ∙ sym (append-nil log.breaks)) none) c valid
+    ∙ v c (failed-fewer o c log later [] (went log done).told ((went log done).told ++ next_told later done s ∷ []) (breaks ∙ sym (append-nil log.breaks)) (torn-front c (went log done).told (next_told later done s ∷ []))
+    (subst (λ (ts : List ToldSecond). NoneFailedOn o later ts c) (ap (λ (w : Went). w.told) (went-more later done s) ∙ ap (λ (w : Went). w.told ++ next_told later done s ∷ []) (went-refused log later breaks finds done)) none)) valid
     ∙ ap (λ (l : List Note). times_of (uses_in o c l)) (sym
     (next-notes later done s ∙ (λ i. notes-alike log later done same i ++ dark-notes later (went later done).before s (sym (told-lit later (went later done).before s) ∙ lit) i) ∙ append-nil (notes_in log done)))

@@ -17,8 +17,8 @@ use Rattle.run_note_record.specs.EventsSoFar.{FitsSoFar, fault_with, crew_at, AT
 use Rattle.run_note_record.specs.Bringing.{ChoiceBefore, TornSecond}
 use Rattle.run_note_record.proofs.Bringing.{apart-of, fault-left, torn-first, accepted-first, found-alike, tear-brings}
 use Rattle.run_note_record.proofs.Choices.{first_of_two, by-gap-kept, choice-first, torn-second, put-kept}
-use Rattle.run_note_record.proofs.Exact.{no-tear}
-use Rattle.run_note_record.proofs.Adding.{power-now, next-as, fits-now, open-now, added-by, aside-acting}
+use Rattle.run_note_record.proofs.UsesSoFar.{tear-uses, tear-stays}
+use Rattle.run_note_record.proofs.Adding.{power-now, next-as, fits-now, open-now, exact-still, added-by, aside-acting}
 
 awake : Acting ≡ Waking → ⊥
 awake is = absurd (cc)
@@ -55,5 +55,6 @@ tear-adds d o done p span s b at log r slot card line tear untorn out none follo
         waking = λ is. absurd (awake is);
       })
       (λ e there accepts. open-now o done p span s b Acting log later r.goes r_later.goes d more (fault_with s.number slot (crew_at p done s at log) ∷ []) v e (subst (λ (fs : List (Visit × Verdict)). Contains fs e) found there) accepts)
-      (λ none_failed c valid. no-tear s at slot line log tear none_failed);
+      (exact-still o done p span s b log later r.goes v.own (line ∷ []) refl (tear-stays log before s at power r.is r.up_to slot true line tear r_later.up_to untorn)
+      (tear-uses o p.log done s power log at r.is r.up_to slot true line tear r_later.up_to untorn) found v.exact_now);
 }

@@ -19,7 +19,7 @@ use Rattle.run_devices.specs.log_model.declared.lines.Verdict.{Verdict}
 use Rattle.run_devices.specs.log_model.declared.lines.Verdict.TheVariants.{Accepted, NotValid, TimeOverlap}
 use Rattle.run_devices.specs.log_model.Log.{RunLog, Phase, In, same_phase, is_torn_in, found_in, is_accepting}
 use Rattle.run_devices.specs.log_model.Slots.{Slots, Sitting, same_card, in_slot, other_slot, refusal}
-use Rattle.run_devices.specs.log_model.Course.{Visit, Course, Before, Moved, card_in, visits, has_power, moved_by, both_told, went}
+use Rattle.run_devices.specs.log_model.Course.{Visit, Course, Before, Moved, card_in, visits, has_power, moved_by, both_told, second_told, went}
 use Rattle.run_devices.specs.event_model.declared.kinds.TheConstants.{CARD_NOT_VALID, TIME_OVERLAP, DRIVING_WITHOUT_CARD, INSERTION_WHILE_DRIVING, SESSION_NOT_CLOSED, OVER_SPEEDING, POWER_INTERRUPTION, CARD_FAULT}
 use Rattle.run_devices.specs.event_model.Events.{Event, Crew, Seen, Tearing, number_of, noted_with, crew_of, with_card, accepted_card, course_by, seen_by, seen_of, seen_spans, torn_at, accepted_at, first_card, standing, beside_judged, crew_judged, found_events, is_first, beside_torn, fault_of, torn_in_turn}
 use Rattle.run_devices.specs.safety_model.Safe.{Devices}
@@ -37,7 +37,7 @@ use Rattle.run_events.specs.Running.{judged_notes}
 use Rattle.run_events.proofs.Later.{told-number}
 use Rattle.run_events.proofs.Notes.{one-judged}
 use Rattle.run_note_record.specs.Opened.{IsOpenSo}
-use Rattle.run_note_record.specs.Uses.{times_of, opened_in, notes_in, notes_now, uses_in}
+use Rattle.run_note_record.specs.Uses.{times_of, opened_in, notes_in, notes_now, uses_in, told_so_far, NoneFailedOn}
 use Rattle.run_note_record.specs.Evented.{limit_in}
 use Rattle.run_note_record.specs.Noting.{Acting, is_told}
 use Rattle.run_note_record.specs.EventsSoFar.{FitsSoFar, stage_in, AreBare, ComesInTurn, judged_with, crew_at, AFindAdds}
@@ -48,6 +48,7 @@ use Rattle.run_note_record.proofs.Bringing.{kinds-then, few-at, before-as, crew-
 use Rattle.run_note_record.proofs.Tearing.{and-none, same-self, phase-self, slot-self, slot-apart, slot-beside, told_slot, both-slot, cards-kept, IsBeside, turn-few, only-other, few-alone, map-few, not-torn, few-torn}
 use Rattle.run_note_record.proofs.Stood.{accepted_here, bare-card, stands-as}
 use Rattle.run_note_record.proofs.Uses.{card-turned}
+use Rattle.run_note_record.proofs.Exact.{stay-alike, torn-next, failed-fewer}
 use Rattle.run_note_record.proofs.Adding.{power-now, fits-now, open-now, exact-by, added, aside-acting, aside-waking}
 
 -- ---- what is found open
@@ -305,7 +306,7 @@ module _ (log : RunLog) (before : Before) (s : TraceSecond) (n : ℕ) (power : h
       found-pushed : y.told.course.found ≡ x.told.course.found ++ e ∷ []
       found-pushed = d.found_y ∙ ap (λ (l : List (Visit × Verdict)). start.found ++ l) found-one ∙ sym (append_assoc start.found fs (e ∷ [])) ∙ ap (λ (l : List (Visit × Verdict)). l ++ e ∷ []) (sym d.found_x)
 
-      torn-kept : y.told.course.torn ≡ x.told.course.torn
+      pub torn-kept : y.told.course.torn ≡ x.told.course.torn
       torn-kept = d.torn_y ∙ (λ i. start.torn ++ (outs-alike Driver i ++ outs-alike CoDriver i)) ∙ sym d.torn_x
 
       torn-at : (p : Phase) (sl : Slot) → torn_at y p sl ≡ torn_at x p sl
@@ -615,14 +616,17 @@ find-adds dev o done p span s b n log r f here first sits there none enters sess
       (fits log before s n power r.is r.up_to f here r_later.up_to sits there none enters v.here plain begun bare turn was)
       (opens log before s n power r.is r.up_to f here r_later.up_to sits there none enters v.here plain begun bare turn v.own session
       (λ g k. IsOpenSo o (went p.log done).told (done ++ s ∷ []) dev g.0.card s.number k) (open-now o done p span s b (stage_in n) log later r.goes r_later.goes dev more es v) found_open)
-      (λ none_failed c valid.
+      (λ c none_failed valid.
+      let same_torn = torn-kept log before s n power r.is r.up_to f here r_later.up_to sits there none enters v.here plain begun bare turn in
+      let none_before : NoneFailedOn o log (told_so_far p.log done log s) c = failed-fewer o c log later [] (told_so_far p.log done log s) (told_so_far p.log done later s) (sym (append-nil log.breaks))
+      (torn-next c (went p.log done).told (second_told log before s) (second_told later before s) (stay-alike (second_told log before s).course.torn (second_told later before s).course.torn same_torn)) none_failed in
       let now : List ℕ = cond (same_card sits.card c) (cond (is_accepting f.verdict) (session ∷ []) []) [] in
       ap (λ (us : List ℕ). times_of (uses_in o c (notes_in p.log done)) ++ us)
       (opens-in log before s n power r.is r.up_to f here r_later.up_to sits there none enters v.here plain begun bare turn v.own session c)
       ∙ sym (append_assoc (times_of (uses_in o c (notes_in p.log done))) (opened_in c v.own (seen_by log before s).told) now)
-      ∙ ap (λ (us : List ℕ). us ++ now) (exact-by o done p span s b log r.goes v.own v.exact_now none_failed c valid)
+      ∙ ap (λ (us : List ℕ). us ++ now) (exact-by o done p span s b log r.goes v.own v.exact_now c none_before valid)
       ∙ ap (λ (b : Bool). times_of (uses_in o c (notes_now p.log done log s)) ++ cond b (cond (is_accepting f.verdict) (session ∷ []) []) []) (sym (card-turned c sits.card))
-      ∙ sym (finds none_failed c valid));
+      ∙ sym (finds c none_before valid));
 }
   where
     comes : (running : Bool) → not running ≡ true → running ≡ false

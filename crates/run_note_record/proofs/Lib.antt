@@ -16,6 +16,7 @@ pub mod Parts
 pub mod Brought
 pub mod Tearing
 pub mod Bringing
+pub mod UsesSoFar
 pub mod Refusing
 pub mod Choices
 pub mod Adding

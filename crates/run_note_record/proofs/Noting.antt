@@ -236,7 +236,7 @@ cut-by d e o done p f span is s at log waits mid now later m more broke rest is_
       gaps = breaks-off p.log cut p.unfound done s (same-before o done p f s cut g) g.breaks.0 g.breaks.1 (front-same o done p f s cut g) p.supply span is v.gaps (ap (λ (t : ToldSecond). t.lit) told) (ap (λ (t : ToldSecond). t.starts) told)
           (cut-untold o done p f s at log waits mid now m k);
       found_open = sessions-on o done p f s cut g d e v.sessions own v.open_before left open_now;
-      exact = λ none_failed c valid. no-cut log s.number k none_failed;
+      exact = λ c none_failed valid. no-cut log s.number k none_failed.0;
     }
 
 pub second-is_cut : (d e : Devices) → TheSecondIsCut d e

@@ -1,5 +1,5 @@
 -- What the rings of places on the cards carry, over each step.
-use Rattle.std.proofs.Common.{◌≡◌, ◌⊎◌, inl, inr, ⊎_elim, ℕ, ◌≤◌, min, Bool, true, false, cond, not, ◌&&◌, ◌||◌, nat_eq, List, [], ◌∷◌, ◌++◌, filter, drop, length, refl, ap, sym, subst, ◌∙◌, arith, append-nil}
+use Rattle.std.proofs.Common.{◌≡◌, ◌⊎◌, inl, inr, ⊎_elim, ℕ, ◌<◌, ◌≤◌, min, Bool, true, false, cond, not, ◌&&◌, ◌||◌, nat_eq, List, [], ◌∷◌, ◌++◌, filter, drop, length, refl, ap, sym, subst, ◌∙◌, arith, append-nil}
 use Rattle.std.specs.List.{AllByRecursion, list_any}
 use Rattle.std.proofs.lemmas.List.{length-take}
 use Rattle.std.proofs.lemmas.List.Elements.{filter-append}
@@ -24,8 +24,9 @@ use Rattle.run_note_record.specs.Origin.{Origin}
 use Rattle.tach_media.specs.card_layout.declared.files.Application.{Application}
 use Rattle.run_devices.specs.card_image.Own.{own_sizes}
 use Rattle.run_devices.proofs.Measured.{goes-itself, goes-then, goes-more}
-use Rattle.run_note_record.specs.OnCards.{ShowsNotes, has_call_failed_in, places_in, place_width, places_on, IsPlaceOn, is_sure_on, HasPlaces, PlacesOnCards, LeavesPlaces, PlacesStay, IsReading, GoesByReadings, VehiclesOnCards, VehiclesGo, NoOtherComes, CardsStay, TakesPlace, PlaceIsTaken}
+use Rattle.run_note_record.specs.OnCards.{ShowsNotes, has_call_failed_in, places_in, place_width, places_on, IsPlaceOn, is_sure_on, HasPlaces, PlacesOnCards, LeavesPlaces, PlacesStay, IsReading, IsReadingOf, GoesByReadings, VehiclesOnCards, VehiclesGo, NoOtherComes, CardsStay, TakesPlace, PlaceIsTaken}
 use Rattle.run_note_record.specs.RingsSoFar.{HasMoreBreaks}
+use Rattle.run_note_record.proofs.Readings.{reading-as}
 use Rattle.run_note_record.proofs.Sessions.{sessions-itself}
 use Rattle.run_note_record.proofs.Stands.{Weaker, stand-as, unsure-as, all-of, with-whole, places-more}
 
@@ -134,22 +135,29 @@ pub places-itself : (o : Origin) (d : Devices) → PlacesStay o d d
 places-itself o d c valid y left = (y, left, refl)
 
 -- ---- the vehicle entries
-pub vehicles-none : (o : Origin) (spans : List SpanFrom) (d : Devices) → ((c : Card) (x : List ℕ) → (card_of d c).may_leave x → x ≡ card_image o.recording c) → VehiclesOnCards o spans d
-vehicles-none o spans d start c valid x left =
-    subst (λ (y : List ℕ). GoesByReadings spans (card_image o.recording c) (card_image o.recording c) y) (sym (start c x left)) (goes-itself (own_sizes (card_image o.recording c)) (IsReading spans) (card_image o.recording c))
+pub vehicles-none : (o : Origin) (spans : List SpanFrom) (May : Card → ℕ → Type 0) (d : Devices) → ((c : Card) (x : List ℕ) → (card_of d c).may_leave x → x ≡ card_image o.recording c) → VehiclesOnCards o spans May d
+vehicles-none o spans May d start c valid x left =
+    subst (λ (y : List ℕ). GoesByReadings spans (May c) (card_image o.recording c) (card_image o.recording c) y) (sym (start c x left)) (goes-itself (own_sizes (card_image o.recording c)) (IsReadingOf spans (May c)) (card_image o.recording c))
 
-pub vehicles-itself : (o : Origin) (spans : List SpanFrom) (d : Devices) → VehiclesGo o spans d d
-vehicles-itself o spans d c valid y left = (y, left, goes-itself (own_sizes (card_image o.recording c)) (IsReading spans) y)
+pub vehicles-itself : (o : Origin) (spans : List SpanFrom) (May : Card → ℕ → Type 0) (d : Devices) → VehiclesGo o spans May d d
+vehicles-itself o spans May d c valid y left = (y, left, goes-itself (own_sizes (card_image o.recording c)) (IsReadingOf spans (May c)) y)
 
 pub stay-itself : (o : Origin) (spans : List SpanFrom) (d : Devices) → CardsStay o spans d d
-stay-itself o spans d = record { places = places-itself o d; vehicles = vehicles-itself o spans d; sessions = sessions-itself o NoOtherComes d }
+stay-itself o spans d = record { places = places-itself o d; vehicles = vehicles-itself o spans NoOtherComes d; sessions = sessions-itself o NoOtherComes d }
 
 -- as the spans go on, and calls measure them
-pub vehicles-go : (o : Origin) (spans now : List SpanFrom) (d e : Devices) → ((n : ℕ) → IsReading spans n → IsReading now n) → VehiclesGo o now d e → VehiclesOnCards o spans d → VehiclesOnCards o now e
-vehicles-go o spans now d e reads goes v c valid y left =
+pub vehicles-go : (o : Origin) (spans now : List SpanFrom) (Was May : Card → ℕ → Type 0) (d e : Devices) → ((u n : ℕ) → IsReading spans u n → IsReading now u n) → ((c : Card) (u : ℕ) → 0 < u → May c u → Was c u) → VehiclesGo o now May d e → VehiclesOnCards o spans Was d → VehiclesOnCards o now Was e
+vehicles-go o spans now Was May d e reads puts goes v c valid y left =
     let w = goes c valid y left in
     let app : Application = own_sizes (card_image o.recording c) in
-    goes-then app (IsReading now) (card_image o.recording c) w.0 y (goes-more app (IsReading spans) (IsReading now) reads (card_image o.recording c) w.0 (v c valid w.0 w.1)) w.2
+    goes-then app (IsReadingOf now (Was c)) (card_image o.recording c) w.0 y
+    (goes-more app (IsReadingOf spans (Was c)) (IsReadingOf now (Was c)) (reading-as spans now (Was c) (Was c) reads (λ u some was. was)) (card_image o.recording c) w.0 (v c valid w.0 w.1))
+    (goes-more app (IsReadingOf now (May c)) (IsReadingOf now (Was c)) (reading-as now now (May c) (Was c) (λ u n is. is) (puts c)) w.0 y w.2)
+
+-- where cards were put in in more seconds
+pub vehicles-moved : (o : Origin) (spans : List SpanFrom) (Was Now : Card → ℕ → Type 0) (d : Devices) → ((c : Card) (u : ℕ) → Was c u → Now c u) → VehiclesOnCards o spans Was d → VehiclesOnCards o spans Now d
+vehicles-moved o spans Was Now d more v c valid y left =
+    goes-more (own_sizes (card_image o.recording c)) (IsReadingOf spans (Was c)) (IsReadingOf spans (Now c)) (reading-as spans spans (Was c) (Now c) (λ u n is. is) (λ u some. more c u)) (card_image o.recording c) y (v c valid y left)
 
 -- ---- the places
 

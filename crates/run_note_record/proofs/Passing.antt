@@ -37,7 +37,8 @@ use Rattle.run_note_record.proofs.Refusing.{same-at, refusal-brings}
 use Rattle.run_note_record.proofs.Tearing.{IsBeside, both-slot, cards-kept, turn-few, only-other, few-alone, map-few}
 use Rattle.run_note_record.specs.Uses.{notes_in, uses_in}
 use Rattle.run_note_record.proofs.Noted.{second-alike}
-use Rattle.run_note_record.proofs.Exact.{fewer-none}
+use Rattle.run_note_record.proofs.Exact.{stay-alike}
+use Rattle.run_note_record.proofs.UsesSoFar.{tear-uses, tear-stays}
 use Rattle.run_note_record.proofs.Adding.{power-now, OpenBy, fits-now, open-now, exact-still, added}
 
 -- A REFUSAL
@@ -55,7 +56,7 @@ refusal-adds d o done p span s b at log r line = record {
       (λ kind among off. refl)
       (subst (FitsSoFar Acting s v.here) (sym alike) (fits-now o done p span s b Acting log later r.goes r_later.goes d more [] v))
       (subst (λ (x : Seen). OpenBy o done p span s b v.own x d) (sym alike) (open-now o done p span s b Acting log later r.goes r_later.goes d more [] v))
-      (exact-still o done p span s b log later r.goes v.own (λ none_failed. none_failed) (λ none_failed c valid. ap (λ (l : List Note). uses_in o c (notes_in p.log done ++ l)) (second-alike log later before s (same-at log line s.number)))
+      (exact-still o done p span s b log later r.goes v.own [] (sym (append-nil log.breaks)) (stay-alike (seen_by log before s).told.course.torn (seen_by later before s).told.course.torn (ap (λ (x : Seen). x.told.course.torn) alike)) (λ c. ap (λ (l : List Note). uses_in o c (notes_in p.log done ++ l)) (second-alike log later before s (same-at log line s.number)))
       (ap (λ (x : Seen). x.told.course.found) alike) v.exact_now);
 }
 
@@ -215,7 +216,7 @@ module _ (log : RunLog) (before : Before) (s : TraceSecond) (n : ℕ) (power : h
   }
 
 pub pull-adds : (dev : Devices) → APullAddsNothing dev
-pull-adds dev o done p span s b n log r slot line tear untorn finds empty none = record {
+pull-adds dev o done p span s b n log r slot line tear untorn empty none = record {
   kinds = tt;
   on = λ more v.
       let before : Before = (went p.log done).before in
@@ -228,5 +229,6 @@ pull-adds dev o done p span s b n log r slot line tear untorn finds empty none =
       (fits-kept log before s n power r.is r.up_to slot line tear r_later.up_to untorn empty none v.here (fits-now o done p span s b Acting log later r.goes r_later.goes dev more [] v))
       (λ e among accepts. open-now o done p span s b Acting log later r.goes r_later.goes dev more [] v e
       (subst (λ (l : List (Visit × Verdict)). Contains l e) (found-alike log before s n power r.is r.up_to slot line tear r_later.up_to untorn empty none v.here) among) accepts)
-      (exact-still o done p span s b log later r.goes v.own (λ none_failed. fewer-none log later (line ∷ []) refl none_failed) finds (found-alike log before s n power r.is r.up_to slot line tear r_later.up_to untorn empty none v.here) v.exact_now);
+      (exact-still o done p span s b log later r.goes v.own (line ∷ []) refl (tear-stays log before s (In (suc n)) power r.is r.up_to slot false line tear r_later.up_to untorn)
+      (tear-uses o p.log done s power log (In (suc n)) r.is r.up_to slot false line tear r_later.up_to untorn) (found-alike log before s n power r.is r.up_to slot line tear r_later.up_to untorn empty none v.here) v.exact_now);
 }

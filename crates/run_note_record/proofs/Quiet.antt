@@ -33,8 +33,8 @@ use Rattle.run_note_record.specs.Opened.{IsFirst}
 use Rattle.run_note_record.specs.Evented.{number_in, limit_in}
 use Rattle.run_note_record.specs.Going.{QuietSecondsBringNothing, SecondsAlikeEndNothing}
 use Rattle.run_note_record.proofs.Dark.{says-same}
-use Rattle.run_note_record.specs.Uses.{times_of, opened_on, notes_in, uses_in}
-use Rattle.run_note_record.proofs.Exact.{next-notes, idle-notes, opened-append, all-none}
+use Rattle.run_note_record.specs.Uses.{times_of, opened_on, notes_in, uses_in, NoneFailedOn}
+use Rattle.run_note_record.proofs.Exact.{torn-front, failed-fewer, next-notes, idle-notes, opened-append, all-none}
 use Rattle.run_note_record.proofs.Unlit.{plain-last, behind-more}
 
 -- ---- quiet seconds
@@ -161,12 +161,13 @@ quiet-brings_nothing d o done p f v t span is n speed seen q =
           absurd (omega (arith, gone.1)))
           (Contains-append_cases (went log done).told (quiet_seconds (suc n) p.next speed slots) y
           (subst (λ (w : Went). Contains w.told y) (quiet-are-told (rule_of o) (start_at o) o.from (first_of o) done p f t span is (suc n) speed) among));
-      exact = λ none_failed c valid.
+      exact = λ c none_failed valid.
           ap (λ (w : Went). opened_on c v.sessions w.told) (quiet-are-told (rule_of o) (start_at o) o.from (first_of o) done p f t span is (suc n) speed)
           ∙ opened-append c v.sessions (went log done).told (quiet_seconds (suc n) p.next speed slots)
           ∙ ap (λ (us : List ℕ). opened_on c v.sessions (went log done).told ++ us) (all-none c v.sessions (quiet_seconds (suc n) p.next speed slots) (λ y among. quiet-found (suc n) p.next speed slots y among))
           ∙ append-nil (opened_on c v.sessions (went log done).told)
-          ∙ v.exact none_failed c valid
+          ∙ v.exact c (failed-fewer o c log log [] (went log done).told ((went log done).told ++ quiet_seconds (suc n) p.next speed slots) (sym (append-nil log.breaks)) (torn-front c (went log done).told (quiet_seconds (suc n) p.next speed slots))
+          (subst (λ (ts : List ToldSecond). NoneFailedOn o log ts c) (ap (λ (w : Went). w.told) (quiet-are-told (rule_of o) (start_at o) o.from (first_of o) done p f t span is (suc n) speed)) none_failed)) valid
           ∙ ap (λ (l : List Note). times_of (uses_in o c l)) (sym (notes-on o done p f t span is speed (suc n)));
     }
 

@@ -29,10 +29,10 @@ use Rattle.run_note_record.specs.Origin.{Origin}
 use Rattle.run_note_record.specs.Beside.{HaveLeftMore}
 use Rattle.run_note_record.specs.Ringed.{holder_in, TellsIn, IsInsertionIn, IsPlaceIn, sure_insertion, sure_place, ShowsNotes, Seating, one_behind, LiesBehind, StandsAt, IsSeated, ShowsInsertions, Ringed, GoOn, NoRingIsWritten, RingsStay, FewerSit, IsAddedAt, MayBeAdded, Since}
 use Rattle.run_note_record.specs.OnCards.{place_width, IsPlaceOn, VehiclesGo, SessionsGo, NoOtherComes, CardsGo, PlaceIsTaken}
-use Rattle.run_note_record.specs.Moved.{Move}
-use Rattle.run_note_record.specs.Sessions.{OpensIn, Opens}
-use Rattle.run_note_record.proofs.Sessions.{sessions-none, sessions-moved, sessions-go, sessions-accepted, opens-none, sessions-entered}
-use Rattle.run_note_record.proofs.OnCards.{call-failed, whole-head, maybe, places-none, places-go, places-beside, places-taken, vehicles-none, vehicles-go}
+use Rattle.run_note_record.specs.Moved.{Move, goes_in, IsPutIn}
+use Rattle.run_note_record.specs.Sessions.{IsBrokenSince, OpensIn, Opens}
+use Rattle.run_note_record.proofs.Sessions.{sessions-none, sessions-moved, sessions-go, sessions-accepted, opens-none, sessions-entered, broken-put, opens-put}
+use Rattle.run_note_record.proofs.OnCards.{call-failed, whole-head, maybe, places-none, places-go, places-beside, places-taken, vehicles-none, vehicles-go, vehicles-moved}
 use Rattle.run_note_record.proofs.Stands.{Weaker, stand-as, unsure-as, each-as, each-append, all-parts, all-of, all-each, insertions-more, places-more, insertion-as, place-as}
 
 -- two images have their insertions at the same indices, and the next one comes to the same
@@ -58,7 +58,7 @@ none-noted d o log spans start cards = record {
   };
   places = λ ring x left. record { more = []; carries = subst (λ (y : List ℕ). RingKeeps unit_place_ring o.origin.recording.unit y []) (sym (start x left)) (carries-none unit_place_ring o.origin.recording.unit ring); stand = refl; few = few-start unit_place_ring (sure_place o.origin log spans) o.origin.recording.unit x ring (start x left) };
   on_cards = places-none o.origin log spans d cards;
-  vehicles = vehicles-none o.origin spans d cards;
+  vehicles = vehicles-none o.origin spans (IsPutIn o.moves) d cards;
   sessions = sessions-none o.origin o.moves log d cards;
 }
 
@@ -151,7 +151,7 @@ go-on log spans notes = record {
   fell = λ u has. has;
   insertions = all-each (λ (i : InsertionNote). (odometer_at i.accepted.second spans ≡ odometer_at i.accepted.second spans) × IfSome i.withdrawn (λ u. odometer_at u spans ≡ odometer_at u spans)) (λ i. (refl, by i.withdrawn)) (insertions_of notes);
   places = all-each (λ (p : PlaceNote). odometer_at p.second spans ≡ odometer_at p.second spans) (λ p. refl) (places_of notes);
-  reads = λ n is. is;
+  reads = λ u n is. is;
 }
   where
     by : (w : Option ℕ) → IfSome w (λ u. odometer_at u spans ≡ odometer_at u spans)
@@ -178,7 +178,7 @@ come-before d o told later trace now moves behind come moved log spans notes sea
       };
   places = v.places;
   on_cards = v.on_cards;
-  vehicles = v.vehicles;
+  vehicles = vehicles-moved o spans (IsPutIn moves) (IsPutIn behind) d (λ c u at. moved (goes_in u c) at) v.vehicles;
   sessions = sessions-moved o moves behind moved log notes d v.sessions;
 }
 
@@ -210,7 +210,7 @@ rings-stay d e o log later spans now notes seats v stays more cards on = record 
             (ring-stays unit_place_ring place_shape w.0 y w.2.places was.carries.points) was.few;
       };
   on_cards = places-go o.origin log later spans now notes d e on.fell on.places cards.places v.on_cards;
-  vehicles = vehicles-go o.origin spans now d e on.reads cards.vehicles v.vehicles;
+  vehicles = vehicles-go o.origin spans now (IsPutIn o.moves) (λ c t. IsBrokenSince o.moves later c notes t) d e on.reads (λ c u some broken. broken-put o.moves later c notes u some broken) cards.vehicles v.vehicles;
   sessions = sessions-go o.origin o.moves log later notes d e on.failed on.fell cards.sessions v.sessions;
 }
 
@@ -233,7 +233,7 @@ none-behind c (k ∷ newer) n none other =
 
 -- ---- A PLACE
 
-pub place-noted : (d e : Devices) (o : Since) (log : RunLog) (spans : List SpanFrom) (notes : List Note) (seats : Card → Option Seating) → Ringed o log spans notes seats d → HaveLeftMore o.origin d e → (p : PlaceNote) (head : List ℕ) → Writes (IsAdded unit_place_ring head) d e → length head ≡ unit_place_ring.width → IsPlaceIn o.origin log spans p head → (own : List ℕ) → length own ≡ place_width → IsPlaceOn spans p own → PlaceIsTaken o.origin log p own d e → VehiclesGo o.origin spans d e → SessionsGo o.origin NoOtherComes d e →
+pub place-noted : (d e : Devices) (o : Since) (log : RunLog) (spans : List SpanFrom) (notes : List Note) (seats : Card → Option Seating) → Ringed o log spans notes seats d → HaveLeftMore o.origin d e → (p : PlaceNote) (head : List ℕ) → Writes (IsAdded unit_place_ring head) d e → length head ≡ unit_place_ring.width → IsPlaceIn o.origin log spans p head → (own : List ℕ) → length own ≡ place_width → IsPlaceOn spans p own → PlaceIsTaken o.origin log p own d e → VehiclesGo o.origin spans NoOtherComes d e → SessionsGo o.origin NoOtherComes d e →
     Ringed o log spans (notes ++ Enters p ∷ []) seats e
 place-noted d e o log spans notes seats v more p head added full is own long on taken_ goes sessions_ = record {
   insertions = λ ring y left.
@@ -264,12 +264,12 @@ place-noted d e o log spans notes seats v more p head added full is own long on 
             (few-more unit_place_ring (sure_place o.origin log spans) (places_of notes) p o.origin.recording.unit w.0 y (ring-takes unit_place_ring head w.0 y was.carries.points w.2) was.few);
       };
   on_cards = places-taken o.origin log spans notes p own d e long on taken_ v.on_cards;
-  vehicles = vehicles-go o.origin spans spans d e (λ k is. is) goes v.vehicles;
+  vehicles = vehicles-go o.origin spans spans (IsPutIn o.moves) NoOtherComes d e (λ u n is. is) (λ c u some none. absurd none) goes v.vehicles;
   sessions = sessions-entered o.origin o.moves log notes p d e sessions_ v.sessions;
 }
 
 -- or the unit failed in it
-pub place-broken : (d e : Devices) (o : Since) (log : RunLog) (spans : List SpanFrom) (notes : List Note) (seats : Card → Option Seating) → Ringed o log spans notes seats d → HaveLeftMore o.origin d e → (p : PlaceNote) (head : List ℕ) → Writes (MayBeAdded unit_place_ring head) d e → length head ≡ unit_place_ring.width → IsPlaceIn o.origin log spans p head → has_failed_in log p.second ≡ true → (own : List ℕ) → length own ≡ place_width → IsPlaceOn spans p own → PlaceIsTaken o.origin log p own d e → VehiclesGo o.origin spans d e → SessionsGo o.origin NoOtherComes d e →
+pub place-broken : (d e : Devices) (o : Since) (log : RunLog) (spans : List SpanFrom) (notes : List Note) (seats : Card → Option Seating) → Ringed o log spans notes seats d → HaveLeftMore o.origin d e → (p : PlaceNote) (head : List ℕ) → Writes (MayBeAdded unit_place_ring head) d e → length head ≡ unit_place_ring.width → IsPlaceIn o.origin log spans p head → has_failed_in log p.second ≡ true → (own : List ℕ) → length own ≡ place_width → IsPlaceOn spans p own → PlaceIsTaken o.origin log p own d e → VehiclesGo o.origin spans NoOtherComes d e → SessionsGo o.origin NoOtherComes d e →
     Ringed o log spans (notes ++ Enters p ∷ []) (λ c. None) e
 place-broken d e o log spans notes seats v more p head adding full is has own long on taken_ goes sessions_ = record {
   insertions = λ ring y left.
@@ -293,7 +293,7 @@ place-broken d e o log spans notes seats v more p head adding full is has own lo
       subst (λ (l : List PlaceNote). ShowsNotes unit_place_ring (sure_place o.origin log spans) (IsPlaceIn o.origin log spans) l o.origin.recording.unit y) (sym (places-more notes (Enters p)))
       (maybe unit_place_ring o.origin.recording.unit w.0 y head (sure_place o.origin log spans) (IsPlaceIn o.origin log spans) (places_of notes) p was full is (ap not has) w.2);
   on_cards = places-taken o.origin log spans notes p own d e long on taken_ v.on_cards;
-  vehicles = vehicles-go o.origin spans spans d e (λ k is. is) goes v.vehicles;
+  vehicles = vehicles-go o.origin spans spans (IsPutIn o.moves) NoOtherComes d e (λ u n is. is) (λ c u some none. absurd none) goes v.vehicles;
   sessions = sessions-entered o.origin o.moves log notes p d e sessions_ v.sessions;
 }
 
@@ -345,10 +345,10 @@ seated-more sure Is c (Some s) ns ms x y a head points added other is sits = rec
       sits.there;
 }
 
-pub insertion-noted : (d e : Devices) (o : Since) (log : RunLog) (spans : List SpanFrom) (notes : List Note) (seats now : Card → Option Seating) → Ringed o log spans notes seats d → HaveLeftMore o.origin d e → (a : Acceptance) → CardsGo o.origin spans (OpensIn log a) d e → Opens o.origin log a e → (head : List ℕ) (index : ℕ) → Writes (IsAddedAt index head) d e → length head ≡ insertion_ring.width →
+pub insertion-noted : (d e : Devices) (o : Since) (log : RunLog) (spans : List SpanFrom) (notes : List Note) (seats now : Card → Option Seating) → Ringed o log spans notes seats d → HaveLeftMore o.origin d e → (a : Acceptance) → IsPutIn o.moves a.card a.second → CardsGo o.origin spans (OpensIn log a) d e → Opens o.origin log a e → (head : List ℕ) (index : ℕ) → Writes (IsAddedAt index head) d e → length head ≡ insertion_ring.width →
     IsInsertionIn o log spans e (record { accepted = a; withdrawn = None }) head → ((c : Card) → ((same_card a.card c ≡ false) × (now c ≡ option_map one_behind (seats c))) ⊎ ((same_card a.card c ≡ true) × (now c ≡ Some (record { index = index; behind = 0 })))) →
     Ringed o log spans (notes ++ Accepts a ∷ []) now e
-insertion-noted d e o log spans notes seats now v more a cards opens head index added full is each = record {
+insertion-noted d e o log spans notes seats now v more a put cards opens head index added full is each = record {
   insertions = λ ring y left.
       let w = added y left in
       let was = v.insertions ring w.0 w.1 in
@@ -406,14 +406,14 @@ insertion-noted d e o log spans notes seats now v more a cards opens head index 
         few = few-as unit_place_ring (sure_place o.origin log spans) (places_of notes) o.origin.recording.unit w.0 y (ring-stays unit_place_ring place_shape w.0 y bytes was.carries.points) was.few;
       });
   on_cards = places-beside o.origin log spans notes (Accepts a) d e refl cards.places v.on_cards;
-  vehicles = vehicles-go o.origin spans spans d e (λ k is. is) cards.vehicles v.vehicles;
+  vehicles = vehicles-go o.origin spans spans (IsPutIn o.moves) (OpensIn log a) d e (λ u n is. is) (λ c u some opens_. opens-put o.moves log a c u put some opens_) cards.vehicles v.vehicles;
   sessions = sessions-accepted o.origin o.moves log notes a d e cards.sessions opens v.sessions;
 }
 
 -- or the unit failed in it
-pub insertion-broken : (d e : Devices) (o : Since) (log : RunLog) (spans : List SpanFrom) (notes : List Note) (seats : Card → Option Seating) → Ringed o log spans notes seats d → HaveLeftMore o.origin d e → (a : Acceptance) → CardsGo o.origin spans (OpensIn log a) d e → (head : List ℕ) → Writes (MayBeAdded insertion_ring head) d e → length head ≡ insertion_ring.width →
+pub insertion-broken : (d e : Devices) (o : Since) (log : RunLog) (spans : List SpanFrom) (notes : List Note) (seats : Card → Option Seating) → Ringed o log spans notes seats d → HaveLeftMore o.origin d e → (a : Acceptance) → IsPutIn o.moves a.card a.second → CardsGo o.origin spans (OpensIn log a) d e → (head : List ℕ) → Writes (MayBeAdded insertion_ring head) d e → length head ≡ insertion_ring.width →
     IsInsertionIn o log spans e (record { accepted = a; withdrawn = None }) head → has_failed_in log a.second ≡ true → Ringed o log spans (notes ++ Accepts a ∷ []) (λ c. None) e
-insertion-broken d e o log spans notes seats v more a cards head adding full is has = record {
+insertion-broken d e o log spans notes seats v more a put cards head adding full is has = record {
   insertions = λ ring y left.
       let w = adding y left in
       let was = v.insertions ring w.0 w.1 in
@@ -434,6 +434,6 @@ insertion-broken d e o log spans notes seats v more a cards head adding full is 
         few = few-as unit_place_ring (sure_place o.origin log spans) (places_of notes) o.origin.recording.unit w.0 y (ring-stays unit_place_ring place_shape w.0 y bytes was.carries.points) was.few;
       });
   on_cards = places-beside o.origin log spans notes (Accepts a) d e refl cards.places v.on_cards;
-  vehicles = vehicles-go o.origin spans spans d e (λ k is. is) cards.vehicles v.vehicles;
+  vehicles = vehicles-go o.origin spans spans (IsPutIn o.moves) (OpensIn log a) d e (λ u n is. is) (λ c u some opens_. opens-put o.moves log a c u put some opens_) cards.vehicles v.vehicles;
   sessions = sessions-accepted o.origin o.moves log notes a d e cards.sessions (opens-none o.origin log a e (call-failed log a.second has)) v.sessions;
 }

@@ -27,7 +27,7 @@ use Rattle.run_events.proofs.run_rings.Actions.{power-notes}
 use Rattle.run_events.proofs.run_rings.Spans.{earlier-stay}
 use Rattle.run_note_record.specs.Origin.{Origin}
 use Rattle.run_note_record.specs.Beside.{HaveLeftMore}
-use Rattle.run_note_record.specs.Moved.{Move, moves_to, moves_in, moves_so_far}
+use Rattle.run_note_record.specs.Moved.{Move, goes_in, IsPutIn, moves_to, moves_in, moves_so_far}
 use Rattle.run_note_record.specs.Ringed.{Seating, Ringed, StaysInRings, notes_in, since_behind, since_at}
 use Rattle.run_note_record.specs.RingsSoFar.{AreEarlier, RingedBehind, notes_so_far, RingedIn, HasMoreBreaks, GoesBehind}
 use Rattle.run_note_record.specs.Steps.{FailsBy, nobody}
@@ -36,7 +36,7 @@ use Rattle.run_note_record.specs.OnCards.{has_call_failed_in, CardsStay}
 use Rattle.run_note_record.proofs.OnCards.{call-failed-more, stay-itself}
 use Rattle.run_note_record.proofs.Readings.{reads-with}
 use Rattle.run_note_record.proofs.Noted.{notes-alike}
-use Rattle.run_note_record.proofs.Moved.{moves-alike}
+use Rattle.run_note_record.proofs.Moved.{moves-alike, woken-moves}
 use Rattle.run_note_record.proofs.Rings.{fewer-sit, rings-stay}
 use Rattle.run_note_record.proofs.Around.{insertion-around, insertion-cut}
 use Rattle.run_note_record.specs.Sessions.{IsBrokenSince}
@@ -108,7 +108,7 @@ module _ (d e : Devices) (o : Origin) (done : List TraceSecond) (s : TraceSecond
   lines-anew =
       let now : List SpanFrom = with_second spans base t in
       let notes : List Note = notes_so_far began done log s [] in
-      rings-stay d d (since_at o began done later s []) log later now now notes seats v.ringed (rings-left d.unit) (left-itself o d) (stay-may o now (λ c t. IsBrokenSince (moves_so_far began done later s []) later c notes t) d d (stay-itself o now d)) (goes-alike log later now now notes (failed-more log later more) (call-failed-more log later more) (λ u. refl) (λ n is. is))
+      rings-stay d d (since_at o began done later s []) log later now now notes seats v.ringed (rings-left d.unit) (left-itself o d) (stay-may o now (λ c t. IsBrokenSince (moves_so_far began done later s []) later c notes t) d d (stay-itself o now d)) (goes-alike log later now now notes (failed-more log later more) (call-failed-more log later more) (λ u. refl) (λ u n is. is))
 
   -- this is noted
   noted-anew : (fewer : Card → Option Seating) (noted : List Note) → notes_to later (went began done).before s [] ≡ notes_to log (went began done).before s [] ++ noted →
@@ -131,7 +131,7 @@ passed-anew d e o done s began log later spans base t seats fewer v off more slo
     let moves : List Move = moves_so_far began done later s [] in
     let broken = go-more o now (FailsBy began done later s []) (λ c t. IsBrokenSince moves later c notes t) d e
     (fails-since later s.number (moves_to later before s []) moves (λ m at. Contains-append_right (moves_in began done) (moves_to later before s []) m at) notes (early-so-far done s began log [] v.early)) cards in
-    let ringed : Ringed (since_at o began done later s []) later now notes seats e = rings-stay d e (since_at o began done later s []) log later now now notes seats v.ringed stays left broken (goes-alike log later now now notes (failed-more log later more) (call-failed-more log later more) (λ u. refl) (λ n is. is)) in
+    let ringed : Ringed (since_at o began done later s []) later now notes seats e = rings-stay d e (since_at o began done later s []) log later now now notes seats v.ringed stays left broken (goes-alike log later now now notes (failed-more log later more) (call-failed-more log later more) (λ u. refl) (λ u n is. is)) in
     let noted = slot-notes log later before s off slot found is ∙ ap (λ (l : List Note). notes_to log before s [] ++ l) (none-accepted s.number slot (in_slot before.slots slot) found none) in
     noted-anew d e o done s began log later spans base t seats v more fewer [] noted
     (subst (λ (l : List Note). Ringed (since_at o began done later s []) later now l fewer e) (sym (append-nil notes)) (fewer-sit e (since_at o began done later s []) later now notes seats fewer ringed few))
@@ -150,7 +150,8 @@ accepted-anew d e o done s began log later spans base t seats now_ fewer v off m
     let now : List SpanFrom = with_second spans base t in
     let notes : List Note = notes_so_far began done log s [] in
     let n : Acceptance = record { second = s.number; slot = slot; card = x.card } in
-    let r : Ringed (since_at o began done later s []) later now (notes ++ Accepts n ∷ []) now_ e = insertion-around d e (since_at o began done later s []) later now notes seats now_ (lines-anew d e o done s began log later spans base t seats v more) left n cards opens head index writes long is each in
+    let put : IsPutIn (moves_so_far began done later s []) x.card s.number = Contains-append_right (moves_in began done) (moves_to later (went began done).before s []) (goes_in s.number x.card) (woken-moves later (went began done).before s off slot x sits) in
+    let r : Ringed (since_at o began done later s []) later now (notes ++ Accepts n ∷ []) now_ e = insertion-around d e (since_at o began done later s []) later now notes seats now_ (lines-anew d e o done s began log later spans base t seats v more) left n put cards opens head index writes long is each in
     noted-anew d e o done s began log later spans base t seats v more fewer (Accepts n ∷ []) (one-anew log later (went began done).before s off slot x sits verdict found accepting)
     (fewer-sit e (since_at o began done later s []) later now (notes ++ Accepts n ∷ []) now_ fewer r few)
 
@@ -159,7 +160,8 @@ cut-anew d e o done s began log cut spans base t seats v off more slot x sits ve
     let now : List SpanFrom = with_second spans base t in
     let notes : List Note = notes_so_far began done log s [] in
     let n : Acceptance = record { second = s.number; slot = slot; card = x.card } in
-    let r : Ringed (since_at o began done cut s []) cut now (notes ++ Accepts n ∷ []) nobody e = insertion-cut d e (since_at o began done cut s []) cut now notes seats (lines-anew d e o done s began log cut spans base t seats v more) left n cards head writes long is failed in
+    let put : IsPutIn (moves_so_far began done cut s []) x.card s.number = Contains-append_right (moves_in began done) (moves_to cut (went began done).before s []) (goes_in s.number x.card) (woken-moves cut (went began done).before s off slot x sits) in
+    let r : Ringed (since_at o began done cut s []) cut now (notes ++ Accepts n ∷ []) nobody e = insertion-cut d e (since_at o began done cut s []) cut now notes seats (lines-anew d e o done s began log cut spans base t seats v more) left n put cards head writes long is failed in
     let w : RingedIn o done s began [] cut spans base t nobody e = noted-anew d e o done s began log cut spans base t seats v more nobody (Accepts n ∷ []) (one-anew log cut (went began done).before s off slot x sits verdict found accepting) r in
     cut-ends e o done s began cut [] s.actions spans base t nobody nobody w behind power refl is_cut (λ c. inl refl)
 
@@ -171,7 +173,7 @@ behind-stays d e o done log next spans seats v stays left cards = record {
   spans_are = v.spans_are;
   before = v.before;
   early = v.early;
-  ringed = rings-stay d e (since_behind o log done) log log spans spans (notes_in log done) seats v.ringed stays left (stay-may o spans (λ c t. IsBrokenSince (moves_in log done) log c (notes_in log done) t) d e cards) (goes-alike log log spans spans (notes_in log done) (λ u has. has) (λ u has. has) (λ u. refl) (λ n is. is));
+  ringed = rings-stay d e (since_behind o log done) log log spans spans (notes_in log done) seats v.ringed stays left (stay-may o spans (λ c t. IsBrokenSince (moves_in log done) log c (notes_in log done) t) d e cards) (goes-alike log log spans spans (notes_in log done) (λ u has. has) (λ u has. has) (λ u. refl) (λ u n is. is));
 }
 
 -- and so does another log that tells the same of these seconds
@@ -179,7 +181,7 @@ pub behind-alike : (d : Devices) (o : Origin) (done : List TraceSecond) (log lat
     ((u : ℕ) → has_failed_in log u ≡ true → has_failed_in later u ≡ true) → ((u : ℕ) → has_call_failed_in log u ≡ true → has_call_failed_in later u ≡ true) → RingedBehind o done later next spans seats d
 behind-alike d o done log later next spans seats v behind failed fell =
     let same : notes_in later done ≡ notes_in log done = notes-alike log later done behind.same in
-    let ringed : Ringed (since_behind o log done) later spans (notes_in log done) seats d = rings-stay d d (since_behind o log done) log later spans spans (notes_in log done) seats v.ringed (rings-left d.unit) (left-itself o d) (stay-may o spans (λ c t. IsBrokenSince (moves_in log done) later c (notes_in log done) t) d d (stay-itself o spans d)) (goes-alike log later spans spans (notes_in log done) failed fell (λ u. refl) (λ n is. is)) in
+    let ringed : Ringed (since_behind o log done) later spans (notes_in log done) seats d = rings-stay d d (since_behind o log done) log later spans spans (notes_in log done) seats v.ringed (rings-left d.unit) (left-itself o d) (stay-may o spans (λ c t. IsBrokenSince (moves_in log done) later c (notes_in log done) t) d d (stay-itself o spans d)) (goes-alike log later spans spans (notes_in log done) failed fell (λ u. refl) (λ u n is. is)) in
     record {
       spans_are = v.spans_are ∙ ap (λ (w : Went). spans_of w.told) (sym behind.went_is);
       before = v.before;

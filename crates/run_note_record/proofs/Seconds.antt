@@ -36,7 +36,7 @@ use Rattle.run_devices.specs.run_promise.Origin.{Origin, rule_of, start_at, firs
 use Rattle.run_devices.specs.run_promise.Beside.{HaveLeftMore}
 use Rattle.run_devices.specs.run_promise.Seconds.{found_again}
 use Rattle.run_note_record.specs.Opened.{AreOpenSo}
-use Rattle.run_note_record.specs.Uses.{times_of, opened_on, uses_in}
+use Rattle.run_note_record.specs.Uses.{times_of, opened_on, uses_in, NoneFailedOn}
 use Rattle.run_note_record.specs.Evented.{number_in, limit_in, Evented, EventedBy, NotesMore, EventsStay, EventsAreFound, tearing_now, sessions_now, brought_now, IsChosen, ASecondIsNoted, ASecondIsBroken}
 use Rattle.run_note_record.proofs.Opened.{all-left}
 use Rattle.run_note_record.proofs.Noted.{notes-alike}
@@ -84,9 +84,10 @@ events-found d e o done p f v may k says left =
       events = lines-shown (number_in o) o.recording.unit (limit_in o) p.log later p.unfound p.supply done v.tearing v.sessions {U = d.unit} {V = e.unit} v.events v.gaps tells says;
       gaps = is-found p.log later p.unfound k p.supply done (dark-by p.supply p.next may) v.gaps same refl;
       found_open = subst (λ (ts : List ToldSecond). AreOpenSo o ts done e v.sessions) (sym (ap (λ (w : Went). w.told) (went-found p.log p.unfound k o.from done f.order))) (all-left o (went p.log done).told done d e v.sessions left v.found_open);
-      exact = λ none_failed c valid.
+      exact = λ c none_failed valid.
           ap (λ (w : Went). opened_on c v.sessions w.told) (went-found p.log p.unfound k o.from done f.order)
-          ∙ v.exact (found-none p.unfound k p.log none_failed) c valid
+          ∙ v.exact c (found-none o c (went p.log done).told p.unfound k p.log
+          (subst (λ (w : Went). NoneFailedOn o later w.told c) (went-found p.log p.unfound k o.from done f.order) none_failed)) valid
           ∙ ap (λ (l : List Note). times_of (uses_in o c l)) (sym (notes-alike p.log later done same));
     }
 

@@ -1,5 +1,5 @@
 -- What is carried of the sessions of the cards, over each step.
-use Rattle.std.proofs.Common.{◌≡◌, ◌∙◌, ◌⊎◌, inl, inr, ⊎_elim, ℕ, suc, Bool, true, false, not, ◌&&◌, List, [], ◌∷◌, ◌++◌, Contains, fold, refl, ap, sym, subst, arith}
+use Rattle.std.proofs.Common.{◌≡◌, ◌∙◌, ◌⊎◌, inl, inr, ⊎_elim, ℕ, suc, ◌<◌, Bool, true, false, not, ◌&&◌, List, [], ◌∷◌, ◌++◌, Contains, fold, refl, ap, sym, subst, arith}
 use Rattle.std.specs.List.{AllByRecursion}
 use Rattle.std.proofs.lemmas.List.Sums.{fold-append}
 use Rattle.std.proofs.lemmas.List.Elements.{Contains-append_left, Contains-push, Contains-push_cases}
@@ -15,13 +15,15 @@ use Rattle.run_devices.specs.note_model.Noted.{Acceptance, Withdrawal, PlaceNote
 use Rattle.run_devices.specs.safety_model.Recording.{card_image}
 use Rattle.run_devices.specs.safety_model.Safe.{Devices, card_of}
 use Rattle.run_devices.specs.Sessions.{SessionGoes}
+use Rattle.run_devices.proofs.Measured.{goes-more}
 use Rattle.run_devices.proofs.Sessions.{session-more}
 use Rattle.run_note_record.specs.Origin.{Origin}
-use Rattle.run_note_record.specs.OnCards.{has_call_failed_in, SessionsGo, NoOtherComes, CardsGo, CardsStay}
+use Rattle.run_note_record.specs.OnCards.{has_call_failed_in, IsReadingOf, VehiclesGo, SessionsGo, NoOtherComes, CardsGo, CardsStay}
 use Rattle.run_note_record.specs.RingsSoFar.{AreEarlier}
-use Rattle.run_note_record.specs.Moved.{Move, goes_in, goes_out}
+use Rattle.run_note_record.specs.Moved.{Move, goes_in, goes_out, IsPutIn}
 use Rattle.run_note_record.specs.Sessions.{is_opened_by, is_shut_by, accepted_then, withdrawn_then, told_with, told_on, IsNotBefore, HasFailedSince, MayLeave, IsBrokenSince, MayTell, session_told, SessionsOnCards, FailsIn, OpensIn, Ends, EndsIf, Opens, Shuts}
 use Rattle.run_note_record.proofs.Stands.{all-of, all-push}
+use Rattle.run_note_record.proofs.Readings.{reading-as}
 use Rattle.run_note_record.proofs.Uses.{card-is}
 
 -- ---- what it may tell
@@ -200,8 +202,13 @@ sessions-more o May Now d e more goes c valid y left =
     let w = goes c valid y left in
     (w.0, w.1, session-more (own_sizes (card_image o.recording c)) (May c) (Now c) (more c) w.0 y w.2)
 
+vehicles-more : (o : Origin) (spans : List SpanFrom) (May Now : Card → ℕ → Type 0) (d e : Devices) → ((c : Card) (t : ℕ) → May c t → Now c t) → VehiclesGo o spans May d e → VehiclesGo o spans Now d e
+vehicles-more o spans May Now d e more goes c valid y left =
+    let w = goes c valid y left in
+    (w.0, w.1, goes-more (own_sizes (card_image o.recording c)) (IsReadingOf spans (May c)) (IsReadingOf spans (Now c)) (reading-as spans spans (May c) (Now c) (λ u n is. is) (λ u some. more c u)) w.0 y w.2)
+
 pub go-more : (o : Origin) (spans : List SpanFrom) (May Now : Card → ℕ → Type 0) (d e : Devices) → ((c : Card) (t : ℕ) → May c t → Now c t) → CardsGo o spans May d e → CardsGo o spans Now d e
-go-more o spans May Now d e more cards = record { places = cards.places; vehicles = cards.vehicles; sessions = sessions-more o May Now d e more cards.sessions }
+go-more o spans May Now d e more cards = record { places = cards.places; vehicles = vehicles-more o spans May Now d e more cards.vehicles; sessions = sessions-more o May Now d e more cards.sessions }
 
 pub stay-may : (o : Origin) (spans : List SpanFrom) (May : Card → ℕ → Type 0) (d e : Devices) → CardsStay o spans d e → CardsGo o spans May d e
 stay-may o spans May d e cards = go-more o spans NoOtherComes May d e (λ c t none. absurd none) cards
@@ -275,6 +282,29 @@ fails-since log u ms ns more notes early c t failing = (u, broken-now log c u no
 -- a card that was put in in it
 pub fails-in : (log : RunLog) (moves : List Move) (u : ℕ) (card c : Card) (t : ℕ) → Contains moves (goes_in u card) → same_card card c ≡ true → (t ≡ 0) ⊎ (t ≡ u) → has_call_failed_in log u ≡ true → FailsIn log moves u c t
 fails-in log moves u card c t at mine is failed = (inl (subst (λ (x : Card). Contains moves (goes_in u x)) (card-is card c mine) at, is), failed)
+
+-- ---- WHICH SECOND it is by which an odometer is told: the card was put in in it
+
+-- a call failed in it
+pub broken-put : (moves : List Move) (log : RunLog) (c : Card) (notes : List Note) (t : ℕ) → 0 < t → IsBrokenSince moves log c notes t → IsPutIn moves c t
+broken-put moves log c notes t some broken = ⊎_elim
+    (λ in_. ⊎_elim
+    (λ (none : t ≡ 0). absurd (omega (arith, some, none)))
+    (λ (same : t ≡ broken.0). subst (λ (u : ℕ). IsPutIn moves c u) (sym same) in_.0)
+    in_.1)
+    (λ out. absurd (let none : t ≡ 0 = out.1 in omega (arith, some, none)))
+    broken.2
+
+-- it is accepted
+pub opens-put : (moves : List Move) (log : RunLog) (a : Acceptance) (c : Card) (t : ℕ) → IsPutIn moves a.card a.second → 0 < t → OpensIn log a c t → IsPutIn moves c t
+opens-put moves log a c t put some opens = ⊎_elim
+    (λ (same : t ≡ a.second). subst (λ (x : Card). IsPutIn moves x t) (card-is a.card c opens.0) (subst (λ (u : ℕ). IsPutIn moves a.card u) (sym same) put))
+    (λ failed. absurd (let none : t ≡ 0 = failed.0 in omega (arith, some, none)))
+    opens.1
+
+-- and none, where it is withdrawn
+pub ends-put : (moves : List Move) (card c : Card) (t : ℕ) → 0 < t → Ends card c t → IsPutIn moves c t
+ends-put moves card c t some ends = absurd (let none : t ≡ 0 = ends.1 in omega (arith, some, none))
 
 -- ---- A CARD THAT WAS WITHDRAWN
 

@@ -59,7 +59,7 @@ both-same None f g same = tt
 both-same (Some u) f g same = same u
 
 -- where all odometers are the same
-pub goes-alike : (log later : RunLog) (spans now : List SpanFrom) (notes : List Note) → ((u : ℕ) → has_failed_in log u ≡ true → has_failed_in later u ≡ true) → ((u : ℕ) → has_call_failed_in log u ≡ true → has_call_failed_in later u ≡ true) → ((u : ℕ) → odometer_at u now ≡ odometer_at u spans) → ((n : ℕ) → IsReading spans n → IsReading now n) → GoOn log later spans now notes
+pub goes-alike : (log later : RunLog) (spans now : List SpanFrom) (notes : List Note) → ((u : ℕ) → has_failed_in log u ≡ true → has_failed_in later u ≡ true) → ((u : ℕ) → has_call_failed_in log u ≡ true → has_call_failed_in later u ≡ true) → ((u : ℕ) → odometer_at u now ≡ odometer_at u spans) → ((u n : ℕ) → IsReading spans u n → IsReading now u n) → GoOn log later spans now notes
 goes-alike log later spans now notes failed fell same reads = record {
   failed = failed;
   fell = fell;
@@ -94,7 +94,7 @@ early-places u (Withdraws w ∷ notes) all = early-places u notes all.1
 early-places u (Enters p ∷ notes) all = (all.0, early-places u notes all.1)
 
 -- where those of earlier seconds are
-pub goes-earlier : (log : RunLog) (spans now : List SpanFrom) (u : ℕ) (notes : List Note) → AreEarlier u notes → ((v : ℕ) → v < u → odometer_at v now ≡ odometer_at v spans) → ((n : ℕ) → IsReading spans n → IsReading now n) → GoOn log log spans now notes
+pub goes-earlier : (log : RunLog) (spans now : List SpanFrom) (u : ℕ) (notes : List Note) → AreEarlier u notes → ((v : ℕ) → v < u → odometer_at v now ≡ odometer_at v spans) → ((u n : ℕ) → IsReading spans u n → IsReading now u n) → GoOn log log spans now notes
 goes-earlier log spans now u notes early same reads = record {
   failed = λ v has. has;
   fell = λ v has. has;
@@ -214,7 +214,7 @@ pub go-on-in : (d e : Devices) → RingsGoOn d e
 go-on-in d e o done s began front log later spans base t seats fewer v more same stays left cards fewer_sit =
     let now : List SpanFrom = with_second spans base t in
     let notes : List Note = notes_so_far began done log s front in
-    let on : GoOn log later now now notes = goes-alike log later now now notes (failed-more log later more) (call-failed-more log later more) (λ u. refl) (λ n is. is) in
+    let on : GoOn log later now now notes = goes-alike log later now now notes (failed-more log later more) (call-failed-more log later more) (λ u. refl) (λ u n is. is) in
     let ringed : Ringed (since_at o began done log s front) later now notes seats e = rings-stay d e (since_at o began done log s front) log later now now notes seats v.ringed stays left (stay-may o now (λ c t. IsBrokenSince (moves_so_far began done log s front) later c notes t) d e cards) on in
     let moves_are : moves_to later (went began done).before s front ≡ moves_to log (went began done).before s front = moves-later log later s (went began done).before front same in
     let moved : Ringed (since_at o began done later s front) later now notes seats e = moved-on e o began log later done s front front (λ m at. subst (λ (l : List Move). Contains l m) (sym moves_are) at) later now notes seats ringed in
@@ -267,8 +267,7 @@ action-noted d e o done s began front a log spans base t seats now n v is ringed
   before = v.before;
   early = v.early;
   second = v.second;
-  ringed = subst (λ (l : List Note). Ringed (since_at o began done log s (front ++ a ∷ [])) log (with_second spans base t) l now e) (noted-more began done log s front a (n ∷ []) is)
-      (moved-on e o began log log done s front (front ++ a ∷ []) (moves-front log (went began done).before s front (a ∷ [])) log (with_second spans base t) (notes_so_far began done log s front ++ n ∷ []) now ringed);
+  ringed = subst (λ (l : List Note). Ringed (since_at o began done log s (front ++ a ∷ [])) log (with_second spans base t) l now e) (noted-more began done log s front a (n ∷ []) is) ringed;
 }
 
 -- ---- the second ends
@@ -408,7 +407,7 @@ dark-ends d o done s log later spans base seats fewer v behind more off fewer_si
     let none : notes_in later (done ++ s ∷ []) ≡ notes_in log done =
     second-notes log later done s behind.same ∙ ap (λ (l : List Note). notes_in log done ++ l) (dark-notes later (went later done).before s there) ∙ append-nil (notes_in log done) in
     let unlit : one.lit ≡ false = dark-lit later (went later done).before s there in
-    let ringed : Ringed (since_behind o log done) later spans (notes_in log done) seats d = along (since_behind o log done) d log later spans spans (notes_in log done) seats v.ringed (goes-alike log later spans spans (notes_in log done) (failed-more log later more) (call-failed-more log later more) (λ u. refl) (λ n is. is)) in
+    let ringed : Ringed (since_behind o log done) later spans (notes_in log done) seats d = along (since_behind o log done) d log later spans spans (notes_in log done) seats v.ringed (goes-alike log later spans spans (notes_in log done) (failed-more log later more) (call-failed-more log later more) (λ u. refl) (λ u n is. is)) in
     let now : Ringed (since_behind o later (done ++ s ∷ [])) later spans (notes_in log done) seats d =
     come-before d o (went log done).told (went later (done ++ s ∷ [])).told (done ++ s ∷ []) (done ++ s ∷ []) (moves_in log done) (moves_in later (done ++ s ∷ [])) (come-told_now log later done (done ++ s ∷ []) s behind.went_is) (moves-before log later done s behind.same) later spans (notes_in log done) seats
     (come-before d o (went log done).told (went log done).told done (done ++ s ∷ []) (moves_in log done) (moves_in log done) (λ c u h. come-trace (went log done).told done (s ∷ []) c u h) (λ m at. at) later spans (notes_in log done) seats ringed) in

@@ -33,9 +33,10 @@ use Rattle.run_events.proofs.run_rings.Standing.{stand-append, withdrawal-of-las
 use Rattle.run_events.proofs.run_rings.Few.{RingStays, ring-same, ring-stays, few-as, few-changed}
 use Rattle.run_note_record.specs.Beside.{HaveLeftMore}
 use Rattle.run_note_record.specs.Ringed.{holder_in, TellsIn, Each, HasSameRings, IsInsertionIn, IsPlaceIn, sure_insertion, sure_place, ShowsNotes, Seating, LiesBehind, StandsAt, IsSeated, Ringed, IsWithdrawnAt, MayBeWithdrawn, Since}
+use Rattle.run_note_record.specs.Moved.{IsPutIn}
 use Rattle.run_note_record.specs.OnCards.{CardsGo}
 use Rattle.run_note_record.specs.Sessions.{Ends, Shuts}
-use Rattle.run_note_record.proofs.Sessions.{sessions-withdrawn, shuts-none}
+use Rattle.run_note_record.proofs.Sessions.{sessions-withdrawn, shuts-none, ends-put}
 use Rattle.run_note_record.proofs.OnCards.{places-beside, vehicles-go}
 use Rattle.run_note_record.proofs.Stands.{each-stand, each-long, each-append, each-split, insertions-more, places-more}
 use Rattle.run_note_record.proofs.Rings.{HasSameTurn, insertion_shape, place_shape, Writes, seated-as, go-on}
@@ -325,7 +326,7 @@ withdrawal-noted d e o log spans notes seats now v more w cards s at below time 
         few = few-as unit_place_ring (sure_place o.origin log spans) (places_of notes) o.origin.recording.unit i.0 y (ring-stays unit_place_ring place_shape i.0 y (places-same i.0 y s below time odometer i.2) was.carries.points) was.few;
       });
   on_cards = places-beside o.origin log spans notes (Withdraws w) d e refl cards.places v.on_cards;
-  vehicles = vehicles-go o.origin spans spans d e (λ k is. is) cards.vehicles v.vehicles;
+  vehicles = vehicles-go o.origin spans spans (IsPutIn o.moves) (Ends w.card) d e (λ u n is. is) (λ c u some ends. ends-put o.moves w.card c u some ends) cards.vehicles v.vehicles;
   sessions = sessions-withdrawn o.origin o.moves log notes w d e cards.sessions shuts v.sessions;
 }
   where
@@ -375,7 +376,7 @@ withdrawal-broken d e o log spans notes seats v more w cards s at below time odo
         few = few-as unit_place_ring (sure_place o.origin log spans) (places_of notes) o.origin.recording.unit i.0 y (ring-stays unit_place_ring place_shape i.0 y (places-same i.0 y i.2) was.carries.points) was.few;
       });
   on_cards = places-beside o.origin log spans notes (Withdraws w) d e refl cards.places v.on_cards;
-  vehicles = vehicles-go o.origin spans spans d e (λ k is. is) cards.vehicles v.vehicles;
+  vehicles = vehicles-go o.origin spans spans (IsPutIn o.moves) (Ends w.card) d e (λ u n is. is) (λ c u some ends. ends-put o.moves w.card c u some ends) cards.vehicles v.vehicles;
   sessions = sessions-withdrawn o.origin o.moves log notes w d e cards.sessions (shuts-none o.origin log w e has) v.sessions;
 }
   where

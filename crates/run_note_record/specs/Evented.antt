@@ -9,7 +9,7 @@ use Rattle.run_devices.specs.run_model.declared.Device.TheVariants.{Unit as Reco
 use Rattle.run_devices.specs.card_image.Own.{own_number}
 use Rattle.run_devices.specs.log_model.declared.lines.Verdict.{Verdict}
 use Rattle.run_devices.specs.log_model.Log.{RunLog, Phase, Keeping, is_accepting}
-use Rattle.run_devices.specs.log_model.Causes.{RoseBy}
+use Rattle.run_devices.specs.log_model.Causes.{RoseBy, device_of}
 use Rattle.run_devices.specs.log_model.Course.{ToldSecond, Visit, went}
 use Rattle.run_devices.specs.log_model.Spans.{AreInOrder}
 use Rattle.run_devices.specs.event_model.Events.{Event, Tearing, AreTorn, seen_of, seen_spans, events_of}
@@ -19,7 +19,7 @@ use Rattle.run_devices.specs.unit_model.Image.{number_of}
 use Rattle.run_devices.specs.run_unit_course.Lines.{cut_at}
 use Rattle.run_devices.specs.run_unit_course.Followed.{UnitPower, Lit, Lost, MayPower, IsDark}
 use Rattle.run_devices.specs.safety_model.Recording.{Recording, card_image, told_of}
-use Rattle.run_devices.specs.safety_model.Safe.{Devices, card_of}
+use Rattle.run_devices.specs.safety_model.Safe.{Devices, card_of, breakdowns_of}
 use Rattle.run_devices.specs.safety_model.Side.{events_in}
 use Rattle.run_events.specs.unit_events.Shown.{all_kinds}
 use Rattle.run_devices.specs.run_promise.Found.{found_of}
@@ -48,9 +48,9 @@ abbrev pub limit_in : Origin → ℕ
 limit_in o = number_of o.recording.unit SPEED_LIMIT
 
 -- WHAT IS CARRIED OF THE EVENTS behind these seconds: what no log tells of them, of cards that were torn out and of
--- sessions that were found open (exactly, where no call failed), of which nothing is chosen from the next second on;
--- every image of the unit shows the events, by that; and it is known what was kept between the power spans, but where a
--- power-on failed. `unfound` is the first break of which it is not known.
+-- sessions that were found open (exactly, where no call failed on the card), of which nothing is chosen from the next
+-- second on; every image of the unit shows the events, by that; and it is known what was kept between the power spans,
+-- but where a power-on failed. `unfound` is the first break of which it is not known.
 pub record Evented (o : Origin) (done : List TraceSecond) (log : RunLog) (unfound next : ℕ) (supply : UnitPower)
     (d : Devices) : Type 0 where
   pub tearing : Tearing
@@ -112,8 +112,8 @@ brought_now o log done s here own kind = second_events kind (limit_in o) own her
     (seen_next log done s)
 
 -- WHAT NO LOG TELLS of a second is chosen so: of its tears, so that it fits it; and each acceptance found a session
--- open that an image of the card told, that of the start where it comes for the first time, and where no call failed
--- that which the insertion before has left.
+-- open that an image of the card told, that of the start where it comes for the first time, and where no call failed on
+-- the card that which the insertion before has left.
 pub record IsChosen (o : Origin) (log : RunLog) (done : List TraceSecond) (s : TraceSecond) (here : Tearing)
     (own : ℕ → Visit → ℕ) (d : Devices) : Type 0 where
   pub fits : IsTornIn here (seen_next log done s)
@@ -184,7 +184,7 @@ pub record ShowsEventsOf (r : Recording) (began now : Devices) (x : List ℕ) : 
   pub are_sessions : AreSessions (λ c. (card_of now c).left_since (card_of began c).clock) session_in (told_of r)
       sessions
   pub are_first : AreFirst (card_image r) (told_of r) r.trace sessions
-  pub exact : TellExactly r sessions
+  pub exact : TellExactly r began sessions
   pub tearing : Tearing
   pub are_torn : AreTorn tearing (seen_of r.log r.trace)
   -- one that is not sure frees the one place that it takes, and no other
@@ -196,5 +196,6 @@ abbrev pub EventsAreShown : (began now : Devices) → Type 0
 EventsAreShown began now = (o : Origin) (done : List TraceSecond) (log : RunLog) (unfound next : ℕ) (supply : UnitPower)
     → Evented o done log unfound next supply now → (r : Recording) → r.unit ≡ o.recording.unit
     → ((c : Card) → card_image r c ≡ card_image o.recording c) →
-    r.trace ≡ done → r.log ≡ log → ((c : Card) → (found_of o.found c).began ≡ (card_of began c).clock) → (x : List ℕ)
+    r.trace ≡ done → r.log ≡ log → ((c : Card) → (found_of o.found c).began ≡ (card_of began c).clock)
+    → ((c : Card) → o.breakdowns (device_of c) ≡ breakdowns_of began (device_of c)) → (x : List ℕ)
     → now.unit.may_leave x → ShowsEventsOf r began now x

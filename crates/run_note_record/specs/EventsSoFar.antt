@@ -49,7 +49,7 @@ use Rattle.run_events.specs.Choice.{IsPlainFrom}
 use Rattle.run_devices.specs.run_promise.Origin.{Origin, rule_of, start_at, first_of}
 use Rattle.run_devices.specs.run_promise.Beside.{HaveLeftMore}
 use Rattle.run_note_record.specs.Opened.{IsOpenSo, AreOpenSo}
-use Rattle.run_note_record.specs.Uses.{AreExact, AreExactIn, FindsMore, FindsNone}
+use Rattle.run_note_record.specs.Uses.{AreExact, AreExactIn, FindsMore}
 use Rattle.run_note_record.specs.Evented.{number_in, limit_in, brought_now, NotesMore, Evented, EventedBy}
 use Rattle.run_note_record.specs.Noting.{Stage, Waking, Acting, Ended, is_told, AreOpen, ShowsThese, NotesThese}
 use Rattle.run_note_record.specs.Noting.{stage_of}
@@ -289,8 +289,8 @@ ARefusalAddsNothing d = (o : Origin) (done : List TraceSecond) (p : Progress) (s
 abbrev pub APullAddsNothing : Devices → Type 0
 APullAddsNothing d = (o : Origin) (done : List TraceSecond) (p : Progress) (span : List ToldSecond) (s : TraceSecond)
     → BeginsNow o done p span s → (n : ℕ) (log : RunLog) → Reaches p s (In (suc n)) log →
-    (slot : Slot) (b : Break) → IsTearAt s (In (suc n)) slot false b → is_torn_in log s.number (In (suc n)) slot ≡ false
-    → FindsNone o p.log done s log (and_break log b) →
+    (slot : Slot) (b : Break) → IsTearAt s (In (suc n)) slot false b
+    → is_torn_in log s.number (In (suc n)) slot ≡ false →
     (moved_at log (went p.log done).before s (In (suc n))).leaving slot
     ++ visits (In (suc n)) slot (course_at log (went p.log done).before s (In (suc n))).slots ≡ []
     → NotFound (In (suc n)) (other_slot slot) log s.number →

@@ -1,7 +1,7 @@
 -- WHICH CARDS A RUN PUTS IN AND TAKES OUT, each with its second (profile): an action puts a card into a slot, and power
 -- that begins puts in anew each card that stands in one; an action withdraws a card that was accepted.
 use Rattle.std.specs.Prelude.{ℕ, ◌+◌, Bool, true, false, not, Option, Some, None, List, [], ◌∷◌, ◌++◌, map}
-use Rattle.std.specs.Prelude.{if◌then◌else◌}
+use Rattle.std.specs.Prelude.{Contains, if◌then◌else◌}
 use Rattle.run_devices.specs.trace_model.declared.Action.{Action}
 use Rattle.run_devices.specs.trace_model.declared.Action.TheVariants.{Insert, Withdraw}
 use Rattle.run_devices.specs.trace_model.declared.Card.{Card}
@@ -25,6 +25,10 @@ goes_in u card = record { second = u; card = card; out = false }
 
 abbrev pub goes_out : (second : ℕ) → Card → Move
 goes_out u card = record { second = u; card = card; out = true }
+
+-- by these moves a card is put in in a second
+abbrev pub IsPutIn : List Move → Card → (second : ℕ) → Type 0
+IsPutIn moves c u = Contains moves (goes_in u c)
 
 -- what an action moves: one that is refused moves nothing
 abbrev pub moves_of : (second : ℕ) → Option SlotFault → Action → Slots → List Move

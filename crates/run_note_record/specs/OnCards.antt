@@ -1,6 +1,7 @@
 -- THE PLACES OF A RUN ON ITS CARDS (profile): what the ring of places of a card shows of them, and calls that leave it.
 -- Of which odometer values its vehicle entries tell, and calls that measure them. And calls that let its session go on.
-use Rattle.std.specs.Prelude.{◌≡◌, ◌⊎◌, ℕ, Bool, true, false, not, List, ◌∷◌, ◌++◌, filter, nat_eq, sum_by}
+use Rattle.std.specs.Prelude.{◌≡◌, ◌⊎◌, ℕ, suc, ◌+◌, ◌*◌, ◌/◌, ◌<◌, Bool, true, false, not, List, [], ◌∷◌, ◌++◌}
+use Rattle.std.specs.Prelude.{filter, nat_eq, sum_by}
 use Rattle.std.specs.List.{list_any}
 use Rattle.run_devices.specs.trace_model.declared.Card.{Card}
 use Rattle.run_devices.specs.tacho_types.declared.places.PlaceEntry.{PlaceEntry}
@@ -24,7 +25,7 @@ use Rattle.run_devices.specs.note_model.Rings.{Stand, AreNoFewer, kind_of}
 use Rattle.run_devices.specs.safety_model.Recording.{card_image}
 use Rattle.run_devices.specs.safety_model.Safe.{Devices, card_of}
 use Rattle.run_events.specs.run_rings.Carried.{RingKeeps}
-use Rattle.run_devices.specs.Measured.{GoesMeasured}
+use Rattle.run_devices.specs.Measured.{Reading, GoesMeasured}
 use Rattle.run_devices.specs.Sessions.{SessionGoes}
 use Rattle.run_note_record.specs.Origin.{Origin}
 
@@ -105,9 +106,16 @@ PlacesStay o d e = (c : Card) → IsOwnValid (card_image o.recording c)
 
 -- ---- the vehicle entries of a card
 
--- THE ODOMETER STOOD SO in one of these power spans: where that stood which it began with, and this is the sum of the
--- speeds of some of its seconds from the front
-pub record IsReading (spans : List SpanFrom) (n : ℕ) : Type 0 where
+-- the last of some seconds is the one before this; or the first of some is this one
+abbrev pub EndBefore : (second : ℕ) → List Second → Type 0
+EndBefore u ss = (front : List Second) × (x : Second) × (ss ≡ front ++ x ∷ []) × (suc x.number ≡ u)
+
+abbrev pub BeginWith : (second : ℕ) → List Second → Type 0
+BeginWith u ss = (x : Second) × (behind : List Second) × (ss ≡ x ∷ behind) × (x.number ≡ u)
+
+-- THE ODOMETER STOOD SO before a second, in one of these power spans: from what it began with, by the speeds of its
+-- seconds from the front, up to the one before that second, or where that one is the next
+pub record IsReading (spans : List SpanFrom) (second n : ℕ) : Type 0 where
   pub earlier : List SpanFrom
   pub s : SpanFrom
   pub later : List SpanFrom
@@ -116,21 +124,32 @@ pub record IsReading (spans : List SpanFrom) (n : ℕ) : Type 0 where
   pub behind : List ToldSecond
   pub parts : s.span ≡ front ++ behind
   pub is : n ≡ odometer_by s.base (sum_by (λ (x : Second). x.speed) (seconds_in front))
+  pub when : EndBefore second (seconds_in front) ⊎ BeginWith second (seconds_in behind)
+
+-- IT STOOD SO AS ITS MINUTE ENDED
+abbrev pub IsReadingAtEnd : List SpanFrom → Reading → Type 0
+IsReadingAtEnd spans r = IsReading spans (60 * (r.minute + 1)) r.odometer
+
+-- IT IS THAT OF ITS MINUTE: it stood so as that ended; or before a second of a later minute that is one of these
+abbrev pub IsReadingOf : List SpanFrom → (May : ℕ → Type 0) → Reading → Type 0
+IsReadingOf spans May r = IsReadingAtEnd spans r
+    ⊎ ((second : ℕ) × May second × (r.minute < second / 60) × IsReading spans second r.odometer)
 
 -- its vehicle entries go on, by the sizes that the card's image at the start tells, measured with readings of these
 -- spans and no other values
-abbrev pub GoesByReadings : List SpanFrom → (start x y : List ℕ) → Type 0
-GoesByReadings spans start x y = GoesMeasured (own_sizes start) (IsReading spans) x y
+abbrev pub GoesByReadings : List SpanFrom → (May : ℕ → Type 0) → (start x y : List ℕ) → Type 0
+GoesByReadings spans May start x y = GoesMeasured (own_sizes start) (IsReadingOf spans May) x y
 
 -- EACH IMAGE that a stop may leave of a card that was valid goes on from that at the start so
-abbrev pub VehiclesOnCards : Origin → List SpanFrom → Devices → Type 0
-VehiclesOnCards o spans d = (c : Card) → IsOwnValid (card_image o.recording c) → (x : List ℕ)
-    → (card_of d c).may_leave x → GoesByReadings spans (card_image o.recording c) (card_image o.recording c) x
+abbrev pub VehiclesOnCards : Origin → List SpanFrom → (May : Card → ℕ → Type 0) → Devices → Type 0
+VehiclesOnCards o spans May d = (c : Card) → IsOwnValid (card_image o.recording c) → (x : List ℕ)
+    → (card_of d c).may_leave x → GoesByReadings spans (May c) (card_image o.recording c) (card_image o.recording c) x
 
 -- CALLS MEASURE THEM SO: behind them each image goes on from one before
-abbrev pub VehiclesGo : Origin → List SpanFrom → (d e : Devices) → Type 0
-VehiclesGo o spans d e = (c : Card) → IsOwnValid (card_image o.recording c) → (y : List ℕ) → (card_of e c).may_leave y
-    → (x : List ℕ) × (card_of d c).may_leave x × GoesByReadings spans (card_image o.recording c) x y
+abbrev pub VehiclesGo : Origin → List SpanFrom → (May : Card → ℕ → Type 0) → (d e : Devices) → Type 0
+VehiclesGo o spans May d e = (c : Card) → IsOwnValid (card_image o.recording c) → (y : List ℕ)
+    → (card_of e c).may_leave y
+    → (x : List ℕ) × (card_of d c).may_leave x × GoesByReadings spans (May c) (card_image o.recording c) x y
 
 -- ---- the session of a card
 
@@ -145,10 +164,10 @@ abbrev pub NoOtherComes : Card → ℕ → Type 0
 NoOtherComes c t = ⊥
 
 -- CALLS leave the places of the cards, measure their vehicle entries so, and let their sessions go on, with these that
--- may come
+-- may come: a session is told by the second in which its card was put in
 pub record CardsGo (o : Origin) (spans : List SpanFrom) (May : Card → ℕ → Type 0) (d e : Devices) : Type 0 where
   pub places : PlacesStay o d e
-  pub vehicles : VehiclesGo o spans d e
+  pub vehicles : VehiclesGo o spans May d e
   pub sessions : SessionsGo o May d e
 
 -- and no session comes

@@ -36,7 +36,7 @@ pub use Rattle.run_note_record.specs.OnCards.{HasRing, ShowsNotes}
 use Rattle.run_note_record.specs.OnCards.{has_call_failed_in, place_width, IsPlaceOn, PlacesOnCards, IsReading}
 use Rattle.run_note_record.specs.OnCards.{VehiclesOnCards, VehiclesGo, SessionsGo, NoOtherComes, CardsGo}
 use Rattle.run_note_record.specs.OnCards.{PlaceIsTaken, HasPlaces, places_in, places_on, is_sure_on}
-use Rattle.run_note_record.specs.Moved.{Move, moves_in, moves_so_far}
+use Rattle.run_note_record.specs.Moved.{Move, IsPutIn, moves_in, moves_so_far}
 use Rattle.run_note_record.specs.Sessions.{IsBrokenSince, SessionsOnCards, OpensIn, Ends, Opens, Shuts}
 use Rattle.run_note_record.specs.Origin.{Origin}
 use Rattle.run_note_record.specs.Beside.{HaveLeftMore}
@@ -159,7 +159,7 @@ pub record ShowsInsertions (o : Since) (log : RunLog) (spans : List SpanFrom) (n
       shows.more x)
 
 -- WHAT IS CARRIED OF THE RINGS, of these notes: each image that a stop may leave of the unit shows them, and each of a
--- card its places, readings of the odometer alone, and a session that may be open
+-- card its places, readings of the odometer by their minutes alone, and a session that may be open
 pub record Ringed (o : Since) (log : RunLog) (spans : List SpanFrom) (notes : List Note) (seats : Card → Option Seating)
     (d : Devices) : Type 0 where
   pub insertions : HasRing insertion_ring o.origin.recording.unit → (x : List ℕ) → d.unit.may_leave x
@@ -168,7 +168,7 @@ pub record Ringed (o : Since) (log : RunLog) (spans : List SpanFrom) (notes : Li
       ShowsNotes unit_place_ring (sure_place o.origin log spans) (IsPlaceIn o.origin log spans) (places_of notes)
       o.origin.recording.unit x
   pub on_cards : PlacesOnCards o.origin log spans notes d
-  pub vehicles : VehiclesOnCards o.origin spans d
+  pub vehicles : VehiclesOnCards o.origin spans (IsPutIn o.moves) d
   pub sessions : SessionsOnCards o.origin o.moves log notes d
 
 -- ---- steps
@@ -215,7 +215,7 @@ pub record GoOn (log later : RunLog) (spans now : List SpanFrom) (notes : List N
       × IfSome i.withdrawn (λ u. odometer_at u now ≡ odometer_at u spans)) (insertions_of notes)
   pub places : AllByRecursion (λ (p : PlaceNote). odometer_at p.second now ≡ odometer_at p.second spans)
       (places_of notes)
-  pub reads : (n : ℕ) → IsReading spans n → IsReading now n
+  pub reads : (u n : ℕ) → IsReading spans u n → IsReading now u n
 
 -- NOTHING IS NOTED at the start.
 abbrev pub NoRingIsWritten : Devices → Type 0
@@ -237,11 +237,11 @@ FewerSit d = (o : Since) (log : RunLog) (spans : List SpanFrom) (notes : List No
     (seats fewer : Card → Option Seating) → Ringed o log spans notes seats d
     → ((c : Card) → (fewer c ≡ seats c) ⊎ (fewer c ≡ None)) → Ringed o log spans notes fewer d
 
--- AN INSERTION IS NOTED, of a card that is not accepted yet, at this index
+-- AN INSERTION IS NOTED, of a card that was put in and is not accepted yet, at this index
 abbrev pub AnInsertionIsNoted : (d e : Devices) → Type 0
 AnInsertionIsNoted d e = (o : Since) (log : RunLog) (spans : List SpanFrom) (notes : List Note)
     (seats now : Card → Option Seating) → Ringed o log spans notes seats d → HaveLeftMore o.origin d e
-    → (a : Acceptance) → CardsGo o.origin spans (OpensIn log a) d e → Opens o.origin log a e
+    → (a : Acceptance) → IsPutIn o.moves a.card a.second → CardsGo o.origin spans (OpensIn log a) d e → Opens o.origin log a e
     → (head : List ℕ) (index : ℕ) → WritesRing (IsAddedAt index head) d e →
     length head ≡ insertion_ring.width → IsInsertionIn o log spans e (record { accepted = a; withdrawn = None }) head →
     ((c : Card) → ((same_card a.card c ≡ false) × (now c ≡ option_map one_behind (seats c)))
@@ -255,7 +255,8 @@ APlaceIsNoted d e = (o : Since) (log : RunLog) (spans : List SpanFrom) (notes : 
     → (p : PlaceNote) (head : List ℕ) →
     WritesRing (IsAdded unit_place_ring head) d e → length head ≡ unit_place_ring.width
     → IsPlaceIn o.origin log spans p head → (own : List ℕ) → length own ≡ place_width → IsPlaceOn spans p own
-    → PlaceIsTaken o.origin log p own d e → VehiclesGo o.origin spans d e → SessionsGo o.origin NoOtherComes d e →
+    → PlaceIsTaken o.origin log p own d e → VehiclesGo o.origin spans NoOtherComes d e
+    → SessionsGo o.origin NoOtherComes d e →
     Ringed o log spans (notes ++ Enters p ∷ []) seats e
 
 -- A WITHDRAWAL IS NOTED, in the entry of the card's last insertion; or as many were added since as the ring has places,
@@ -275,7 +276,7 @@ AWithdrawalIsNoted d e = (o : Since) (log : RunLog) (spans : List SpanFrom) (not
 abbrev pub AnInsertionIsBroken : (d e : Devices) → Type 0
 AnInsertionIsBroken d e = (o : Since) (log : RunLog) (spans : List SpanFrom) (notes : List Note)
     (seats : Card → Option Seating) → Ringed o log spans notes seats d → HaveLeftMore o.origin d e
-    → (a : Acceptance) → CardsGo o.origin spans (OpensIn log a) d e → (head : List ℕ) →
+    → (a : Acceptance) → IsPutIn o.moves a.card a.second → CardsGo o.origin spans (OpensIn log a) d e → (head : List ℕ) →
     WritesRing (MayBeAdded insertion_ring head) d e → length head ≡ insertion_ring.width →
     IsInsertionIn o log spans e (record { accepted = a; withdrawn = None }) head → has_failed_in log a.second ≡ true
     → Ringed o log spans (notes ++ Accepts a ∷ []) (λ c. None) e
@@ -297,7 +298,7 @@ APlaceIsBroken d e = (o : Since) (log : RunLog) (spans : List SpanFrom) (notes :
     WritesRing (MayBeAdded unit_place_ring head) d e → length head ≡ unit_place_ring.width
     → IsPlaceIn o.origin log spans p head → has_failed_in log p.second ≡ true → (own : List ℕ)
     → length own ≡ place_width → IsPlaceOn spans p own → PlaceIsTaken o.origin log p own d e
-    → VehiclesGo o.origin spans d e → SessionsGo o.origin NoOtherComes d e →
+    → VehiclesGo o.origin spans NoOtherComes d e → SessionsGo o.origin NoOtherComes d e →
     Ringed o log spans (notes ++ Enters p ∷ []) (λ c. None) e
 
 -- ---- at the end

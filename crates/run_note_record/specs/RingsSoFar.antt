@@ -94,13 +94,13 @@ AnActionNotesNothing d = (o : Origin) (done : List TraceSecond) (s : TraceSecond
     RingedIn o done s began front log spans base t seats d → NotesMore log (went began done).before s front a []
     → RingedIn o done s began (front ++ a ∷ []) log spans base t seats d
 
--- AN ACTION MORE that notes this, which is carried behind the notes so far
+-- AN ACTION MORE that notes this, which is carried behind the notes so far, with what it moves
 abbrev pub AnActionIsNoted : (d e : Devices) → Type 0
 AnActionIsNoted d e = (o : Origin) (done : List TraceSecond) (s : TraceSecond) (began : RunLog) (front : List Action)
     (a : Action) (log : RunLog) (spans : List SpanFrom) (base : ℕ) (t : ToldSecond) (seats now : Card → Option Seating)
     (n : Note) →
     RingedIn o done s began front log spans base t seats d → NotesMore log (went began done).before s front a (n ∷ [])
-    → Ringed (since_at o began done log s front) log (with_second spans base t)
+    → Ringed (since_at o began done log s (front ++ a ∷ [])) log (with_second spans base t)
     (notes_so_far began done log s front ++ n ∷ []) now e →
     RingedIn o done s began (front ++ a ∷ []) log spans base t now e
 

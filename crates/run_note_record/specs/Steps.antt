@@ -98,7 +98,8 @@ APlaceIsEntered d e = (o : Origin) (done : List TraceSecond) (s : TraceSecond) (
       ending = ending;
       country = country;
       region = region;
-    }) own d e → VehiclesGo o (with_second spans base t) d e → SessionsGo o NoOtherComes d e → AreFewer seats fewer →
+    }) own d e → VehiclesGo o (with_second spans base t) NoOtherComes d e → SessionsGo o NoOtherComes d e
+    → AreFewer seats fewer →
     RingedIn o done s began (front ++ Place slot ending country region ∷ []) later spans base t fewer e
 
 abbrev pub APlaceIsCut : (d e : Devices) → Type 0
@@ -120,7 +121,7 @@ APlaceIsCut d e = (o : Origin) (done : List TraceSecond) (s : TraceSecond) (bega
       ending = ending;
       country = country;
       region = region;
-    }) own d e → VehiclesGo o (with_second spans base t) d e → SessionsGo o NoOtherComes d e →
+    }) own d e → VehiclesGo o (with_second spans base t) NoOtherComes d e → SessionsGo o NoOtherComes d e →
     RingedBehind o (done ++ s ∷ []) cut (suc s.number) (spans_cut spans base cut done s) nobody e
 
 -- A CARD IS WITHDRAWN that was accepted, and is not torn out in that;

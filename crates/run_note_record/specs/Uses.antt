@@ -1,26 +1,28 @@
 -- WHICH USE IS FOUND on a card as it is accepted (profile): at first that of its image at the start, then that which
 -- the insertion before has left. The unit tells by it the session that was left open, and the card's own events do.
-use Rattle.std.specs.Prelude.{◌≡◌, ℕ, ◌&&◌, Option, Some, None, List, [], ◌∷◌, ◌++◌, map, filter, flat_map}
-use Rattle.std.specs.Prelude.{if◌then◌else◌}
+use Rattle.std.specs.Prelude.{◌≡◌, ◌⊎◌, ℕ, ◌<◌, ◌&&◌, true, Option, Some, None, List, [], ◌∷◌, ◌++◌, map, filter}
+use Rattle.std.specs.Prelude.{flat_map, if◌then◌else◌}
 use Rattle.run_events.specs.activity_codec.declared.values.Slot.{Slot}
 use Rattle.run_devices.specs.trace_model.declared.Card.{Card}
 use Rattle.run_devices.specs.trace_model.Trace.{TraceSecond}
 use Rattle.run_devices.specs.tacho_types.declared.texts.Registration.{Registration}
-use Rattle.tach_media.specs.Medium.{bytes_at}
+use Rattle.tach_media.specs.Medium.{bytes_at, last_count}
 use Rattle.run_events.specs.card_files.declared.current_use.CurrentUse.{CurrentUse}
 use Rattle.run_devices.specs.card_image.Fields.{current_use}
 use Rattle.run_devices.specs.card_image.Own.{own_sizes, IsOwnValid}
 use Rattle.run_devices.specs.log_model.declared.lines.Verdict.{Verdict}
 use Rattle.run_devices.specs.log_model.Log.{RunLog, is_accepting}
 use Rattle.run_devices.specs.log_model.Slots.{same_card}
-use Rattle.run_devices.specs.log_model.Course.{ToldSecond, Visit, went}
+use Rattle.run_devices.specs.log_model.Causes.{cuts, tears, cards_torn, device_of}
+use Rattle.run_devices.specs.log_model.Course.{ToldSecond, Visit, second_told, went}
 use Rattle.run_devices.specs.note_model.Done.{done_by, done_of}
 use Rattle.run_devices.specs.note_model.Noted.{InsertionNote, Note, noted_in, notes_of, insertions_of}
 use Rattle.run_devices.specs.unit_model.declared.layout.TheConstants.{REGISTRATION}
 use Rattle.run_devices.specs.safety_model.Recording.{Recording, card_image, told_of}
+use Rattle.run_devices.specs.safety_model.Safe.{Devices, breakdowns_of}
 use Rattle.run_events.specs.Seconds.{seen_next}
 use Rattle.run_devices.specs.run_promise.Origin.{Origin}
-use Rattle.run_devices.specs.run_promise.Whole.{NothingFailed}
+use Rattle.run_devices.specs.run_promise.Whole.{IsUntorn}
 
 -- ---- the uses that insertions leave
 
@@ -85,9 +87,16 @@ opened_in c sessions t = flat_map (λ (f : Visit × Verdict). if same_card c f.0
 abbrev pub opened_on : Card → (ℕ → Visit → ℕ) → List ToldSecond → List ℕ
 opened_on c sessions told = flat_map (opened_in c sessions) told
 
--- WHERE NO CALL FAILED the session times that a run told are those of the uses.
-abbrev pub TellExactly : Recording → (ℕ → Visit → ℕ) → Type 0
-TellExactly r sessions = NothingFailed r.log → (c : Card) → IsOwnValid (card_image r c)
+-- NO CALL HAS FAILED ON A CARD, nor on the unit, by the log: none has cut the power, and none has torn the card out;
+-- and where one has torn out the other, the card's count of breakdowns was below its last value as the run began.
+pub record NothingFailedOn (r : Recording) (c : Card) (began : Devices) : Type 0 where
+  pub uncut : cuts true r.log ≡ []
+  pub untorn : IsUntorn r c
+  pub low : (tears true r.log ≡ []) ⊎ (breakdowns_of began (device_of c) < last_count)
+
+-- OF EACH CARD ON WHICH NO CALL FAILED the session times that a run told are those of its uses, whatever the other did.
+abbrev pub TellExactly : Recording → (began : Devices) → (ℕ → Visit → ℕ) → Type 0
+TellExactly r began sessions = (c : Card) → NothingFailedOn r c began → IsOwnValid (card_image r c)
     → opened_on c sessions (told_of r) ≡ times_of (uses_on r c)
 
 -- ---- as a run carries them
@@ -113,14 +122,26 @@ uses_in o c notes = uses_from (vehicle_in o) (use_in (card_image o.recording c))
 abbrev pub use_now : Origin → Card → List Note → CurrentUse
 use_now o c notes = use_behind (vehicle_in o) (use_in (card_image o.recording c)) (insertions_on c notes)
 
+-- what a log tells of a second so far, behind those before it
+abbrev pub told_so_far : (began : RunLog) → List TraceSecond → (log : RunLog) → TraceSecond → List ToldSecond
+told_so_far began done log s = (went began done).told ++ second_told log (went began done).before s ∷ []
+
+-- NONE HAS FAILED ON A CARD, nor on the unit, by a log that tells so of some seconds: none has at all; or of the cards
+-- that were torn out none is this one, and its count of breakdowns was below its last value as the run began.
+abbrev pub NoneFailedOn : Origin → RunLog → (told : List ToldSecond) → Card → Type 0
+NoneFailedOn o log told c = (cuts true log ≡ []) × ((tears true log ≡ [])
+    ⊎ ((filter (same_card c) (cards_torn told) ≡ []) × (o.breakdowns (device_of c) < last_count)))
+
 -- THE SESSION TIMES so far are exact behind these seconds;
 abbrev pub AreExact : Origin → RunLog → List TraceSecond → (ℕ → Visit → ℕ) → Type 0
-AreExact o log done sessions = NothingFailed log → (c : Card) → IsOwnValid (card_image o.recording c)
+AreExact o log done sessions = (c : Card) → NoneFailedOn o log (went log done).told c
+    → IsOwnValid (card_image o.recording c)
     → opened_on c sessions (went log done).told ≡ times_of (uses_in o c (notes_in log done))
 
 -- and within a second, with those that were found in it so far.
 abbrev pub AreExactIn : Origin → RunLog → List TraceSecond → TraceSecond → (own : ℕ → Visit → ℕ) → Type 0
-AreExactIn o log done s own = NothingFailed log → (c : Card) → IsOwnValid (card_image o.recording c) →
+AreExactIn o log done s own = (c : Card) → NoneFailedOn o log (told_so_far log done log s) c
+    → IsOwnValid (card_image o.recording c) →
     times_of (uses_in o c (notes_in log done))
     ++ opened_in c own (seen_next log done s).told ≡ times_of (uses_in o c (notes_now log done log s))
 
@@ -128,12 +149,7 @@ AreExactIn o log done s own = NothingFailed log → (c : Card) → IsOwnValid (c
 -- more.
 abbrev pub FindsMore : Origin → (began : RunLog) → List TraceSecond → TraceSecond → (log later : RunLog) → Card
     → (accepted : List ℕ) → Type 0
-FindsMore o began done s log later card more = NothingFailed later → (c : Card) → IsOwnValid (card_image o.recording c)
-    →
+FindsMore o began done s log later card more = (c : Card) → NoneFailedOn o log (told_so_far began done log s) c
+    → IsOwnValid (card_image o.recording c) →
     times_of (uses_in o c (notes_now began done later s)) ≡ times_of (uses_in o c (notes_now began done log s))
     ++ (if same_card c card then more else [])
-
--- a line that is told brings no acceptance
-abbrev pub FindsNone : Origin → (began : RunLog) → List TraceSecond → TraceSecond → (log later : RunLog) → Type 0
-FindsNone o began done s log later = NothingFailed later → (c : Card) → IsOwnValid (card_image o.recording c)
-    → uses_in o c (notes_now began done later s) ≡ uses_in o c (notes_now began done log s)
