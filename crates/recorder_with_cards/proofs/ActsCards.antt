@@ -39,7 +39,8 @@ use Rattle.run_acts.proofs.CardEnds.{IsLater, ends-shown, cut-short}
 use Rattle.run_acts.proofs.CardTurn.{lines-later}
 use Rattle.run_acts.proofs.CardSecond.{quiet-shown, quiet-action}
 use Rattle.run_acts.proofs.CardShown.{FindsStill}
-use Rattle.run_acts.proofs.CardUses.{FoundTo, still-found}
+use Rattle.run_acts.proofs.run_note_record.UsesSoFar.{FoundTo}
+use Rattle.run_acts.proofs.CardUses.{still-found}
 use Rattle.run_acts.proofs.CardStays.{shows-self}
 use Rattle.run_acts.proofs.CardActs.{quiet-goes}
 use Rattle.run_acts.specs.ByHand.{stop_by, stopped_in}

@@ -26,7 +26,6 @@ use Rattle.run_acts.proofs.run_course.Reached.{action-reached}
 use Rattle.run_acts.proofs.run_course.Moment.{reaches-of}
 use Rattle.run_acts.specs.run_course.Moments.{and_break, and_refused}
 use Rattle.run_acts.specs.run_course.Followed.{Progress}
-use Rattle.run_acts.proofs.run_course.Lookups.{break-more}
 use Rattle.run_outcome.specs.declared.outcome.Outcome.{Outcome}
 use Rattle.run_minutes.specs.run_promise.Origin.{Origin}
 use Rattle.run_minutes.specs.run_promise.Beside.{HaveLeftMore}
@@ -34,7 +33,6 @@ use Rattle.run_minutes.specs.Keeping.{with_lines}
 use Rattle.run_acts.specs.run_note_record.Evented.{number_in, Evented}
 use Rattle.run_acts.specs.run_note_record.Noting.{Acting, NotesThese}
 use Rattle.run_acts.specs.run_note_record.EventsSoFar.{EventedNow}
-use Rattle.run_acts.specs.run_note_record.Uses.{FindsNone}
 use Rattle.run_acts.proofs.run_note_record.Adding.{call-notes}
 use Rattle.run_acts.proofs.run_note_record.Passing.{refusal-adds, pull-adds}
 use Rattle.run_acts.specs.declared.run.Run.{Run}
@@ -45,9 +43,6 @@ use Rattle.run_acts.specs.Evented.{WithinEvented, CutEvented, InSecondEventedBy,
 use Rattle.run_acts.proofs.NotedEvents.{same-says}
 use Rattle.run_acts.proofs.FallEvented.{begins-now}
 use Rattle.run_acts.proofs.Asked.{pulls-one}
-use Rattle.run_acts.proofs.CardUses.{still-found}
-use Rattle.run_acts.proofs.NotesThen.{torn-same}
-use Rattle.run_acts.proofs.RingedSecond.{power-here}
 use Rattle.run_acts.specs.ByHand.{stopped_in}
 use Rattle.recorder_with_cards.proofs.ActsRecorded.{refuses, refused}
 use Rattle.recorder_with_cards.proofs.Staying.{StaysWatched}
@@ -156,17 +151,10 @@ pulled-evented d slot begun speed run out o done s now front rest are is allowed
     here : IsTearAt s (In (suc n)) slot false (Tear s.number slot false (suc n) false)
     here = (suc n, false, refl, refl, reached.0.is, λ late. absurd (let bad : false ≡ true = late in cc))
 
-    -- its line tells of no find
-    finds : FindsNone o p.log done s log (and_break log (Tear s.number slot false (suc n) false))
-    finds fine c valid =
-        still-found o p.log done s (power-here o done s (In n) [] None [] (values_of run out) d w.within) c log (and_break log (Tear s.number slot false (suc n) false)) front (Pull slot ∷ rest) are
-        (torn-same log s front slot false w.within.moment.up_to.uncut) (λ k x lt. w.within.moment.up_to.found (In k) x lt)
-        (λ k x lt. (break-more log (Tear s.number slot false (suc n) false) s.number).found (In k) x ∙ w.within.moment.up_to.found (In k) x lt)
-
     told : EventedNow o done s p Acting (and_break log (Tear s.number slot false (suc n) false)) d
     told = call-notes d d o done s p Acting Acting log (and_break log (Tear s.number slot false (suc n) false)) [] events
         (pull-adds d o done p w.within.b.span s (begins-now o w.origin done s (In n) (values_of run out) d w.within) n log reached.0 slot (Tear s.number slot false (suc n) false) here
-        (w.within.moment.up_to.torn (In (suc n)) slot (omega arith)) finds nobody (w.within.moment.up_to.found (In (suc n)) (other_slot slot) (omega arith))) (notes-none o d) (still-images o d)
+        (w.within.moment.up_to.torn (In (suc n)) slot (omega arith)) nobody (w.within.moment.up_to.found (In (suc n)) (other_slot slot) (omega arith))) (notes-none o d) (still-images o d)
 
     by : (card : Option Card) → card_in (seat_in run.keeper.cabin.slots.seats slot) ≡ card → (card_in (seat_in run.keeper.cabin.slots.seats slot) ≡ None → ⊥) →
         EventedNow o done s p Acting (log_of (record out { breaks = with_lines (pulled_breaks card slot (record { second = run.next; begun = begun; late = false })) out.breaks })) d

@@ -1,5 +1,5 @@
 -- A card is judged: each image that it may leave is made of one before.
-use Rattle.std.proofs.Common.{◌≡◌, ◌∙◌, ⊎_elim, ℕ, ◌≤◌, Bool, None, List, [], length, sym, ap, subst, arith}
+use Rattle.std.proofs.Common.{◌≡◌, ◌∙◌, ⊎_elim, ℕ, ◌<◌, ◌≤◌, ◌/◌, Bool, None, List, [], length, sym, ap, subst, arith}
 use Rattle.trace_model.specs.declared.Card.{Card}
 use Rattle.trace_model.specs.Trace.{TraceSecond}
 use Rattle.tach_media.specs.Medium.{State}
@@ -10,6 +10,7 @@ use Rattle.tach_media.specs.card_layout.declared.files.TheConstants.{LARGEST_IMA
 use Rattle.tach_media.specs.card_layout.Application.{IsApplication}
 use Rattle.tach_media.specs.card_layout.Files.{image_size_of}
 use Rattle.tach_media.proofs.card_layout.Sizes.{largest_image}
+use Rattle.unit_minutes.specs.unit_model.Image.{last_kept}
 use Rattle.device_calls.specs.card_image.Own.{own_sizes, IsOwnValid}
 use Rattle.device_calls.specs.device_rule.Views.{other}
 use Rattle.log_model.specs.Log.{In}
@@ -19,7 +20,7 @@ use Rattle.device_calls.specs.safety_model.Safe.{card_of}
 use Rattle.run_minutes.specs.run_promise.Found.{found_of}
 use Rattle.run_minutes.specs.run_promise.Origin.{Origin}
 use Rattle.run_minutes.specs.run_devices.Told.{arranged}
-use Rattle.run_minutes.specs.run_devices.Measured.{GoesMeasured, MakesOn}
+use Rattle.run_minutes.specs.run_devices.Measured.{GoesMeasured, MakesOn, Reading}
 use Rattle.run_minutes.proofs.run_devices.Measured.{goes-itself, makes-self}
 use Rattle.run_outcome.specs.declared.outcome.Outcome.{Outcome}
 use Rattle.run_minutes.specs.declared.keeper.Keeper.{Keeper}
@@ -32,12 +33,12 @@ use Rattle.run_acts.specs.Entered.{values_with, MayJudge, HasGone, AreSound}
 use Rattle.run_acts.specs.Recording.{IsOrigin}
 use Rattle.run_acts.specs.RunCards.{sizes_in}
 use Rattle.run_acts.proofs.CardStays.{valid-found}
-use Rattle.run_acts.proofs.EnteredFacts.{mine-back, each, card-run}
+use Rattle.run_acts.proofs.EnteredFacts.{mine-back, each, early-run}
 use Rattle.run_acts.proofs.EnteredWhole.{found-in}
 use Rattle.recorder_with_cards.proofs.EnteredPlaces.{coming-goes}
 
 -- whatever its odometer
-abbrev Any : ℕ → Type 0
+abbrev Any : Reading → Type 0
 Any n = Unit {0}
 
 module _ (o : Origin) (done : List TraceSecond) (s : TraceSecond) (n : ℕ) (waits fewer : List Visit) (e : Entering) (k : Keeper) (out : Outcome) (unfound next_ begun : ℕ) (minutes : Kept) (U X Z : State) (w : RecordInSecond o done s (In n) waits None [] (values_with k out unfound next_ begun minutes) (arranged e.which U X Z)) (m : MayJudge o done s n waits fewer e k out unfound next_ begun minutes U X Z w)
@@ -65,21 +66,21 @@ module _ (o : Origin) (done : List TraceSecond) (s : TraceSecond) (n : ℕ) (wai
     was : (x : List ℕ) × X.may_leave x × IsFoundIn e.at.second U.image way x
     was = found-in o done s n waits fewer e k out unfound next_ begun minutes U X Z w m failed k' noted noted' out' W Y way g sound
 
-    by-way : (v : Way) (u x y : List ℕ) → X.may_leave x → IsFoundIn e.at.second U.image v was.0 → AreComingOnCard v k.memory.registration e u x y → GoesMeasured (sizes_in o e.which) Any x y
-    by-way Unread u x y at found comes = absurd comes
-    by-way (Unsized field) u x y at found comes = absurd comes
-    by-way (Judged app ending) u x y at found comes =
+    by-way : (v : Way) (u x y : List ℕ) → last_kept u < e.at.second / 60 → X.may_leave x → IsFoundIn e.at.second U.image v was.0 → AreComingOnCard v k.memory.registration e u x y → GoesMeasured (sizes_in o e.which) Any x y
+    by-way Unread u x y early at found comes = absurd comes
+    by-way (Unsized field) u x y early at found comes = absurd comes
+    by-way (Judged app ending) u x y early at found comes =
         let same : app ≡ sizes_in o e.which = sym found.0 ∙ sizes-are was.0 was.1 in
-        coming-goes (sizes_in o e.which) good Any k.memory.registration named e tt u (card_notes_by ending k.memory.registration e) x y (all x at)
+        coming-goes (sizes_in o e.which) good Any k.memory.registration named e (λ m is. tt) u early (card_notes_by ending k.memory.registration e) x y (all x at)
         (subst (λ (a : Application). AreBeingDone (IsOnCard a k.memory.registration e u) (IsComingOnCard a k.memory.registration e u) (card_notes_by ending k.memory.registration e) x y) same comes)
 
     goes-to : (y : List ℕ) → Y.may_leave y → (x : List ℕ) × X.may_leave x × GoesMeasured (sizes_in o e.which) Any x y
     goes-to y left =
-        let run = card-run o done s n waits fewer e k out unfound next_ begun minutes U X Z w m failed k' noted noted' out' W Y way g sound in
+        let run = early-run o done s n waits fewer e k out unfound next_ begun minutes U X Z w m failed k' noted noted' out' W Y way g sound in
         ⊎_elim
         (λ before. (y, before, goes-itself (sizes_in o e.which) Any y))
-        (λ late. (late.2.0, late.2.1, by-way way run.0 late.2.0 y late.2.1 was.2 late.2.2))
-        (run.1.now y left)
+        (λ late. (late.2.0, late.2.1, by-way way run.0 late.2.0 y run.1 late.2.1 was.2 late.2.2))
+        (run.2.now y left)
 
     own-makes : MakesOn (sizes_in o e.which) X Y
     own-makes y left =

@@ -1,5 +1,5 @@
 -- A card is judged: the places of each card stay as they are, whatever becomes of it, and its vehicle entries are measured.
-use Rattle.std.proofs.Common.{◌≡◌, ◌≢◌, ◌∙◌, ◌⊎◌, inl, inr, ⊎_elim, ℕ, ◌+◌, ◌<◌, ◌≤◌, ◌^◌, Bool, true, false, cond, not, ◌&&◌, nat_lt, None, IfSome, List, [], ◌∷◌, ◌++◌, filter, length, take, drop, refl, sym, ap, subst, arith}
+use Rattle.std.proofs.Common.{◌≡◌, ◌≢◌, ◌∙◌, ◌⊎◌, inl, inr, ⊎_elim, ℕ, ◌+◌, ◌<◌, ◌≤◌, ◌/◌, ◌^◌, Bool, true, false, cond, not, ◌&&◌, nat_lt, None, IfSome, List, [], ◌∷◌, ◌++◌, filter, length, take, drop, refl, sym, ap, subst, arith}
 use Rattle.std.proofs.lemmas.List.{take-take, drop-take, take_at, length-take-le, length-append}
 use Rattle.tach_media.proofs.card_layout.Images.{part_before}
 use Rattle.activity_codec.specs.declared.values.Activity.TheVariants.{Rest}
@@ -44,14 +44,15 @@ use Rattle.device_calls.specs.safety_model.Recording.{card_image}
 use Rattle.run_minutes.specs.run_promise.Found.{found_of}
 use Rattle.run_minutes.specs.run_devices.Told.{arranged}
 use Rattle.run_minutes.proofs.run_devices.Parts.{told-one}
-use Rattle.run_minutes.specs.run_devices.Measured.{GoesMeasured}
+use Rattle.unit_minutes.specs.unit_model.Image.{last_kept}
+use Rattle.run_minutes.specs.run_devices.Measured.{Reading, reading_at, GoesMeasured}
 use Rattle.run_minutes.proofs.run_devices.Holders.{event-places, noted-places, card-places}
-use Rattle.run_minutes.proofs.run_devices.Measured.{goes-itself, goes-then, bytes-go, inserting-goes, owed-follows, event-days, event-vehicles, noted-days, noted-vehicles}
+use Rattle.run_minutes.proofs.run_devices.Measured.{goes-itself, goes-then, bytes-go, inserting-goes, owed-follows, owed-early, event-days, event-vehicles, noted-days, noted-vehicles}
 use Rattle.run_minutes.specs.run_devices.Sessions.{SessionGoes, IsNoneOr}
 use Rattle.run_minutes.proofs.run_devices.Sessions.{session-itself, session-then, session-more, inserting-session, inserted-session, event-session, noted-session}
 use Rattle.run_outcome.specs.declared.outcome.Outcome.{Outcome}
 use Rattle.run_minutes.specs.run_promise.Origin.{Origin}
-use Rattle.run_acts.specs.run_note_record.OnCards.{has_call_failed_in, HasSamePlaces, LeavesPlaces, PlacesStay, IsReading, GoesByReadings, VehiclesGo, SessionsGo, CardsGo}
+use Rattle.run_acts.specs.run_note_record.OnCards.{has_call_failed_in, HasSamePlaces, LeavesPlaces, PlacesStay, IsReading, IsReadingOf, GoesByReadings, VehiclesGo, SessionsGo, CardsGo}
 use Rattle.run_minutes.specs.declared.keeper.Keeper.{Keeper}
 use Rattle.run_insertion.specs.declared.lines.Entering.{Entering}
 use Rattle.run_insertion.specs.Entering.{Ending, Unfit, Ahead, Fell, Unasked, Unnoted, Seated, Lost, Way, Unread, Unsized, Judged, ending_of}
@@ -64,7 +65,7 @@ use Rattle.run_acts.specs.Recording.{IsOrigin, log_of}
 use Rattle.run_acts.specs.RunCards.{sizes_in}
 use Rattle.run_acts.proofs.CardPlaces.{file-ring}
 use Rattle.run_acts.proofs.CardStays.{valid-found}
-use Rattle.run_acts.proofs.EnteredFacts.{mine-back, each, card-run, card-tells, unit-told}
+use Rattle.run_acts.proofs.EnteredFacts.{mine-back, each, card-run, early-run, card-tells, unit-told}
 use Rattle.run_acts.proofs.EnteredWhole.{found-in}
 use Rattle.run_acts.specs.run_note_record.Sessions.{Opens}
 use Rattle.recorder_with_cards.specs.JudgedRings.{JudgesIn}
@@ -208,9 +209,9 @@ module _ (app : Application) where
 
 -- ---- and its vehicle entries
 
-module _ (app : Application) (good : IsApplication app) (Is : ℕ → Type 0) (registration : Registration) (named : length registration.0 ≡ 15) (e : Entering) (here : Is e.odometer.0) (unit : List ℕ) where
+module _ (app : Application) (good : IsApplication app) (Is : Reading → Type 0) (registration : Registration) (named : length registration.0 ≡ 15) (e : Entering) (here : (minute : ℕ) → minute < e.at.second / 60 → Is (reading_at minute e.odometer.0)) (unit : List ℕ) (early : last_kept unit < e.at.second / 60) where
   put-goes : (x z : List ℕ) → image_size_of app ≤ length x → IsCardInserting app registration e.odometer.0 (owed_on app unit x) e.at.second x z → GoesMeasured app Is x z
-  put-goes x z fits moment = inserting-goes app Is good registration named e.odometer.0 here (owed_on app unit x) (owed-follows app unit x) e.at.second x z fits moment
+  put-goes x z fits moment = inserting-goes app Is good registration named e.odometer.0 e.at.second here (owed_on app unit x) (owed-follows app unit x) (owed-early app unit x (e.at.second / 60) early) x z fits moment
 
   pub coming-goes : (notes : List CardNote) (x c : List ℕ) → image_size_of app ≤ length x → AreBeingDone (IsOnCard app registration e unit) (IsComingOnCard app registration e unit) notes x c → GoesMeasured app Is x c
   coming-goes [] x c fits h = absurd h
@@ -329,7 +330,7 @@ both-hold false f is = absurd (let wrong : false ≡ true = is in cc)
 
 module _ (o : Origin) (done : List TraceSecond) (s : TraceSecond) (n : ℕ) (waits fewer : List Visit) (e : Entering) (k : Keeper) (out : Outcome) (unfound next_ begun : ℕ) (minutes : Kept) (U X Z : State) (w : RecordInSecond o done s (In n) waits None [] (values_with k out unfound next_ begun minutes) (arranged e.which U X Z)) (m : MayJudge o done s n waits fewer e k out unfound next_ begun minutes U X Z w)
     (origin : IsOrigin o) (failed : Bool) (k' : Keeper) (noted noted' : ℕ) (out' : Outcome) (W Y : State) (way : Way) (g : HasGone e failed k k' noted noted' out out' U W X Y Z way) (sound : AreSound U W X Y) (fits : LARGEST_IMAGE ≤ X.size)
-    (spans : List SpanFrom) (reads : IsReading spans e.odometer.0) (second : e.at.second ≡ s.number) (small : s.number < 2 ^ 32) (opens : IsToldOpen (log_of out') s.number failed (found_in (log_of out') s.number (In n) e.slot) (ending_of way)) (works : IsSitting (ending_of way) → Y.works ≡ true) where
+    (spans : List SpanFrom) (reads : IsReading spans s.number e.odometer.0) (second : e.at.second ≡ s.number) (small : s.number < 2 ^ 32) (opens : IsToldOpen (log_of out') s.number failed (found_in (log_of out') s.number (In n) e.slot) (ending_of way)) (works : IsSitting (ending_of way) → Y.works ≡ true) where
   -- the session that it may tell
   abbrev May : Card → ℕ → Type 0
   May = JudgesIn failed (log_of out') (record { second = s.number; slot = e.slot; card = e.which }) (found_in (log_of out') s.number (In n) e.slot)
@@ -373,21 +374,35 @@ module _ (o : Origin) (done : List TraceSecond) (s : TraceSecond) (n : ℕ) (wai
         let run = card-run o done s n waits fewer e k out unfound next_ begun minutes U X Z w m failed k' noted noted' out' W Y way g sound in
         ⊎_elim (λ before. (y, before, refl)) (λ here. (here.2.0, here.2.1, by-way way run.0 here.2.0 y here.2.1 was.2 here.2.2)) (run.1.now y left)
 
-    by-way-goes : (v : Way) (u x y : List ℕ) → X.may_leave x → IsFoundIn e.at.second U.image v was.0 → AreComingOnCard v k.memory.registration e u x y → GoesByReadings spans (card_image o.recording e.which) x y
-    by-way-goes Unread u x y at found comes = absurd comes
-    by-way-goes (Unsized field) u x y at found comes = absurd comes
-    by-way-goes (Judged app ending) u x y at found comes =
+    -- its odometer is a reading of each minute that has ended, where it is called
+    reads-early : May e.which s.number → (minute : ℕ) → minute < e.at.second / 60 → IsReadingOf spans (May e.which) (reading_at minute e.odometer.0)
+    reads-early may minute early = inr (s.number, may, subst (λ (n : ℕ). minute < n / 60) second early, reads)
+
+    called : (a : Application) (u x y : List ℕ) (ending : Ending) → IsToldOpen (log_of out') s.number failed (found_in (log_of out') s.number (In n) e.slot) ending
+        → AreBeingDone (IsOnCard a k.memory.registration e u) (IsComingOnCard a k.memory.registration e u) (card_notes_by ending k.memory.registration e) x y → May e.which s.number
+    called a u x y (Unfit fid place) told comes = absurd comes
+    called a u x y (Ahead stored) told comes = absurd comes
+    called a u x y Fell told comes = (same-self e.which, inr (inr (inr refl, told)))
+    called a u x y Unasked told comes = absurd comes
+    called a u x y (Unnoted entered clock) told comes = (same-self e.which, inl (told.0, refl))
+    called a u x y (Seated entered clock entry) told comes = (same-self e.which, inl (told, refl))
+    called a u x y (Lost entered clock entry) told comes = (same-self e.which, inr (inr (inr refl, told.1)))
+
+    by-way-goes : (v : Way) → IsToldOpen (log_of out') s.number failed (found_in (log_of out') s.number (In n) e.slot) (ending_of v) → (u x y : List ℕ) → last_kept u < e.at.second / 60 → X.may_leave x → IsFoundIn e.at.second U.image v was.0 → AreComingOnCard v k.memory.registration e u x y → GoesByReadings spans (May e.which) (card_image o.recording e.which) x y
+    by-way-goes Unread told u x y early at found comes = absurd comes
+    by-way-goes (Unsized field) told u x y early at found comes = absurd comes
+    by-way-goes (Judged app ending) told u x y early at found comes =
         let same : app ≡ sizes_in o e.which = sym found.0 ∙ sizes-are was.0 was.1 in
-        coming-goes (sizes_in o e.which) good (IsReading spans) k.memory.registration named e reads u (card_notes_by ending k.memory.registration e) x y (all x at)
+        coming-goes (sizes_in o e.which) good (IsReadingOf spans (May e.which)) k.memory.registration named e (reads-early (called app u x y ending told comes)) u early (card_notes_by ending k.memory.registration e) x y (all x at)
         (subst (λ (a : Application). AreBeingDone (IsOnCard a k.memory.registration e u) (IsComingOnCard a k.memory.registration e u) (card_notes_by ending k.memory.registration e) x y) same comes)
 
-    own-goes : (y : List ℕ) → Y.may_leave y → (x : List ℕ) × X.may_leave x × GoesByReadings spans (card_image o.recording e.which) x y
+    own-goes : (y : List ℕ) → Y.may_leave y → (x : List ℕ) × X.may_leave x × GoesByReadings spans (May e.which) (card_image o.recording e.which) x y
     own-goes y left =
-        let run = card-run o done s n waits fewer e k out unfound next_ begun minutes U X Z w m failed k' noted noted' out' W Y way g sound in
+        let run = early-run o done s n waits fewer e k out unfound next_ begun minutes U X Z w m failed k' noted noted' out' W Y way g sound in
         ⊎_elim
-        (λ before. (y, before, goes-itself (sizes_in o e.which) (IsReading spans) y))
-        (λ late. (late.2.0, late.2.1, by-way-goes way run.0 late.2.0 y late.2.1 was.2 late.2.2))
-        (run.1.now y left)
+        (λ before. (y, before, goes-itself (sizes_in o e.which) (IsReadingOf spans (May e.which)) y))
+        (λ late. (late.2.0, late.2.1, by-way-goes way opens run.0 late.2.0 y run.1 late.2.1 was.2 late.2.2))
+        (run.2.now y left)
 
     -- that is accepted, of which no call failed: its image is that of the insertion, with what was noted on it
     done-on : is_cut (ending_of way) failed ≡ false → Y.works ≡ true → (z : List ℕ) → Y.may_leave z → (u : List ℕ) × (x : List ℕ) × X.may_leave x × IsFoundIn e.at.second U.image way x × AreOnCard way k.memory.registration e u x z
@@ -474,10 +489,10 @@ module _ (o : Origin) (done : List TraceSecond) (s : TraceSecond) (n : ℕ) (wai
   stays c valid =
       each e.which U W X Y Z (λ (q : Card) (a b : State). IsOwnValid (card_image o.recording q) → LeavesPlaces (card_image o.recording q) a b) (λ v. own v) (λ v y left. (y, left, refl)) c valid
 
-  goes : VehiclesGo o spans (arranged e.which U X Z) (arranged e.which W Y Z)
+  goes : VehiclesGo o spans May (arranged e.which U X Z) (arranged e.which W Y Z)
   goes c valid =
-      each e.which U W X Y Z (λ (q : Card) (a b : State). IsOwnValid (card_image o.recording q) → (y : List ℕ) → b.may_leave y → (x : List ℕ) × a.may_leave x × GoesByReadings spans (card_image o.recording q) x y)
-      (λ v. own-goes v) (λ v y left. (y, left, goes-itself (sizes_in o (other e.which)) (IsReading spans) y)) c valid
+      each e.which U W X Y Z (λ (q : Card) (a b : State). IsOwnValid (card_image o.recording q) → (y : List ℕ) → b.may_leave y → (x : List ℕ) × a.may_leave x × GoesByReadings spans (May q) (card_image o.recording q) x y)
+      (λ v. own-goes v) (λ v y left. (y, left, goes-itself (sizes_in o (other e.which)) (IsReadingOf spans (May (other e.which))) y)) c valid
 
   sessions : SessionsGo o May (arranged e.which U X Z) (arranged e.which W Y Z)
   sessions c valid =

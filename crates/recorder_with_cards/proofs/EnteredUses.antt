@@ -1,5 +1,6 @@
 -- The uses that are found as a card is judged: where it is accepted the one that it has by the notes so far, and none on the other card.
-use Rattle.std.proofs.Common.{◌≡◌, ◌∙◌, ◌⊎◌, ℕ, ◌<◌, Bool, true, false, cond, ◌&&◌, nat_eq, Option, None, List, [], ◌∷◌, ◌++◌, map, length, take, drop, refl, ap, sym, subst, arith, append-nil}
+use Rattle.std.proofs.Common.{◌≡◌, ◌∙◌, ◌⊎◌, inl, inr, ℕ, ◌<◌, Bool, true, false, cond, ◌&&◌, nat_eq, Option, None, List, [], ◌∷◌, ◌++◌, map, length, take, drop, refl, ap, sym, subst, arith, append-nil}
+use Rattle.std.specs.Prelude.{filter}
 use Rattle.std.proofs.lemmas.Bool.Decides.{nat_tests}
 use Rattle.std.proofs.lemmas.List.{take-append-drop, length-take-le}
 use Rattle.activity_codec.specs.declared.values.Slot.{Slot}
@@ -8,6 +9,7 @@ use Rattle.activity_codec.specs.Activity.{same_slot}
 use Rattle.trace_model.specs.declared.Card.{Card}
 use Rattle.trace_model.specs.Trace.{TraceSecond}
 use Rattle.tacho_types.specs.declared.texts.Registration.{Registration}
+use Rattle.tach_media.specs.Medium.{last_count}
 use Rattle.tach_media.specs.card_layout.Application.{place_of_field}
 use Rattle.tach_media.specs.card_layout.declared.files.Application.{Application}
 use Rattle.device_calls.specs.card_image.Fields.{current_use, session_time}
@@ -21,21 +23,24 @@ use Rattle.log_model.specs.declared.lines.Verdict.{Verdict}
 use Rattle.log_model.specs.declared.lines.Verdict.TheVariants as verdict
 use Rattle.log_model.specs.Log.{RunLog, Phase, In, same_phase, found_in, is_accepting}
 use Rattle.log_model.specs.Slots.{same_card}
-use Rattle.log_model.specs.Course.{Visit, has_power, went}
+use Rattle.log_model.specs.Causes.{tears, cards_torn, device_of}
+use Rattle.log_model.specs.Course.{Course, Visit, has_power, second_told, went}
 use Rattle.device_calls.specs.note_model.Noted.{Note}
 use Rattle.device_calls.specs.safety_model.Recording.{card_image}
-use Rattle.device_calls.specs.safety_model.Safe.{Devices, card_of}
+use Rattle.device_calls.specs.safety_model.Safe.{Devices, card_of, breakdowns_of}
 use Rattle.run_acts.specs.run_course.Moments.{and_break, and_find}
 use Rattle.run_acts.proofs.run_course.Lookups.{break-more, find-more}
-use Rattle.run_acts.specs.run_course.Reached.{IsTearAt, IsFindAt, moved_at}
+use Rattle.run_acts.specs.run_course.Reached.{IsTearAt, IsFindAt, moved_at, course_at}
 use Rattle.run_acts.specs.run_rings.Notes.{accepts_by}
 use Rattle.run_acts.specs.run_crew.Cards.{session_of}
 use Rattle.run_minutes.specs.run_promise.Origin.{Origin}
-use Rattle.run_minutes.specs.run_promise.Whole.{NothingFailed}
 use Rattle.run_minutes.specs.declared.keeper.Moment.{Moment}
 use Rattle.run_minutes.specs.Keeping.{tear_of}
-use Rattle.run_acts.specs.run_note_record.Uses.{uses_from, inserted, insertions_at, times_of, notes_now, vehicle_in, uses_in, use_now, FindsMore}
-use Rattle.run_acts.proofs.run_note_record.Uses.{times-append, card-is, card-turned}
+use Rattle.run_acts.specs.run_note_record.Uses.{uses_from, inserted, insertions_at, times_of, notes_now, vehicle_in, uses_in, use_now, told_so_far, NoneFailedOn, FindsMore}
+use Rattle.run_acts.proofs.run_note_record.Uses.{times-append, card-is, card-self, card-turned}
+use Rattle.run_acts.proofs.run_note_record.Brought.{lit-course}
+use Rattle.run_acts.proofs.run_note_record.Whole.{whole-told}
+use Rattle.run_acts.proofs.run_note_record.Exact.{torn-front, torn-last}
 use Rattle.run_insertion.specs.declared.lines.Entering.{Entering}
 use Rattle.run_insertion.specs.Entering.{Ending, Unfit, Ahead, Fell, Unasked, Unnoted, Seated, Lost, Way, Unread, Unsized, Judged, ending_of, find_of, APPLICATION_FILE}
 use Rattle.run_insertion.specs.Entered.{IsFound, IsFoundIn}
@@ -46,9 +51,10 @@ use Rattle.run_acts.specs.Closings.{notes_within}
 use Rattle.run_acts.specs.Recording.{IsOrigin}
 use Rattle.run_acts.specs.RunCards.{sizes_in}
 use Rattle.run_acts.specs.Truths.{truths_within, marked}
-use Rattle.run_acts.specs.Stays.{Whose, Both, covers, AreKnown, AllStay}
+use Rattle.run_acts.specs.Stays.{Whose, Both, Only, covers, AreKnown, AllStay}
 use Rattle.run_acts.proofs.CardStays.{valid-found}
-use Rattle.run_acts.proofs.CardUses.{FoundTo, others-found, mine-found}
+use Rattle.run_acts.proofs.run_note_record.UsesSoFar.{FoundTo}
+use Rattle.run_acts.proofs.CardUses.{others-found, mine-found}
 use Rattle.run_acts.proofs.EnteredStays.{tear-at}
 use Rattle.run_acts.proofs.NotesThen.{judged-notes, fallen-notes, lost-notes}
 use Rattle.run_acts.proofs.RingedSecond.{power-here}
@@ -133,9 +139,9 @@ module _ (o : Origin) (done : List TraceSecond) (s : TraceSecond) (n : ℕ) (wai
         (lost-notes o done s n waits fewer v d w slot card next b tear none order f here slot_is)
 
     -- as the session times tell it
-    pub find-more-found : (session : ℕ) → (NothingFailed v.log → IsOwnValid (card_image o.recording card) → is_accepting f.verdict ≡ true → (use_now o card noted_before).session.0 ≡ session) →
+    pub find-more-found : (session : ℕ) → (NoneFailedOn o v.log (told_so_far w.b.run.log done v.log s) card → IsOwnValid (card_image o.recording card) → is_accepting f.verdict ≡ true → (use_now o card noted_before).session.0 ≡ session) →
         FindsMore o w.b.run.log done s v.log (and_find v.log f) card (cond (is_accepting f.verdict) (session ∷ []) [])
-    find-more-found session is fine c valid = by (same_card c card) refl
+    find-more-found session is c fine valid = by (same_card c card) refl
       where
         more : List CurrentUse
         more = uses_from (vehicle_in o) (use_now o c noted_before) (insertions_at s.number slot c (f.verdict ∷ []))
@@ -144,7 +150,7 @@ module _ (o : Origin) (done : List TraceSecond) (s : TraceSecond) (n : ℕ) (wai
             times_of (uses_from (vehicle_in o) (use_now o c noted_before) (map (λ (x : Verdict). inserted s.number slot c) (cond a (f.verdict ∷ []) []))) ≡ cond a (session ∷ []) []
         told true accepts own =
             ap (λ (k : ℕ). k ∷ [])
-            (subst (λ (q : Card). IsOwnValid (card_image o.recording q) → (use_now o q noted_before).session.0 ≡ session) (sym (card-is c card own)) (λ good. is fine good accepts) valid)
+            (subst (λ (q : Card). NoneFailedOn o v.log (told_so_far w.b.run.log done v.log s) q → IsOwnValid (card_image o.recording q) → (use_now o q noted_before).session.0 ≡ session) (sym (card-is c card own)) (λ calm good. is calm good accepts) fine valid)
         told false accepts own = refl
 
         by : (b : Bool) → same_card c card ≡ b → times_of (uses_by (and_find v.log f) c) ≡ times_of (uses_by v.log c) ++ cond b (cond (is_accepting f.verdict) (session ∷ []) []) []
@@ -152,6 +158,23 @@ module _ (o : Origin) (done : List TraceSecond) (s : TraceSecond) (n : ℕ) (wai
         by true own =
             ap times_of (find-finds.own c (card-turned card c ∙ own)) ∙ times-append (uses_by v.log c) more
             ∙ ap (λ (l : List ℕ). times_of (uses_by v.log c) ++ l) (told (is_accepting f.verdict) refl own)
+
+  -- ---- where no call has failed on it, nor on the unit, its stays are known
+  untorn : filter (same_card card) (cards_torn (told_so_far w.b.run.log done v.log s)) ≡ [] → breakdowns_of d (device_of card) ≡ o.breakdowns (device_of card)
+  untorn none_torn =
+      let course : (second_told v.log (went w.b.run.log done).before s).course.torn ≡ (course_at v.log (went w.b.run.log done).before s (In n)).torn =
+      ap (λ (k : Course). k.torn) (lit-course v.log (went w.b.run.log done).before s power) ∙ (whole-told v.log (went w.b.run.log done).before s (In n) w.moment.up_to w.moment.is).torn in
+      let now : filter (same_card card) (map (λ (x : Visit). x.card) (course_at v.log (went w.b.run.log done).before s (In n)).torn) ≡ [] =
+      ap (λ (vs : List Visit). filter (same_card card) (map (λ (x : Visit). x.card) vs)) (sym course) ∙ torn-last card (went w.b.run.log done).told (second_told v.log (went w.b.run.log done).before s) none_torn in
+      let before : filter (same_card card) (cards_torn (went w.b.run.log done).told) ≡ [] = torn-front card (went w.b.run.log done).told (second_told v.log (went w.b.run.log done).before s ∷ []) none_torn in
+      w.moment.calm_cards card (ap (λ (cs : List Card). length cs) now) ∙ w.began.caused.caused.calm_cards card (ap (λ (cs : List Card). length cs) before)
+
+  pub known-by : NoneFailedOn o v.log (told_so_far w.b.run.log done v.log s) card → (whose : Whose) × AreKnown whose o v.log d × (covers whose card ≡ true)
+  known-by fine = by fine.1
+    where
+      by : (tears true v.log ≡ []) ⊎ ((filter (same_card card) (cards_torn (told_so_far w.b.run.log done v.log s)) ≡ []) × (o.breakdowns (device_of card) < last_count)) → (whose : Whose) × AreKnown whose o v.log d × (covers whose card ≡ true)
+      by (inl none_at_all) = (Both, (fine.0, none_at_all), refl)
+      by (inr own) = (Only card, record { uncut = fine.0; low = own.1; stands = untorn own.0 }, card-self card)
 
   -- ---- the use that it has now, where its stays are known
   module _ (origin : IsOrigin o) (vehicle : Registration) (stay : AllStay o (marked v.marks (truths_within o w.b.run.log done s)) s.number v.log noted_before vehicle v.cabin d) (bare : session_of v.cabin.cards card ≡ None) where
@@ -213,7 +236,8 @@ module _ (o : Origin) (done : List TraceSecond) (s : TraceSecond) (n : ℕ) (wai
     accepted a sizes replayed look is =
         find-more-found o done s n waits fewer v d w e.slot e.which next none order (find_of e (verdict.Accepted replayed)) (found-at (verdict.Accepted replayed)) refl look.session
         (λ fine valid accepts.
-        ap (λ (held : CurrentUse). held.session.0) (sym (use-is o done s n waits fewer v d w e.slot e.which next none order origin vehicle stay bare Both refl fine valid y at))
+        let known = known-by o done s n waits fewer v d w e.slot e.which next none order fine in
+        ap (λ (held : CurrentUse). held.session.0) (sym (use-is o done s n waits fewer v d w e.slot e.which next none order origin vehicle stay bare known.0 known.2 known.1 valid y at))
         ∙ ap (λ (b : Application). session_time b y) sizes ∙ sym is.session)
 
     ending-found : (a : Application) → own_sizes y ≡ a → (u : ℕ) (unit : Option (List ℕ)) (ending : Ending) → IsFound a u unit ending y → AreFound ending o w.b.run.log done s v.log e

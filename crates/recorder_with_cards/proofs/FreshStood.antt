@@ -19,6 +19,7 @@ use Rattle.device_calls.proofs.card_string.MadeSince.{since_same}
 use Rattle.run_outcome.specs.declared.outcome.Outcome.{Outcome}
 use Rattle.run_acts.specs.run_crew.Cabin.{CabinIsSound}
 use Rattle.run_acts.specs.run_crew.Cards.{session_of}
+use Rattle.run_acts.specs.run_note_record.Moved.{IsPutIn, moves_in}
 use Rattle.run_acts.specs.run_note_record.OnCards.{GoesByReadings}
 use Rattle.run_acts.specs.run_note_record.Ringed.{notes_in}
 use Rattle.run_acts.specs.declared.run.Run.{Run}
@@ -131,7 +132,7 @@ module _ (o : Origin) (done : List TraceSecond) (run : Run) (out : Outcome) (d :
 
     points : (x : List ℕ) → (card_of d c).may_leave x → PointsInside (vehicle_ring (own_sizes (card_image r c))) x
     points x there =
-        let goes : GoesByReadings h.spans (card_image r c) (card_image r c) x = subst (λ (i : List ℕ). GoesByReadings h.spans i i x) (sym (images c)) (h.ringed.ringed.vehicles c valid x there) in
+        let goes : GoesByReadings h.spans (IsPutIn (moves_in (log_of out) done) c) (card_image r c) (card_image r c) x = subst (λ (i : List ℕ). GoesByReadings h.spans (IsPutIn (moves_in (log_of out) done) c) i i x) (sym (images c)) (h.ringed.ringed.vehicles c valid x there) in
         (goes (own-vehicles (card_image r c) (subst IsOwnValid (sym (images c)) valid))).0
 
     -- each image has the same days and vehicle entries

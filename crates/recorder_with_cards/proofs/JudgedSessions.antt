@@ -1,6 +1,5 @@
 -- Which session a card that is judged may tell, by what the rings note of it.
 use Rattle.std.proofs.Common.{◌≡◌, ◌⊎◌, inl, inr, ⊎_elim, ℕ, Bool, true, List, [], Contains, filter}
-use Rattle.trace_model.specs.declared.Card.{Card}
 use Rattle.log_model.specs.declared.lines.Verdict.{Verdict}
 use Rattle.log_model.specs.Log.{RunLog, is_accepting}
 use Rattle.device_calls.specs.note_model.Odometer.{SpanFrom}

@@ -96,4 +96,5 @@ pub mod Time
 pub mod Turns
 pub mod TurnRows
 pub mod Writes
+pub mod PowerOns
 pub mod NewestGrows

@@ -1,5 +1,5 @@
 -- The last second turns out to be a cut's, as an `off` line says: it has noted the same, all odometers are the same, and all readings of them.
-use Rattle.std.proofs.Common.{◌≡◌, ◌∙◌, ℕ, ◌+◌, ◌-◌, ◌/◌, ◌<◌, min, Bool, true, false, cond, not, ◌&&◌, ◌||◌, nat_eq, Option, Some, None, is_some, List, [], ◌∷◌, ◌++◌, All, Contains, length, map, filter, sum, refl, ap, sym, subst, arith, append-nil, length-append}
+use Rattle.std.proofs.Common.{◌≡◌, ◌∙◌, inl, inr, ⊎_elim, ℕ, ◌+◌, ◌-◌, ◌/◌, ◌<◌, min, Bool, true, false, cond, not, ◌&&◌, ◌||◌, nat_eq, Option, Some, None, is_some, List, [], ◌∷◌, ◌++◌, All, Contains, length, map, filter, sum, refl, ap, sym, subst, arith, append-nil, length-append}
 use Rattle.std.specs.Prelude.{nat_lt, sum_by}
 use Rattle.std.specs.List.{list_any}
 use Rattle.std.proofs.lemmas.Bool.Decides.{nat_tests}
@@ -41,7 +41,7 @@ use Rattle.run_acts.proofs.run_rings.Notes.{later-lines, second-noted}
 use Rattle.run_acts.proofs.run_rings.Same.{rings-left}
 use Rattle.run_minutes.specs.run_promise.Origin.{Origin}
 use Rattle.run_acts.specs.run_note_record.Ringed.{Seating, Ringed, notes_in, noted_next, since_behind}
-use Rattle.run_acts.specs.run_note_record.OnCards.{IsReading}
+use Rattle.run_acts.specs.run_note_record.OnCards.{EndBefore, BeginWith, IsReading}
 use Rattle.run_acts.specs.run_note_record.RingsSoFar.{AreEarlier, RingedBehind, AreFewer}
 use Rattle.run_acts.proofs.run_note_record.Noted.{second-notes}
 use Rattle.run_acts.specs.run_note_record.Moved.{Move, moves_in, moves_so_far}
@@ -94,13 +94,13 @@ cut-odometer (s ∷ []) u =
 cut-odometer (s ∷ next ∷ spans) u = ap (λ (n : ℕ). cond (has_second u s) (odometer_before u s) n) (cut-odometer (next ∷ spans) u)
 
 -- the same readings
-cut-front : (front behind : List ToldSecond) → (x : List ToldSecond) × (y : List ToldSecond) × (cut_last (front ++ behind) ≡ x ++ y) × (seconds_in x ≡ seconds_in front)
-cut-front [] behind = ([], cut_last behind, refl, refl)
-cut-front (t ∷ []) [] = (cut_last (t ∷ []), [], sym (append-nil (cut_last (t ∷ []))), cut-seconds (t ∷ []))
-cut-front (t ∷ []) (u ∷ behind) = (t ∷ [], cut_last (u ∷ behind), refl, refl)
+cut-front : (front behind : List ToldSecond) → (x : List ToldSecond) × (y : List ToldSecond) × (cut_last (front ++ behind) ≡ x ++ y) × (seconds_in x ≡ seconds_in front) × (seconds_in y ≡ seconds_in behind)
+cut-front [] behind = ([], cut_last behind, refl, refl, cut-seconds behind)
+cut-front (t ∷ []) [] = (cut_last (t ∷ []), [], sym (append-nil (cut_last (t ∷ []))), cut-seconds (t ∷ []), refl)
+cut-front (t ∷ []) (u ∷ behind) = (t ∷ [], cut_last (u ∷ behind), refl, refl, cut-seconds (u ∷ behind))
 cut-front (t ∷ u ∷ front) behind =
     let rest = cut-front (u ∷ front) behind in
-    (t ∷ rest.0, rest.1, ap (λ (l : List ToldSecond). t ∷ l) rest.2, ap (λ (l : List Second). t.second ∷ l) rest.3)
+    (t ∷ rest.0, rest.1, ap (λ (l : List ToldSecond). t ∷ l) rest.2, ap (λ (l : List Second). t.second ∷ l) rest.3, rest.4)
 
 abbrev cut_one : SpanFrom → SpanFrom
 cut_one s = record { base = s.base; span = cut_last s.span }
@@ -115,10 +115,10 @@ off-earlier [] s next later = refl
 off-earlier (x ∷ []) s next later = refl
 off-earlier (x ∷ y ∷ earlier) s next later = ap (λ (l : List SpanFrom). x ∷ l) (off-earlier (y ∷ earlier) s next later)
 
-reads-cut : (spans : List SpanFrom) (n : ℕ) → IsReading spans n → IsReading (cut_off spans) n
-reads-cut spans n r = by r.later refl
+reads-cut : (spans : List SpanFrom) (u n : ℕ) → IsReading spans u n → IsReading (cut_off spans) u n
+reads-cut spans u n r = by r.later refl
   where
-    by : (later : List SpanFrom) → r.later ≡ later → IsReading (cut_off spans) n
+    by : (later : List SpanFrom) → r.later ≡ later → IsReading (cut_off spans) u n
     by [] is =
         let cuts = cut-front r.front r.behind in
         record {
@@ -130,6 +130,7 @@ reads-cut spans n r = by r.later refl
           behind = cuts.1;
           parts = ap cut_last r.parts ∙ cuts.2;
           is = r.is ∙ ap (λ (l : List Second). odometer_by r.s.base (sum_by (λ (x : Second). x.speed) l)) (sym cuts.3);
+          when = ⊎_elim (λ at. inl (subst (EndBefore u) (sym cuts.3) at)) (λ at. inr (subst (BeginWith u) (sym cuts.4) at)) r.when;
         }
     by (next ∷ later) is = record {
       earlier = r.earlier;
@@ -140,6 +141,7 @@ reads-cut spans n r = by r.later refl
       behind = r.behind;
       parts = r.parts;
       is = r.is;
+      when = r.when;
     }
 
 -- ---- the notes

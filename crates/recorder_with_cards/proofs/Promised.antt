@@ -112,7 +112,7 @@ use Rattle.recorder_with_cards.proofs.Written.{are-written, keep-holders, keep-v
 use Rattle.recorder_with_cards.specs.Placed.{ShowsPlaces}
 use Rattle.recorder_with_cards.specs.Measured.{MeasuresVehicles}
 use Rattle.recorder_with_cards.specs.Sessions.{TellsSession}
-use Rattle.run_acts.specs.run_note_record.Moved.{moves_in}
+use Rattle.run_acts.specs.run_note_record.Moved.{IsPutIn, moves_in}
 use Rattle.run_acts.specs.run_note_record.Sessions.{MayTell, session_told}
 use Rattle.recorder_with_cards.proofs.KeptAfter.{end-kept}
 use Rattle.recorder_with_cards.specs.LastKept.{TellsLast}
@@ -426,14 +426,14 @@ module _ (x a b : List ℕ) (start : ℕ) (items : List Item) (began now : Devic
       shows : ShowTheSide r began now
       shows y left =
           side-shown r began now y may.decodes
-          (events-shown began now o (seconds_of start items) (log_of out) run.unfound run.next h.evented.recorded.supply h.evented.evented r refl images refl refl clocks y left)
+          (events-shown began now o (seconds_of start items) (log_of out) run.unfound run.next h.evented.recorded.supply h.evented.evented r refl images refl refl clocks (λ c. refl) y left)
           h.spans (record { spans_are = h.ringed.spans_are; bases = stores.0 }) (stores.1 y left)
           (rings-shown began now (since_behind o (log_of out) (seconds_of start items)) (log_of out) h.spans (notes_in (log_of out) (seconds_of start items)) (seats_of run) h.ringed.ringed r refl images refl refl refl refl clocks y left)
 
       -- of a card, the pointer of its vehicle entries is an index where it was valid
       measures-vehicles : (c : Card) → IsOwnValid (card_image r c) → (y : List ℕ) → (card_of now c).may_leave y → MeasuresVehicles r h.spans c y
       measures-vehicles c valid y left =
-          let goes : GoesByReadings h.spans (card_image r c) (card_image r c) y = subst (λ (i : List ℕ). GoesByReadings h.spans i i y) (sym (images c)) (h.ringed.ringed.vehicles c (subst IsOwnValid (images c) valid) y left) in
+          let goes : GoesByReadings h.spans (IsPutIn (moves_in (log_of out) (seconds_of start items)) c) (card_image r c) (card_image r c) y = subst (λ (i : List ℕ). GoesByReadings h.spans (IsPutIn (moves_in (log_of out) (seconds_of start items)) c) i i y) (sym (images c)) (h.ringed.ringed.vehicles c (subst IsOwnValid (images c) valid) y left) in
           (goes (own-vehicles (card_image r c) valid)).1
 
       -- it tells of the session that is carried with the rings

@@ -1,10 +1,11 @@
--- Worked rows: how many turns and writes ten quiet minutes take, some with a cut, a quiet day, and a day with a cut.
+-- Worked rows: how many power-ons, turns and writes ten quiet minutes take, some with a cut, a quiet day, and a day with
+-- a cut.
 use Rattle.std.proofs.Common.{◌≡◌, ℕ, ◌+◌, ◌<◌, [], ◌∷◌, refl, arith}
 use Rattle.activity_codec.specs.declared.values.Slot.TheVariants.{Driver}
 use Rattle.activity_codec.specs.declared.values.Pick.TheVariants.{Work}
 use Rattle.trace_model.specs.declared.Action.TheVariants.{Select}
 use Rattle.trace_model.specs.declared.Item.TheVariants.{Run as Driven, Off, Act}
-use Rattle.recorder_with_cards.specs.Writes.{turns_of, unit_writes, card_writes}
+use Rattle.recorder_with_cards.specs.Writes.{power_ons, turns_of, unit_writes, card_writes}
 use Rattle.recorder_with_cards.proofs.Turns.{opened, line-turns}
 
 -- from 06:00 on, ten minutes: two turns each, in the first second and in the next
@@ -22,13 +23,27 @@ with_a_cut : turns_of 1267423230 (Driven 90 50 ∷ Off 300 ∷ Act (Select Drive
 unfolding turns_of
 with_a_cut = refl
 
--- so many writes at most: eight turns, and the action
-on_the_unit : unit_writes 1267423230 (Driven 90 50 ∷ Off 300 ∷ Act (Select Driver Work) ∷ Driven 90 0 ∷ []) ≡ 1598
-unfolding turns_of
+-- two power-ons, at its begin and behind the `off` line; and one more for each cut that a failed call made, but no more
+-- than turns
+two_power_ons : power_ons 1267423230 (Driven 90 50 ∷ Off 300 ∷ Act (Select Driver Work) ∷ Driven 90 0 ∷ []) 0 ≡ 2
+unfolding power_ons turns_of
+two_power_ons = refl
+
+one_failed : power_ons 1267423230 (Driven 90 50 ∷ Off 300 ∷ Act (Select Driver Work) ∷ Driven 90 0 ∷ []) 1 ≡ 3
+unfolding power_ons turns_of
+one_failed = refl
+
+many_failed : power_ons 1267423230 (Driven 90 50 ∷ Off 300 ∷ Act (Select Driver Work) ∷ Driven 90 0 ∷ []) 100 ≡ 8
+unfolding power_ons turns_of
+many_failed = refl
+
+-- so many writes at most: two power-ons, eight turns, and the action
+on_the_unit : unit_writes 1267423230 (Driven 90 50 ∷ Off 300 ∷ Act (Select Driver Work) ∷ Driven 90 0 ∷ []) 0 ≡ 1034
+unfolding power_ons turns_of
 on_the_unit = refl
 
-on_a_card : card_writes 1267423230 (Driven 90 50 ∷ Off 300 ∷ Act (Select Driver Work) ∷ Driven 90 0 ∷ []) ≡ 20934
-unfolding turns_of
+on_a_card : card_writes 1267423230 (Driven 90 50 ∷ Off 300 ∷ Act (Select Driver Work) ∷ Driven 90 0 ∷ []) 0 ≡ 8022
+unfolding power_ons turns_of
 on_a_card = refl
 
 -- a line of one second has one turn
@@ -47,6 +62,17 @@ quiet_day : turns_of 1267401600 (Driven 86400 0 ∷ []) ≡ 2880
 unfolding opened
 quiet_day = omega (arith, one-line 1267401600 86400 0 (omega arith))
 
+-- it has one power-on, where no failed call cuts the power; and so it begins so many writes at most
+quiet_power_ons : power_ons 1267401600 (Driven 86400 0 ∷ []) 0 ≡ 1
+unfolding power_ons
+quiet_power_ons = let turns = quiet_day in omega (arith, turns)
+
+quiet_unit : unit_writes 1267401600 (Driven 86400 0 ∷ []) 0 ≡ 267934
+quiet_unit = let turns = quiet_day in let on = quiet_power_ons in omega (arith, turns, on)
+
+quiet_card : card_writes 1267401600 (Driven 86400 0 ∷ []) 0 ≡ 848872
+quiet_card = let turns = quiet_day in let on = quiet_power_ons in omega (arith, turns, on)
+
 two-lines : (start n dark m first last : ℕ) → 1 < n → 1 < m → turns_of start (Driven n first ∷ Off dark ∷ Driven m last ∷ []) + (opened (start + 2) + opened (start + n + dark + 2)) ≡ 4 + (opened (start + n) + opened (start + n + dark + m))
 unfolding turns_of
 two-lines start n dark m first last long later = omega (arith, line-turns n start first long, line-turns m (start + n + dark) last later)
@@ -55,3 +81,8 @@ two-lines start n dark m first last long later = omega (arith, line-turns n star
 day_with_a_cut : turns_of 1267401600 (Driven 28830 50 ∷ Off 3600 ∷ Driven 53970 0 ∷ []) ≡ 2762
 unfolding opened
 day_with_a_cut = omega (arith, two-lines 1267401600 28830 3600 53970 50 0 (omega arith) (omega arith))
+
+-- and two power-ons
+power_ons_with_a_cut : power_ons 1267401600 (Driven 28830 50 ∷ Off 3600 ∷ Driven 53970 0 ∷ []) 0 ≡ 2
+unfolding power_ons
+power_ons_with_a_cut = let turns = day_with_a_cut in omega (arith, turns)

@@ -48,7 +48,7 @@ use Rattle.run_minutes.specs.run_promise.Origin.{Origin, rule_of, start_at, firs
 use Rattle.run_acts.specs.run_rings.Spans.{with_second}
 use Rattle.run_acts.specs.run_rings.Same.{LeavesRings}
 use Rattle.run_acts.proofs.run_rings.Same.{behind-same, rings-left, rings-moments}
-use Rattle.run_acts.specs.run_note_record.OnCards.{has_call_failed_in, PlacesStay, IsReading, VehiclesGo, SessionsGo, NoOtherComes, CardsGo, CardsStay}
+use Rattle.run_acts.specs.run_note_record.OnCards.{has_call_failed_in, PlacesStay, IsReadingOf, VehiclesGo, SessionsGo, NoOtherComes, CardsGo, CardsStay}
 use Rattle.run_acts.specs.run_note_record.Moved.{goes_in, moves_to}
 use Rattle.run_acts.specs.run_note_record.Sessions.{OpensIn, Opens}
 use Rattle.run_acts.proofs.run_note_record.Moved.{woken-moves}
@@ -91,9 +91,9 @@ cards-beside o spans U W X Y = record { places = places; vehicles = vehicles; se
     places A valid y left = (y, left, refl)
     places B valid y left = (y, left, refl)
 
-    vehicles : VehiclesGo o spans (devices U X Y) (devices W X Y)
-    vehicles A valid y left = (y, left, goes-itself (own_sizes (card_image o.recording A)) (IsReading spans) y)
-    vehicles B valid y left = (y, left, goes-itself (own_sizes (card_image o.recording B)) (IsReading spans) y)
+    vehicles : VehiclesGo o spans NoOtherComes (devices U X Y) (devices W X Y)
+    vehicles A valid y left = (y, left, goes-itself (own_sizes (card_image o.recording A)) (IsReadingOf spans (NoOtherComes A)) y)
+    vehicles B valid y left = (y, left, goes-itself (own_sizes (card_image o.recording B)) (IsReadingOf spans (NoOtherComes B)) y)
 
     sessions : SessionsGo o NoOtherComes (devices U X Y) (devices W X Y)
     sessions A valid y left = (y, left, inl refl)

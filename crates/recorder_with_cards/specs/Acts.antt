@@ -3,13 +3,14 @@ use Rattle.std.specs.Prelude.{ℕ, ◌*◌, ◌+◌, ◌≡◌, ◌≤◌, Bool,
 use Rattle.std.specs.Prelude.{length, true, Some, ◌<◌, IfSome}
 use Rattle.activity_codec.specs.declared.values.Slot.{Slot}
 use Rattle.run_minutes.specs.card_slots.Calls.{card_in, seat_in, is_card}
+use Rattle.log_model.specs.Causes.{cuts}
 use Rattle.log_model.specs.Slots.{other_slot}
 use Rattle.log_model.specs.declared.lines.Break.{Break}
 use Rattle.run_acts.specs.ByHand.{stopped_in}
 use Rattle.run_acts.specs.Evented.{EventsAction}
 use Rattle.run_acts.specs.Going.{IsFoundLater, largest_number, end_of_seconds}
 use Rattle.run_acts.specs.Power.{has_power, is_lit}
-use Rattle.run_acts.specs.Recording.{RecordsAction}
+use Rattle.run_acts.specs.Recording.{RecordsAction, log_of}
 use Rattle.run_acts.specs.Room.{bare_count, bare_seats, HasRoom, falls_of}
 use Rattle.run_acts.specs.RunCards.{CardsAction}
 use Rattle.run_acts.specs.Stood.{StandsAction}
@@ -49,7 +50,7 @@ use Rattle.recorder_with_cards.specs.Recorded.{actions_in}
 use Rattle.recorder_with_cards.specs.Waking.{IsAwake}
 use Rattle.recorder_with_cards.specs.Woken.{EventsResuming, EventsWaking, ResumesSo, RingsResuming, RingsWaking}
 use Rattle.recorder_with_cards.specs.Woken.{WakesSo}
-use Rattle.recorder_with_cards.specs.Writes.{WritesFor, WritesIn}
+use Rattle.recorder_with_cards.specs.Writes.{WritesFor, WritesIn, WritesBetween, powered, powered_by}
 use Rattle.unit_minutes.specs.declared.notes.Notes.{Notes}
 use Rattle.minute_rules.specs.minute_model.declared.Rule.{Rule}
 use Rattle.run_opening.specs.Units.{IsLoaded}
@@ -332,13 +333,14 @@ pub record CardGoes (on_unit on_card : ℕ) (before after : List Break) (U V x y
   pub calm : IsCalm before after x y
   pub most : (V.clock ≤ U.clock + on_unit) × (y.clock ≤ x.clock + on_card)
 
--- ALL GOES ON over an item of the trace: no clock and no count of a device falls, none breaks down but in a call that
--- failed, the unit breaks down where the power is lost, and so many writes at most were begun
-pub record ItemGoes (turns actions : ℕ) (before after : List Break) (d e : Devices) : Type 0 where
+-- ALL GOES ON over so many turns, actions and `off` lines: no clock and no count of a device falls, none breaks down
+-- but in a call that failed, the unit breaks down where the power is lost, and so many writes at most were begun
+pub record ItemGoes (result : Result (Unit {0}) RunFault) (turns actions off_lines : ℕ) (old new : Run)
+    (before after : Outcome) (d e : Devices) : Type 0 where
   pub later : AreAfter d e
-  pub calm : AreCalm before after d e
-  pub broke : BreaksDown before after d.unit e.unit
-  pub most : WritesFor turns actions d e
+  pub calm : AreCalm before.breaks.items after.breaks.items d e
+  pub broke : BreaksDown before.breaks.items after.breaks.items d.unit e.unit
+  pub most : WritesBetween turns actions (powered old before) (off_lines + powered_by result new after) d e
 
 -- What a run promises goes on with these actions, in a second with power
 pub record PromisesWithPower (has_power : Bool) (actions : List Action) (begun speed : ℕ) (old new : Run)
@@ -426,8 +428,8 @@ pub record AreAmong (items : List Item) (from to : ℕ) : Type 0 where
   pub first : from ≤ to
   pub last : to ≤ length items
 
--- A RUN GOES ON: no clock and no count of a device falls; and so many writes it begins at most, by its turns and its
--- actions, whatever fails
-pub record RunGoes (start : ℕ) (items : List Item) (d e : Devices) : Type 0 where
+-- A RUN GOES ON: no clock and no count of a device falls; and so many writes it begins at most, by its power-ons, its
+-- turns and its actions, whatever fails
+pub record RunGoes (start : ℕ) (items : List Item) (after : Outcome) (d e : Devices) : Type 0 where
   pub later : AreAfter d e
-  pub most : WritesIn start items d e
+  pub most : WritesIn start items (length (cuts true (log_of after))) d e

@@ -48,8 +48,8 @@ AreSeatedWith card index seats now = (c : Card)
     → ((same_card card c ≡ false) × (now c ≡ option_map one_behind (seats c)))
     ⊎ ((same_card card c ≡ true) × (now c ≡ Some (record { index = index; behind = 0 })))
 
--- WHICH SESSION A CARD MAY TELL that is judged, and no other card: one of this second, where it is accepted; none, where
--- the unit failed; and either, where a call failed in it
+-- WHICH SESSION A CARD MAY TELL that is judged, and no other card: one of this second, where it is accepted; none,
+-- where the unit failed; and either, where a call failed in it. Of its vehicle entries it is the second of a reading
 abbrev pub JudgesIn : (failed : Bool) → RunLog → Acceptance → (verdicts : List Verdict) → Card → ℕ → Type 0
 JudgesIn failed log a verdicts c t = (same_card a.card c ≡ true)
     × (((filter is_accepting verdicts ≢ []) × (t ≡ a.second))
@@ -121,10 +121,10 @@ pub record IsJudgedInRings (failed : Bool) (o : Since) (s : TraceSecond) (n : �
   pub odometer : new.keeper.odometer ≡ old.keeper.odometer
   pub counted : new.noted ≤ length (log_of after).finds
 
--- THE ODOMETER OF A SECOND, before that is fed: that of these spans, and one that stood in them
+-- THE ODOMETER OF A SECOND, before that is fed: that of these spans, and it stood so in one of them
 pub record IsOdometerOf (spans : List SpanFrom) (second odometer : ℕ) : Type 0 where
   pub at : odometer ≡ odometer_at second spans
-  pub reads : IsReading spans odometer
+  pub reads : IsReading spans second odometer
 
 -- ACCEPT, where the odometer of its insertion is that of these spans
 abbrev pub RingsEntering : Slot → Card → Moment → (odometer : ℕ) → (failed : Bool) → (old new : Run)

@@ -27,8 +27,8 @@ pub record ShowsSide (r : Recording) (began now : Devices) (x : List ℕ) : Type
   pub places : RingShows unit_place_ring (is_sure_place r.log spans (holder_of r)) (IsPlace r.log spans (holder_of r))
       (places_of (notes_in r)) r.unit x
   -- Events and faults, by the session times that were found open on the cards: the first of each card is that of its
-  -- image at the start, and where no call failed each is that of the use which the insertion before has left: its
-  -- second, if the card was not withdrawn, and none if it was.
+  -- image at the start, and of a card on which no call failed, nor on the unit, each is that of the use which the
+  -- insertion before has left: its second, if the card was not withdrawn, and none if it was.
   pub events : ShowsEventsOf r began now x
 
 -- SO DOES EACH IMAGE of the unit that a stop may leave.

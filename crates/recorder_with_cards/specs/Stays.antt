@@ -1,20 +1,20 @@
 -- What a run leaves on a card on which no call failed, where none on the unit did (profile): exactly what its stays in
 -- the slots make of it, one for each acceptance that the log tells, withdrawn where the run notes that, and nowhere
 -- else. And that what stood on a card before the first call that failed on it, or on the unit, stands.
-use Rattle.std.specs.Prelude.{◌≡◌, ◌⊎◌, ◌<◌, true, List, [], All}
+use Rattle.std.specs.Prelude.{List, All}
 use Rattle.std.specs.List.{AllByRecursion}
 use Rattle.activity_codec.specs.declared.entries.Entry.{Entry}
 use Rattle.trace_model.specs.declared.Card.{Card}
 use Rattle.trace_model.specs.declared.Card.TheVariants.{A, B}
-use Rattle.tach_media.specs.Medium.{last_count}
 use Rattle.log_model.specs.declared.lines.Mark.{Mark}
-use Rattle.log_model.specs.Causes.{cuts, tears, device_of}
+use Rattle.log_model.specs.Causes.{device_of}
 use Rattle.device_calls.specs.history_model.Completeness.{IsMarked}
 use Rattle.device_calls.specs.card_image.Own.{own_sizes, IsOwnValid}
 use Rattle.device_calls.specs.safety_model.Recording.{Recording, card_image, brought, start_of}
 use Rattle.device_calls.specs.safety_model.Safe.{Devices, card_of, breakdowns_of}
-use Rattle.run_minutes.specs.run_promise.Whole.{NothingFailed, IsUntorn}
+use Rattle.run_minutes.specs.run_promise.Whole.{NothingFailed}
 use Rattle.run_acts.specs.run_note_record.Uses.{vehicle_of}
+pub use Rattle.run_acts.specs.run_note_record.Uses.{NothingFailedOn}
 use Rattle.run_acts.specs.Stays.{Stay, TellsBefores, acceptances_told, AreMerged, start_shown, AreOwed, judged_told}
 use Rattle.run_acts.specs.Stays.{judged_in}
 use Rattle.run_acts.specs.Stood.{HasExactStays, StoodExactly}
@@ -23,13 +23,6 @@ use Rattle.run_acts.specs.Owed.{IsOwed}
 -- EACH ENTRY that was owed at it has its mark
 abbrev pub IsAcknowledgedSo : List Mark → Card → Stay → Type 0
 IsAcknowledgedSo marks c s = All (λ (e : Entry). IsMarked marks (device_of c) e.minute) s.owed
-
--- NO CALL HAS FAILED ON A CARD, nor on the unit, by the log: none has cut the power, and none has torn the card out;
--- and where one has torn out the other, the card's count of breakdowns was below its last value as the run began.
-pub record NothingFailedOn (r : Recording) (c : Card) (began : Devices) : Type 0 where
-  pub uncut : cuts true r.log ≡ []
-  pub untorn : IsUntorn r c
-  pub low : (tears true r.log ≡ []) ⊎ (breakdowns_of began (device_of c) < last_count)
 
 -- THE STAYS OF A CARD: each image that a stop may leave of it has exactly what they make of that at the start
 -- (`exact`); and each entry that was owed as a stay began has a mark of the card (`acknowledged`).

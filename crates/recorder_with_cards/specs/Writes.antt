@@ -1,10 +1,19 @@
--- How many writes a trace begins at most: by its turns and by its actions (profile).
-use Rattle.std.specs.Prelude.{ℕ, ◌+◌, ◌*◌, ◌%◌, Bool, nat_le, List, [], ◌∷◌, length, count_by, take, drop}
+-- How many writes a trace begins at most: by its power-ons, its turns and its actions (profile).
+use Rattle.std.specs.Prelude.{ℕ, ◌+◌, ◌*◌, ◌%◌, ◌≤◌, ◌||◌, min, Bool, true, false, nat_le, List, [], ◌∷◌, length}
+use Rattle.std.specs.Prelude.{Result, is_err, count_by, take, drop}
 use Rattle.trace_model.specs.declared.Item.{Item}
 use Rattle.trace_model.specs.declared.Item.TheVariants.{Run as Driven, Off, Act}
 use Rattle.trace_model.specs.Trace.{TraceSecond, driven, item_seconds}
+use Rattle.log_model.specs.declared.lines.Break.{Break}
 use Rattle.device_calls.specs.safety_model.Safe.{Devices}
+use Rattle.run_opening.specs.declared.fault.RunFault.{RunFault}
+use Rattle.run_outcome.specs.Broken.{failed_cuts}
+use Rattle.run_outcome.specs.Room.{offs}
+use Rattle.run_outcome.specs.declared.outcome.Outcome.{Outcome}
 use Rattle.run_minutes.specs.Writes.{WroteAtMost}
+use Rattle.run_acts.specs.declared.run.Run.{Run}
+use Rattle.run_acts.specs.Power.{is_lit}
+use Rattle.run_acts.specs.Writes.{turn_unit_most, settle_card_most}
 use Rattle.recorder_with_cards.specs.Recorded.{actions_in}
 
 -- ---- how many each takes
@@ -30,18 +39,20 @@ resume_unit_most = 94
 abbrev pub resume_card_most : ℕ
 resume_card_most = 2152
 
--- A TURN, of seconds of one minute: those of power that is back, and of keeping
-abbrev pub turn_unit_most : ℕ
-turn_unit_most = 187
-
-abbrev pub turn_card_most : ℕ
-turn_card_most = 2446
-
--- SO MANY TURNS AND ACTIONS begin at most so many writes on the unit, and so many on each card.
+-- SO MANY TURNS AND ACTIONS, and no power-on, begin at most so many writes on the unit, and so many on each card.
 abbrev pub WritesFor : (turns actions : ℕ) → (old new : Devices) → Type 0
 WritesFor turns actions old new =
     WroteAtMost (turn_unit_most * turns + action_unit_most * actions)
-    (turn_card_most * turns + action_card_most * actions) old new
+    (settle_card_most * turns + action_card_most * actions) old new
+
+-- and so many with these power-ons
+abbrev pub unit_most : (power_ons turns actions : ℕ) → ℕ
+unit_most power_ons turns actions =
+    resume_unit_most * power_ons + (turn_unit_most * turns + action_unit_most * actions)
+
+abbrev pub card_most : (power_ons turns actions : ℕ) → ℕ
+card_most power_ons turns actions =
+    resume_card_most * power_ons + (settle_card_most * turns + action_card_most * actions)
 
 -- ---- how many turns a trace takes
 
@@ -74,15 +85,46 @@ acts_at waiting (Driven seconds speed) = waiting
 acts_at waiting (Off seconds) = 0
 acts_at waiting (Act action) = 0
 
+-- ---- how many power-ons a run has
+
+-- THE POWER-ONS that are told: one for each cut that a failed call made, and one more where the power is on
+abbrev pub power_ons_told : (on : Bool) → List Break → ℕ
+power_ons_told true breaks = failed_cuts breaks + 1
+power_ons_told false breaks = failed_cuts breaks
+
+-- of a run so far; one that an `off` line has ended is none of them
+abbrev pub powered : Run → Outcome → ℕ
+powered run o = power_ons_told (is_lit run.power) o.breaks.items
+
+-- behind a call; a unit that it refuses is refused at a power-on
+abbrev pub powered_by : Result (Unit {0}) RunFault → Run → Outcome → ℕ
+powered_by result run o = power_ons_told (is_err result || is_lit run.power) o.breaks.items
+
+-- SO MANY TURNS AND ACTIONS, each turn with one power-on at most, and no more than are told between two moments: they
+-- begin at most so many writes.
+pub record WritesBetween (turns actions was is : ℕ) (old new : Devices) : Type 0 where
+  pub power_ons : ℕ
+  pub one_each : power_ons ≤ turns
+  pub told : was + power_ons ≤ is
+  pub most : WroteAtMost (unit_most power_ons turns actions) (card_most power_ons turns actions) old new
+
+-- THE POWER-ONS OF A TRACE: one at its begin, one behind each `off` line, and one behind each cut that a failed call
+-- made, of which its log tells so many; and no more than it has turns
+unfoldable pub power_ons : (start : ℕ) → List Item → (failed : ℕ) → ℕ
+power_ons start items failed = min (turns_of start items) (1 + offs items + failed)
+
 -- ---- how many writes a trace begins
 
--- so many on the unit, and so many on a card
-abbrev pub unit_writes : (start : ℕ) → List Item → ℕ
-unit_writes start items = turn_unit_most * turns_of start items + action_unit_most * length (actions_in items)
+-- so many on the unit, and so many on a card, where its log tells so many cuts that a failed call made
+abbrev pub unit_writes : (start : ℕ) → List Item → (failed : ℕ) → ℕ
+unit_writes start items failed =
+    unit_most (power_ons start items failed) (turns_of start items) (length (actions_in items))
 
-abbrev pub card_writes : (start : ℕ) → List Item → ℕ
-card_writes start items = turn_card_most * turns_of start items + action_card_most * length (actions_in items)
+abbrev pub card_writes : (start : ℕ) → List Item → (failed : ℕ) → ℕ
+card_writes start items failed =
+    card_most (power_ons start items failed) (turns_of start items) (length (actions_in items))
 
 -- A TRACE begins at most so many writes on each device.
-abbrev pub WritesIn : (start : ℕ) → List Item → (old new : Devices) → Type 0
-WritesIn start items old new = WroteAtMost (unit_writes start items) (card_writes start items) old new
+abbrev pub WritesIn : (start : ℕ) → List Item → (failed : ℕ) → (old new : Devices) → Type 0
+WritesIn start items failed old new =
+    WroteAtMost (unit_writes start items failed) (card_writes start items failed) old new

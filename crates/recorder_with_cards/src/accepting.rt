@@ -1,8 +1,7 @@
 //! A card that sits in a slot, not accepted, is accepted or turned away.
-ghost use Rattle.std.specs.Prelude.{◌≡◌, ◌/◌, ◌<◌, ◌^◌, None, OnOk, is_err};
-ghost use Rattle.tach_media.specs.Medium.{HasCause};
+ghost use Rattle.std.specs.Prelude.{◌≡◌, ◌<◌, ◌^◌, None, is_err};
 ghost use Rattle.run_minutes.specs.card_slots.Calls.{seat_in, card_in};
-ghost use Rattle.run_acts.specs.Going.{CanBeCut, RunHasPowerAllSeated, IsActing};
+ghost use Rattle.run_acts.specs.Going.{IsActing};
 ghost use Rattle.run_acts.specs.Room.{bare_count, Takes, TakesFind};
 ghost use Rattle.recorder_with_cards.specs.Accepting.{chip_a_of, chip_b_of, a_of, b_of};
 ghost use Rattle.run_minutes.specs.run_promise.Between.{devices};
@@ -55,16 +54,13 @@ pub(crate) fn accept_here<M: Medium, C: Chip, D: Chip>(
     requires may { MayAccept entering.slot entering.which entering.at run.old outcome.old }
     requires fits { entering.odometer.0 < 2 ^ 24 }
     ensures accepted { AcceptsHere entering run.old run.new outcome.old outcome.new }
-    ensures held { CanBeCut (run.new.next / 60) run.new (M.state unit.new)
+    ensures behind { RunStandsBehind result run.new
+        (devices (M.state unit.old) (a_of entering.which (C.state card.old) (D.state others.now))
+        (b_of entering.which (C.state card.old) (D.state others.now)))
+        (devices (M.state unit.new) (a_of entering.which (C.state card.new) (D.state others.now))
+        (b_of entering.which (C.state card.new) (D.state others.now)))
         (chip_a_of entering.which (C.card card.new) (D.card others.now))
-        (chip_b_of entering.which (C.card card.new) (D.card others.now))
-        (a_of entering.which (C.state card.new) (D.state others.now))
-        (b_of entering.which (C.state card.new) (D.state others.now)) }
-    ensures going { OnOk result (RunHasPowerAllSeated (run.new.next / 60) run.new (M.state unit.new)
-        (chip_a_of entering.which (C.card card.new) (D.card others.now))
-        (chip_b_of entering.which (C.card card.new) (D.card others.now))
-        (a_of entering.which (C.state card.new) (D.state others.now))
-        (b_of entering.which (C.state card.new) (D.state others.now))) }
+        (chip_b_of entering.which (C.card card.new) (D.card others.now)) }
     ensures takes { TakesFind run.old run.new outcome.old outcome.new }
     // What a run promises goes on with it.
     ensures promises { PromisesHere entering (is_err result) run.old run.new outcome.old outcome.new
@@ -78,7 +74,6 @@ pub(crate) fn accept_here<M: Medium, C: Chip, D: Chip>(
         (M.state unit.old)
         (M.state unit.new)
         (C.state card.old) (C.state card.new) }
-    ensures cause { HasCause (M.state unit.old) (M.state unit.new) (is_err result) }
 {
     let mut noted = run.noted;
     let beside = Beside { entering, others };

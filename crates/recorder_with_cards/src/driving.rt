@@ -58,8 +58,8 @@ pub(crate) fn drive<M: Medium, C: Chip, D: Chip>(
         (devices (M.state unit.old) (C.state card_a.old) (D.state card_b.old))
         (devices (M.state unit.new) (C.state card_a.new) (D.state card_b.new)) }
     // Its first two seconds are turns, and of the others each that opens.
-    ensures goes { ItemGoes (turns_among 2 (driven due.entry.seconds run.old.next due.entry.speed []))
-        (due.entry.to - due.entry.from) outcome.old.breaks.items outcome.new.breaks.items
+    ensures goes { ItemGoes result (turns_among 2 (driven due.entry.seconds run.old.next due.entry.speed []))
+        (due.entry.to - due.entry.from) 0 run.old run.new outcome.old outcome.new
         (devices (M.state unit.old) (C.state card_a.old) (D.state card_b.old))
         (devices (M.state unit.new) (C.state card_a.new) (D.state card_b.new)) }
     ensures gone { HasGone result due.entry.seconds run.old run.new outcome.new (M.state unit.new) (C.card card_a.new)
@@ -110,8 +110,8 @@ fn drive_on<M: Medium, C: Chip, D: Chip>(
         (devices (M.state unit.old) (C.state card_a.old) (D.state card_b.old))
         (devices (M.state unit.new) (C.state card_a.new) (D.state card_b.new)) }
     // The first of them is a turn, and of the others each that opens.
-    ensures goes { ItemGoes (turns_among 1 (driven more.seconds run.old.next more.speed [])) 0
-        outcome.old.breaks.items outcome.new.breaks.items
+    ensures goes { ItemGoes result (turns_among 1 (driven more.seconds run.old.next more.speed [])) 0 0 run.old run.new
+        outcome.old outcome.new
         (devices (M.state unit.old) (C.state card_a.old) (D.state card_b.old))
         (devices (M.state unit.new) (C.state card_a.new) (D.state card_b.new)) }
     ensures gone { HasGone result more.seconds run.old run.new outcome.new (M.state unit.new) (C.card card_a.new)
@@ -150,7 +150,7 @@ fn step<M: Medium, C: Chip, D: Chip>(
     ensures promises { PromisesMore result more.seconds more.speed run.old run.new outcome.old outcome.new
         (devices (M.state unit.old) (C.state card_a.old) (D.state card_b.old))
         (devices (M.state unit.new) (C.state card_a.new) (D.state card_b.new)) }
-    ensures goes { ItemGoes 1 0 outcome.old.breaks.items outcome.new.breaks.items
+    ensures goes { ItemGoes result 1 0 0 run.old run.new outcome.old outcome.new
         (devices (M.state unit.old) (C.state card_a.old) (D.state card_b.old))
         (devices (M.state unit.new) (C.state card_a.new) (D.state card_b.new)) }
     ensures gone { HasGone result more.seconds run.old run.new outcome.new (M.state unit.new) (C.card card_a.new)

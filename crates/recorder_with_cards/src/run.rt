@@ -66,8 +66,9 @@ pub fn run_trace<U: Medium, C: Chip>(
     ensures refused { IfErr result (IsRefusedBy trace.now.start outcome.old outcome.new (U.state unit.old)
         (U.state unit.new) (C.state card_a.old) (C.state card_a.new) (C.state card_b.old) (C.state card_b.new)) }
     ensures unit { IsUnit (U.state unit.new) }
-    // No clock falls; and so many writes it begins at most, by its turns and its actions, whatever fails.
-    ensures goes { RunGoes trace.now.start trace.now.items
+    // No clock falls; and so many writes it begins at most, by its power-ons, its turns and its actions, whatever
+    // fails.
+    ensures goes { RunGoes trace.now.start trace.now.items outcome.new
         (devices (U.state unit.old) (C.state card_a.old) (C.state card_b.old))
         (devices (U.state unit.new) (C.state card_a.new) (C.state card_b.new)) }
     // Each cut that a failed call made is a breakdown of the unit more, whatever it tells. And each breakdown has its
@@ -137,8 +138,8 @@ fn go_on<M: Medium, C: Chip, D: Chip>(
         (actions_in (between due.entry.from due.entry.to due.entry.items.now)) run.old run.new outcome.old outcome.new
         (devices (M.state unit.old) (C.state card_a.old) (D.state card_b.old))
         (devices (M.state unit.new) (C.state card_a.new) (D.state card_b.new)) }
-    ensures goes { ItemGoes (turns_at run.old.next due.entry.item) (acts_at (due.entry.to - due.entry.from)
-        due.entry.item) outcome.old.breaks.items outcome.new.breaks.items
+    ensures goes { ItemGoes result (turns_at run.old.next due.entry.item) (acts_at (due.entry.to - due.entry.from)
+        due.entry.item) (off_count due.entry.item) run.old run.new outcome.old outcome.new
         (devices (M.state unit.old) (C.state card_a.old) (D.state card_b.old))
         (devices (M.state unit.new) (C.state card_a.new) (D.state card_b.new)) }
     ensures gone { HasGone result (item_seconds due.entry.item) run.old run.new outcome.new (M.state unit.new)

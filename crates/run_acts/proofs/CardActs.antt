@@ -28,7 +28,8 @@ use Rattle.run_acts.proofs.CardSecond.{quiet-shown, quiet-action}
 use Rattle.run_acts.proofs.CardStays.{place-still}
 use Rattle.run_acts.proofs.AllStay.{StoodBefore}
 use Rattle.run_acts.proofs.KeptSeats.{stood-later}
-use Rattle.run_acts.proofs.CardUses.{FoundTo, lines-still, cut-still}
+use Rattle.run_note_record.proofs.UsesSoFar.{FoundTo}
+use Rattle.run_acts.proofs.CardUses.{lines-still, cut-still}
 use Rattle.run_acts.proofs.RingedLines.{AreTears, tears-beside, tears-both, up-to-tells}
 use Rattle.run_acts.proofs.RingedSecond.{goes-to, is-cut, power-here, more-left}
 use Rattle.run_acts.proofs.RingedPlace.{noted-tears}

@@ -37,7 +37,8 @@ use Rattle.run_acts.proofs.CardSeconds.{met-more}
 use Rattle.run_acts.proofs.CardCourse.{Finding, findings, IsQuiet, quiet-same, quiet-then, both-quiet, behind-same, cut-quiet, acted-append, powered-quiet, powered-as, sitting_at}
 use Rattle.run_acts.proofs.AllStay.{stood-self, known-fewer}
 use Rattle.run_acts.proofs.CardShown.{FindsStill, KeepsFailed, Follows, goes-on, card-next}
-use Rattle.run_acts.proofs.CardUses.{FoundTo, none-sits, uses-to}
+use Rattle.run_note_record.proofs.UsesSoFar.{FoundTo, uses-to}
+use Rattle.run_acts.proofs.CardUses.{none-sits}
 use Rattle.run_acts.proofs.CardSecond.{is_now, any-more, count-more, standing-is}
 use Rattle.run_acts.proofs.CardGaps.{kept-before, before-same, low-spans, met-same}
 

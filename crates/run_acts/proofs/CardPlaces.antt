@@ -47,7 +47,7 @@ use Rattle.run_crew.specs.Cards.{known_of, session_of}
 use Rattle.run_minutes.specs.run_promise.Found.{found_of}
 use Rattle.run_minutes.specs.run_promise.Between.{RunLedger}
 use Rattle.run_minutes.specs.run_devices.Told.{AreFoundCards, DevicesPowered, SessionIsOnCard, arranged}
-use Rattle.run_minutes.specs.run_devices.Measured.{GoesMeasured}
+use Rattle.run_minutes.specs.run_devices.Measured.{Reading, GoesMeasured}
 use Rattle.run_minutes.specs.run_devices.Sessions.{SessionGoes, IsNone}
 use Rattle.run_minutes.proofs.run_devices.CardUse.{note-use}
 use Rattle.run_minutes.proofs.run_devices.Sessions.{session-itself, session-then, session-same, session-more, file-session, close-session}
@@ -57,8 +57,9 @@ use Rattle.run_minutes.proofs.run_devices.Parts.{CardLit, parts-of}
 use Rattle.run_record.proofs.Seats.{this-or}
 use Rattle.run_outcome.specs.declared.outcome.Outcome.{Outcome}
 use Rattle.run_minutes.specs.run_promise.Origin.{Origin}
-use Rattle.run_note_record.specs.OnCards.{has_call_failed_in, places_in, place_width, PlacesStay, IsReading, GoesByReadings, VehiclesGo, SessionsGo, NoOtherComes, CardsGo, CardsStay, TakesPlace, PlaceIsTaken, LeavesPlaces as LeavesRing}
+use Rattle.run_note_record.specs.OnCards.{has_call_failed_in, places_in, place_width, PlacesStay, IsReadingAtEnd, IsReadingOf, GoesByReadings, VehiclesGo, SessionsGo, NoOtherComes, CardsGo, CardsStay, TakesPlace, PlaceIsTaken, LeavesPlaces as LeavesRing}
 use Rattle.run_note_record.specs.Sessions.{EndsIf}
+use Rattle.run_note_record.proofs.Sessions.{stay-may}
 use Rattle.run_minutes.specs.declared.keeper.Moment.{Moment}
 use Rattle.run_minutes.specs.Books.{AreTimedOn}
 use Rattle.run_minutes.specs.Keeping.{CardMayBeCalled, tear_of}
@@ -92,11 +93,11 @@ file-ring app x y same = subst (λ (n : ℕ). bytes_at y (place_of app (file 0x0
 pub ends-then : (o : Origin) (spans : List SpanFrom) (had : Bool) (card : Card) (d e f : Devices) → CardsStay o spans d e → CardsGo o spans (EndsIf had card) e f → CardsGo o spans (EndsIf had card) d f
 ends-then o spans had card d e f first next = record { places = stay-then o d e f first.places next.places; vehicles = vehicles; sessions = sessions }
   where
-    vehicles : VehiclesGo o spans d f
+    vehicles : VehiclesGo o spans (EndsIf had card) d f
     vehicles c valid z left =
         let behind = next.vehicles c valid z left in
-        let was = first.vehicles c valid behind.0 behind.1 in
-        (was.0, was.1, goes-then (sizes_in o c) (IsReading spans) was.0 behind.0 z was.2 behind.2)
+        let was = (stay-may o spans (EndsIf had card) d e first).vehicles c valid behind.0 behind.1 in
+        (was.0, was.1, goes-then (sizes_in o c) (IsReadingOf spans (EndsIf had card c)) was.0 behind.0 z was.2 behind.2)
 
     sessions : SessionsGo o (EndsIf had card) d f
     sessions c valid z left =
@@ -105,19 +106,19 @@ ends-then o spans had card d e f first next = record { places = stay-then o d e 
         (was.0, was.1, session-then (sizes_in o c) (EndsIf had card c) was.0 behind.0 z (session-more (sizes_in o c) (NoOtherComes c) (EndsIf had card c) (λ t none. absurd none) was.0 behind.0 was.2) behind.2)
 
 -- ---- MINUTES ARE KEPT
-timed-places : (o : Origin) → IsOrigin o → (values : List ℕ) (d e : Devices) → AreTimedOn o.found values d e → PlacesStay o d e
+timed-places : (o : Origin) → IsOrigin o → (values : List Reading) (d e : Devices) → AreTimedOn o.found values d e → PlacesStay o d e
 timed-places o origin values d e h c valid y left =
     let was = (h c (valid-found o origin c valid)).1 y left in
     (was.0, was.1, file-ring (sizes_in o c) was.0 y (subst (λ (x : List ℕ). file_bytes (own_sizes x) 0x0506 y ≡ file_bytes (own_sizes x) 0x0506 was.0) (origin.image c) was.4))
 
--- with readings of these spans alone
-pub timed-stays : (o : Origin) → IsOrigin o → (values : List ℕ) (d e : Devices) → AreTimedOn o.found values d e → (spans : List SpanFrom) → ((n : ℕ) → Contains values n → IsReading spans n) → CardsStay o spans d e
+-- with readings of these spans alone, each as its minute ended
+pub timed-stays : (o : Origin) → IsOrigin o → (values : List Reading) (d e : Devices) → AreTimedOn o.found values d e → (spans : List SpanFrom) → ((r : Reading) → Contains values r → IsReadingAtEnd spans r) → CardsStay o spans d e
 timed-stays o origin values d e h spans reads = record { places = timed-places o origin values d e h; vehicles = vehicles; sessions = sessions }
   where
-    vehicles : VehiclesGo o spans d e
+    vehicles : VehiclesGo o spans NoOtherComes d e
     vehicles c valid y left =
         let was = (h c (valid-found o origin c valid)).2 y left in
-        (was.0, was.1, goes-more (sizes_in o c) (λ n. Contains values n) (IsReading spans) reads was.0 y (subst (λ (x : List ℕ). GoesMeasured (own_sizes x) (λ n. Contains values n) was.0 y) (origin.image c) was.2))
+        (was.0, was.1, goes-more (sizes_in o c) (λ r. Contains values r) (IsReadingOf spans (NoOtherComes c)) (λ r at. inl (reads r at)) was.0 y (subst (λ (x : List ℕ). GoesMeasured (own_sizes x) (λ r. Contains values r) was.0 y) (origin.image c) was.2))
 
     sessions : SessionsGo o NoOtherComes d e
     sessions c valid y left =
@@ -156,12 +157,12 @@ closing-stay {C = C} state o done s at waits rest run out c U V Z x y w whole si
     by v (Some a) is h = closes-places o _ run.keeper.cabin.cards c U (state x) Z (state y) w.origin w.within.found whole size a h.0 is w.within.powered h.1 v
 
 -- what images of a card go on so
-abbrev pub ImagesGo : (spans : List SpanFrom) → (start : List ℕ) → (old new : State) → Type 0
-ImagesGo spans start old new = (y : List ℕ) → new.may_leave y → (x : List ℕ) × old.may_leave x × GoesByReadings spans start x y
+abbrev pub ImagesGo : (spans : List SpanFrom) → (May : ℕ → Type 0) → (start : List ℕ) → (old new : State) → Type 0
+ImagesGo spans May start old new = (y : List ℕ) → new.may_leave y → (x : List ℕ) × old.may_leave x × GoesByReadings spans May start x y
 
-closes-vehicles : (o : Origin) (spans : List SpanFrom) (w : RunLedger) (cards : Cards) (c : Card) (U X Z : State) (Y : State) → IsOrigin o → AreFoundCards o.found cards → IsCoherent X → LARGEST_IMAGE ≤ X.size → (a : Accepted) (act : Activity) → session_of cards c ≡ Some a → DevicesPowered o.found w cards (arranged c U X Z) →
-    LeavesOnly X Y (λ i n. IsSession a.session i → IsCardClosing a.session act i n) → IsOwnValid (card_image o.recording c) → ImagesGo spans (card_image o.recording c) X Y
-closes-vehicles o spans w cards c U X Z Y origin found whole size a act has p run valid y left =
+closes-vehicles : (o : Origin) (spans : List SpanFrom) (May : ℕ → Type 0) (w : RunLedger) (cards : Cards) (c : Card) (U X Z : State) (Y : State) → IsOrigin o → AreFoundCards o.found cards → IsCoherent X → LARGEST_IMAGE ≤ X.size → (a : Accepted) (act : Activity) → session_of cards c ≡ Some a → DevicesPowered o.found w cards (arranged c U X Z) →
+    LeavesOnly X Y (λ i n. IsSession a.session i → IsCardClosing a.session act i n) → IsOwnValid (card_image o.recording c) → ImagesGo spans May (card_image o.recording c) X Y
+closes-vehicles o spans May w cards c U X Z Y origin found whole size a act has p run valid y left =
     let there : IsOwnValid (found_of o.found c).image = valid-found o origin c valid in
     let one : CardLit o.found w.book (w.standing c) (w.hands c) (w.firsts c) (w.brought c) (Some a) c U X = subst (λ (q : Option Accepted). CardLit o.found w.book (w.standing c) (w.hands c) (w.firsts c) (w.brought c) q c U X) has ((parts-of o.found w cards c U X Z p).mine there) in
     let on : SessionIsOnCard (found_of o.found c) (w.hands c) one.goes.has (w.standing c) a.session X = one.goes.goes.0 in
@@ -169,26 +170,26 @@ closes-vehicles o spans w cards c U X Z Y origin found whole size a act has p ru
     let sound : IsApplication a.session.application = subst IsApplication (sym on.sizes) (found.sizes c there) in
     let fits = largest_image a.session.application sound in
     ⊎_elim
-    (λ before. (y, before, goes-itself (sizes_in o c) (IsReading spans) y))
+    (λ before. (y, before, goes-itself (sizes_in o c) (IsReadingOf spans May) y))
     (λ (x, is, closes).
     let long = whole.sized x is in (
       x,
       whole.is_left x is,
-      subst (λ (app : Application). GoesMeasured app (IsReading spans) x y) sizes
-          (close-goes (IsReading spans) a.session act x y sound (omega (arith, fits, size, long)) (closes (at_image (IsSession a.session) is on.session))),
+      subst (λ (app : Application). GoesMeasured app (IsReadingOf spans May) x y) sizes
+          (close-goes (IsReadingOf spans May) a.session act x y sound (omega (arith, fits, size, long)) (closes (at_image (IsSession a.session) is on.session))),
     ))
     (run.now y left)
 
-closing-go : {C : Type 0} (state : C → State) (o : Origin) (spans : List SpanFrom) (done : List TraceSecond) (s : TraceSecond) (at : Phase) (waits : List Visit) (rest : List Minute) (run : Run) (out : Outcome) (c : Card) (U V Z : State) (x y : C) → RunWithin o done s at waits rest run out (arranged c U (state x) Z) →
+closing-go : {C : Type 0} (state : C → State) (o : Origin) (spans : List SpanFrom) (May : Card → ℕ → Type 0) (done : List TraceSecond) (s : TraceSecond) (at : Phase) (waits : List Visit) (rest : List Minute) (run : Run) (out : Outcome) (c : Card) (U V Z : State) (x y : C) → RunWithin o done s at waits rest run out (arranged c U (state x) Z) →
     IsCoherent (state x) → LARGEST_IMAGE ≤ (state x).size → IfSome (session_of run.keeper.cabin.cards c) (λ s. (act : Activity) × LeavesOnly (state x) (state y) (λ i n. IsSession s.session i → IsCardClosing s.session act i n)) →
-    (session_of run.keeper.cabin.cards c ≡ None → y ≡ x) → VehiclesGo o spans (arranged c U (state x) Z) (arranged c V (state y) Z)
-closing-go {C = C} state o spans done s at waits rest run out c U V Z x y w whole size left still q0 valid =
-    each c U V (state x) (state y) Z (λ (q : Card) (a b : State). IsOwnValid (card_image o.recording q) → ImagesGo spans (card_image o.recording q) a b)
-    (λ v. by v (session_of run.keeper.cabin.cards c) refl left) (λ v z there. (z, there, goes-itself (sizes_in o (other c)) (IsReading spans) z)) q0 valid
+    (session_of run.keeper.cabin.cards c ≡ None → y ≡ x) → VehiclesGo o spans May (arranged c U (state x) Z) (arranged c V (state y) Z)
+closing-go {C = C} state o spans May done s at waits rest run out c U V Z x y w whole size left still q0 valid =
+    each c U V (state x) (state y) Z (λ (q : Card) (a b : State). IsOwnValid (card_image o.recording q) → ImagesGo spans (May q) (card_image o.recording q) a b)
+    (λ v. by v (session_of run.keeper.cabin.cards c) refl left) (λ v z there. (z, there, goes-itself (sizes_in o (other c)) (IsReadingOf spans (May (other c))) z)) q0 valid
   where
-    by : IsOwnValid (card_image o.recording c) → (q : Option Accepted) → session_of run.keeper.cabin.cards c ≡ q → IfSome q (λ s. (act : Activity) × LeavesOnly (state x) (state y) (λ i n. IsSession s.session i → IsCardClosing s.session act i n)) → ImagesGo spans (card_image o.recording c) (state x) (state y)
-    by v None is h = subst (λ (z : C). ImagesGo spans (card_image o.recording c) (state x) (state z)) (sym (still is)) (λ z there. (z, there, goes-itself (sizes_in o c) (IsReading spans) z))
-    by v (Some a) is h = closes-vehicles o spans _ run.keeper.cabin.cards c U (state x) Z (state y) w.origin w.within.found whole size a h.0 is w.within.powered h.1 v
+    by : IsOwnValid (card_image o.recording c) → (q : Option Accepted) → session_of run.keeper.cabin.cards c ≡ q → IfSome q (λ s. (act : Activity) × LeavesOnly (state x) (state y) (λ i n. IsSession s.session i → IsCardClosing s.session act i n)) → ImagesGo spans (May c) (card_image o.recording c) (state x) (state y)
+    by v None is h = subst (λ (z : C). ImagesGo spans (May c) (card_image o.recording c) (state x) (state z)) (sym (still is)) (λ z there. (z, there, goes-itself (sizes_in o c) (IsReadingOf spans (May c)) z))
+    by v (Some a) is h = closes-vehicles o spans (May c) _ run.keeper.cabin.cards c U (state x) Z (state y) w.origin w.within.found whole size a h.0 is w.within.powered h.1 v
 
 -- and its session goes on
 abbrev SessionGo : (start : List ℕ) → Card → (old new : State) → Type 0
@@ -254,7 +255,7 @@ pub closing-stays : {C : Type 0} (state : C → State) (o : Origin) (spans : Lis
 closing-stays state o spans done s at waits rest run out c U V Z x y w whole size left still =
     record {
       places = closing-stay state o done s at waits rest run out c U V Z x y w whole size left still;
-      vehicles = closing-go state o spans done s at waits rest run out c U V Z x y w whole size left still;
+      vehicles = closing-go state o spans (EndsIf (is_some (session_of run.keeper.cabin.cards c)) c) done s at waits rest run out c U V Z x y w whole size left still;
       sessions = closing-session state o done s at waits rest run out c U V Z x y w whole size left still;
     }
 
@@ -331,18 +332,18 @@ leave-stay o done s at waits rest run out d e w leaves c valid = by (session_of 
         (was.0, was.1, file-ring (sizes_in o c) was.0 y (subst (λ (app : Application). file_bytes app 0x0506 y ≡ file_bytes app 0x0506 was.0) (session-sizes o done s at waits rest run out d w c valid a is) was.2))
 
 -- and their vehicle entries are the same
-leave-go : (o : Origin) (spans : List SpanFrom) (done : List TraceSecond) (s : TraceSecond) (at : Phase) (waits : List Visit) (rest : List Minute) (run : Run) (out : Outcome) (d e : Devices) → RunWithin o done s at waits rest run out d → LeavePlaces run.keeper.cabin.cards d e → VehiclesGo o spans d e
+leave-go : (o : Origin) (spans : List SpanFrom) (done : List TraceSecond) (s : TraceSecond) (at : Phase) (waits : List Visit) (rest : List Minute) (run : Run) (out : Outcome) (d e : Devices) → RunWithin o done s at waits rest run out d → LeavePlaces run.keeper.cabin.cards d e → VehiclesGo o spans NoOtherComes d e
 leave-go o spans done s at waits rest run out d e w leaves c valid = by (session_of run.keeper.cabin.cards c) refl (leaves c)
   where
     sound : IsApplication (sizes_in o c)
     sound = subst (λ (x : List ℕ). IsApplication (own_sizes x)) (w.origin.image c) (w.within.found.sizes c (valid-found o w.origin c valid))
 
-    by : (q : Option Accepted) → session_of run.keeper.cabin.cards c ≡ q → LeavesPlaces q (card_of d c) (card_of e c) → ImagesGo spans (card_image o.recording c) (card_of d c) (card_of e c)
-    by None is h = λ y left. (y, h y left, goes-itself (sizes_in o c) (IsReading spans) y)
+    by : (q : Option Accepted) → session_of run.keeper.cabin.cards c ≡ q → LeavesPlaces q (card_of d c) (card_of e c) → ImagesGo spans (NoOtherComes c) (card_image o.recording c) (card_of d c) (card_of e c)
+    by None is h = λ y left. (y, h y left, goes-itself (sizes_in o c) (IsReadingOf spans (NoOtherComes c)) y)
     by (Some a) is h = λ y left.
         let was = h y left in
         let sizes = session-sizes o done s at waits rest run out d w c valid a is in
-        (was.0, was.1, bytes-go (sizes_in o c) (IsReading spans) sound was.0 y (subst (λ (app : Application). HaveSameDays app was.0 y) sizes was.5) (subst (λ (app : Application). HaveSameVehicles app was.0 y) sizes was.3))
+        (was.0, was.1, bytes-go (sizes_in o c) (IsReadingOf spans (NoOtherComes c)) sound was.0 y (subst (λ (app : Application). HaveSameDays app was.0 y) sizes was.5) (subst (λ (app : Application). HaveSameVehicles app was.0 y) sizes was.3))
 
 -- and their sessions
 leave-sessions : (o : Origin) (done : List TraceSecond) (s : TraceSecond) (at : Phase) (waits : List Visit) (rest : List Minute) (run : Run) (out : Outcome) (d e : Devices) → RunWithin o done s at waits rest run out d → LeavePlaces run.keeper.cabin.cards d e → SessionsGo o NoOtherComes d e
@@ -379,10 +380,10 @@ may-unbegun app entry X y left = (y, left, inl refl)
 
 -- so they go on, of the card that entered it and of the other
 pub place-go : (o : Origin) (spans : List SpanFrom) (done : List TraceSecond) (s : TraceSecond) (at : Phase) (waits : List Visit) (rest : List Minute) (run : Run) (out : Outcome) (d e : Devices) → RunWithin o done s at waits rest run out d → (card : Card) (entry : PlaceEntry) → is_some (session_of run.keeper.cabin.cards card) ≡ true →
-    ((a : Accepted) → session_of run.keeper.cabin.cards card ≡ Some a → MayHavePlace a.session.application entry (card_of d card) (card_of e card)) → ((c : Card) → same_card card c ≡ false → (y : List ℕ) → (card_of e c).may_leave y → (card_of d c).may_leave y) → VehiclesGo o spans d e
+    ((a : Accepted) → session_of run.keeper.cabin.cards card ≡ Some a → MayHavePlace a.session.application entry (card_of d card) (card_of e card)) → ((c : Card) → same_card card c ≡ false → (y : List ℕ) → (card_of e c).may_leave y → (card_of d c).may_leave y) → VehiclesGo o spans NoOtherComes d e
 place-go o spans done s at waits rest run out d e w card entry some call others c valid = ⊎_elim
-    (λ same. subst (λ (q : Card). IsOwnValid (card_image o.recording q) → ImagesGo spans (card_image o.recording q) (card_of d q) (card_of e q)) (alike card c same) own valid)
-    (λ apart_. λ y left. (y, others c apart_ y left, goes-itself (sizes_in o c) (IsReading spans) y))
+    (λ same. subst (λ (q : Card). IsOwnValid (card_image o.recording q) → ImagesGo spans (NoOtherComes q) (card_image o.recording q) (card_of d q) (card_of e q)) (alike card c same) own valid)
+    (λ apart_. λ y left. (y, others c apart_ y left, goes-itself (sizes_in o c) (IsReadingOf spans (NoOtherComes c)) y))
     (this-or card c)
   where
     alike : (x y : Card) → same_card x y ≡ true → x ≡ y
@@ -391,20 +392,20 @@ place-go o spans done s at waits rest run out d e w card entry some call others 
     alike A B is = absurd (let wrong : false ≡ true = is in cc)
     alike B A is = absurd (let wrong : false ≡ true = is in cc)
 
-    own : IsOwnValid (card_image o.recording card) → ImagesGo spans (card_image o.recording card) (card_of d card) (card_of e card)
+    own : IsOwnValid (card_image o.recording card) → ImagesGo spans (NoOtherComes card) (card_image o.recording card) (card_of d card) (card_of e card)
     own there = by (session_of run.keeper.cabin.cards card) refl some
       where
         sound : IsApplication (sizes_in o card)
         sound = subst (λ (x : List ℕ). IsApplication (own_sizes x)) (w.origin.image card) (w.within.found.sizes card (valid-found o w.origin card there))
 
-        by : (q : Option Accepted) → session_of run.keeper.cabin.cards card ≡ q → is_some q ≡ true → ImagesGo spans (card_image o.recording card) (card_of d card) (card_of e card)
+        by : (q : Option Accepted) → session_of run.keeper.cabin.cards card ≡ q → is_some q ≡ true → ImagesGo spans (NoOtherComes card) (card_image o.recording card) (card_of d card) (card_of e card)
         by None is none = absurd (let wrong : false ≡ true = none in cc)
         by (Some a) is has = λ y left.
             let was = call a is y left in
             let sizes = session-sizes o done s at waits rest run out d w card there a is in (
               was.0,
               was.1,
-              bytes-go (sizes_in o card) (IsReading spans) sound was.0 y
+              bytes-go (sizes_in o card) (IsReadingOf spans (NoOtherComes card)) sound was.0 y
                   (subst (λ (app : Application). HaveSameDays app was.0 y) sizes (place-same_days a.session.application entry was.0 y was.2))
                   (subst (λ (app : Application). HaveSameVehicles app was.0 y) sizes (place-same a.session.application entry was.0 y was.2)),
             )

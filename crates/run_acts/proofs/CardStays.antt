@@ -24,6 +24,7 @@ use Rattle.run_crew.specs.declared.cards.Cards.{Cards}
 use Rattle.run_crew.specs.Cards.{session_of}
 use Rattle.run_minutes.specs.run_promise.Found.{found_of}
 use Rattle.run_minutes.specs.run_promise.Between.{RunLedger}
+use Rattle.run_minutes.specs.run_devices.Measured.{Reading}
 use Rattle.run_minutes.specs.run_devices.Told.{AreFoundCards, DevicesPowered, SessionIsOnCard, GoesWith, arranged}
 use Rattle.run_minutes.proofs.run_devices.Parts.{CardLit, parts-of}
 use Rattle.run_outcome.specs.declared.outcome.Outcome.{Outcome}
@@ -58,7 +59,7 @@ pub shows-self : (o : Origin) (d : Devices) → StillShow o d d
 shows-self o d c valid = still-same (sizes_in o c) (card_of d c)
 
 -- MINUTES ARE KEPT
-pub timed-still : (o : Origin) → IsOrigin o → (values : List ℕ) (d e : Devices) → AreTimedOn o.found values d e → StillShow o d e
+pub timed-still : (o : Origin) → IsOrigin o → (values : List Reading) (d e : Devices) → AreTimedOn o.found values d e → StillShow o d e
 timed-still o origin values d e h c valid =
     file-still (sizes_in o c) (card_of d c) (card_of e c) (subst (λ (x : List ℕ). LeavesEvents (own_sizes x) (card_of d c) (card_of e c)) (origin.image c) (h c (valid-found o origin c valid)).1)
 

@@ -21,8 +21,9 @@ use Rattle.run_events.proofs.run_course.Told.{lit-power, lost-dark, next-dark, d
 use Rattle.run_events.proofs.run_course.Quiet.{quiet-are-told}
 use Rattle.run_outcome.specs.declared.outcome.Outcome.{Outcome}
 use Rattle.run_minutes.specs.declared.keeper.Moment.{Moment}
+use Rattle.run_minutes.specs.run_devices.Measured.{Reading}
 use Rattle.run_minutes.specs.Books.{HaveTime, AreTimedOn}
-use Rattle.run_minutes.specs.Decided.{odometers_of}
+use Rattle.run_minutes.specs.Decided.{readings_of}
 use Rattle.run_events.specs.run_rings.Notes.{TellSameTo}
 use Rattle.run_minutes.specs.run_promise.Origin.{Origin, rule_of, start_at, first_of}
 use Rattle.run_minutes.specs.run_promise.Beside.{HaveLeftMore}
@@ -49,7 +50,8 @@ use Rattle.run_acts.proofs.AllStay.{StoodBefore}
 use Rattle.run_acts.proofs.KeptSeats.{floor-in, stood-kept}
 use Rattle.run_note_record.specs.Uses.{notes_now, uses_in}
 use Rattle.run_acts.proofs.CardShown.{FindsStill}
-use Rattle.run_acts.proofs.CardUses.{FoundTo, lines-still, cut-still, untold-to}
+use Rattle.run_note_record.proofs.UsesSoFar.{FoundTo}
+use Rattle.run_acts.proofs.CardUses.{lines-still, cut-still, untold-to}
 
 -- lines of a second more
 pub lines-later : (o : Origin) (done : List TraceSecond) (s : TraceSecond) (at : Phase) (waits : List Visit) (speed : Option ℕ) (rest : List Minute) (v : Values) (d : Devices) (w : RecordInSecond o done s at waits speed rest v d) (lines : List Break) (later : RunLog) → later ≡ record v.log { breaks = v.log.breaks ++ lines } →
@@ -139,7 +141,7 @@ module _ {U A0 B0 : State} {chip_a chip_b : CardState} (n speed begun : ℕ) (ol
 
   -- THE LAST SECOND, once its actions are noted
   module _ (o : Origin) (origin : IsOrigin o) (D : List TraceSecond) (L : TraceSecond) (rest : List Minute) (next_ gone : ℕ) (w : RecordInSecond o D L Keeping [] (Some L.speed) rest (record (values_of old before) { minutes = T.fed.minutes; next = next_; begun = gone }) d)
-      (number : L.number ≡ old.next + n - 1) (acts : length L.actions ≡ begun) (values : List ℕ) (timed : AreTimedOn o.found values d e) (r : CardsIn o D L w.b.run.log L.actions (log_of before) d) (to : FoundTo (log_of before) L.number (length L.actions)) where
+      (number : L.number ≡ old.next + n - 1) (acts : length L.actions ≡ begun) (values : List Reading) (timed : AreTimedOn o.found values d e) (r : CardsIn o D L w.b.run.log L.actions (log_of before) d) (to : FoundTo (log_of before) L.number (length L.actions)) where
     abbrev log : RunLog
     log = log_of before
 
@@ -281,13 +283,13 @@ module _ {U A0 B0 : State} {chip_a chip_b : CardState} (n speed begun : ℕ) (ol
           let power = lit-power (second_told log_ (went log_ D).before L ∷ []) (went log_ D).before L L.number goes-l refl refl in
           let begun_ : CardsIn o D L log_ [] log_ d = second-begins o D L log_ d behind-all goes-l.running power untold_ in
           let log_is = (x.goes_on (omega arith)).0 in
-          last-shown o r.origin D L T.decided (old.next + suc c) x.begun x.fed (number-of (suc c) is) (acts-of (suc c) is) (odometers_of old.keeper T.decided)
+          last-shown o r.origin D L T.decided (old.next + suc c) x.begun x.fed (number-of (suc c) is) (acts-of (suc c) is) (readings_of old.keeper T.decided)
           (timed-last n speed begun old new before after d e g lit some minute small h o done s now actions none r time (suc c) is D L (old.next + suc c) x.begun (last-number (suc c) s) refl (acts-of (suc c) is) x.fed x.travelled_before x.from)
           (subst (λ (l : RunLog). CardsIn o D L l [] log_ d) (sym log_is) begun_) untold_
 
     by-count : (c : ℕ) → c ≡ n - 1 → IsTurned o done s c T.decided T.fed.minutes (values_of old before) d r.within → CardsBehind o (before_last c s done ++ last_of c s ∷ []) (log_of after) e
     by-count zero is x =
-        last-shown o r.origin done s T.decided (old.next + 0) x.begun x.fed (number-of zero is) (acts-of zero is) (odometers_of old.keeper T.decided)
+        last-shown o r.origin done s T.decided (old.next + 0) x.begun x.fed (number-of zero is) (acts-of zero is) (readings_of old.keeper T.decided)
         (timed-last n speed begun old new before after d e g lit some minute small h o done s now actions none r time zero is done s (old.next + 0) x.begun (last-number zero s) refl (acts-of zero is) x.fed x.travelled_before x.from)
         (subst (λ (b : Beginning). CardsIn o done s b.run.log s.actions log_ d) (sym (x.first refl)) cards) (λ k slot lt. r.within.moment.up_to.found (In k) slot lt)
     by-count (suc c) is x = several-shown c x is

@@ -1,5 +1,5 @@
 -- What a card that enters leaves of the devices, whatever becomes of it.
-use Rattle.std.proofs.Common.{◌≡◌, ◌⊎◌, inl, inr, ⊎_elim, ℕ, ◌+◌, ◌≤◌, ◌<◌, Bool, true, false, Some, None, is_some, List, [], refl, ap, sym, subst, ◌∙◌, arith}
+use Rattle.std.proofs.Common.{◌≡◌, ◌⊎◌, inl, inr, ⊎_elim, ℕ, ◌+◌, ◌/◌, ◌≤◌, ◌<◌, Bool, true, false, Some, None, is_some, List, [], refl, ap, sym, subst, ◌∙◌, arith}
 use Rattle.std.specs.Prelude.{nat_le}
 use Rattle.std.proofs.lemmas.Bool.Decides.{nat_tests}
 use Rattle.trace_model.specs.declared.Card.{Card}
@@ -17,8 +17,9 @@ use Rattle.log_model.specs.Course.{Visit}
 use Rattle.device_calls.specs.device_rule.Rules.{Out}
 use Rattle.device_calls.specs.device_rule.Views.{other}
 use Rattle.device_calls.specs.run_unit_course.Legs.{all_travelled}
-use Rattle.unit_model.specs.Image.{odometer_at}
+use Rattle.unit_model.specs.Image.{last_kept, odometer_at}
 use Rattle.device_calls.specs.unit_rule.Odometer.{HasTravelled}
+use Rattle.device_calls.specs.unit_rule.Rule.{once_mended}
 use Rattle.device_calls.specs.safety_model.Safe.{card_of, breakdowns_of}
 use Rattle.run_minutes.specs.run_promise.Found.{found_of}
 use Rattle.run_minutes.specs.run_promise.Cards.{IsUntouched}
@@ -27,6 +28,7 @@ use Rattle.run_events.specs.run_course.Seconds.{kept_all}
 use Rattle.run_events.specs.run_course.Telling.{IsMore, BrokeDown}
 use Rattle.run_minutes.specs.run_devices.Told.{arranged, for_card, with_standing}
 use Rattle.run_minutes.proofs.run_devices.Parts.{told-one, AreParts, parts-of}
+use Rattle.run_minutes.proofs.run_devices.Accounted.{last-early}
 use Rattle.run_outcome.specs.declared.outcome.Outcome.{Outcome}
 use Rattle.run_minutes.specs.run_promise.Origin.{Origin}
 use Rattle.run_minutes.specs.run_promise.Beside.{HaveLeftMore}
@@ -147,6 +149,13 @@ module _ (o : Origin) (done : List TraceSecond) (s : TraceSecond) (n : ℕ) (wai
 
     pub card-run : (u : List ℕ) × LeavesOnly X Y (λ x c. (y : List ℕ) × X.may_leave y × AreComingOnCard way k.memory.registration e u y c)
     card-run = (unit-told.0, at_image (λ (u : List ℕ). LeavesOnly X Y (λ x c. (y : List ℕ) × X.may_leave y × AreComingOnCard way k.memory.registration e u y c)) unit-told.1 g.entered.moments)
+
+    -- by an image of the unit that has kept no minute which has not ended
+    pub early-run : (u : List ℕ) × (last_kept u < e.at.second / 60) × LeavesOnly X Y (λ x c. (y : List ℕ) × X.may_leave y × AreComingOnCard way k.memory.registration e u y c)
+    early-run =
+        let kept : last_kept unit-told.0 < w.due = last-early (once_mended o.found.unit) before.due before.book before.marks U was.unit.unit unit-told.0 (sound.unit_before.is_left unit-told.0 unit-told.1) in
+        let late : w.due ≤ e.at.second / 60 = may-enter.late in
+        (unit-told.0, omega (arith, kept, late), at_image (λ (u : List ℕ). LeavesOnly X Y (λ x c. (y : List ℕ) × X.may_leave y × AreComingOnCard way k.memory.registration e u y c)) unit-told.1 g.entered.moments)
 
     pub left : HaveLeftMore o (arranged e.which U X Z) (arranged e.which W Y Z)
     left = record {

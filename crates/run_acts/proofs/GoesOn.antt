@@ -15,6 +15,7 @@ use Rattle.run_crew.specs.Cards.{session_of}
 use Rattle.run_minutes.specs.run_promise.Found.{CardFound, found_of}
 use Rattle.run_minutes.specs.run_promise.Cards.{IsUntouched}
 use Rattle.run_minutes.specs.run_promise.Between.{RunLedger, devices}
+use Rattle.run_minutes.specs.run_devices.Measured.{Reading}
 use Rattle.run_minutes.specs.run_devices.Told.{DevicesPowered}
 use Rattle.run_minutes.specs.run_promise.Origin.{Origin}
 use Rattle.run_outcome.specs.declared.outcome.Outcome.{Outcome}
@@ -86,7 +87,7 @@ untouched-card : (f : CardFound) (session after : Option Accepted) (old new : St
 untouched-card f None after old new h whole = inl (λ x at. whole x (h.bare refl f.began x at))
 untouched-card f (Some a) after old new h whole = inr refl
 
-module _ (o : Origin) (w : RunLedger) (failed : Bool) (cards after : Cards) (d e : Devices) (powered : DevicesPowered o.found w cards d) (there : AreThere o.found d) (h : DevicesGoOn failed cards after d e) (values : List ℕ) (timed : AreTimedOn o.found values d e) where
+module _ (o : Origin) (w : RunLedger) (failed : Bool) (cards after : Cards) (d e : Devices) (powered : DevicesPowered o.found w cards d) (there : AreThere o.found d) (h : DevicesGoOn failed cards after d e) (values : List Reading) (timed : AreTimedOn o.found values d e) where
   -- where the unit failed it broke down
   pub unit-rose : failed ≡ true → RoseBy 1 (breakdowns_of d Recorder) (breakdowns_of e Recorder)
   unit-rose is = rose-by d.unit.breakdowns e.unit.breakdowns (h.cause.breaks powered.lit.works is)

@@ -153,7 +153,7 @@ module _ (o : Origin) (done : List TraceSecond) (s : TraceSecond) (old new : Run
   ringed-by y more found =
       let now : List SpanFrom = with_second spans old.keeper.odometer t in
       let notes : List Note = notes_so_far w.within.b.run.log done log s [] in
-      let stays : Ringed (since_at o w.within.b.run.log done y s []) y now notes (seats_of old) e = rings-stay d e (since_at o w.within.b.run.log done y s []) log y now now notes (seats_of old) rings.ringed.ringed leaves left (stay-may o now (λ c t. IsBrokenSince (moves_so_far w.within.b.run.log done y s []) y c notes t) d e places) (goes-alike log y now now notes (failed-more log y more) (call-failed-more log y more) (λ u. refl) (λ k is. is)) in
+      let stays : Ringed (since_at o w.within.b.run.log done y s []) y now notes (seats_of old) e = rings-stay d e (since_at o w.within.b.run.log done y s []) log y now now notes (seats_of old) rings.ringed.ringed leaves left (stay-may o now (λ c t. IsBrokenSince (moves_so_far w.within.b.run.log done y s []) y c notes t) d e places) (goes-alike log y now now notes (failed-more log y more) (call-failed-more log y more) (λ u. refl) (λ u n is. is)) in
       record {
         spans_are = rings.ringed.spans_are;
         before = rings.ringed.before;

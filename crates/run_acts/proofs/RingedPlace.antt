@@ -220,7 +220,7 @@ module _ (o : Origin) (done : List TraceSecond) (s : TraceSecond) (front rest : 
 
   pub place-ringed : (failed : Bool) (new : Run) → AreFewer (seats_of run) (seats_of new) → new.keeper.odometer ≡ run.keeper.odometer → new.noted ≡ run.noted → WritesPlace (Some number) entry failed d.unit e.unit →
       ((log : RunLog) → (has_call_failed_in later s.number ≡ true → has_call_failed_in log s.number ≡ true) → (failed ≡ true → has_call_failed_in log s.number ≡ true) → PlaceIsTaken o log note (place_bytes entry) d e) →
-      VehiclesGo o now_spans d e → SessionsGo o NoOtherComes d e → RingsGoOn failed o done s w.within.b (front ++ a ∷ []) new later spans t e
+      VehiclesGo o now_spans NoOtherComes d e → SessionsGo o NoOtherComes d e → RingsGoOn failed o done s w.within.b (front ++ a ∷ []) new later spans t e
   place-ringed false new fewer same noted writes takes goes sessions = record {
     base = subst (λ (b : ℕ). IsLastFrom b (with_second spans b t)) (sym same) rings.base;
     counted = counted-on new noted;

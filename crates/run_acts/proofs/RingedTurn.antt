@@ -26,7 +26,7 @@ use Rattle.run_outcome.specs.declared.outcome.Outcome.{Outcome}
 use Rattle.run_minutes.specs.declared.keeper.Moment.{Moment}
 use Rattle.run_minutes.specs.Keeping.{SessionsGoOn}
 use Rattle.run_minutes.specs.Books.{HaveTime, AreTimedOn}
-use Rattle.run_minutes.specs.Decided.{odometers_of}
+use Rattle.run_minutes.specs.Decided.{readings_of}
 use Rattle.run_events.specs.run_rings.Notes.{TellSameTo}
 use Rattle.run_events.specs.run_rings.Spans.{with_second}
 use Rattle.run_minutes.specs.run_promise.Origin.{Origin, first_of}
@@ -231,7 +231,7 @@ module _ {U A0 B0 : State} {chip_a chip_b : CardState} (n speed begun : ℕ) (ol
       (number : L.number ≡ old.next + n - 1) (acts : length L.actions ≡ begun)
       (fails : T.failed ≡ true → RecordAtFailure o D L Keeping [] (Some L.speed) (told_values (told_of (record old { minutes = T.fed.minutes; keeper = T.between.keeper; watch = T.between.watch }) (record before { marks = T.told.marks; breaks = T.told.breaks }))
       (record (values_of old before) { minutes = T.fed.minutes; next = next_; begun = gone })) e)
-      (origin : IsOrigin o) (timed : AreTimedOn o.found (odometers_of old.keeper rest) d e) (spans : List SpanFrom) (t : ToldSecond) (base : IsLastFrom old.keeper.odometer (with_second spans old.keeper.odometer t)) (counted : old.noted ≤ length (log_of before).finds) (r : RingedIn o D L w.b.run.log L.actions (log_of before) spans old.keeper.odometer t (seats_of old) d)
+      (origin : IsOrigin o) (timed : AreTimedOn o.found (readings_of old.keeper rest) d e) (spans : List SpanFrom) (t : ToldSecond) (base : IsLastFrom old.keeper.odometer (with_second spans old.keeper.odometer t)) (counted : old.noted ≤ length (log_of before).finds) (r : RingedIn o D L w.b.run.log L.actions (log_of before) spans old.keeper.odometer t (seats_of old) d)
       (st : StoresOn o w.b.run.log w.b.run.unfound old.keeper.odometer (with_second spans old.keeper.odometer t)) where
     abbrev log : RunLog
     log = log_of before
@@ -266,7 +266,7 @@ module _ {U A0 B0 : State} {chip_a chip_b : CardState} (n speed begun : ℕ) (ol
     -- the cards' places stay, and what it keeps on them are readings
     places : CardsStay o (with_second spans old.keeper.odometer t) d e
     places =
-        timed-stays o origin (odometers_of old.keeper rest) d e timed (with_second spans old.keeper.odometer t)
+        timed-stays o origin (readings_of old.keeper rest) d e timed (with_second spans old.keeper.odometer t)
         (values-read o D L Keeping [] (Some L.speed) rest v d w spans old.keeper.odometer t (record { last = base; are = r.spans_are; second = r.second }) old.keeper refl)
 
     -- by a log behind it

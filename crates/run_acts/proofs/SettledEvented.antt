@@ -25,7 +25,7 @@ use Rattle.run_note_record.proofs.Adding.{call-notes}
 use Rattle.run_minutes.specs.declared.keeper.Keeper.{Keeper}
 use Rattle.run_minutes.specs.declared.keeper.Moment.{Moment}
 use Rattle.run_minutes.specs.Books.{HaveTime}
-use Rattle.run_minutes.specs.Decided.{BooksAll, odometers_of}
+use Rattle.run_minutes.specs.Decided.{BooksAll, readings_of}
 use Rattle.run_minutes.specs.Minutes.{KeepingState, Reach, Whole, Short, IsReach}
 use Rattle.run_minutes.specs.Faults.{faults_to, NotesFaults}
 use Rattle.run_record.specs.Recorded.{Values}
@@ -99,7 +99,7 @@ module _ {U A0 B0 : State} {chip_a chip_b : CardState} (old : Run) (before : Out
       (subst (λ (m : Moment). NotesFaults failed (faults_to old.keeper m reach (told_of old before)) d.unit e.unit) here faults) o r.origin a.events a.told a.valid
 
   rose : failed ≡ true → RoseBy 1 (breakdowns_of d Recorder) (breakdowns_of e Recorder)
-  rose = unit-rose o (carried_at o done s q decided (told_of old before) v d r.within) failed old.keeper.cabin.cards keeper.cabin.cards d e r.within.powered r.within.there devices (odometers_of old.keeper decided)
+  rose = unit-rose o (carried_at o done s q decided (told_of old before) v d r.within) failed old.keeper.cabin.cards keeper.cabin.cards d e r.within.powered r.within.there devices (readings_of old.keeper decided)
       (booked old before minutes keeper marks breaks at failed decided d e leaving g small stands given odometer reach is books devices o done s (suc n) waits (omega arith) here r time).1
 
   by : (f : Bool) → failed ≡ f → NotesSo f o a.events d e → EventsGoOn f o done s r.within.b.run (In (suc n)) Acting (log_of after) e

@@ -33,7 +33,7 @@ use Rattle.run_minutes.specs.declared.keeper.Moment.{Moment}
 use Rattle.run_minutes.specs.Minutes.{Reach, IsReach, or_nobody, present_at}
 use Rattle.run_minutes.specs.Deeds.{AllKeep, kepts_on}
 use Rattle.run_minutes.specs.Books.{HaveTime, AreTimedOn}
-use Rattle.run_minutes.specs.Decided.{EndsAll, BooksAll, odometers_of}
+use Rattle.run_minutes.specs.Decided.{EndsAll, BooksAll, readings_of}
 use Rattle.run_acts.specs.Rounds.{Point, IsPoint, settling_at}
 use Rattle.run_acts.specs.RoundLaws.{KeepsSo, IsKeptTo, carried_at}
 use Rattle.run_acts.proofs.RoundBegun.{over-so, may-book}
@@ -129,7 +129,7 @@ module _ {U A0 B0 : State} {chip_a chip_b : CardState} (old : Run) (before : Out
     over : All (λ (m : Minute). m.minute < s.number / 60) decided
     over = over-so o done s q decided (told_of old before) v d w (let to = end in omega (arith, to))
 
-    pub booked : EndsAll o.found (odometer_at o.recording.unit) (carried_at o done s q decided (told_of old before) v d w) old.keeper failed reach (all_travelled w.ds w.b.travel) (told_of new after) e × AreTimedOn o.found (odometers_of old.keeper decided) d e
+    pub booked : EndsAll o.found (odometer_at o.recording.unit) (carried_at o done s q decided (told_of old before) v d w) old.keeper failed reach (all_travelled w.ds w.b.travel) (told_of new after) e × AreTimedOn o.found (readings_of old.keeper decided) d e
         × (failed ≡ false → AllKeep o.found (kepts_on old.keeper decided) old.keeper.cabin.cards keeper.cabin.cards d e)
     booked = books o.found (carried_at o done s q decided (told_of old before) v d w) (odometer_at o.recording.unit) (all_travelled w.ds w.b.travel)
         (may-book o done s q decided (told_of old before) v d w few over) w.travels
@@ -141,7 +141,7 @@ module _ {U A0 B0 : State} {chip_a chip_b : CardState} (old : Run) (before : Out
       few = few;
       over = over;
       two = two-present (ungiven_of g.span) leaving old.keeper.cabin g.cabin;
-      goes = goes-on o (carried_at o done s q decided (told_of old before) v d w) failed old.keeper.cabin.cards keeper.cabin.cards d e w.powered w.there devices (odometers_of old.keeper decided) booked.1;
+      goes = goes-on o (carried_at o done s q decided (told_of old before) v d w) failed old.keeper.cabin.cards keeper.cabin.cards d e w.powered w.there devices (readings_of old.keeper decided) booked.1;
       unit = devices.cause.breakdowns;
     }
 
@@ -149,7 +149,7 @@ module _ {U A0 B0 : State} {chip_a chip_b : CardState} (old : Run) (before : Out
     kept = keeping-recorded d e o done s q decided (told_of old before) (told_of new after) v w keeps failed reach
         (subst (λ (m : Moment). IsReach decided m failed (told_of old before) (told_of new after) reach) here is)
         (record { a = devices.card_a.broken; b = devices.card_b.broken; rests = record { card_a = devices.card_a.rests; card_b = devices.card_b.rests } })
-        (unit-rose o (carried_at o done s q decided (told_of old before) v d w) failed old.keeper.cabin.cards keeper.cabin.cards d e w.powered w.there devices (odometers_of old.keeper decided) booked.1)
+        (unit-rose o (carried_at o done s q decided (told_of old before) v d w) failed old.keeper.cabin.cards keeper.cabin.cards d e w.powered w.there devices (readings_of old.keeper decided) booked.1)
         booked.0
 
     -- what is known behind it was known before

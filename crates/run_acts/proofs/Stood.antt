@@ -31,11 +31,11 @@ use Rattle.device_calls.specs.safety_model.Safe.{Devices, card_of, breakdowns_of
 use Rattle.run_minutes.specs.run_promise.Ends.{recording_by}
 use Rattle.run_minutes.specs.run_promise.Found.{found_of}
 use Rattle.run_minutes.specs.run_promise.Origin.{Origin}
-use Rattle.run_minutes.specs.run_devices.Measured.{MakesOn}
+use Rattle.run_minutes.specs.run_devices.Measured.{Reading, MakesOn}
 use Rattle.run_minutes.proofs.run_devices.Measured.{makes-self, makes-then, measures-makes}
 use Rattle.unit_notes.specs.note_model.Odometer.{SpanFrom}
 use Rattle.unit_notes.specs.note_model.Done.{has_failed_in}
-use Rattle.run_note_record.specs.OnCards.{has_call_failed_in, VehiclesGo}
+use Rattle.run_note_record.specs.OnCards.{has_call_failed_in, VehiclesGo, NoOtherComes}
 use Rattle.run_note_record.proofs.Exact.{failed_cut, failed_tear}
 use Rattle.run_note_record.proofs.SoFar.{left-itself}
 use Rattle.run_minutes.specs.Books.{AreTimedOn}
@@ -72,20 +72,20 @@ stand-then o d e f first next = record {
 }
 
 -- calls that measure the vehicle entries make the images
-pub vehicles-make : (o : Origin) (spans : List SpanFrom) (d e : Devices) → VehiclesGo o spans d e → (c : Card) → IsOwnValid (card_image o.recording c) → MakesOn (sizes_in o c) (card_of d c) (card_of e c)
-vehicles-make o spans d e go c valid y left =
+pub vehicles-make : (o : Origin) (spans : List SpanFrom) (May : Card → ℕ → Type 0) (d e : Devices) → VehiclesGo o spans May d e → (c : Card) → IsOwnValid (card_image o.recording c) → MakesOn (sizes_in o c) (card_of d c) (card_of e c)
+vehicles-make o spans May d e go c valid y left =
     let was = go c valid y left in
     (was.0, was.1, λ points. let goes = was.2 points in (goes.0, goes.2))
 
-pub vehicles-let : (o : Origin) (spans : List SpanFrom) (d e : Devices) → HaveLeftMore o d e → VehiclesGo o spans d e → LetStand o d e
-vehicles-let o spans d e left go = record { left = left; made = vehicles-make o spans d e go }
+pub vehicles-let : (o : Origin) (spans : List SpanFrom) (d e : Devices) → HaveLeftMore o d e → VehiclesGo o spans NoOtherComes d e → LetStand o d e
+vehicles-let o spans d e left go = record { left = left; made = vehicles-make o spans NoOtherComes d e go }
 
 -- two calls, by what may be left behind both
 pub let-left : (o : Origin) (d e f : Devices) → HaveLeftMore o d f → ((c : Card) → IsOwnValid (card_image o.recording c) → MakesOn (sizes_in o c) (card_of d c) (card_of e c)) → ((c : Card) → IsOwnValid (card_image o.recording c) → MakesOn (sizes_in o c) (card_of e c) (card_of f c)) → LetStand o d f
 let-left o d e f left first next = record { left = left; made = λ c valid. makes-then (sizes_in o c) (card_of d c) (card_of e c) (card_of f c) (first c valid) (next c valid) }
 
 -- minutes are kept
-pub timed-let : (o : Origin) → IsOrigin o → (values : List ℕ) (d e : Devices) → AreTimedOn o.found values d e → HaveLeftMore o d e → LetStand o d e
+pub timed-let : (o : Origin) → IsOrigin o → (values : List Reading) (d e : Devices) → AreTimedOn o.found values d e → HaveLeftMore o d e → LetStand o d e
 timed-let o origin values d e h left = record { left = left; made = made }
   where
     made : (c : Card) → IsOwnValid (card_image o.recording c) → MakesOn (sizes_in o c) (card_of d c) (card_of e c)

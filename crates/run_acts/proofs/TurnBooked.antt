@@ -15,7 +15,7 @@ use Rattle.run_minutes.specs.declared.keeper.Moment.{Moment}
 use Rattle.run_minutes.specs.Minutes.{Done, Reach, Whole, Short, KeepingState, IsReach}
 use Rattle.run_minutes.specs.Deeds.{AllKeep, kepts_on}
 use Rattle.run_minutes.specs.Books.{AreBooked, HaveTime, AreTimedOn}
-use Rattle.run_minutes.specs.Decided.{BooksAll, carried_by, odometers_of}
+use Rattle.run_minutes.specs.Decided.{BooksAll, carried_by, readings_of}
 use Rattle.run_acts.specs.Booked.{IsTurnReach, BooksTurn}
 
 -- the unit failed in one of the minutes
@@ -37,7 +37,7 @@ module _ (decided : List Minute) (at : Moment) (t u : KeepingState) (d : Devices
   }
 
   -- no card is touched by the note
-  cards-same : (f : Found) → AreTimedOn f (odometers_of t.keeper decided) d (devices U X Y) → AreTimedOn f (odometers_of t.keeper decided) d (devices V X Y)
+  cards-same : (f : Found) → AreTimedOn f (readings_of t.keeper decided) d (devices U X Y) → AreTimedOn f (readings_of t.keeper decided) d (devices V X Y)
   cards-same f timed A = timed A
   cards-same f timed B = timed B
 

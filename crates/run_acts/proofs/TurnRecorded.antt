@@ -41,7 +41,7 @@ use Rattle.run_minutes.specs.declared.keeper.Moment.{Moment}
 use Rattle.run_minutes.specs.Minutes.{KeepingState, Reach, Whole, Short, IsReach, present_at}
 use Rattle.run_minutes.specs.Deeds.{AllKeep, kepts_on}
 use Rattle.run_minutes.specs.Books.{HaveTime, AreTimedOn}
-use Rattle.run_minutes.specs.Decided.{odometers_of}
+use Rattle.run_minutes.specs.Decided.{readings_of}
 use Rattle.run_acts.specs.Rounds.{Point, IsPoint, told_values, keeping_of, moment_of}
 use Rattle.run_acts.specs.RoundLaws.{KeepsSo, HaveBrokenOff, carried_at}
 use Rattle.run_acts.proofs.RoundBegun.{are-over, may-book}
@@ -120,7 +120,7 @@ module _ (old : Run) (before : Outcome) (minutes : Kept) (keeper : Keeper) (watc
     abbrev u : KeepingState
     u = told_of between told
 
-    pub booked : IsTurnBooked o.found (odometer_at o.recording.unit) (carried_at o done s q decided t v d w) old.keeper failed reach (all_travelled w.ds w.b.travel) u e × AreTimedOn o.found (odometers_of old.keeper decided) d e
+    pub booked : IsTurnBooked o.found (odometer_at o.recording.unit) (carried_at o done s q decided t v d w) old.keeper failed reach (all_travelled w.ds w.b.travel) u e × AreTimedOn o.found (readings_of old.keeper decided) d e
         × (failed ≡ false → AllKeep o.found (kepts_on t.keeper decided) t.keeper.cabin.cards u.keeper.cabin.cards d e)
     booked = books o.found (carried_at o done s q decided t v d w) (odometer_at o.recording.unit) (all_travelled w.ds w.b.travel) (may-book o done s q decided t v d w few (are-over o done s decided t v d w)) w.travels
         (stored ∙ ap (odometer_after (odometer_at o.recording.unit)) (sym (travelled-earlier w.ds w.b.travel))) time
@@ -131,7 +131,7 @@ module _ (old : Run) (before : Outcome) (minutes : Kept) (keeper : Keeper) (watc
       few = few;
       over = are-over o done s decided t v d w;
       two = two;
-      goes = goes-on o (carried_at o done s q decided t v d w) failed old.keeper.cabin.cards keeper.cabin.cards d e w.powered w.there devices (odometers_of old.keeper decided) booked.1;
+      goes = goes-on o (carried_at o done s q decided t v d w) failed old.keeper.cabin.cards keeper.cabin.cards d e w.powered w.there devices (readings_of old.keeper decided) booked.1;
       unit = devices.cause.breakdowns;
     }
 
@@ -139,7 +139,7 @@ module _ (old : Run) (before : Outcome) (minutes : Kept) (keeper : Keeper) (watc
     off = record { a = devices.card_a.broken; b = devices.card_b.broken; rests = record { card_a = devices.card_a.rests; card_b = devices.card_b.rests } }
 
     pub rose : failed ≡ true → RoseBy 1 (breakdowns_of d Recorder) (breakdowns_of e Recorder)
-    rose = unit-rose o (carried_at o done s q decided t v d w) failed old.keeper.cabin.cards keeper.cabin.cards d e w.powered w.there devices (odometers_of old.keeper decided) booked.1
+    rose = unit-rose o (carried_at o done s q decided t v d w) failed old.keeper.cabin.cards keeper.cabin.cards d e w.powered w.there devices (readings_of old.keeper decided) booked.1
 
     pub at-is : late_moment old.next n begun ≡ moment_of s q
     at-is = ap (λ (m : ℕ). record { second = m; begun = begun; late = true }) (sym number) ∙ ap (λ (b : ℕ). record { second = s.number; begun = b; late = true }) (sym actions)
@@ -355,7 +355,7 @@ module _ {U A0 B0 : State} {chip_a chip_b : CardState} (n speed begun : ℕ) (ol
 
     -- what its keeping leaves of when cards were used, and of their events
     pub timed-last : (c : ℕ) → c ≡ n - 1 → (D : List TraceSecond) (L : TraceSecond) (next gone : ℕ) → L.number ≡ s.number + c → next ≡ old.next + c → length L.actions ≡ begun →
-        (w : RecordInSecond o D L Keeping [] (Some L.speed) T.decided (record (values_of old before) { minutes = T.fed.minutes; next = next; begun = gone }) d) → w.b.travel.before ≡ r.within.b.travel.before → w.from ≡ r.within.from → AreTimedOn o.found (odometers_of old.keeper T.decided) d e
+        (w : RecordInSecond o D L Keeping [] (Some L.speed) T.decided (record (values_of old before) { minutes = T.fed.minutes; next = next; begun = gone }) d) → w.b.travel.before ≡ r.within.b.travel.before → w.from ≡ r.within.from → AreTimedOn o.found (readings_of old.keeper T.decided) d e
     timed-last c is D L next gone number next_is acts w travel from =
         let at = now.number in
         let num : L.number ≡ old.next + n - 1 = omega (arith, number, is, at, some) in

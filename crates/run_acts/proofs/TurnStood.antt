@@ -13,7 +13,7 @@ use Rattle.run_events.specs.run_course.Moments.{and_break}
 use Rattle.run_outcome.specs.declared.outcome.Outcome.{Outcome}
 use Rattle.run_minutes.specs.declared.keeper.Moment.{Moment}
 use Rattle.run_minutes.specs.Books.{HaveTime}
-use Rattle.run_minutes.specs.Decided.{odometers_of}
+use Rattle.run_minutes.specs.Decided.{readings_of}
 use Rattle.run_minutes.specs.run_promise.Origin.{Origin}
 use Rattle.run_minutes.specs.run_promise.Beside.{HaveLeftMore}
 use Rattle.run_record.specs.Turning.{last_of, IsTurned}
@@ -94,7 +94,7 @@ module _ {U A0 B0 : State} {chip_a chip_b : CardState} (n speed begun : ℕ) (ol
         let lines = last-lines s (number-of zero is) (acts-of zero is) in
         let at_ = now.number in
         let next : IsLater x.fed.b.run.log (log_of after) done s.number = lines-later o done s Keeping [] (Some s.speed) T.decided (record (values_of old before) { minutes = T.fed.minutes; next = old.next + 0; begun = x.begun }) d x.fed lines.0 (log_of after) lines.1 lines.2 (omega (arith, at_, low)) in (
-          timed-let o r.origin (odometers_of old.keeper T.decided) d e
+          timed-let o r.origin (readings_of old.keeper T.decided) d e
               (timed-last n speed begun old new before after d e g lit some minute small h o done s now actions none r time zero is done s (old.next + 0) x.begun (last-number zero s) refl (acts-of zero is) x.fed x.travelled_before x.from) left,
           tells-beside r.within.b.run.log (log_of before) (log_of after) done lines-first.behind.same
               (subst (λ (b : Beginning). All (λ (t : TraceSecond). SameAt b.run.log (log_of after) t.number) done) (x.first refl) next.behind.same) lines.0 (ap (λ (l : RunLog). l.breaks) lines.1),
@@ -106,7 +106,7 @@ module _ {U A0 B0 : State} {chip_a chip_b : CardState} (n speed begun : ℕ) (ol
         let number = last-number (suc c) s in
         let lines = last-lines L (number-of (suc c) is) (acts-of (suc c) is) in
         let next : IsLater x.fed.b.run.log (log_of after) D L.number = lines-later o D L Keeping [] (Some L.speed) T.decided (record (values_of old before) { minutes = T.fed.minutes; next = old.next + suc c; begun = x.begun }) d x.fed lines.0 (log_of after) lines.1 lines.2 (omega (arith, at_, low, number)) in (
-          timed-let o r.origin (odometers_of old.keeper T.decided) d e
+          timed-let o r.origin (readings_of old.keeper T.decided) d e
               (timed-last n speed begun old new before after d e g lit some minute small h o done s now actions none r time (suc c) is D L (old.next + suc c) x.begun (last-number (suc c) s) refl (acts-of (suc c) is) x.fed x.travelled_before x.from) left,
           record {
             same = all-front (λ (t : TraceSecond). SameAt (log_of before) (log_of after) t.number) done (s ∷ driven c (s.number + 1) s.speed [])

@@ -13,7 +13,7 @@ use Rattle.run_minutes.specs.declared.keeper.Moment.{Moment}
 use Rattle.run_minutes.specs.Minutes.{Done, Reach, Whole, Short, KeepingState, IsReach}
 use Rattle.run_minutes.specs.Deeds.{AllKeep, kepts_on}
 use Rattle.run_minutes.specs.Books.{AreBooked, HaveTime, AreTimedOn}
-use Rattle.run_minutes.specs.Decided.{MayBookAll, EndsAll, carried_by, odometers_of}
+use Rattle.run_minutes.specs.Decided.{MayBookAll, EndsAll, carried_by, readings_of}
 use Rattle.run_acts.specs.declared.run.Run.{Run}
 use Rattle.run_acts.specs.Devices.{DevicesGoOn}
 use Rattle.run_acts.specs.Turning.{IsLitTurn, late_moment, told_of}
@@ -39,7 +39,7 @@ abbrev pub BooksTurn : List Minute → (failed : Bool) → Reach → (t u : Keep
 BooksTurn decided failed reach t u d e = (f : Found) (w : RunLedger) (start : ℕ) (g : Travel)
     → MayBookAll f w decided t d → HasTravelled start w.book g d.unit
     → t.keeper.odometer ≡ odometer_after start g.before → HaveTime e
-    → IsTurnBooked f start w t.keeper failed reach g u e × AreTimedOn f (odometers_of t.keeper decided) d e
+    → IsTurnBooked f start w t.keeper failed reach g u e × AreTimedOn f (readings_of t.keeper decided) d e
     × (failed ≡ false → AllKeep f (kepts_on t.keeper decided) t.keeper.cabin.cards u.keeper.cabin.cards d e)
 
 -- N SECONDS WITH POWER, booked: by how they went, and how far their minutes came; and unit and cards go on

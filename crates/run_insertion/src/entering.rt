@@ -114,23 +114,15 @@ fn accept_by<M: Medium, C: Chip, D: Chip>(
     let app = beside.app;
     let others = beside.others;
     let registration = keeper.memory.identity().registration;
-    let now = TimeReal(entering.at.second);
     let spared = keeper.cabin.cards.of(other_card(entering.which)).number;
-    let insertion = CardInsertion {
+    let put = CardInsertion {
         app,
-        time: now,
+        time: TimeReal(entering.at.second),
         registration,
         odometer: entering.odometer,
         spared,
     };
-    match enter(
-        unit,
-        &keeper.journal,
-        card,
-        others,
-        entering.which,
-        insertion,
-    ) {
+    match enter(unit, &keeper.journal, card, others, entering.which, put) {
         Ok(entered) => {
             let found = Found {
                 entering,

@@ -141,30 +141,6 @@ module _ (g : Over) (c : After-len-most g) where
     room = room;
   }
 
-pub returns-clause-held : goal.returns-clause-held
-returns-clause-held g c =
-    let w = c.accept-answer.ensures.entered in let h = c.requires.acting.going in let held = c.requires.acting.held in
-    let e = c.args.entering in
-    let old = c.args.run.now.keeper.cabin.cards in let new = c.accept-answer.new.keeper.cabin.cards in
-    let k = comes g c in
-    let sum = owing-sum c.args.run.now.minutes h.span h.stands in
-    let end = h.next in let none = c.requires.may.none in let minute = held.minute in let at = c.requires.may.at in
-    let mine = mine-at old (g.C.Chip.card c.args.card.now) (g.D.Chip.card c.args.others.now) (g.C.Chip.state c.args.card.now) (g.D.Chip.state c.args.others.now) e.which held.card_a held.card_b in
-    let others = other-at old (g.C.Chip.card c.args.card.now) (g.D.Chip.card c.args.others.now) (g.C.Chip.state c.args.card.now) (g.D.Chip.state c.args.others.now) e.which held.card_a held.card_b in
-    let now : CardAt (known_of new e.which) (g.C.Chip.card c.accept-answer.new.card) (g.C.Chip.state c.accept-answer.new.card) =
-    record { port = c.accept-answer.ensures.behind.entered.card.port; size = let was = mine.size in let same = c.accept-answer.ensures.behind.entered.size in omega (arith, was, same) } in
-    let still : CardAt (known_of new (other e.which)) (g.D.Chip.card c.args.others.now) (g.D.Chip.state c.args.others.now) =
-    subst (λ (q : Known). CardAt q (g.D.Chip.card c.args.others.now) (g.D.Chip.state c.args.others.now)) (sym k.others) others in
-    let both = both-at new (g.C.Chip.card c.accept-answer.new.card) (g.D.Chip.card c.args.others.now) (g.C.Chip.state c.accept-answer.new.card) (g.D.Chip.state c.args.others.now) e.which now still in
-    record {
-      is_unit = unit-stays w.1.notes.moments held.is_unit;
-      odometer = let same = ap (λ (q : Keeper). q.odometer) w.1.left.keeper in let most = held.odometer in omega (arith, same, most);
-      minute = k.minute (c.args.run.now.next / 60) minute (let is = ap (λ (n : ℕ). n / 60) at in omega (arith, is));
-      card_a = both.0;
-      card_b = both.1;
-      stand = (ungiven_of h.span, None, c.accept-answer.ensures.behind.entered.stands (ungiven_of h.span) (let here = ap (λ (n : ℕ). n / 60) at in omega (arith, sum, end, none, here)) h.cabin);
-    }
-
 -- it leaves the blocks of detailed speed
 speeds-left : (g : Over) (c : After-len-most g) → LeavesSpeeds (g.M.Medium.state c.args.unit.now) (g.M.Medium.state c.accept-answer.new.unit)
 speeds-left g c =
@@ -172,46 +148,74 @@ speeds-left g c =
     entered-leaves (notes_by (ending_of w.0) c.args.entering c.args.run.now.noted (measured w.0 c.args.entering c.args.run.now.keeper).cabin) (is_err c.accept-answer.result) (g.M.Medium.state c.args.unit.now) (g.M.Medium.state c.accept-answer.new.unit)
     (g.met.M.Medium.coherent c.args.unit.now) w.1.notes
 
-pub returns-clause-going : goal.returns-clause-going
-returns-clause-going g c = on_ok c.accept-answer.result (λ well.
-    let w = c.accept-answer.ensures.entered in let h = c.requires.acting.going in let held = c.requires.acting.held in
-    let e = c.args.entering in
-    let U = g.M.Medium.state c.args.unit.now in let V = g.M.Medium.state c.accept-answer.new.unit in
-    let old = c.args.run.now.keeper.cabin.cards in let new = c.accept-answer.new.keeper.cabin.cards in
-    let k = comes g c in
-    let sum = owing-sum c.args.run.now.minutes h.span h.stands in
-    let end = h.next in let none = c.requires.may.none in let at = c.requires.may.at in
-    let same = others-session e.which old new k.others in
-    let rows : (card : Card) → HasItsRow old U card → HasItsRow new V card = λ card had. ok_gives c.accept-answer.result (c.accept-answer.ensures.behind.entered.rows card had) well in
-    let others = other-ready old (g.C.Chip.card c.args.card.now) (g.D.Chip.card c.args.others.now) (g.C.Chip.state c.args.card.now) (g.D.Chip.state c.args.others.now) e.which h.ready.card_a h.ready.card_b in
-    let still : CardMayBeCalled (known_of new (other e.which)) (g.D.Chip.card c.args.others.now) (g.D.Chip.state c.args.others.now) =
-    subst (λ (q : Known). CardMayBeCalled q (g.D.Chip.card c.args.others.now) (g.D.Chip.state c.args.others.now)) (sym k.others) others in
-    let both = both-ready new (g.C.Chip.card c.accept-answer.new.card) (g.D.Chip.card c.args.others.now) (g.C.Chip.state c.accept-answer.new.card) (g.D.Chip.state c.args.others.now) e.which c.accept-answer.ensures.behind.entered.card still in
-    record {
-      ready = record { unit_ready = ok_gives c.accept-answer.result c.accept-answer.ensures.behind.entered.ready well; card_a = both.0; card_b = both.1 };
-      span = h.span;
-      stands = h.stands;
-      next = h.next;
-      low = h.low;
-      due = h.due;
-      later = let is = ap (λ (q : Keeper). q.journal.kept) w.1.left.keeper in let less = h.later in omega (arith, is, less);
-      cabin = c.accept-answer.ensures.behind.entered.stands (ungiven_of h.span) (let here = ap (λ (n : ℕ). n / 60) at in omega (arith, sum, end, none, here)) h.cabin;
-      ended = ended-went (ungiven_of h.span) (c.args.run.now.next / 60) c.args.run.now.keeper.cabin.slots c.accept-answer.new.keeper.cabin.slots k.past h.ended;
-      rows = λ card some.
-          ⊎_elim
-          (λ is. subst (λ (d : Card). HasItsRow new V d) (sym is)
-          (ok_gives c.accept-answer.result (some-gives (session_of new e.which) c.accept-answer.ensures.behind.row (subst (λ (d : Card). is_some (session_of new d) ≡ true) is some)) well))
-          (λ is. rows card (h.rows card
-          (subst (λ (d : Card). is_some (session_of old d) ≡ true) (sym is) (ap (λ (o : Option Accepted). is_some o) (sym same) ∙ subst (λ (d : Card). is_some (session_of new d) ≡ true) is some)))) (card-or-other e.which card);
-      present = λ m le. subst (λ (l : List Ended). IfSome (present_in l m) (HaveRows new V)) (sym k.past) (rows-went old new U V rows (present_in c.args.run.now.keeper.cabin.slots.past m) (h.present m le));
-      entries = λ card.
-          ⊎_elim (λ is. subst (λ (d : Card). IfSome (session_of new d) (HasEntry c.accept-answer.new.noted)) (sym is) k.entry)
-          (λ is. subst (λ (d : Card). IfSome (session_of new d) (HasEntry c.accept-answer.new.noted)) (sym is)
-          (subst (λ (o : Option Accepted). IfSome o (HasEntry c.accept-answer.new.noted)) (sym same) (entry-more c.args.run.now.noted c.accept-answer.new.noted (session_of old (other e.which)) k.count (h.entries (other e.which))))) (card-or-other e.which card);
-      watches = h.watches;
-      limit = h.limit;
-      newest = knows-left c.args.run.now.watch.newest (g.M.Medium.state c.args.unit.now) (g.M.Medium.state c.accept-answer.new.unit) (g.met.M.Medium.coherent c.args.unit.now) (g.met.M.Medium.coherent c.accept-answer.new.unit) h.ready.unit_ready.works (speeds-left g c) h.newest;
-    })
+pub returns-clause-behind : goal.returns-clause-behind
+returns-clause-behind g c = record {
+  held = record {
+    held =
+        let w = c.accept-answer.ensures.entered in let h = c.requires.acting.going in let held = c.requires.acting.held in
+        let e = c.args.entering in
+        let old = c.args.run.now.keeper.cabin.cards in let new = c.accept-answer.new.keeper.cabin.cards in
+        let k = comes g c in
+        let sum = owing-sum c.args.run.now.minutes h.span h.stands in
+        let end = h.next in let none = c.requires.may.none in let minute = held.minute in let at = c.requires.may.at in
+        let mine = mine-at old (g.C.Chip.card c.args.card.now) (g.D.Chip.card c.args.others.now) (g.C.Chip.state c.args.card.now) (g.D.Chip.state c.args.others.now) e.which held.card_a held.card_b in
+        let others = other-at old (g.C.Chip.card c.args.card.now) (g.D.Chip.card c.args.others.now) (g.C.Chip.state c.args.card.now) (g.D.Chip.state c.args.others.now) e.which held.card_a held.card_b in
+        let now : CardAt (known_of new e.which) (g.C.Chip.card c.accept-answer.new.card) (g.C.Chip.state c.accept-answer.new.card) =
+        record { port = c.accept-answer.ensures.behind.entered.card.port; size = let was = mine.size in let same = c.accept-answer.ensures.behind.entered.size in omega (arith, was, same) } in
+        let still : CardAt (known_of new (other e.which)) (g.D.Chip.card c.args.others.now) (g.D.Chip.state c.args.others.now) =
+        subst (λ (q : Known). CardAt q (g.D.Chip.card c.args.others.now) (g.D.Chip.state c.args.others.now)) (sym k.others) others in
+        let both = both-at new (g.C.Chip.card c.accept-answer.new.card) (g.D.Chip.card c.args.others.now) (g.C.Chip.state c.accept-answer.new.card) (g.D.Chip.state c.args.others.now) e.which now still in
+        record {
+          is_unit = unit-stays w.1.notes.moments held.is_unit;
+          odometer = let same = ap (λ (q : Keeper). q.odometer) w.1.left.keeper in let most = held.odometer in omega (arith, same, most);
+          minute = k.minute (c.args.run.now.next / 60) minute (let is = ap (λ (n : ℕ). n / 60) at in omega (arith, is));
+          card_a = both.0;
+          card_b = both.1;
+          stand = (ungiven_of h.span, None, c.accept-answer.ensures.behind.entered.stands (ungiven_of h.span) (let here = ap (λ (n : ℕ). n / 60) at in omega (arith, sum, end, none, here)) h.cabin);
+        };
+    cause = c.accept-answer.ensures.behind.entered.cause;
+  };
+  going =
+      on_ok c.accept-answer.result (λ well.
+      let w = c.accept-answer.ensures.entered in let h = c.requires.acting.going in let held = c.requires.acting.held in
+      let e = c.args.entering in
+      let U = g.M.Medium.state c.args.unit.now in let V = g.M.Medium.state c.accept-answer.new.unit in
+      let old = c.args.run.now.keeper.cabin.cards in let new = c.accept-answer.new.keeper.cabin.cards in
+      let k = comes g c in
+      let sum = owing-sum c.args.run.now.minutes h.span h.stands in
+      let end = h.next in let none = c.requires.may.none in let at = c.requires.may.at in
+      let same = others-session e.which old new k.others in
+      let rows : (card : Card) → HasItsRow old U card → HasItsRow new V card = λ card had. ok_gives c.accept-answer.result (c.accept-answer.ensures.behind.entered.rows card had) well in
+      let others = other-ready old (g.C.Chip.card c.args.card.now) (g.D.Chip.card c.args.others.now) (g.C.Chip.state c.args.card.now) (g.D.Chip.state c.args.others.now) e.which h.ready.card_a h.ready.card_b in
+      let still : CardMayBeCalled (known_of new (other e.which)) (g.D.Chip.card c.args.others.now) (g.D.Chip.state c.args.others.now) =
+      subst (λ (q : Known). CardMayBeCalled q (g.D.Chip.card c.args.others.now) (g.D.Chip.state c.args.others.now)) (sym k.others) others in
+      let both = both-ready new (g.C.Chip.card c.accept-answer.new.card) (g.D.Chip.card c.args.others.now) (g.C.Chip.state c.accept-answer.new.card) (g.D.Chip.state c.args.others.now) e.which c.accept-answer.ensures.behind.entered.card still in
+      record {
+        ready = record { unit_ready = ok_gives c.accept-answer.result c.accept-answer.ensures.behind.entered.ready well; card_a = both.0; card_b = both.1 };
+        span = h.span;
+        stands = h.stands;
+        next = h.next;
+        low = h.low;
+        due = h.due;
+        later = let is = ap (λ (q : Keeper). q.journal.kept) w.1.left.keeper in let less = h.later in omega (arith, is, less);
+        cabin = c.accept-answer.ensures.behind.entered.stands (ungiven_of h.span) (let here = ap (λ (n : ℕ). n / 60) at in omega (arith, sum, end, none, here)) h.cabin;
+        ended = ended-went (ungiven_of h.span) (c.args.run.now.next / 60) c.args.run.now.keeper.cabin.slots c.accept-answer.new.keeper.cabin.slots k.past h.ended;
+        rows = λ card some.
+            ⊎_elim
+            (λ is. subst (λ (d : Card). HasItsRow new V d) (sym is)
+            (ok_gives c.accept-answer.result (some-gives (session_of new e.which) c.accept-answer.ensures.behind.row (subst (λ (d : Card). is_some (session_of new d) ≡ true) is some)) well))
+            (λ is. rows card (h.rows card
+            (subst (λ (d : Card). is_some (session_of old d) ≡ true) (sym is) (ap (λ (o : Option Accepted). is_some o) (sym same) ∙ subst (λ (d : Card). is_some (session_of new d) ≡ true) is some)))) (card-or-other e.which card);
+        present = λ m le. subst (λ (l : List Ended). IfSome (present_in l m) (HaveRows new V)) (sym k.past) (rows-went old new U V rows (present_in c.args.run.now.keeper.cabin.slots.past m) (h.present m le));
+        entries = λ card.
+            ⊎_elim (λ is. subst (λ (d : Card). IfSome (session_of new d) (HasEntry c.accept-answer.new.noted)) (sym is) k.entry)
+            (λ is. subst (λ (d : Card). IfSome (session_of new d) (HasEntry c.accept-answer.new.noted)) (sym is)
+            (subst (λ (o : Option Accepted). IfSome o (HasEntry c.accept-answer.new.noted)) (sym same) (entry-more c.args.run.now.noted c.accept-answer.new.noted (session_of old (other e.which)) k.count (h.entries (other e.which))))) (card-or-other e.which card);
+        watches = h.watches;
+        limit = h.limit;
+        newest = knows-left c.args.run.now.watch.newest (g.M.Medium.state c.args.unit.now) (g.M.Medium.state c.accept-answer.new.unit) (g.met.M.Medium.coherent c.args.unit.now) (g.met.M.Medium.coherent c.accept-answer.new.unit) h.ready.unit_ready.works (speeds-left g c) h.newest;
+      });
+}
 
 pub returns-clause-takes : goal.returns-clause-takes
 returns-clause-takes g c =

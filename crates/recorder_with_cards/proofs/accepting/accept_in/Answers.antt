@@ -48,7 +48,7 @@ returns-in-A-clause-promises g c = record {
       subst (λ (card : Card). RingsJudged c.args.put.slot card c.args.put.at (is_err c.accept_here.result) c.args.run.now c.accept_here.new.run c.args.outcome.now c.accept_here.new.outcome d e) (sym c.in-A.is)
       (λ o done s n waits fewer at next spans now counted time.
       let same = c.odometer_now-odometer.ensures.value next.goes.within.sp next.goes.within.minutes in
-      c.accept_here.ensures.promises.ringed room o done s n waits fewer at next spans (record { at = same ∙ now.at; reads = subst (λ (k : ℕ). IsReading spans k) (sym same) now.reads }) counted time);
+      c.accept_here.ensures.promises.ringed room o done s n waits fewer at next spans (record { at = same ∙ now.at; reads = subst (λ (k : ℕ). IsReading spans s.number k) (sym same) now.reads }) counted time);
   cards =
       λ room.
       let d : Devices = devices (g.M.Medium.state c.args.unit.now) (g.C.Chip.state c.args.card_a.now) (g.D.Chip.state c.args.card_b.now) in
@@ -63,18 +63,11 @@ returns-in-A-clause-leaves g c = record {
 }
 
 pub returns-in-A-clause-behind : goal.returns-in-A-clause-behind
-returns-in-A-clause-behind g c = record {
-  held =
-      record {
-        held = c.accept_here.ensures.held;
-        cause = c.accept_here.ensures.cause;
-      };
-  going = first_of (search rules, grind (arith, common_steps));
-}
+returns-in-A-clause-behind g c = c.accept_here.ensures.behind
 
 pub returns-in-A-clause-goes : goal.returns-in-A-clause-goes
 returns-in-A-clause-goes g c = record {
-  later = later-of-a (g.M.Medium.state c.args.unit.now) (g.M.Medium.state c.accept_here.new.unit) (g.C.Chip.state c.args.card_a.now) (g.C.Chip.state c.accept_here.new.card) (g.D.Chip.state c.args.card_b.now) (state-by (g.M.Medium.state c.args.unit.now) (g.M.Medium.state c.accept_here.new.unit) _ c.accept_here.ensures.goes.clock c.accept_here.ensures.cause) c.accept_here.ensures.goes.later c.accept_here.ensures.goes.speeds;
+  later = later-of-a (g.M.Medium.state c.args.unit.now) (g.M.Medium.state c.accept_here.new.unit) (g.C.Chip.state c.args.card_a.now) (g.C.Chip.state c.accept_here.new.card) (g.D.Chip.state c.args.card_b.now) (state-by (g.M.Medium.state c.args.unit.now) (g.M.Medium.state c.accept_here.new.unit) _ c.accept_here.ensures.goes.clock c.accept_here.ensures.behind.held.cause) c.accept_here.ensures.goes.later c.accept_here.ensures.goes.speeds;
   calm = calm-of-a (g.M.Medium.state c.args.unit.now) (g.M.Medium.state c.accept_here.new.unit) (g.C.Chip.state c.args.card_a.now) (g.C.Chip.state c.accept_here.new.card) (g.D.Chip.state c.args.card_b.now) c.accept_here.ensures.goes.calm;
   most = record { unit = c.accept_here.ensures.goes.most.0; card_a = c.accept_here.ensures.goes.most.1; card_b = omega arith };
 }
@@ -106,7 +99,7 @@ returns-in-B-clause-promises g c = record {
       subst (λ (card : Card). RingsJudged c.args.put.slot card c.args.put.at (is_err c.accept_here-in-B.result) c.args.run.now c.accept_here-in-B.new.run c.args.outcome.now c.accept_here-in-B.new.outcome d e) (sym c.in-B.is)
       (λ o done s n waits fewer at next spans now counted time.
       let same = c.odometer_now-odometer.ensures.value next.goes.within.sp next.goes.within.minutes in
-      c.accept_here-in-B.ensures.promises.ringed room o done s n waits fewer at next spans (record { at = same ∙ now.at; reads = subst (λ (k : ℕ). IsReading spans k) (sym same) now.reads }) counted time);
+      c.accept_here-in-B.ensures.promises.ringed room o done s n waits fewer at next spans (record { at = same ∙ now.at; reads = subst (λ (k : ℕ). IsReading spans s.number k) (sym same) now.reads }) counted time);
   cards =
       λ room.
       let d : Devices = devices (g.M.Medium.state c.args.unit.now) (g.C.Chip.state c.args.card_a.now) (g.D.Chip.state c.args.card_b.now) in
@@ -121,18 +114,11 @@ returns-in-B-clause-leaves g c = record {
 }
 
 pub returns-in-B-clause-behind : goal.returns-in-B-clause-behind
-returns-in-B-clause-behind g c = record {
-  held =
-      record {
-        held = c.accept_here-in-B.ensures.held;
-        cause = c.accept_here-in-B.ensures.cause;
-      };
-  going = first_of (search rules, grind (arith, common_steps));
-}
+returns-in-B-clause-behind g c = c.accept_here-in-B.ensures.behind
 
 pub returns-in-B-clause-goes : goal.returns-in-B-clause-goes
 returns-in-B-clause-goes g c = record {
-  later = later-of-b (g.M.Medium.state c.args.unit.now) (g.M.Medium.state c.accept_here-in-B.new.unit) (g.C.Chip.state c.args.card_a.now) (g.D.Chip.state c.args.card_b.now) (g.D.Chip.state c.accept_here-in-B.new.card) (state-by (g.M.Medium.state c.args.unit.now) (g.M.Medium.state c.accept_here-in-B.new.unit) _ c.accept_here-in-B.ensures.goes.clock c.accept_here-in-B.ensures.cause) c.accept_here-in-B.ensures.goes.later c.accept_here-in-B.ensures.goes.speeds;
+  later = later-of-b (g.M.Medium.state c.args.unit.now) (g.M.Medium.state c.accept_here-in-B.new.unit) (g.C.Chip.state c.args.card_a.now) (g.D.Chip.state c.args.card_b.now) (g.D.Chip.state c.accept_here-in-B.new.card) (state-by (g.M.Medium.state c.args.unit.now) (g.M.Medium.state c.accept_here-in-B.new.unit) _ c.accept_here-in-B.ensures.goes.clock c.accept_here-in-B.ensures.behind.held.cause) c.accept_here-in-B.ensures.goes.later c.accept_here-in-B.ensures.goes.speeds;
   calm = calm-of-b (g.M.Medium.state c.args.unit.now) (g.M.Medium.state c.accept_here-in-B.new.unit) (g.C.Chip.state c.args.card_a.now) (g.D.Chip.state c.args.card_b.now) (g.D.Chip.state c.accept_here-in-B.new.card) c.accept_here-in-B.ensures.goes.calm;
   most = record { unit = c.accept_here-in-B.ensures.goes.most.0; card_a = omega arith; card_b = c.accept_here-in-B.ensures.goes.most.1 };
 }

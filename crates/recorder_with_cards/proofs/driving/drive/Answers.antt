@@ -1,4 +1,4 @@
-use Rattle.std.proofs.Common.{rules, ◌≡◌, ◌∙◌, ℕ, ◌+◌, ◌-◌, ◌<◌, ◌≤◌, Bool, true, false, List, [], ◌++◌, length, refl, ap, sym, subst, arith}
+use Rattle.std.proofs.Common.{rules, ◌≡◌, ◌∙◌, ◌||◌, ℕ, ◌+◌, ◌-◌, ◌<◌, ◌≤◌, Bool, true, false, List, [], ◌++◌, length, refl, ap, sym, subst, arith}
 use Rattle.std.proofs.lemmas.List.{append-nil}
 use Rattle.trace_model.specs.declared.Action.{Action}
 use Rattle.trace_model.specs.Trace.{TraceSecond, driven}
@@ -45,9 +45,13 @@ use Rattle.recorder_with_cards.proofs.Resumed.{same-devices}
 use Rattle.recorder_with_cards.proofs.Time.{later-time, after-time}
 use Rattle.recorder_with_cards.proofs.driving.drive.Given.{Over}
 use Rattle.recorder_with_cards.proofs.driving.drive.Goals.{After-drive_on}
-use Rattle.recorder_with_cards.specs.Writes.{turns_among}
+use Rattle.recorder_with_cards.specs.Writes.{turns_among, WritesBetween, power_ons_told, powered, powered_by}
 use Rattle.recorder_with_cards.proofs.Turns.{all-turns}
-use Rattle.recorder_with_cards.proofs.Writes.{writes-begun, writes-driven}
+use Rattle.std.specs.Prelude.{is_err}
+use Rattle.run_minutes.specs.Writes.{WroteAtMost}
+use Rattle.run_minutes.proofs.Writes.{wrote-none}
+use Rattle.recorder_with_cards.proofs.PowerOns.{begins-once, refused-on, acted-on, turned-on}
+use Rattle.recorder_with_cards.proofs.Writes.{BeginsOnce, between-refused, between-driven}
 use Rattle.recorder_with_cards.proofs.driving.drive.Goals as goal
 
 -- ---- THE FIRST SECOND, and those behind it
@@ -82,6 +86,24 @@ module _ (g : Over) (c : After-drive_on g) where
 
   now-acted : IsNow second c.args.due.speed c.act_all.new.run
   now-acted = record { number = sym begun-next ∙ sym c.act_all.ensures.acted.next; given = refl; speed_is = refl }
+
+  -- it begins with one power-on at most
+  same-begun : (c.begin_second.new.unit ≡ c.args.unit.now) × (c.begin_second.new.card_a ≡ c.args.card_a.now) × (c.begin_second.new.card_b ≡ c.args.card_b.now) → WroteAtMost 0 0 dev0 dev1
+  same-begun same = same-devices (λ (x : Devices). WroteAtMost 0 0 dev0 x) g.M.Medium.state g.C.Chip.state g.D.Chip.state c.args.unit.now c.begin_second.new.unit c.args.card_a.now c.begin_second.new.card_a c.args.card_b.now c.begin_second.new.card_b same (wrote-none 0 0 dev0)
+
+  once-begun : BeginsOnce (powered c.args.run.now c.args.outcome.now) (powered c.begin_second.new.run c.begin_second.new.outcome) dev0 dev1
+  once-begun =
+      begins-once c.args.due.speed c.in_ok-has_power.has_power c.args.run.now c.begin_second.new.run c.args.outcome.now c.begin_second.new.outcome dev0 dev1 c.in_ok-has_power.ensures.goes.most
+      (λ away. let is = c.in_ok-has_power.ensures.dark away in (is.0, is.1, same-begun (is.2, is.3, is.4)))
+      (λ on. let is = c.in_ok-has_power.ensures.lit on in (is.1, is.2, same-begun (is.3, is.4, is.5)))
+      (λ dark_ given. c.in_ok-has_power.ensures.promises.noted dark_ (sym c.in_ok-has_power.ensures.begun.has ∙ given))
+
+  -- and no call behind tells one less
+  on-turned : powered c.begin_second.new.run c.begin_second.new.outcome ≤ powered c.turn.new.run c.turn.new.outcome
+  on-turned =
+      let acted = acted-on c.in_ok-has_power.has_power c.args.due.speed 0 (between c.args.due.from c.args.due.to c.args.due.items.now) c.begin_second.new.run c.act_all.new.run c.begin_second.new.outcome c.act_all.new.outcome c.act_all.ensures.acted.done in
+      let turned = turned-on (is_lit c.act_all.new.run.power) 1 c.args.due.speed c.number_of-begun.result c.act_all.new.run c.turn.new.run c.act_all.new.outcome c.turn.new.outcome c.turn.ensures.turned.seconds in
+      omega (arith, acted, turned)
 
   later-by-one : c.turn.new.run.next ≡ c.args.run.now.next + 1
   later-by-one = c.turn.ensures.turned.next ∙ ap (λ (n : ℕ). n + 1) (c.act_all.ensures.acted.next ∙ begun-next)
@@ -297,8 +319,8 @@ returns-clause-goes g c = record {
       let s : ℕ = c.args.due.seconds in
       let k : ℕ = c.args.run.now.next in
       let v : ℕ = c.args.due.speed in
-      writes-driven (turns_among 2 (driven s k v [])) (turns_among 1 (driven (s - 1) c.turn.new.run.next v [])) (c.args.due.to - c.args.due.from) (dev0 g c) (dev1 g c) (dev2 g c) (dev3 g c) (dev4 g c)
-      (all-turns s k v c.requires.some ∙ ap (λ (n : ℕ). 1 + turns_among 1 (driven (s - 1) n v [])) (sym (later-by-one g c))) c.in_ok-has_power.ensures.goes.most c.act_all.ensures.goes.most c.turn.ensures.goes.most c.drive_on.ensures.goes.most;
+      between-driven (turns_among 2 (driven s k v [])) (turns_among 1 (driven (s - 1) c.turn.new.run.next v [])) (c.args.due.to - c.args.due.from) (powered c.args.run.now c.args.outcome.now) (powered c.begin_second.new.run c.begin_second.new.outcome) (powered c.turn.new.run c.turn.new.outcome) (0 + powered_by c.drive_on.result c.drive_on.new.run c.drive_on.new.outcome) (dev0 g c) (dev1 g c) (dev2 g c) (dev3 g c) (dev4 g c)
+      (all-turns s k v c.requires.some ∙ ap (λ (n : ℕ). 1 + turns_among 1 (driven (s - 1) n v [])) (sym (later-by-one g c))) (on-turned g c) (once-begun g c) c.act_all.ensures.goes.most c.turn.ensures.goes.most c.drive_on.ensures.goes.most;
 }
 
 pub returns-in_err-has_power-clause-goes : goal.returns-in_err-has_power-clause-goes
@@ -310,7 +332,16 @@ returns-in_err-has_power-clause-goes g c = record {
   broke = c.in_err-has_power.ensures.goes.broke;
   most =
       let all = all-turns c.args.due.seconds c.args.run.now.next c.args.due.speed c.requires.some in
-      writes-begun (turns_among 2 (driven c.args.due.seconds c.args.run.now.next c.args.due.speed [])) (c.args.due.to - c.args.due.from) (devices (g.M.Medium.state c.args.unit.now) (g.C.Chip.state c.args.card_a.now) (g.D.Chip.state c.args.card_b.now)) (devices (g.M.Medium.state c.begin_second.new.unit) (g.C.Chip.state c.begin_second.new.card_a) (g.D.Chip.state c.begin_second.new.card_b)) (omega (arith, all)) c.in_err-has_power.ensures.goes.most;
+      let turns : ℕ = turns_among 2 (driven c.args.due.seconds c.args.run.now.next c.args.due.speed []) in
+      let acts : ℕ = c.args.due.to - c.args.due.from in
+      let d : Devices = devices (g.M.Medium.state c.args.unit.now) (g.C.Chip.state c.args.card_a.now) (g.D.Chip.state c.args.card_b.now) in
+      let e : Devices = devices (g.M.Medium.state c.begin_second.new.unit) (g.C.Chip.state c.begin_second.new.card_a) (g.D.Chip.state c.begin_second.new.card_b) in
+      let was : ℕ = powered c.args.run.now c.args.outcome.now in
+      let out : Outcome = c.begin_second.new.outcome in
+      let failed : true ≡ is_err c.from_residual.result = search rules in
+      let off = refused-on c.args.run.now c.args.outcome.now out (λ on. let bad : false ≡ true = (c.in_err-has_power.ensures.lit on).0 in cc) c.in_err-has_power.ensures.goes.broke.few in
+      subst (λ (b : Bool). WritesBetween turns acts was (0 + power_ons_told (b || is_lit c.begin_second.new.run.power) out.breaks.items) d e) failed
+      (between-refused turns acts was (0 + power_ons_told true out.breaks.items) d e (omega (arith, all)) (omega (arith, off)) c.in_err-has_power.ensures.goes.most);
 }
 
 -- ---- what is recorded, with its events and rings

@@ -1,4 +1,4 @@
-use Rattle.std.proofs.Common.{rules, ◌≡◌, ◌∙◌, inl, inr, ℕ, ◌+◌, ◌-◌, ◌%◌, ◌<◌, ◌≤◌, List, [], ◌++◌, refl, ap, sym, subst, arith, append_assoc}
+use Rattle.std.proofs.Common.{rules, ◌≡◌, ◌∙◌, inl, inr, Bool, true, ℕ, ◌+◌, ◌-◌, ◌%◌, ◌<◌, ◌≤◌, List, [], ◌++◌, refl, ap, sym, subst, arith, append_assoc}
 use Rattle.std.proofs.lemmas.List.{append-nil}
 use Rattle.trace_model.specs.Trace.{TraceSecond, driven}
 use Rattle.device_calls.specs.safety_model.Safe.{Devices}
@@ -15,9 +15,11 @@ use Rattle.run_minutes.proofs.Later.{after-same, after-then}
 use Rattle.run_outcome.proofs.Broken.{broke-none, broke-then}
 use Rattle.run_minutes.proofs.Calm.{calm-then, calm-same}
 use Rattle.recorder_with_cards.proofs.Time.{after-time}
-use Rattle.recorder_with_cards.specs.Writes.{WritesFor, turns_among}
+use Rattle.recorder_with_cards.specs.Writes.{WritesBetween, power_ons_told, powered, turns_among}
 use Rattle.recorder_with_cards.proofs.Turns.{behind-more}
-use Rattle.recorder_with_cards.proofs.Writes.{writes-none, writes-then, writes-more}
+use Rattle.std.specs.Prelude.{is_err, ◌||◌}
+use Rattle.run_acts.specs.Power.{is_lit}
+use Rattle.recorder_with_cards.proofs.Writes.{between-none, between-then, between-more}
 use Rattle.recorder_with_cards.proofs.driving.drive_on.Goals as goal
 
 pub loop-left-init : goal.loop-left-init
@@ -39,7 +41,9 @@ loop-left-init g c = record {
   calm = calm-same (devices (g.M.Medium.state c.args.unit.now) (g.C.Chip.state c.args.card_a.now) (g.D.Chip.state c.args.card_b.now));
   broke = broke-none c.args.outcome.now.breaks.items {old = (g.M.Medium.state c.args.unit.now)} {new = (g.M.Medium.state c.args.unit.now)} (omega arith);
   opens = λ some. inl (omega arith);
-  most = writes-none (turns_among 1 (driven (c.args.more.seconds - c.args.more.seconds) c.args.run.now.next c.args.more.speed [])) 0 (devices (g.M.Medium.state c.args.unit.now) (g.C.Chip.state c.args.card_a.now) (g.D.Chip.state c.args.card_b.now));
+  most =
+      let was : ℕ = powered c.args.run.now c.args.outcome.now in
+      between-none (turns_among 1 (driven (c.args.more.seconds - c.args.more.seconds) c.args.run.now.next c.args.more.speed [])) 0 was was (devices (g.M.Medium.state c.args.unit.now) (g.C.Chip.state c.args.card_a.now) (g.D.Chip.state c.args.card_b.now)) (omega arith);
   unfound = c.requires.may.unfound;
 }
 
@@ -106,8 +110,15 @@ loop-left-preserved g c =
           let so : ℕ = c.args.more.seconds - left in
           let one = behind-more so n c.args.run.now.next c.args.more.speed c.turn_length-n.ensures.some (v.opens still) in
           let all = ap (λ (k : ℕ). turns_among 1 (driven k c.args.run.now.next c.args.more.speed [])) (let e : so + n ≡ c.args.more.seconds - (left - n) = omega (arith, few, most) in e) in
-          writes-more (turns_among 1 (driven so c.args.run.now.next c.args.more.speed []) + 1) (turns_among 1 (driven (c.args.more.seconds - (left - n)) c.args.run.now.next c.args.more.speed [])) 0 0 (devices (g.M.Medium.state c.args.unit.now) (g.C.Chip.state c.args.card_a.now) (g.D.Chip.state c.args.card_b.now)) (devices (g.M.Medium.state c.step.new.unit) (g.C.Chip.state c.step.new.card_a) (g.D.Chip.state c.step.new.card_b)) (omega (arith, one, all)) (omega arith)
-          (writes-then (turns_among 1 (driven so c.args.run.now.next c.args.more.speed [])) 1 0 0 (devices (g.M.Medium.state c.args.unit.now) (g.C.Chip.state c.args.card_a.now) (g.D.Chip.state c.args.card_b.now)) (devices (g.M.Medium.state c.loop-left.unit) (g.C.Chip.state c.loop-left.card_a) (g.D.Chip.state c.loop-left.card_b)) (devices (g.M.Medium.state c.step.new.unit) (g.C.Chip.state c.step.new.card_a) (g.D.Chip.state c.step.new.card_b)) v.most c.in_ok-step.ensures.goes.most);
+          let so_many : ℕ = turns_among 1 (driven so c.args.run.now.next c.args.more.speed []) in
+          let was : ℕ = powered c.args.run.now c.args.outcome.now in
+          let here : ℕ = powered c.loop-left.run c.loop-left.outcome in
+          let is : ℕ = powered c.step.new.run c.step.new.outcome in
+          let d : Devices = devices (g.M.Medium.state c.args.unit.now) (g.C.Chip.state c.args.card_a.now) (g.D.Chip.state c.args.card_b.now) in
+          let l : Devices = devices (g.M.Medium.state c.loop-left.unit) (g.C.Chip.state c.loop-left.card_a) (g.D.Chip.state c.loop-left.card_b) in
+          let e : Devices = devices (g.M.Medium.state c.step.new.unit) (g.C.Chip.state c.step.new.card_a) (g.D.Chip.state c.step.new.card_b) in
+          between-more (so_many + 1) (turns_among 1 (driven (c.args.more.seconds - (left - n)) c.args.run.now.next c.args.more.speed [])) 0 0 was was (0 + is) is d e (omega (arith, one, all)) (omega arith) (omega arith)
+          (between-then so_many 1 0 0 was here here (0 + is) d l e (omega arith) v.most c.in_ok-step.ensures.goes.most);
       broke = broke-then c.loop-left.invariant.broke c.in_ok-step.ensures.goes.broke;
       unfound = e.unfound;
     }
@@ -144,8 +155,14 @@ returns-clause-goes g c = record {
   broke = c.loop-left.invariant.broke;
   most =
       let none = c.loop-left-test.false in
-      subst (λ (n : ℕ). WritesFor (turns_among 1 (driven n c.args.run.now.next c.args.more.speed [])) 0 (devices (g.M.Medium.state c.args.unit.now) (g.C.Chip.state c.args.card_a.now) (g.D.Chip.state c.args.card_b.now)) (devices (g.M.Medium.state c.loop-left.unit) (g.C.Chip.state c.loop-left.card_a) (g.D.Chip.state c.loop-left.card_b))) (let e : c.args.more.seconds - c.loop-left.left ≡ c.args.more.seconds = omega (arith, none) in e)
-      c.loop-left.invariant.most;
+      let turns : ℕ = turns_among 1 (driven c.args.more.seconds c.args.run.now.next c.args.more.speed []) in
+      let was : ℕ = powered c.args.run.now c.args.outcome.now in
+      let is : ℕ = powered c.loop-left.run c.loop-left.outcome in
+      let d : Devices = devices (g.M.Medium.state c.args.unit.now) (g.C.Chip.state c.args.card_a.now) (g.D.Chip.state c.args.card_b.now) in
+      let e : Devices = devices (g.M.Medium.state c.loop-left.unit) (g.C.Chip.state c.loop-left.card_a) (g.D.Chip.state c.loop-left.card_b) in
+      between-more turns turns 0 0 was was is (0 + is) d e (omega arith) (omega arith) (omega arith)
+      (subst (λ (n : ℕ). WritesBetween (turns_among 1 (driven n c.args.run.now.next c.args.more.speed [])) 0 was is d e) (let e : c.args.more.seconds - c.loop-left.left ≡ c.args.more.seconds = omega (arith, none) in e)
+      c.loop-left.invariant.most);
 }
 
 pub returns-in_err-step-clause-goes : goal.returns-in_err-step-clause-goes
@@ -162,8 +179,18 @@ returns-in_err-step-clause-goes g c = record {
       let so : ℕ = c.args.more.seconds - left in
       let one = behind-more so left c.args.run.now.next c.args.more.speed still (v.opens still) in
       let all = ap (λ (k : ℕ). turns_among 1 (driven k c.args.run.now.next c.args.more.speed [])) (let e : so + left ≡ c.args.more.seconds = omega (arith, few) in e) in
-      writes-more (turns_among 1 (driven so c.args.run.now.next c.args.more.speed []) + 1) (turns_among 1 (driven c.args.more.seconds c.args.run.now.next c.args.more.speed [])) 0 0 (devices (g.M.Medium.state c.args.unit.now) (g.C.Chip.state c.args.card_a.now) (g.D.Chip.state c.args.card_b.now)) (devices (g.M.Medium.state c.step.new.unit) (g.C.Chip.state c.step.new.card_a) (g.D.Chip.state c.step.new.card_b)) (omega (arith, one, all)) (omega arith)
-      (writes-then (turns_among 1 (driven so c.args.run.now.next c.args.more.speed [])) 1 0 0 (devices (g.M.Medium.state c.args.unit.now) (g.C.Chip.state c.args.card_a.now) (g.D.Chip.state c.args.card_b.now)) (devices (g.M.Medium.state c.loop-left.unit) (g.C.Chip.state c.loop-left.card_a) (g.D.Chip.state c.loop-left.card_b)) (devices (g.M.Medium.state c.step.new.unit) (g.C.Chip.state c.step.new.card_a) (g.D.Chip.state c.step.new.card_b)) v.most c.in_err-step.ensures.goes.most);
+      let so_many : ℕ = turns_among 1 (driven so c.args.run.now.next c.args.more.speed []) in
+      let turns : ℕ = turns_among 1 (driven c.args.more.seconds c.args.run.now.next c.args.more.speed []) in
+      let was : ℕ = powered c.args.run.now c.args.outcome.now in
+      let here : ℕ = powered c.loop-left.run c.loop-left.outcome in
+      let is : ℕ = power_ons_told true c.step.new.outcome.breaks.items in
+      let d : Devices = devices (g.M.Medium.state c.args.unit.now) (g.C.Chip.state c.args.card_a.now) (g.D.Chip.state c.args.card_b.now) in
+      let l : Devices = devices (g.M.Medium.state c.loop-left.unit) (g.C.Chip.state c.loop-left.card_a) (g.D.Chip.state c.loop-left.card_b) in
+      let e : Devices = devices (g.M.Medium.state c.step.new.unit) (g.C.Chip.state c.step.new.card_a) (g.D.Chip.state c.step.new.card_b) in
+      let failed : true ≡ is_err c.from_residual.result = search rules in
+      subst (λ (b : Bool). WritesBetween turns 0 was (0 + power_ons_told (b || is_lit c.step.new.run.power) c.step.new.outcome.breaks.items) d e) failed
+      (between-more (so_many + 1) turns 0 0 was was (0 + is) (0 + is) d e (omega (arith, one, all)) (omega arith) (omega arith)
+      (between-then so_many 1 0 0 was here here (0 + is) d l e (omega arith) v.most c.in_err-step.ensures.goes.most));
 }
 
 -- ---- what is recorded, with its events and rings

@@ -9,7 +9,7 @@ use Rattle.run_acts.specs.Room.{HasRoom}
 use Rattle.run_acts.specs.Evented.{LastAt}
 use Rattle.run_acts.specs.RunRinged.{RunRinged}
 use Rattle.recorder_with_cards.specs.Carded.{RunTimely}
-use Rattle.recorder_with_cards.specs.Writes.{WritesFor, turns_among}
+use Rattle.recorder_with_cards.specs.Writes.{WritesBetween, powered, turns_among}
 use Rattle.run_outcome.specs.Broken.{BreaksDown}
 use Rattle.recorder_with_cards.proofs.driving.drive_on.Given as goal
 
@@ -25,7 +25,7 @@ invariant-loop-left g l = record {
   later : AreAfter (devices (g.M.Medium.state l.fn.unit) (g.C.Chip.state l.fn.card_a) (g.D.Chip.state l.fn.card_b)) (devices (g.M.Medium.state l.unit) (g.C.Chip.state l.card_a) (g.D.Chip.state l.card_b));
   calm : AreCalm l.fn.outcome.breaks.items l.outcome.breaks.items (devices (g.M.Medium.state l.fn.unit) (g.C.Chip.state l.fn.card_a) (g.D.Chip.state l.fn.card_b)) (devices (g.M.Medium.state l.unit) (g.C.Chip.state l.card_a) (g.D.Chip.state l.card_b));
   opens : 0 < l.left → (l.fn.more.seconds - l.left ≡ 0) ⊎ ((l.fn.run.next + (l.fn.more.seconds - l.left)) % 60 ≤ 1);
-  most : WritesFor (turns_among 1 (driven (l.fn.more.seconds - l.left) l.fn.run.next l.fn.more.speed [])) 0 (devices (g.M.Medium.state l.fn.unit) (g.C.Chip.state l.fn.card_a) (g.D.Chip.state l.fn.card_b)) (devices (g.M.Medium.state l.unit) (g.C.Chip.state l.card_a) (g.D.Chip.state l.card_b));
+  most : WritesBetween (turns_among 1 (driven (l.fn.more.seconds - l.left) l.fn.run.next l.fn.more.speed [])) 0 (powered l.fn.run l.fn.outcome) (powered l.run l.outcome) (devices (g.M.Medium.state l.fn.unit) (g.C.Chip.state l.fn.card_a) (g.D.Chip.state l.fn.card_b)) (devices (g.M.Medium.state l.unit) (g.C.Chip.state l.card_a) (g.D.Chip.state l.card_b));
   broke : BreaksDown l.fn.outcome.breaks.items l.outcome.breaks.items (g.M.Medium.state l.fn.unit) (g.M.Medium.state l.unit);
   unfound : l.run.unfound ≤ length l.outcome.breaks.items;
 }

@@ -1,9 +1,10 @@
-use Rattle.std.proofs.Common.{rules, ◌≡◌, ◌∙◌, ℕ, ◌+◌, ◌-◌, ◌%◌, ◌<◌, ◌≤◌, Bool, true, false, List, [], ◌∷◌, ◌++◌, length, refl, ap, sym, subst, arith}
+use Rattle.std.proofs.Common.{rules, ◌≡◌, ◌∙◌, ◌||◌, ℕ, ◌+◌, ◌-◌, ◌%◌, ◌<◌, ◌≤◌, Bool, true, false, List, [], ◌∷◌, ◌++◌, length, refl, ap, sym, subst, arith}
 use Rattle.trace_model.specs.Trace.{TraceSecond, driven}
 use Rattle.device_calls.specs.safety_model.Safe.{Devices}
 use Rattle.run_minutes.specs.run_promise.Between.{devices}
 use Rattle.run_minutes.specs.Keeping.{with_lines}
 use Rattle.run_acts.specs.declared.run.Run.{Run}
+use Rattle.run_outcome.specs.declared.outcome.Outcome.{Outcome}
 use Rattle.run_acts.specs.Power.{is_lit, has_power, passed}
 use Rattle.recorder_with_cards.proofs.Dark.{away-dark}
 use Rattle.recorder_with_cards.proofs.SecondsRecorded.{none-refused, passes-dark, by-power, first-driven}
@@ -36,7 +37,12 @@ use Rattle.recorder_with_cards.proofs.Resumed.{same-devices}
 use Rattle.recorder_with_cards.proofs.Time.{after-time}
 use Rattle.recorder_with_cards.proofs.driving.step.Given.{Over}
 use Rattle.recorder_with_cards.proofs.driving.step.Goals.{After-turn}
-use Rattle.recorder_with_cards.proofs.Writes.{writes-begun, writes-turn}
+use Rattle.std.specs.Prelude.{is_err}
+use Rattle.run_minutes.specs.Writes.{WroteAtMost}
+use Rattle.run_minutes.proofs.Writes.{wrote-none}
+use Rattle.recorder_with_cards.specs.Writes.{WritesBetween, power_ons_told, powered}
+use Rattle.recorder_with_cards.proofs.PowerOns.{begins-once, refused-on, turned-on}
+use Rattle.recorder_with_cards.proofs.Writes.{BeginsOnce, between-refused, between-turn}
 use Rattle.recorder_with_cards.proofs.driving.step.Goals as goal
 
 -- ---- THE SECOND THAT BEGINS, and those up to the turn
@@ -56,6 +62,17 @@ module _ (g : Over) (c : After-turn g) where
 
   now-begun : IsNow second c.args.more.speed c.begin_second.new.run
   now-begun = record { number = sym c.in_ok-begin_second.ensures.begun.next; given = refl; speed_is = refl }
+
+  -- the second begins with one power-on at most
+  same-begun : (c.begin_second.new.unit ≡ c.args.unit.now) × (c.begin_second.new.card_a ≡ c.args.card_a.now) × (c.begin_second.new.card_b ≡ c.args.card_b.now) → WroteAtMost 0 0 dev0 dev1
+  same-begun same = same-devices (λ (x : Devices). WroteAtMost 0 0 dev0 x) g.M.Medium.state g.C.Chip.state g.D.Chip.state c.args.unit.now c.begin_second.new.unit c.args.card_a.now c.begin_second.new.card_a c.args.card_b.now c.begin_second.new.card_b same (wrote-none 0 0 dev0)
+
+  once-begun : BeginsOnce (powered c.args.run.now c.args.outcome.now) (powered c.begin_second.new.run c.begin_second.new.outcome) dev0 dev1
+  once-begun =
+      begins-once c.args.more.speed c.in_ok-begin_second.field-0 c.args.run.now c.begin_second.new.run c.args.outcome.now c.begin_second.new.outcome dev0 dev1 c.in_ok-begin_second.ensures.goes.most
+      (λ away. let is = c.in_ok-begin_second.ensures.dark away in (is.0, is.1, same-begun (is.2, is.3, is.4)))
+      (λ on. let is = c.in_ok-begin_second.ensures.lit on in (is.1, is.2, same-begun (is.3, is.4, is.5)))
+      (λ dark_ given. c.in_ok-begin_second.ensures.promises.noted dark_ (sym c.in_ok-begin_second.ensures.begun.has ∙ given))
 
   time-begun : HaveTime dev2 → HaveTime dev1
   time-begun time = after-time c.turn.ensures.goes.later time
@@ -174,7 +191,11 @@ returns-clause-goes g c = record {
   later = after-then (dev0 g c) (dev1 g c) (dev2 g c) (after-of (dev0 g c) (dev1 g c) c.in_ok-begin_second.ensures.goes.later) c.turn.ensures.goes.later;
   calm = calm-then (dev0 g c) (dev1 g c) (dev2 g c) c.in_ok-begin_second.ensures.goes.calm c.turn.ensures.goes.calm;
   broke = broke-then c.in_ok-begin_second.ensures.goes.broke c.turn.ensures.goes.broke;
-  most = writes-turn (dev0 g c) (dev1 g c) (dev2 g c) c.in_ok-begin_second.ensures.goes.most c.turn.ensures.goes.most;
+  most =
+      let before : Run = c.begin_second.new.run in
+      let told : Outcome = c.begin_second.new.outcome in
+      between-turn (powered c.args.run.now c.args.outcome.now) (powered before told) (powered c.turn.new.run c.turn.new.outcome) (0 + powered c.turn.new.run c.turn.new.outcome) (dev0 g c) (dev1 g c) (dev2 g c)
+      (turned-on (is_lit before.power) c.args.more.seconds c.args.more.speed 0 before c.turn.new.run told c.turn.new.outcome c.turn.ensures.turned.seconds) (omega arith) (once-begun g c) c.turn.ensures.goes.most;
 }
 
 pub returns-in_err-begin_second-clause-goes : goal.returns-in_err-begin_second-clause-goes
@@ -184,7 +205,15 @@ returns-in_err-begin_second-clause-goes g c = record {
       c.in_err-begin_second.ensures.goes.later;
   calm = c.in_err-begin_second.ensures.goes.calm;
   broke = c.in_err-begin_second.ensures.goes.broke;
-  most = writes-begun 1 0 (devices (g.M.Medium.state c.args.unit.now) (g.C.Chip.state c.args.card_a.now) (g.D.Chip.state c.args.card_b.now)) (devices (g.M.Medium.state c.begin_second.new.unit) (g.C.Chip.state c.begin_second.new.card_a) (g.D.Chip.state c.begin_second.new.card_b)) (omega arith) c.in_err-begin_second.ensures.goes.most;
+  most =
+      let d : Devices = devices (g.M.Medium.state c.args.unit.now) (g.C.Chip.state c.args.card_a.now) (g.D.Chip.state c.args.card_b.now) in
+      let e : Devices = devices (g.M.Medium.state c.begin_second.new.unit) (g.C.Chip.state c.begin_second.new.card_a) (g.D.Chip.state c.begin_second.new.card_b) in
+      let was : ℕ = powered c.args.run.now c.args.outcome.now in
+      let out : Outcome = c.begin_second.new.outcome in
+      let failed : true ≡ is_err c.from_residual.result = search rules in
+      let off = refused-on c.args.run.now c.args.outcome.now out (λ on. let bad : false ≡ true = (c.in_err-begin_second.ensures.lit on).0 in cc) c.in_err-begin_second.ensures.goes.broke.few in
+      subst (λ (b : Bool). WritesBetween 1 0 was (0 + power_ons_told (b || is_lit c.begin_second.new.run.power) out.breaks.items) d e) failed
+      (between-refused 1 0 was (0 + power_ons_told true out.breaks.items) d e (omega arith) (omega (arith, off)) c.in_err-begin_second.ensures.goes.most);
 }
 
 -- ---- what is recorded, with its events and rings

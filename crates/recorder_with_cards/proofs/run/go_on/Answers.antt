@@ -38,8 +38,9 @@ use Rattle.run_minutes.proofs.Later.{after-same}
 use Rattle.run_outcome.proofs.Broken.{broke-none, broke-behind}
 use Rattle.recorder_with_cards.proofs.Uncut.{off-uncut, off-calm}
 use Rattle.run_minutes.proofs.Calm.{calm-told, calm-same}
-use Rattle.recorder_with_cards.proofs.Writes.{writes-none}
-use Rattle.recorder_with_cards.specs.Writes.{WritesFor, turns_at, acts_at}
+use Rattle.recorder_with_cards.proofs.PowerOns.{off-on}
+use Rattle.recorder_with_cards.proofs.Writes.{between-none, between-more}
+use Rattle.recorder_with_cards.specs.Writes.{WritesBetween, powered, powered_by, turns_at, acts_at}
 use Rattle.recorder_with_cards.proofs.run.go_on.Goals as goal
 
 -- ---- an action waits
@@ -199,7 +200,9 @@ returns-in-Act-clause-goes g c = record {
   later = after-same (devices (g.M.Medium.state c.args.unit.now) (g.C.Chip.state c.args.card_a.now) (g.D.Chip.state c.args.card_b.now));
   calm = calm-same (devices (g.M.Medium.state c.args.unit.now) (g.C.Chip.state c.args.card_a.now) (g.D.Chip.state c.args.card_b.now));
   broke = broke-none c.args.outcome.now.breaks.items {old = (g.M.Medium.state c.args.unit.now)} {new = (g.M.Medium.state c.args.unit.now)} (omega arith);
-  most = writes-none (turns_at c.args.run.now.next c.args.due.item) (acts_at (c.args.due.to - c.args.due.from) c.args.due.item) (devices (g.M.Medium.state c.args.unit.now) (g.C.Chip.state c.args.card_a.now) (g.D.Chip.state c.args.card_b.now));
+  most =
+      let was : ℕ = powered c.args.run.now c.args.outcome.now in
+      between-none (turns_at c.args.run.now.next c.args.due.item) (acts_at (c.args.due.to - c.args.due.from) c.args.due.item) was (off_count c.args.due.item + was) (devices (g.M.Medium.state c.args.unit.now) (g.C.Chip.state c.args.card_a.now) (g.D.Chip.state c.args.card_b.now)) (omega arith);
 }
 
 pub returns-in-Off-clause-goes : goal.returns-in-Off-clause-goes
@@ -207,7 +210,10 @@ returns-in-Off-clause-goes g c = record {
   later = after-same (devices (g.M.Medium.state c.args.unit.now) (g.C.Chip.state c.args.card_a.now) (g.D.Chip.state c.args.card_b.now));
   calm = calm-told (devices (g.M.Medium.state c.args.unit.now) (g.C.Chip.state c.args.card_a.now) (g.D.Chip.state c.args.card_b.now)) _ (ap (λ (l : Listed Break). l.items) c.off.ensures.breaks) (off-calm _ _ _);
   broke = broke-behind _ {old = (g.M.Medium.state c.args.unit.now)} {new = (g.M.Medium.state c.args.unit.now)} (ap (λ (l : Listed Break). l.items) c.off.ensures.breaks) (off-uncut _ _ _) (omega arith);
-  most = writes-none (turns_at c.args.run.now.next c.args.due.item) (acts_at (c.args.due.to - c.args.due.from) c.args.due.item) (devices (g.M.Medium.state c.args.unit.now) (g.C.Chip.state c.args.card_a.now) (g.D.Chip.state c.args.card_b.now));
+  most =
+      let one = ap off_count c.in-Off.is in
+      let less = off-on c.args.run.now c.off.new.self c.args.outcome.now c.off.new.breaks c.off.ensures.breaks in
+      between-none (turns_at c.args.run.now.next c.args.due.item) (acts_at (c.args.due.to - c.args.due.from) c.args.due.item) (powered c.args.run.now c.args.outcome.now) (off_count c.args.due.item + powered c.off.new.self (record c.args.outcome.now { breaks = c.off.new.breaks })) (devices (g.M.Medium.state c.args.unit.now) (g.C.Chip.state c.args.card_a.now) (g.D.Chip.state c.args.card_b.now)) (omega (arith, one, less));
 }
 
 pub returns-in-Run-clause-goes : goal.returns-in-Run-clause-goes
@@ -216,7 +222,15 @@ returns-in-Run-clause-goes g c = record {
   calm = c.drive.ensures.goes.calm;
   broke = c.drive.ensures.goes.broke;
   most =
-      subst (λ (i : Item). WritesFor (turns_at c.args.run.now.next i) (acts_at (c.args.due.to - c.args.due.from) i) (devices (g.M.Medium.state c.args.unit.now) (g.C.Chip.state c.args.card_a.now) (g.D.Chip.state c.args.card_b.now)) (devices (g.M.Medium.state c.drive.new.unit) (g.C.Chip.state c.drive.new.card_a) (g.D.Chip.state c.drive.new.card_b))) (sym c.in-Run.is) c.drive.ensures.goes.most;
+      let item = c.args.due.item in
+      let waits : ℕ = c.args.due.to - c.args.due.from in
+      let next : ℕ = c.args.run.now.next in
+      let was : ℕ = powered c.args.run.now c.args.outcome.now in
+      let is : ℕ = powered_by c.drive.result c.drive.new.run c.drive.new.outcome in
+      let d : Devices = devices (g.M.Medium.state c.args.unit.now) (g.C.Chip.state c.args.card_a.now) (g.D.Chip.state c.args.card_b.now) in
+      let e : Devices = devices (g.M.Medium.state c.drive.new.unit) (g.C.Chip.state c.drive.new.card_a) (g.D.Chip.state c.drive.new.card_b) in
+      between-more (turns_at next item) (turns_at next item) (acts_at waits item) (acts_at waits item) was was (0 + is) (off_count item + is) d e (omega arith) (omega arith) (omega arith)
+      (subst (λ (i : Item). WritesBetween (turns_at next i) (acts_at waits i) was (0 + is) d e) (sym c.in-Run.is) c.drive.ensures.goes.most);
 }
 
 pub drive-requires-clause-among : goal.drive-requires-clause-among

@@ -43,9 +43,10 @@ use Rattle.run_acts.specs.Recording.{log_of}
 use Rattle.run_outcome.proofs.Broken.{broke-none, broke-then, broke-all, broke-nothing, calm-all, most-all}
 use Rattle.run_minutes.proofs.Calm.{calm-rests, calm-then, still-all, most-still}
 use Rattle.recorder_with_cards.proofs.Time.{after-time}
-use Rattle.recorder_with_cards.proofs.Writes.{writes-item, writes-within}
+use Rattle.recorder_with_cards.proofs.PowerOns.{told-most}
+use Rattle.recorder_with_cards.proofs.Writes.{between-item, between-within}
 use Rattle.recorder_with_cards.specs.Gone.{first_waiting}
-use Rattle.recorder_with_cards.specs.Writes.{WritesFor, turns_of}
+use Rattle.recorder_with_cards.specs.Writes.{WritesBetween, power_ons_told, powered, turns_of}
 use Rattle.recorder_with_cards.proofs.run.run_trace.Goals as goal
 
 -- ---- the opening
@@ -98,7 +99,7 @@ loop-i-init g c =
           let u = c.judge.ensures.same.unit.clock in
           let p = c.judge.ensures.same.card_a.clock in
           let q = c.judge.ensures.same.card_b.clock in
-          record { unit = omega (arith, u); card_a = omega (arith, p); card_b = omega (arith, q) };
+          record { power_ons = 0; one_each = omega arith; told = omega arith; most = record { unit = omega (arith, u); card_a = omega (arith, p); card_b = omega (arith, q) } };
       time = λ h.
           let u = c.judge.ensures.same.unit.clock in
           let p = c.judge.ensures.same.card_a.clock in
@@ -196,8 +197,13 @@ loop-i-preserved g c =
           let parts = total-parts items i in
           let at = v.next in
           let here : number_after start (take i items) ≡ c.loop-i.run.next = omega (arith, parts, at) in
-          subst (λ (n : ℕ). WritesFor (turns_of start (take (i + 1) items)) (length (actions_in (take n items))) (devices (g.U.Medium.state c.args.unit.now) (g.C.Chip.state c.args.card_a.now) (g.C.Chip.state c.args.card_b.now)) (devices (g.U.Medium.state c.go_on.new.unit) (g.C.Chip.state c.go_on.new.card_a) (g.C.Chip.state c.go_on.new.card_b))) (sym waits)
-          (writes-item start items i c.loop-i.first c.loop-i.run.next item (devices (g.U.Medium.state c.args.unit.now) (g.C.Chip.state c.args.card_a.now) (g.C.Chip.state c.args.card_b.now)) (devices (g.U.Medium.state c.loop-i.unit) (g.C.Chip.state c.loop-i.card_a) (g.C.Chip.state c.loop-i.card_b)) (devices (g.U.Medium.state c.go_on.new.unit) (g.C.Chip.state c.go_on.new.card_a) (g.C.Chip.state c.go_on.new.card_b)) c.get-item.ensures here v.first v.waits v.most f.goes.most);
+          let here_on : ℕ = powered c.loop-i.run c.loop-i.outcome in
+          let then_on : ℕ = powered c.go_on.new.run c.go_on.new.outcome in
+          let d : Devices = devices (g.U.Medium.state c.args.unit.now) (g.C.Chip.state c.args.card_a.now) (g.C.Chip.state c.args.card_b.now) in
+          let l : Devices = devices (g.U.Medium.state c.loop-i.unit) (g.C.Chip.state c.loop-i.card_a) (g.C.Chip.state c.loop-i.card_b) in
+          let e : Devices = devices (g.U.Medium.state c.go_on.new.unit) (g.C.Chip.state c.go_on.new.card_a) (g.C.Chip.state c.go_on.new.card_b) in
+          subst (λ (n : ℕ). WritesBetween (turns_of start (take (i + 1) items)) (length (actions_in (take n items))) 0 (offs (take (i + 1) items) + then_on) d e) (sym waits)
+          (between-item start items i c.loop-i.first c.loop-i.run.next item here_on then_on d l e c.get-item.ensures here v.first v.waits v.most f.goes.most);
       broke = broke-then v.broke f.goes.broke;
       told = v.told;
       cards = λ x a b h time few.
@@ -260,7 +266,10 @@ returns-in_err-go_on-clause-fault g c = λ x a b told.
 pub returns-clause-goes : goal.returns-clause-goes
 returns-clause-goes g c = record {
   later = c.loop-i.invariant.later;
-  most = writes-within c.args.trace.now.start c.args.trace.now.items c.loop-i.i c.loop-i.first (devices (g.U.Medium.state c.args.unit.now) (g.C.Chip.state c.args.card_a.now) (g.C.Chip.state c.args.card_b.now)) (devices (g.U.Medium.state c.loop-i.unit) (g.C.Chip.state c.loop-i.card_a) (g.C.Chip.state c.loop-i.card_b)) c.loop-i.invariant.most;
+  most =
+      let items = c.args.trace.now.items in
+      let on = told-most (is_lit c.loop-i.run.power) c.loop-i.outcome.breaks.items in
+      between-within c.args.trace.now.start items c.loop-i.i c.loop-i.first (offs (take c.loop-i.i items) + powered c.loop-i.run c.loop-i.outcome) c.loop-i.outcome (devices (g.U.Medium.state c.args.unit.now) (g.C.Chip.state c.args.card_a.now) (g.C.Chip.state c.args.card_b.now)) (devices (g.U.Medium.state c.loop-i.unit) (g.C.Chip.state c.loop-i.card_a) (g.C.Chip.state c.loop-i.card_b)) (omega (arith, on)) c.loop-i.invariant.most;
 }
 
 pub returns-in_err-go_on-clause-goes : goal.returns-in_err-go_on-clause-goes
@@ -275,8 +284,14 @@ returns-in_err-go_on-clause-goes g c = record {
       let parts = total-parts items i in
       let at = v.next in
       let here : number_after start (take i items) ≡ c.loop-i.run.next = omega (arith, parts, at) in
-      writes-within start items (i + 1) (first_waiting item c.loop-i.first i) (devices (g.U.Medium.state c.args.unit.now) (g.C.Chip.state c.args.card_a.now) (g.C.Chip.state c.args.card_b.now)) (devices (g.U.Medium.state c.go_on.new.unit) (g.C.Chip.state c.go_on.new.card_a) (g.C.Chip.state c.go_on.new.card_b))
-      (writes-item start items i c.loop-i.first c.loop-i.run.next item (devices (g.U.Medium.state c.args.unit.now) (g.C.Chip.state c.args.card_a.now) (g.C.Chip.state c.args.card_b.now)) (devices (g.U.Medium.state c.loop-i.unit) (g.C.Chip.state c.loop-i.card_a) (g.C.Chip.state c.loop-i.card_b)) (devices (g.U.Medium.state c.go_on.new.unit) (g.C.Chip.state c.go_on.new.card_a) (g.C.Chip.state c.go_on.new.card_b)) c.get-item.ensures here v.first v.waits v.most c.in_err-go_on.ensures.goes.most);
+      let out = c.go_on.new.outcome in
+      let here_on : ℕ = powered c.loop-i.run c.loop-i.outcome in
+      let refused_on : ℕ = power_ons_told true out.breaks.items in
+      let d : Devices = devices (g.U.Medium.state c.args.unit.now) (g.C.Chip.state c.args.card_a.now) (g.C.Chip.state c.args.card_b.now) in
+      let l : Devices = devices (g.U.Medium.state c.loop-i.unit) (g.C.Chip.state c.loop-i.card_a) (g.C.Chip.state c.loop-i.card_b) in
+      let e : Devices = devices (g.U.Medium.state c.go_on.new.unit) (g.C.Chip.state c.go_on.new.card_a) (g.C.Chip.state c.go_on.new.card_b) in
+      between-within start items (i + 1) (first_waiting item c.loop-i.first i) (offs (take (i + 1) items) + refused_on) out d e (omega arith)
+      (between-item start items i c.loop-i.first c.loop-i.run.next item here_on refused_on d l e c.get-item.ensures here v.first v.waits v.most c.in_err-go_on.ensures.goes.most);
 }
 
 pub returns-in_err-opened-clause-goes : goal.returns-in_err-opened-clause-goes

@@ -6,7 +6,7 @@ use Rattle.minute_rules.proofs.GoingOn.{owing-few}
 use Rattle.log_model.specs.Log.{In}
 use Rattle.run_events.specs.run_rings.Spans.{with_second}
 use Rattle.run_minutes.specs.Minutes.{AreKept, KeepingState}
-use Rattle.run_minutes.specs.Decided.{odometers_of}
+use Rattle.run_minutes.specs.Decided.{readings_of}
 use Rattle.run_acts.specs.Recording.{values_of}
 use Rattle.run_acts.specs.Settling.{settled_run}
 use Rattle.run_acts.specs.declared.run.Run.{Run}
@@ -128,11 +128,11 @@ returns-clause-keeps g c =
           h.0 h.1 c.requires.may.small (c.settle-decided.ensures.settled h.1.span h.1.stands) (given h.1.span h.1.stands) k.goes.keeping.odometer b.reach b.is b.books
           (went g c)
           (g.met.M.Medium.coherent c.args.unit.now) c.requires.may.held.is_unit b.noted o done s n waits here r time untold evented;
-      cards = λ o done s n waits here r time. timed-still o r.origin (odometers_of old.keeper items) (first g c) (last g c) (its o done s (suc n) waits (omega arith) here r time).1;
+      cards = λ o done s n waits here r time. timed-still o r.origin (readings_of old.keeper items) (first g c) (last g c) (its o done s (suc n) waits (omega arith) here r time).1;
       places = λ o done s n waits here r time spans t now.
-          timed-stays o r.origin (odometers_of old.keeper items) (first g c) (last g c) (its o done s (suc n) waits (omega arith) here r time).1 (with_second spans old.keeper.odometer t)
+          timed-stays o r.origin (readings_of old.keeper items) (first g c) (last g c) (its o done s (suc n) waits (omega arith) here r time).1 (with_second spans old.keeper.odometer t)
           (values-read o done s (In (suc n)) waits None items (values_of (settled_run c.settle-decided.new.self old) c.args.outcome.now) (first g c) r.within spans old.keeper.odometer t now old.keeper refl);
-      stands = λ o done s n waits here r time. timed-let o r.origin (odometers_of old.keeper items) (first g c) (last g c) (its o done s (suc n) waits (omega arith) here r time).1
+      stands = λ o done s n waits here r time. timed-let o r.origin (readings_of old.keeper items) (first g c) (last g c) (its o done s (suc n) waits (omega arith) here r time).1
           (more-left o (first g c) (last g c) (r.within.powered.lit.unit.unit_holds [] []).later r.within.there.clocks (settled-left c.keep_all.ensures.goes.keeping));
     })
 

@@ -441,7 +441,7 @@ module _ (g : Over) (c : In_ok-settle g) (k : OneCard c.in-Some.card (g.C.Chip.s
         (subst (λ (m : Devices). StandsSettling r.decided c.args.withdrawal.at (with_cabin c.leave.new.self c.args.run.now) c.settle.new.run c.args.outcome.now first_ m) (k.beside_it (g.M.Medium.state c.settle.new.unit)) r.stands) in
         let kept_all = settled-stands o done s front rest c.args.withdrawal.slot are speed now.speed_is k.which c.args.run.now c.settle.new.run c.args.outcome.now c.settle.new.outcome first_ w seat allowed (ungiven_of c.requires.acting.going.span) c.requires.acting.going.cabin minutes r.decided (r.given w.within.sp w.within.minutes) between settles time-then in
         let closed_all = closed-places o done s front rest c.args.withdrawal.slot are speed now.speed_is k.which c.args.run.now c.settle.new.run c.args.outcome.now c.settle.new.outcome first_ w seat allowed (ungiven_of c.requires.acting.going.span) c.requires.acting.going.cabin minutes r.decided (r.given w.within.sp w.within.minutes) k.state (g.M.Medium.state c.settle.new.unit) k.unit k.beside k.before k.after k.whole k.size closes.shows.left bare records time-then [] in
-        let-left o first_ between last left kept_all.made (vehicles-make o [] between last closed_all.vehicles)
+        let-left o first_ between last left kept_all.made (vehicles-make o [] (EndsIf (is_some (session_of c.settle.new.run.keeper.cabin.cards k.which)) k.which) between last closed_all.vehicles)
 
     cards_ : CardsIn o done s w.within.b.run.log front (log_of c.args.outcome.now) first_ → CardsGoOn (is_err k.result) o done s w.within.b.run.log (front ++ Withdraw c.args.withdrawal.slot ∷ []) (log_of told) last
     cards_ before =
