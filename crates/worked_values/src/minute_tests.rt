@@ -2,7 +2,7 @@
 ghost use Rattle.std.specs.Prelude.{◌≡◌, ◌<◌, ◌≤◌};
 
 use activity_codec::{Activity, Pick, Slot, Steps};
-use minute_rules::{Minute, Minutes, Rule};
+use minute_rules::{Alike, Minute, Minutes, Rule};
 use std::alloc::Global;
 use std::marker::Brand;
 use std::sync::ledger::{Blank, Ledger};
@@ -315,6 +315,27 @@ impl Fed {
         Ok(())
     }
 
+    /// These minutes are given once more, so many minutes later.
+    fn give_later(&mut self, decided: &[Minute], later: u32, speed: u8) -> Result<(), Fail> {
+        let more = 60 * later as u64 * speed as u64;
+        for minute in decided {
+            self.given.push(Minute {
+                minute: minute.minute.saturating_add(later),
+                travelled: minute.travelled.saturating_add(more),
+                ..*minute
+            })?;
+        }
+        Ok(())
+    }
+
+    /// All minutes that go on alike are given.
+    fn give_alike(&mut self, alike: &Alike, speed: u8) -> Result<(), Fail> {
+        for turn in 0..alike.times {
+            self.give_later(alike.decided.as_slice(), turn, speed)?;
+        }
+        Ok(())
+    }
+
     /// So many seconds at a speed, of which minutes that go on alike are fed at once.
     fn run_long<L: Ledger>(
         &mut self,
@@ -329,17 +350,7 @@ impl Fed {
                 return Ok(());
             }
             let alike = self.minutes.feed_long(left, speed, steps);
-            for turn in 0..alike.times {
-                for minute in alike.decided.as_slice() {
-                    self.given.push(Minute {
-                        minute: minute.minute.saturating_add(turn),
-                        travelled: minute
-                            .travelled
-                            .saturating_add(60 * turn as u64 * speed as u64),
-                        ..*minute
-                    })?;
-                }
-            }
+            self.give_alike(&alike, speed)?;
             left = left.saturating_sub(alike.seconds);
         }
         Ok(())

@@ -66,46 +66,23 @@ fn power_that_is_lost_ends_acceptance(rt: HostRuntime) {
 #[test]
 fn refusals_in_their_order(rt: HostRuntime) {
     let mut slots = Slots::new();
-    same(
-        &rt,
-        &slots.may_tear(Slot::Driver),
-        &Err(SlotFault::Empty(Slot::Driver)),
-    );
-    same(
-        &rt,
-        &slots.may_withdraw(Slot::Driver, 80),
-        &Err(SlotFault::Empty(Slot::Driver)),
-    );
+    let empty = Err(SlotFault::Empty(Slot::Driver));
+    let moving = Err(SlotFault::Moving(80));
+    same(&rt, &slots.may_tear(Slot::Driver), &empty);
+    same(&rt, &slots.may_withdraw(Slot::Driver, 80), &empty);
     slots.put(Slot::Driver, Card::A, None);
-    same(
-        &rt,
-        &slots.may_withdraw(Slot::Driver, 80),
-        &Err(SlotFault::Moving(80)),
-    );
+    same(&rt, &slots.may_withdraw(Slot::Driver, 80), &moving);
     same(&rt, &slots.may_withdraw(Slot::Driver, 0), &Ok(()));
     same(&rt, &slots.may_tear(Slot::Driver), &Ok(()));
-    same(
-        &rt,
-        &slots.may_insert(Slot::CoDriver, Card::A),
-        &Err(SlotFault::Elsewhere(Card::A)),
-    );
+    let elsewhere = Err(SlotFault::Elsewhere(Card::A));
+    same(&rt, &slots.may_insert(Slot::CoDriver, Card::A), &elsewhere);
     same(&rt, &slots.may_insert(Slot::CoDriver, Card::B), &Ok(()));
     slots.put(Slot::CoDriver, Card::B, None);
-    same(
-        &rt,
-        &slots.may_insert(Slot::CoDriver, Card::A),
-        &Err(SlotFault::Occupied(Slot::CoDriver)),
-    );
-    same(
-        &rt,
-        &slots.may_enter(Slot::CoDriver, 80),
-        &Err(SlotFault::NoCard(Slot::CoDriver)),
-    );
+    let occupied = Err(SlotFault::Occupied(Slot::CoDriver));
+    same(&rt, &slots.may_insert(Slot::CoDriver, Card::A), &occupied);
+    let no_card = Err(SlotFault::NoCard(Slot::CoDriver));
+    same(&rt, &slots.may_enter(Slot::CoDriver, 80), &no_card);
     slots.put(Slot::CoDriver, Card::B, Some(0));
-    same(
-        &rt,
-        &slots.may_enter(Slot::CoDriver, 80),
-        &Err(SlotFault::Moving(80)),
-    );
+    same(&rt, &slots.may_enter(Slot::CoDriver, 80), &moving);
     same(&rt, &slots.may_enter(Slot::CoDriver, 0), &Ok(()));
 }

@@ -22,43 +22,86 @@ const SESSION: u32 = 60 * (FIRST + 90) + 10;
 
 const LATE_SESSION: u32 = 60 * (FIRST + 98) + 59;
 
-/// What is owed of the minutes from 01:37 to 01:40: the last-kept minute, the session that the row was begun with, the
-/// one that is asked for, the minute after which; and the first and the end of the minutes that are owed.
-const ROWS: [(u32, u32, u32, u32, u32, u32); 6] = [
-    (FIRST + 100, SESSION, SESSION, 0, FIRST + 97, FIRST + 101),
-    (
-        FIRST + 100,
-        SESSION,
-        SESSION,
-        FIRST + 98,
-        FIRST + 99,
-        FIRST + 101,
-    ),
-    (
-        FIRST + 100,
-        SESSION,
-        SESSION,
-        FIRST + 100,
-        FIRST + 101,
-        FIRST + 101,
-    ),
-    (
-        FIRST + 100,
-        SESSION,
-        SESSION + 60,
-        0,
-        FIRST + 101,
-        FIRST + 101,
-    ),
-    (
-        FIRST + 100,
-        LATE_SESSION,
-        LATE_SESSION,
-        0,
-        FIRST + 98,
-        FIRST + 101,
-    ),
-    (FIRST + 98, SESSION, SESSION, 0, FIRST + 97, FIRST + 99),
+/// What is asked of a card's row, the session and the minute after which; and what is owed then, the first minute and
+/// the end of the minutes.
+#[derive(Clone, Copy)]
+struct Asked {
+    session: u32,
+    after: u32,
+    first: u32,
+    end: u32,
+}
+
+/// A row of the table: the last-kept minute, the session that the card's row was begun with, and what is asked.
+#[derive(Clone, Copy)]
+struct OwedRow {
+    kept: u32,
+    begun: u32,
+    asked: Asked,
+}
+
+/// What is owed of the minutes from 01:37 to 01:40.
+const ROWS: [OwedRow; 6] = [
+    OwedRow {
+        kept: FIRST + 100,
+        begun: SESSION,
+        asked: Asked {
+            session: SESSION,
+            after: 0,
+            first: FIRST + 97,
+            end: FIRST + 101,
+        },
+    },
+    OwedRow {
+        kept: FIRST + 100,
+        begun: SESSION,
+        asked: Asked {
+            session: SESSION,
+            after: FIRST + 98,
+            first: FIRST + 99,
+            end: FIRST + 101,
+        },
+    },
+    OwedRow {
+        kept: FIRST + 100,
+        begun: SESSION,
+        asked: Asked {
+            session: SESSION,
+            after: FIRST + 100,
+            first: FIRST + 101,
+            end: FIRST + 101,
+        },
+    },
+    OwedRow {
+        kept: FIRST + 100,
+        begun: SESSION,
+        asked: Asked {
+            session: SESSION + 60,
+            after: 0,
+            first: FIRST + 101,
+            end: FIRST + 101,
+        },
+    },
+    OwedRow {
+        kept: FIRST + 100,
+        begun: LATE_SESSION,
+        asked: Asked {
+            session: LATE_SESSION,
+            after: 0,
+            first: FIRST + 98,
+            end: FIRST + 101,
+        },
+    },
+    OwedRow {
+        kept: FIRST + 98,
+        begun: SESSION,
+        asked: Asked {
+            session: SESSION,
+            after: 0,
+            first: FIRST + 97,
+            end: FIRST + 99,
+        },
+    },
 ];
 
 /// A card's number, by its last digit.
@@ -139,64 +182,51 @@ fn are_of(entries: &[Entry], first: u32, end: u32) -> bool {
     next == end
 }
 
+/// All that is owed to a session is asked for.
+fn all_of(session: u32, first: u32, end: u32) -> Asked {
+    Asked {
+        session,
+        after: 0,
+        first,
+        end,
+    }
+}
+
 /// Whether a card is owed the minutes from one up to another, and no others.
-fn owes<M: Medium>(
-    journal: &Journal,
-    unit: &mut M,
-    digit: u8,
-    session: u32,
-    after: u32,
-    first: u32,
-    end: u32,
-) -> Result<bool, Failed>
+fn owes<M: Medium>(journal: &Journal, unit: &mut M, digit: u8, asked: Asked) -> Result<bool, Failed>
     requires unit { IsUnit (M.state unit.old) }
     requires agrees { IfSome (M.state unit.old).image (Agrees journal.now) }
     ensures unit { IsUnit (M.state unit.new) }
     ensures agrees { OnOk result (IfSome (M.state unit.new).image (Agrees journal.now)) }
 {
     let number = card(digit);
-    let entries = journal.owed(unit, &number, session, after)?;
-    Ok(are_of(entries.as_slice(), first, end))
+    let entries = journal.owed(unit, &number, asked.session, asked.after)?;
+    Ok(are_of(entries.as_slice(), asked.first, asked.end))
 }
 
 /// Whether four minutes of a card are owed so, by a row of the table.
-fn owed_of_four<M: Medium>(
-    unit: &mut M,
-    begun: u32,
-    session: u32,
-    after: u32,
-    first: u32,
-    end: u32,
-) -> Result<bool, Failed>
+fn owed_of_four<M: Medium>(unit: &mut M, row: OwedRow) -> Result<bool, Failed>
     requires { IsUnit (M.state unit.old) }
 {
     let mut journal = open(unit)?;
-    begin(&mut journal, unit, 1, begun, None)?;
+    begin(&mut journal, unit, 1, row.begun, None)?;
     put_four(&mut journal, unit, 1)?;
-    owes(&journal, unit, 1, session, after, first, end)
+    owes(&journal, unit, 1, row.asked)
 }
 
-/// That it is so on a unit that has kept this minute.
-fn check_owed(
-    rt: &(impl Abort + AllocGlobal),
-    kept: u32,
-    begun: u32,
-    session: u32,
-    after: u32,
-    first: u32,
-    end: u32,
-) -> Result<(), Fail> {
+/// That it is so on a unit that has kept the row's minute.
+fn check_owed(rt: &(impl Abort + AllocGlobal), row: OwedRow) -> Result<(), Fail> {
     let alloc = rt.alloc();
-    let mut unit = unit(alloc, one_day(alloc, kept)?, u64::MAX, Left::Before)?;
-    let is_owed = owed_of_four(&mut unit, begun, session, after, first, end)?;
+    let mut unit = unit(alloc, one_day(alloc, row.kept)?, u64::MAX, Left::Before)?;
+    let is_owed = owed_of_four(&mut unit, row)?;
     assert!(rt; is_owed);
     Ok(())
 }
 
 #[test]
 fn entries_of_the_session_behind_the_mark(rt: HostRuntime) -> Result<(), Fail> {
-    for (kept, begun, session, after, first, end) in ROWS {
-        check_owed(&rt, kept, begun, session, after, first, end)?;
+    for row in ROWS {
+        check_owed(&rt, row)?;
     }
     Ok(())
 }
@@ -266,10 +296,20 @@ fn owes_nine<M: Medium>(journal: &Journal, unit: &mut M) -> Result<[bool; 4], Fa
     requires unit { IsUnit (M.state unit.old) }
     requires agrees { IfSome (M.state unit.old).image (Agrees journal.now) }
 {
-    let first = owes(journal, unit, 1, SESSION, 0, FIRST + 97, FIRST + 98)?;
-    let second = owes(journal, unit, 2, SESSION + 1, 0, FIRST, FIRST)?;
-    let third = owes(journal, unit, 3, SESSION + 2, 0, FIRST + 99, FIRST + 100)?;
-    let ninth = owes(journal, unit, 9, SESSION + 8, 0, FIRST + 100, FIRST + 101)?;
+    let first = owes(journal, unit, 1, all_of(SESSION, FIRST + 97, FIRST + 98))?;
+    let second = owes(journal, unit, 2, all_of(SESSION + 1, FIRST, FIRST))?;
+    let third = owes(
+        journal,
+        unit,
+        3,
+        all_of(SESSION + 2, FIRST + 99, FIRST + 100),
+    )?;
+    let ninth = owes(
+        journal,
+        unit,
+        9,
+        all_of(SESSION + 8, FIRST + 100, FIRST + 101),
+    )?;
     Ok([first, second, third, ninth])
 }
 
@@ -310,9 +350,9 @@ fn put_again<M: Medium>(unit: &mut M, first: u32, end: u32) -> Result<(bool, boo
     requires { IsUnit (M.state unit.old) }
 {
     let mut journal = open(unit)?;
-    let found = owes(&journal, unit, 1, SESSION, 0, first, end)?;
+    let found = owes(&journal, unit, 1, all_of(SESSION, first, end))?;
     put(&mut journal, unit, 1, FIRST + 101)?;
-    let again = owes(&journal, unit, 1, SESSION, 0, FIRST + 98, FIRST + 102)?;
+    let again = owes(&journal, unit, 1, all_of(SESSION, FIRST + 98, FIRST + 102))?;
     Ok((found, again))
 }
 
@@ -390,13 +430,23 @@ fn begun_again<M: Medium>(unit: &mut M, first: u32) -> Result<Begun, Failed>
     requires { IsUnit (M.state unit.old) }
 {
     let mut journal = open(unit)?;
-    let old = owes(&journal, unit, 1, SESSION, 0, first, FIRST + 101)?;
-    let new = owes(&journal, unit, 1, SESSION + 60, 0, FIRST, FIRST)?;
-    let other = owes(&journal, unit, 2, SESSION + 1, 0, FIRST + 97, FIRST + 98)?;
+    let old = owes(&journal, unit, 1, all_of(SESSION, first, FIRST + 101))?;
+    let new = owes(&journal, unit, 1, all_of(SESSION + 60, FIRST, FIRST))?;
+    let other = owes(
+        &journal,
+        unit,
+        2,
+        all_of(SESSION + 1, FIRST + 97, FIRST + 98),
+    )?;
     let spared = card(2);
     begin(&mut journal, unit, 1, SESSION + 60, Some(&spared))?;
     put(&mut journal, unit, 1, FIRST + 101)?;
-    let again = owes(&journal, unit, 1, SESSION + 60, 0, FIRST + 101, FIRST + 102)?;
+    let again = owes(
+        &journal,
+        unit,
+        1,
+        all_of(SESSION + 60, FIRST + 101, FIRST + 102),
+    )?;
     Ok(Begun {
         old,
         new,

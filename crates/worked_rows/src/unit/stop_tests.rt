@@ -291,25 +291,35 @@ fn given_up(row: Row, old: &[u32]) -> &[u32] {
     old
 }
 
+/// A stop at a call, in a manner; and whether the minute counts then, and the days before it do not.
+#[derive(Clone, Copy)]
+struct Stop {
+    call: u64,
+    left: Left,
+    counts: bool,
+}
+
+fn stop_at(call: u64, left: Left, counts: bool) -> Stop {
+    Stop { call, left, counts }
+}
+
 /// That this stop leaves the days before, or those with the minute where it may count, and that it can be kept again.
 fn check_stop(
     rt: &(impl Abort + AllocGlobal),
     row: Row,
-    call: u64,
-    left: Left,
-    old: &[u32],
-    new: &[u32],
-    counts: bool,
+    stop: Stop,
+    whole: &Whole,
 ) -> Result<(), Fail> {
-    let (is_ok, found, again) = kept_again(rt.alloc(), row, call, left)?;
-    let is_left = is_left(row, found.as_slice(), old, new, counts);
-    let is_new = again.as_slice() == new;
+    let (is_ok, found, again) = kept_again(rt.alloc(), row, stop.call, stop.left)?;
+    let is_left = is_left(row, found.as_slice(), whole, stop.counts);
+    let is_new = again.as_slice() == whole.new.as_slice();
     assert_eq!(rt; (is_ok, is_left, is_new), (false, true, true));
     Ok(())
 }
 
 /// Whether a stop may leave these days.
-fn is_left(row: Row, found: &[u32], old: &[u32], new: &[u32], counts: bool) -> bool {
+fn is_left(row: Row, found: &[u32], whole: &Whole, counts: bool) -> bool {
+    let (old, new) = (whole.old.as_slice(), whole.new.as_slice());
     if counts {
         return found == new;
     }
@@ -318,12 +328,11 @@ fn is_left(row: Row, found: &[u32], old: &[u32], new: &[u32], counts: bool) -> b
 
 /// Stops a `keep` at each of its calls in each manner; its last call is the write of the last-kept minute.
 fn check_stops(rt: &(impl Abort + AllocGlobal), row: Row, whole: &Whole) -> Result<(), Fail> {
-    let (old, new) = (whole.old.as_slice(), whole.new.as_slice());
     for call in whole.first..whole.end {
         let last = call + 1 == whole.end;
-        check_stop(rt, row, call, Left::Before, old, new, false)?;
-        check_stop(rt, row, call, Left::After, old, new, last)?;
-        check_stop(rt, row, call, Left::Torn(0xFF), old, new, false)?;
+        check_stop(rt, row, stop_at(call, Left::Before, false), whole)?;
+        check_stop(rt, row, stop_at(call, Left::After, last), whole)?;
+        check_stop(rt, row, stop_at(call, Left::Torn(0xFF), false), whole)?;
     }
     Ok(())
 }
