@@ -89,7 +89,7 @@ card-unbroken old new later A sound = ⊎_elim (λ rose. absurd (sound rose)) (�
 card-unbroken old new later B sound = ⊎_elim (λ rose. absurd (sound rose)) (λ same. same) later.card_b.unbroken
 
 module _ (old new : Outside) (outcome : Outcome) (start : ℕ) (items : List Item) (not_unit : IsForUnit items → ⊥)
-    (later : AreAfter (devices_of old) (devices_of new)) (broke : HasBroken old.unit new.unit (length (cuts true (log_of outcome)))) (writes : WritesIn start items (devices_of old) (devices_of new))
+    (later : AreAfter (devices_of old) (devices_of new)) (broke : HasBroken old.unit new.unit (length (cuts true (log_of outcome)))) (writes : WritesIn start items (length (cuts true (log_of outcome))) (devices_of old) (devices_of new))
     (short : total_seconds items ≤ 2 ^ 32) (few : length items ≤ 2 ^ 32)
     (is_read : (text : List ℕ) (s : ℕ) (is : List Item) → old.source.left ≡ Some text → IsTraceText Whole text s is → (start ≡ s) × (items ≡ is)) where
   same-trace : (s : ℕ) (is : List Item) → SourceTells old s is → (start ≡ s) × (items ≡ is)
@@ -97,7 +97,7 @@ module _ (old new : Outside) (outcome : Outcome) (start : ℕ) (items : List Ite
 
   time-left : HaveLongTime (devices_of old) → HaveTime (devices_of new)
   time-left long =
-      let most = writes-few start items in
+      let most = writes-few start items (length (cuts true (log_of outcome))) in
       let on_unit = most.0 in
       let on_card = most.1 in
       record {
@@ -106,10 +106,10 @@ module _ (old new : Outside) (outcome : Outcome) (start : ℕ) (items : List Ite
         card_b = (let a = writes.card_b in let b = long.card_b in omega (arith, a, b, on_card, short, few));
       }
 
-  writes-by : (s : ℕ) (is : List Item) → SourceTells old s is → WritesIn s is (devices_of old) (devices_of new)
+  writes-by : (s : ℕ) (is : List Item) → SourceTells old s is → WritesIn s is (length (cuts true (log_of outcome))) (devices_of old) (devices_of new)
   writes-by s is told =
       let same = same-trace s is told in
-      subst (λ (l : List Item). WritesIn s l (devices_of old) (devices_of new)) same.1 (subst (λ (n : ℕ). WritesIn n items (devices_of old) (devices_of new)) same.0 writes)
+      subst (λ (l : List Item). WritesIn s l (length (cuts true (log_of outcome))) (devices_of old) (devices_of new)) same.1 (subst (λ (n : ℕ). WritesIn n items (length (cuts true (log_of outcome))) (devices_of old) (devices_of new)) same.0 writes)
 
   uncut-by : (Rose old.unit.faults new.unit.faults → ⊥) → old.unit.breakdowns < last_count → cuts true (log_of outcome) ≡ []
   uncut-by sound low = cut-none old.unit new.unit (log_of outcome) later.unit.unbroken broke sound low

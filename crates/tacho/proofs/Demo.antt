@@ -1,5 +1,5 @@
 -- How `demo` ends, by what its calls answered.
-use Rattle.std.proofs.Common.{◌≡◌, ◌∙◌, ◌≤◌, ◌⊎◌, ℕ, inl, inr, ⊎_elim, refl, sym, subst, arith, false, Bool, List, [], ◌∷◌, ◌-◌, ◌*◌, length, Option, Some, None, length-append}
+use Rattle.std.proofs.Common.{◌≡◌, ◌∙◌, ◌≤◌, ◌⊎◌, ℕ, inl, inr, ⊎_elim, refl, sym, subst, arith, true, false, Bool, List, [], ◌∷◌, ◌-◌, ◌*◌, length, Option, Some, None, length-append}
 use Rattle.std.specs.Prelude.{Result, Ok, Err, OnOk, IfErr, IfSome}
 use Rattle.std.specs.List.{flat_map}
 use Rattle.std.specs.Io.KnownBytes.{Appends, Keeps}
@@ -14,7 +14,8 @@ use Rattle.trace_model.specs.Trace.{total_seconds}
 use Rattle.unit_minutes.specs.Reading.{ReadsIfAny}
 use Rattle.safety_model.specs.Safe.{Devices}
 use Rattle.run_promise.specs.Between.{devices}
-use Rattle.recorder_with_cards.specs.Words.{HaveTime}
+use Rattle.log_model.specs.Causes.{cuts}
+use Rattle.recorder_with_cards.specs.Words.{HaveTime, log_of}
 use Rattle.run_opening.specs.declared.fault.RunFault.TheVariants as run
 use Rattle.recorder_with_cards.specs.Ends.{MayRecord}
 use Rattle.run_opening.specs.Opening.{IsAsItWas}
@@ -157,11 +158,11 @@ unread-unfinished seed old new outcome unit b u download.WriteFault sound memory
 unread-unfinished seed old new outcome unit b u download.Memory sound memory before whole reads bad changed recorded told = memory refl
 
 -- and so no clock comes to its end
-demo-time : (seed : ℕ) (old new : Devices) → WritesAnew FIRST_SECOND (demo_items seed) old new → HaveLongTime old → HaveTime new
-demo-time seed old new few long =
+demo-time : (seed failed : ℕ) (old new : Devices) → WritesAnew FIRST_SECOND (demo_items seed) failed old new → HaveLongTime old → HaveTime new
+demo-time seed failed old new few long =
     let seconds = demo-whole seed in
     let items = items-few seed in
-    let most = writes-few FIRST_SECOND (demo_items seed) in
+    let most = writes-few FIRST_SECOND (demo_items seed) failed in
     let on_unit = most.0 in
     let on_card = most.1 in
     record {
@@ -171,11 +172,11 @@ demo-time seed old new few long =
     }
 
 -- THERE WAS NO MEMORY, before a device was used
-pub demo-memory : (seed : ℕ) (old new : Outside) (outcome : Outcome) → new.sink.held ≡ old.sink.held → IsEmpty outcome → IsAsItWas old.card_b.memory new.card_b.memory → WritesAnew FIRST_SECOND (demo_items seed) (devices_of old) (devices_of new) → EndsDemo seed old new outcome Memory
+pub demo-memory : (seed : ℕ) (old new : Outside) (outcome : Outcome) → new.sink.held ≡ old.sink.held → IsEmpty outcome → IsAsItWas old.card_b.memory new.card_b.memory → WritesAnew FIRST_SECOND (demo_items seed) (length (cuts true (log_of outcome))) (devices_of old) (devices_of new) → EndsDemo seed old new outcome Memory
 demo-memory seed old new outcome sink empty same few = record {
   ends = tt;
   writes = few;
-  time = λ long. demo-time seed (devices_of old) (devices_of new) (few) long;
+  time = λ long. demo-time seed (length (cuts true (log_of outcome))) (devices_of old) (devices_of new) (few) long;
   run = λ b starts is. absurd is;
   put_down = λ b starts. inr (empty, same);
   printed = λ is. absurd (cc);
@@ -187,11 +188,11 @@ demo-memory seed old new outcome sink empty same few = record {
 
 -- THE DEVICES WERE NOT MADE NEW, or the trace was kept from being recorded
 pub demo-refused : (seed : ℕ) (old new : Outside) (outcome : Outcome) (fault : AnewFault) → new.sink.held ≡ old.sink.held → ((b : List ℕ) → StartAnew b old new → IsEmpty outcome × IsAsItWas old.card_b.memory new.card_b.memory)
-    → IsFailed fault (devices_of old) (devices_of new) → ((b : List ℕ) → StartAnew b old new → MayRecord (unit_image VEHICLE) (card_image CARD) b FIRST_SECOND → IsFailure fault) → WritesAnew FIRST_SECOND (demo_items seed) (devices_of old) (devices_of new) → EndsDemo seed old new outcome (refusal_anew fault)
+    → IsFailed fault (devices_of old) (devices_of new) → ((b : List ℕ) → StartAnew b old new → MayRecord (unit_image VEHICLE) (card_image CARD) b FIRST_SECOND → IsFailure fault) → WritesAnew FIRST_SECOND (demo_items seed) (length (cuts true (log_of outcome))) (devices_of old) (devices_of new) → EndsDemo seed old new outcome (refusal_anew fault)
 demo-refused seed old new outcome fault sink empty failed only few = record {
   ends = anew-ends fault;
   writes = few;
-  time = λ long. demo-time seed (devices_of old) (devices_of new) (few) long;
+  time = λ long. demo-time seed (length (cuts true (log_of outcome))) (devices_of old) (devices_of new) (few) long;
   run = λ b starts is. absurd (anew-refused fault is);
   put_down = λ b starts. inr (empty b starts);
   printed = λ is. absurd (anew-refused fault (subst IsRun (sym is) tt));
@@ -211,8 +212,8 @@ recorded-so seed old new outcome unit failed reads recorded b starts =
     (recorded b starts.may (record { unit = omega (arith, starts.clocks.unit, is.clock); card_a = starts.clocks.card_a; card_b = starts.clocks.card_b }))
 
 -- so many writes began till then, and no more
-written-so : (seed : ℕ) (old new : Outside) (unit : State) (failed : Bool) → ReadsIfAny unit new.unit failed → WritesAnew FIRST_SECOND (demo_items seed) (devices_of old) (devices unit new.card_a.memory new.card_b.memory) → WritesAnew FIRST_SECOND (demo_items seed) (devices_of old) (devices_of new)
-written-so seed old new unit failed reads few =
+written-so : (seed : ℕ) (old new : Outside) (outcome : Outcome) (unit : State) (failed : Bool) → ReadsIfAny unit new.unit failed → WritesAnew FIRST_SECOND (demo_items seed) (length (cuts true (log_of outcome))) (devices_of old) (devices unit new.card_a.memory new.card_b.memory) → WritesAnew FIRST_SECOND (demo_items seed) (length (cuts true (log_of outcome))) (devices_of old) (devices_of new)
+written-so seed old new outcome unit failed reads few =
     let is = is-read unit new.unit failed reads in
     record { unit = (let same = is.clock in let most = few.unit in omega (arith, same, most)); card_a = few.card_a; card_b = few.card_b }
 
@@ -221,12 +222,12 @@ pub demo-unread : (seed : ℕ) (old new : Outside) (outcome : Outcome) (unit : S
     → ((b : List ℕ) → MayBeAnew b (devices_of old) → HaveTime (devices unit new.card_a.memory new.card_b.memory) → EndsAnew (unit_image VEHICLE) (card_image CARD) b FIRST_SECOND (demo_items seed) outcome (devices_of old) (devices unit new.card_a.memory new.card_b.memory))
     → (fault ≡ download.Changed → IfSome unit.image (λ x. ⊥))
     → old.unit.faults ≤ unit.faults → IsCoherent new.unit → IfBad fault (λ place. IfSome unit.image (λ x. first_bad_place x ≡ Some place))
-    → WritesAnew FIRST_SECOND (demo_items seed) (devices_of old) (devices unit new.card_a.memory new.card_b.memory)
+    → WritesAnew FIRST_SECOND (demo_items seed) (length (cuts true (log_of outcome))) (devices_of old) (devices unit new.card_a.memory new.card_b.memory)
     → EndsDemo seed old new outcome (refusal_of_file fault)
 demo-unread seed old new outcome unit fault sink reads recorded changed before whole bad few = record {
   ends = file-ends fault;
-  writes = written-so seed old new unit (has_failed {T = FileSize} (Err fault)) reads few;
-  time = λ long. demo-time seed (devices_of old) (devices_of new) (written-so seed old new unit (has_failed {T = FileSize} (Err fault)) reads few) long;
+  writes = written-so seed old new outcome unit (has_failed {T = FileSize} (Err fault)) reads few;
+  time = λ long. demo-time seed (length (cuts true (log_of outcome))) (devices_of old) (devices_of new) (written-so seed old new outcome unit (has_failed {T = FileSize} (Err fault)) reads few) long;
   run = λ b starts is. absurd (file-refused fault is);
   put_down = λ b starts. inl (recorded-so seed old new outcome unit (has_failed {T = FileSize} (Err fault)) reads recorded b starts);
   printed = λ is. absurd (file-refused fault (subst IsRun (sym is) tt));
@@ -247,12 +248,12 @@ pub demo-done : {T : Type 0} (seed : ℕ) (old new : Outside) (outcome : Outcome
     → OnOk r (Appends old.sink.held new.sink.held (demo_text outcome size))
     → IfErr r (λ fault. (fault ≡ WriteFault) × AppendsFront old.sink.held new.sink.held (demo_text outcome size))
     → IfErr r (λ fault. Rose old.sink.faults new.sink.faults)
-    → WritesAnew FIRST_SECOND (demo_items seed) (devices_of old) (devices unit new.card_a.memory new.card_b.memory)
+    → WritesAnew FIRST_SECOND (demo_items seed) (length (cuts true (log_of outcome))) (devices_of old) (devices unit new.card_a.memory new.card_b.memory)
     → EndsDemo seed old new outcome (end_of r)
 demo-done seed old new outcome unit size (Ok u) reads recorded measured appends front rose few = record {
   ends = tt;
-  writes = written-so seed old new unit false reads few;
-  time = λ long. demo-time seed (devices_of old) (devices_of new) (written-so seed old new unit false reads few) long;
+  writes = written-so seed old new outcome unit false reads few;
+  time = λ long. demo-time seed (length (cuts true (log_of outcome))) (devices_of old) (devices_of new) (written-so seed old new outcome unit false reads few) long;
   run = λ b starts is. recorded-so seed old new outcome unit false reads recorded b starts;
   put_down = λ b starts. inl (recorded-so seed old new outcome unit false reads recorded b starts);
   printed = λ is. record { size = size; puts = appends; measured = subst (λ (image : Option (List ℕ)). IfSome image (λ x. IsSizeOf x size)) (sym (same-image unit new.unit false refl reads)) measured };
@@ -264,8 +265,8 @@ demo-done seed old new outcome unit size (Ok u) reads recorded measured appends 
 demo-done seed old new outcome unit size (Err fault) reads recorded measured appends front rose few =
     subst (λ (f : Fault). EndsDemo seed old new outcome f) (sym front.0) (record {
       ends = tt;
-      writes = written-so seed old new unit false reads few;
-      time = λ long. demo-time seed (devices_of old) (devices_of new) (written-so seed old new unit false reads few) long;
+      writes = written-so seed old new outcome unit false reads few;
+      time = λ long. demo-time seed (length (cuts true (log_of outcome))) (devices_of old) (devices_of new) (written-so seed old new outcome unit false reads few) long;
       run = λ b starts is. recorded-so seed old new outcome unit false reads recorded b starts;
       put_down = λ b starts. inl (recorded-so seed old new outcome unit false reads recorded b starts);
       printed = λ is. absurd (cc);
@@ -330,9 +331,9 @@ as-demo seed x a b start items out old now image first all h =
     (subst (λ (l : List ℕ). EndsAnew x l b start items out old now) image h))
 
 -- so many writes began as the demonstration takes
-pub writes-demo : (seed start : ℕ) (items : List Item) (old now : Devices) → start ≡ FIRST_SECOND → items ≡ demo_items seed → WritesAnew start items old now → WritesAnew FIRST_SECOND (demo_items seed) old now
-writes-demo seed start items old now first all few =
-    subst (λ (l : List Item). WritesAnew FIRST_SECOND l old now) all (subst (λ (n : ℕ). WritesAnew n items old now) first few)
+pub writes-demo : (seed start : ℕ) (items : List Item) (failed : ℕ) (old now : Devices) → start ≡ FIRST_SECOND → items ≡ demo_items seed → WritesAnew start items failed old now → WritesAnew FIRST_SECOND (demo_items seed) failed old now
+writes-demo seed start items failed old now first all few =
+    subst (λ (l : List Item). WritesAnew FIRST_SECOND l failed old now) all (subst (λ (n : ℕ). WritesAnew n items failed old now) first few)
 
 -- so the call ends that was asked for it
 pub demo-ends : {T : Type 0} (seed : ℕ) (old new : Outside) (outcome : Outcome) (r : Result T Fault) → EndsDemo seed old new outcome (end_of r) → HasCauses old new (end_of r) → Ends (Some (Demo seed)) old new (ended_by outcome (end_of r))

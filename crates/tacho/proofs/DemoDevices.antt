@@ -10,7 +10,8 @@ use Rattle.tach_media.specs.Medium.{State, IsCoherent, IsSettled, put}
 use Rattle.safety_model.specs.Safe.{Devices, card_of, breakdowns_of}
 use Rattle.run_promise.specs.Opening.{BeginsAs}
 use Rattle.run_promise.specs.Between.{devices}
-use Rattle.recorder_with_cards.specs.Words.{HaveTime, AreAfter}
+use Rattle.log_model.specs.Causes.{cuts}
+use Rattle.recorder_with_cards.specs.Words.{HaveTime, AreAfter, log_of}
 use Rattle.run_outcome.specs.declared.outcome.Outcome.{Outcome}
 use Rattle.run_opening.specs.declared.fault.RunFault.{RunFault}
 use Rattle.run_opening.specs.declared.fault.RunFault.TheVariants.{MediumFault, BadUnit, ClockBack, SameCard}
@@ -46,7 +47,7 @@ card-new image old new whole size behind is tells settled =
 
 -- so the run promises what it does from then on
 pub ends-anew : (x a b : List ℕ) (start : ℕ) (items : List Item) (out : Outcome) (U V X Y Z : State) (now : Devices) → U.clock ≤ V.clock → X.clock ≤ Y.clock → V.breakdowns ≡ U.breakdowns → Y.breakdowns ≡ X.breakdowns → V.clock ≤ now.unit.clock → Y.clock ≤ now.card_a.clock → V.clock ≤ U.clock + 10324 → Y.clock ≤ X.clock + 101 →
-    WritesIn start items (devices V Y Z) now → EndsTrace x a b start items out (devices V Y Z) now → EndsAnew x a b start items out (devices U X Z) now
+    WritesIn start items (length (cuts true (log_of out))) (devices V Y Z) now → EndsTrace x a b start items out (devices V Y Z) now → EndsAnew x a b start items out (devices U X Z) now
 ends-anew x a b start items out U V X Y Z now unit card unit_same card_same before before_card made made_card most h = record {
   unit_clock = V.clock;
   card_clock = Y.clock;

@@ -38,6 +38,14 @@ module _ (x a b : List ℕ) (start : ℕ) (items : List Item) (out : Outcome) (p
   abbrev Caused : ℕ → (Card → ℕ) → (Device → ℕ) → Type 0
   Caused n k m = HasCauses (λ c u v. IsVerdict r (now.unit.left_since n) ((card_of now c).left_since (k c)) c u v) m (breakdowns_of now) r.trace r.log
 
+  -- no call has failed on a card, by either
+  none-failed : (c : Card) → NothingFailedOn r c q → NothingFailedOn r c p
+  none-failed c on = record {
+    uncut = on.uncut;
+    untorn = on.untorn;
+    low = ⊎_elim (λ none. inl none) (λ below. inr (subst (λ (n : ℕ). n < last_count) (sym (broken (device_of c))) below)) on.low;
+  }
+
   side-by : (y : List ℕ) → ShowsSide r p now y → ShowsSide r q now y
   side-by y h = record {
     spans = h.spans;
@@ -53,19 +61,11 @@ module _ (x a b : List ℕ) (start : ℕ) (items : List Item) (out : Outcome) (p
           sessions = was.sessions;
           are_sessions = λ t f among found accepts. let one = was.are_sessions t f among found accepts in (one.0, subst (λ (n : ℕ). (card_of now f.0.card).left_since n one.0) (cards f.0.card) one.1, one.2);
           are_first = was.are_first;
-          exact = was.exact;
+          exact = λ c on. was.exact c (none-failed c on);
           tearing = was.tearing;
           are_torn = was.are_torn;
           events = was.events;
         };
-  }
-
-  -- no call has failed on a card, by either
-  none-failed : (c : Card) → NothingFailedOn r c q → NothingFailedOn r c p
-  none-failed c on = record {
-    uncut = on.uncut;
-    untorn = on.untorn;
-    low = ⊎_elim (λ none. inl none) (λ below. inr (subst (λ (n : ℕ). n < last_count) (sym (broken (device_of c))) below)) on.low;
   }
 
   events-by : (c : Card) → ShowsItsEvents r c p (card_of now c) → ShowsItsEvents r c q (card_of now c)

@@ -55,9 +55,9 @@ pub refused-on-unit : (start : ℕ) (before after : Outcome) (U V : State) (by :
 refused-on-unit start before after U V by empty refused = ⊎_elim (λ h. inl (h.0, h.1, subst IsEmpty (sym h.2) empty)) (λ late. inr late) refused
 
 -- so many writes are those of the trace that was read
-writes-as : (old new : State) (start s : ℕ) (items is : List Item) → start ≡ s → items ≡ is → new.clock ≤ old.clock + unit_writes start items → new.clock ≤ old.clock + unit_writes s is
-writes-as old new start s items is first all few =
-    subst (λ (l : List Item). new.clock ≤ old.clock + unit_writes s l) all (subst (λ (n : ℕ). new.clock ≤ old.clock + unit_writes n items) first few)
+writes-as : (old new : State) (start s : ℕ) (items is : List Item) (failed : ℕ) → start ≡ s → items ≡ is → new.clock ≤ old.clock + unit_writes start items failed → new.clock ≤ old.clock + unit_writes s is failed
+writes-as old new start s items is failed first all few =
+    subst (λ (l : List Item). new.clock ≤ old.clock + unit_writes s l failed) all (subst (λ (n : ℕ). new.clock ≤ old.clock + unit_writes n items failed) first few)
 
 -- THE RUN WAS REFUSED by the unit
 module _ (old new : Outside) (outcome : Outcome) (start : ℕ) (items : List Item)
@@ -72,15 +72,15 @@ module _ (old new : Outside) (outcome : Outcome) (start : ℕ) (items : List Ite
   on-read fault when s is told =
       subst (λ (t : ℕ). (IsUnitRefused t old.unit new.unit fault × LeavesOnly old.unit new.unit Unchanged × IsEmpty outcome) ⊎ IsFoundLater fault) (is_read told.text s is told.told told.trace).0 when
 
-  writes-by : new.unit.clock ≤ old.unit.clock + unit_writes start items → (s : ℕ) (is : List Item) → SourceTells old s is → new.unit.clock ≤ old.unit.clock + unit_writes s is
+  writes-by : new.unit.clock ≤ old.unit.clock + unit_writes start items (length (cuts true (log_of outcome))) → (s : ℕ) (is : List Item) → SourceTells old s is → new.unit.clock ≤ old.unit.clock + unit_writes s is (length (cuts true (log_of outcome)))
   writes-by writes s is told =
       let same = is_read told.text s is told.told told.trace in
-      writes-as old.unit new.unit start s items is same.0 same.1 writes
+      writes-as old.unit new.unit start s items is (length (cuts true (log_of outcome))) same.0 same.1 writes
 
-  time-by : new.unit.clock ≤ old.unit.clock + unit_writes start items → (s : ℕ) (is : List Item) → SourceTells old s is → old.unit.clock < 2 ^ 63 → new.unit.clock < last_count
-  time-by writes s is told long = let most = (writes-few start items).0 in omega (arith, writes, most, long, short, few)
+  time-by : new.unit.clock ≤ old.unit.clock + unit_writes start items (length (cuts true (log_of outcome))) → (s : ℕ) (is : List Item) → SourceTells old s is → old.unit.clock < 2 ^ 63 → new.unit.clock < last_count
+  time-by writes s is told long = let most = (writes-few start items (length (cuts true (log_of outcome)))).0 in omega (arith, writes, most, long, short, few)
 
-  pub unit-refused : (fault : RunFault) → IsUnitFault old.unit new.unit fault → IsLater old.unit new.unit → HasBroken old.unit new.unit (length (cuts true (log_of outcome))) → new.unit.clock ≤ old.unit.clock + unit_writes start items
+  pub unit-refused : (fault : RunFault) → IsUnitFault old.unit new.unit fault → IsLater old.unit new.unit → HasBroken old.unit new.unit (length (cuts true (log_of outcome))) → new.unit.clock ≤ old.unit.clock + unit_writes start items (length (cuts true (log_of outcome)))
       → (IsUnitRefused start old.unit new.unit fault × LeavesOnly old.unit new.unit Unchanged × IsEmpty outcome) ⊎ IsFoundLater fault
       → ((x : List ℕ) → StartsAs x old.unit → new.unit.clock < last_count → IsUnitRefused start old.unit new.unit fault × LeavesOnly old.unit new.unit Unchanged × IsEmpty outcome)
       → EndsOnUnit old new outcome (refusal_of_run fault)
@@ -214,7 +214,7 @@ pub unit-run : (old new : Outside) (outcome : Outcome) (start : ℕ) (items : Li
     → ((x : List ℕ) → StartsAs x old.unit → new.unit.clock < last_count → IsRecorded x start items outcome old.unit new.unit)
     → ((x : List ℕ) → StartsAs x old.unit → new.unit.clock < last_count → IsCaused old new start items outcome)
     → ((x : List ℕ) → StartsAs x old.unit → Decodes x × (last_kept x < start / 60))
-    → HasBroken old.unit new.unit (length (cuts true (log_of outcome))) → new.unit.clock ≤ old.unit.clock + unit_writes start items → (cuts true (log_of outcome) ≡ [] → new.unit.breakdowns ≡ old.unit.breakdowns) → HasBrokenAtMost old.unit new.unit (length (cuts true (log_of outcome))) → IsLater old.unit new.unit → new.card_a.memory ≡ old.card_a.memory → new.card_b.memory ≡ old.card_b.memory
+    → HasBroken old.unit new.unit (length (cuts true (log_of outcome))) → new.unit.clock ≤ old.unit.clock + unit_writes start items (length (cuts true (log_of outcome))) → (cuts true (log_of outcome) ≡ [] → new.unit.breakdowns ≡ old.unit.breakdowns) → HasBrokenAtMost old.unit new.unit (length (cuts true (log_of outcome))) → IsLater old.unit new.unit → new.card_a.memory ≡ old.card_a.memory → new.card_b.memory ≡ old.card_b.memory
     → (fault : Fault) → IsRun fault → (fault ≡ WriteFault → Rose old.sink.faults new.sink.faults) → EndsOnUnit old new outcome fault
 unit-run old new outcome start items for_unit is_read short few recorded caused begun broke writes calm told later same_a same_b fault ran rose = record {
   for_unit = λ s is told. subst IsForUnit (is_read told.text s is told.told told.trace).1 for_unit;
@@ -231,8 +231,8 @@ unit-run old new outcome start items for_unit is_read short few recorded caused 
   broke = broke;
   writes = λ s is told.
       let same = is_read told.text s is told.told told.trace in
-      writes-as old.unit new.unit start s items is same.0 same.1 writes;
-  time = λ s is told long. (let most = (writes-few start items).0 in omega (arith, writes, most, long, short, few));
+      writes-as old.unit new.unit start s items is (length (cuts true (log_of outcome))) same.0 same.1 writes;
+  time = λ s is told long. (let most = (writes-few start items (length (cuts true (log_of outcome)))).0 in omega (arith, writes, most, long, short, few));
   calm = λ done. calm;
   told = λ done. told;
   early = λ s is told ref. absurd (refused-no-run fault ref ran);

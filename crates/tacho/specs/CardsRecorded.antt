@@ -98,9 +98,11 @@ pub record EndsWithCards (old new : Outside) (outcome : Outcome) (fault : Fault)
   pub later : AreAfter (devices_of old) (devices_of new)
   pub early : (start : ℕ) (items : List Item) → SourceTells old start items → IsRefusal fault
       → IsNotRecorded start (devices_of old) (devices_of new) outcome fault
-  -- So many writes began at most on each device, by the turns of the trace, two for each minute, and by its actions.
+  -- So many writes began at most on each device: by its power-ons, of which there was one at the begin, and one behind
+  -- each `off` line and each cut that a failed call made; by the turns of the trace, two for each minute; and by its
+  -- actions.
   pub writes : (start : ℕ) (items : List Item) → SourceTells old start items
-      → WritesIn start items (devices_of old) (devices_of new)
+      → WritesIn start items (length (cuts true (log_of outcome))) (devices_of old) (devices_of new)
   -- So a clock comes to its end in no run that it began in its lower half.
   pub time : (start : ℕ) (items : List Item) → SourceTells old start items → HaveLongTime (devices_of old)
       → HaveTime (devices_of new)

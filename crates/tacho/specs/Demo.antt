@@ -1,11 +1,12 @@
 -- How `demo` ends: a unit and a card are made new, a demonstration is recorded on them, and the unit is downloaded
 -- (profile).
-use Rattle.std.specs.Prelude.{◌≡◌, ◌⊎◌, ℕ, List, ◌++◌, codes, Some, IfSome}
+use Rattle.std.specs.Prelude.{◌≡◌, ◌⊎◌, ℕ, true, List, ◌++◌, length, codes, Some, IfSome}
 use Rattle.std.specs.Io.KnownBytes.{Appends, Keeps}
 use Rattle.tach_media.specs.Medium.{State}
 use Rattle.tach_media.specs.Streams.{AppendsFront}
 use Rattle.run_model.specs.declared.Device.TheVariants.{Unit as OfUnit}
-use Rattle.recorder_with_cards.specs.Words.{HaveTime}
+use Rattle.log_model.specs.Causes.{cuts}
+use Rattle.recorder_with_cards.specs.Words.{HaveTime, log_of}
 use Rattle.recorder_with_cards.specs.Ends.{MayRecord}
 use Rattle.run_opening.specs.Opening.{IsAsItWas}
 use Rattle.run_outcome.specs.declared.outcome.Outcome.{Outcome}
@@ -84,7 +85,8 @@ pub record EndsDemo (seed : ℕ) (old new : Outside) (outcome : Outcome) (fault 
       → IsDemonstrated seed card_b old new outcome
       ⊎ (IsEmpty outcome × IsAsItWas old.card_b.memory new.card_b.memory)
   -- Whatever fails, so many writes began at most on each device.
-  pub writes : WritesAnew FIRST_SECOND (demo_items seed) (devices_of old) (devices_of new)
+  pub writes : WritesAnew FIRST_SECOND (demo_items seed) (length (cuts true (log_of outcome))) (devices_of old)
+      (devices_of new)
   -- So a clock comes to its end in no demonstration that it began in its lower half.
   pub time : HaveLongTime (devices_of old) → HaveTime (devices_of new)
   -- Done: exactly the seven lines were printed; at a write fault a front of them; and else nothing.

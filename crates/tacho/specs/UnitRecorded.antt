@@ -108,9 +108,11 @@ pub record EndsOnUnit (old new : Outside) (outcome : Outcome) (fault : Fault) : 
   pub finds_clock_back : (start : ℕ) (items : List Item) (x : List ℕ) → SourceTells old start items
       → Starts x old.unit new.unit → IsSound old new
       → Decodes x → start / 60 ≤ last_kept x → fault ≡ ClockBack (last_kept x) start
-  -- So many writes began at most on the unit, by the turns of the trace, two for each minute, and by its actions.
+  -- So many writes began at most on the unit: by its power-ons, of which there was one at the begin, and one behind
+  -- each `off` line and each cut that a failed call made; by the turns of the trace, two for each minute; and by its
+  -- actions.
   pub writes : (start : ℕ) (items : List Item) → SourceTells old start items
-      → new.unit.clock ≤ old.unit.clock + unit_writes start items
+      → new.unit.clock ≤ old.unit.clock + unit_writes start items (length (cuts true (log_of outcome)))
   -- So its clock comes to its end in no run that it began in its lower half.
   pub time : (start : ℕ) (items : List Item) → SourceTells old start items → old.unit.clock < 2 ^ 63
       → new.unit.clock < last_count

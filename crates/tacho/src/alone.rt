@@ -1,7 +1,7 @@
 //! A trace without a card's line is recorded on the unit alone.
 ghost use Rattle.std.specs.Prelude.{◌≡◌, ◌+◌, ◌/◌, ◌≤◌, ◌<◌, ℕ, List, true, false, length, OnOk};
 ghost use Rattle.tach_media.specs.Medium.{last_count};
-ghost use Rattle.log_model.specs.Causes.{HasCauses};
+ghost use Rattle.log_model.specs.Causes.{HasCauses, cuts};
 ghost use Rattle.trace_model.specs.Trace.{seconds_of};
 ghost use Rattle.trace_text.specs.Trace.{IsWellFormed};
 ghost use Rattle.history_model.specs.Presence.{Start};
@@ -69,9 +69,9 @@ pub fn record_alone<U: Medium>(
         → length trace.now.items ≤ largest_number
         → OnOk result (HasCauses NoVerdict (counts (U.state unit.old).breakdowns a b)
         (counts (U.state unit.new).breakdowns a b) (seconds_of trace.now.start trace.now.items) (log_of outcome.new)) }
-    // So many writes it begins at most, by the turns of the trace and by its actions.
+    // So many writes it begins at most, by its power-ons, the turns of the trace and its actions.
     ensures most { (U.state unit.new).clock ≤ (U.state unit.old).clock
-        + unit_writes trace.now.start trace.now.items }
+        + unit_writes trace.now.start trace.now.items (length (cuts true (log_of outcome.new))) }
     // Each cut that a failed call made is a breakdown of the unit more; and where none has cut the power of a run that
     // is recorded, it has not broken down, nor where no call on it failed. Nor has it more often than those cuts. No
     // clock and no count of it falls.
