@@ -49,7 +49,7 @@ help_text = as_lines (
 
 -- the version, and that of the toolchain which proves it
 unfoldable pub version_text : List ℕ
-version_text = as_lines (codes "tacho 1.6.0" ∷ codes "rattle-kit-13f logic dac8208d650f15bf" ∷ [])
+version_text = as_lines (codes "tacho 1.6.1" ∷ codes "rattle-kit-13f logic dac8208d650f15bf" ∷ [])
 
 -- all is done, or the sink failed
 abbrev pub IsTextEnd : Fault → Type 0

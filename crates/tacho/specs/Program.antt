@@ -20,14 +20,13 @@ use Rattle.tacho.specs.declared.forms.Form.TheVariants.{DownloadNoisy, DownloadP
 use Rattle.tacho.specs.declared.forms.Form.TheVariants.{Version}
 use Rattle.tacho.specs.declared.forms.Reading.TheVariants.{Show}
 use Rattle.tacho.specs.End.{status_of, IsBeforeDevices}
-use Rattle.tacho.specs.declared.handed.Handed.{Handed}
-use Rattle.tacho.specs.Outside.{Outside, Tells, told_by, memory_of}
+use Rattle.tacho.specs.Outside.{Outside, Handed, Tells, told_by, memory_of}
 use Rattle.tacho.specs.Minutes.{EndsMinutes}
 use Rattle.tacho.specs.Outcomes.{IsEmpty, IsToldForUnit}
 use Rattle.tacho.specs.Recorded.{EndsRecord}
-use Rattle.tacho.specs.Serving.{EndsServe, EndsServeHex, AnswersWaiting}
+use Rattle.tacho.specs.Serving.{EndsServe, EndsServeHex}
 use Rattle.tacho.specs.Downloading.{EndsDownload}
-use Rattle.tacho.specs.Packets.{EndsServePackets, IsPacketsEnd, WritesFile}
+use Rattle.tacho.specs.Packets.{EndsServePackets, IsPacketsEnd}
 use Rattle.tacho.specs.Read.{Prints, IsBad, EndsReading}
 use Rattle.tacho.specs.Formatting.{IsCard, EndsIssue, EndsMaking}
 use Rattle.tacho.specs.Upgrading.{EndsUpgrade}
@@ -159,16 +158,11 @@ pub record Spares (asked : Option Form) (fault : Fault) (for_unit source sink un
   -- Of a card of which a field is named nothing was printed, and of what is no file for `show`.
   pub unprinted : EndsBefore asked fault → sink
 
--- WHAT THE CALL OF A FORM DOES with what it is handed, by what each kind of that tells: how it ends, what it leaves
--- untouched, when it answers, and what the file gets.
-pub record Does {S K F U C : Type 0} (t : Tells S K F U C) (asked : Option Form) (old new : Handed S K F U C)
+-- WHAT THE CALL OF A FORM DOES with what it is handed, by what each kind of that tells: how it ends, and what it leaves
+-- untouched.
+pub record Does {S K U C : Type 0} (t : Tells S K U C) (asked : Option Form) (old new : Handed S K U C)
     (ended : Ended) : Type 0 where
   pub ends : Ends asked (told_by t old) (told_by t new) ended
   pub spares : Spares asked ended.fault (IsToldForUnit (t.left old.source))
       (new.source ≡ old.source) (new.sink ≡ old.sink) (new.unit ≡ old.unit) (new.card_a ≡ old.card_a)
       (new.card_b ≡ old.card_b)
-  pub in_time : AnswersWaiting asked (told_by t old) (told_by t new) (t.asked old.source) (t.asked new.source)
-  pub file : WritesFile asked (t.left old.source) (t.left new.source)
-      (record { link = t.held old.sink; file = t.filed old.file })
-      (record { link = t.held new.sink; file = t.filed new.file })
-      (Rose (t.file_faults old.file) (t.file_faults new.file)) (new.file ≡ old.file) ended.fault

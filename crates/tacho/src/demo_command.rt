@@ -3,25 +3,25 @@ ghost use Rattle.std.specs.Prelude.{◌≡◌, ◌≤◌, OnOk, IfErr};
 ghost use Rattle.std.specs.Io.KnownBytes.{Appends};
 ghost use Rattle.tach_media.specs.Medium.{Rose};
 ghost use Rattle.tach_media.specs.Streams.{AppendsFront};
+ghost use Rattle.unit_model.specs.Image.{IsUnit};
 ghost use Rattle.tacho.specs.End.{end_of};
-ghost use Rattle.tacho.specs.Outside.{tells, told_by};
-ghost use Rattle.tacho.specs.Program.{AreDevices, HasCauses};
+ghost use Rattle.tacho.specs.Outside.{outside};
+ghost use Rattle.tacho.specs.Program.{HasCauses};
+ghost use Rattle.tacho.specs.Formatting.{IsCard};
 ghost use Rattle.tacho.specs.Outcomes.{IsEmpty};
 ghost use Rattle.tacho.specs.Demo.{demo_text as text_of_demo, refusal_anew, refusal_of_file, EndsDemo};
 
-use crate::anew::{AnewFault, NewDevices, run_anew};
+use crate::anew::{AnewFault, run_anew};
 use crate::end::Fault;
-use crate::handed::Handed;
 use crate::outcome_text::demo_text;
 use crate::record_command::refusal_of_run;
 use card_files::{CardIdentity, blank_card};
 use card_layout::LARGEST;
 use link_loader::Downloader;
-use link_session::Peer;
 use run_model::Device;
 use run_outcome::Outcome;
 use std::alloc::Global;
-use tach_media::{Chip, Medium, MemSink, Sink, put_all};
+use tach_media::{Chip, Medium, MemSink, Sink, Source, put_all};
 use tacho_types::{Name36, Nation, Registration};
 use trace_text::demo_trace;
 use unit_download::{DownloadFault, FileSize, measure};
@@ -53,23 +53,31 @@ pub const ROOM: usize = 300000;
 
 /// The command `demo`, by the number that the demonstration is drawn from. The outcome is what was recorded; it stays
 /// as it was where nothing is. All memory is taken before the first write.
-pub fn demo<S: Peer<K>, K: Sink, F: Sink, U: Medium, C: Chip>(
+pub fn demo<S: Source, K: Sink, U: Medium, C: Chip>(
     alloc: Global,
     seed: u32,
-    handed: &mut Handed<S, K, F, U, C>,
+    source: &mut S,
+    sink: &mut K,
+    unit: &mut U,
+    card_a: &mut C,
+    card_b: &mut C,
     outcome: &mut Outcome,
 ) -> Result<(), Fault>
-    requires devices { AreDevices (U.state handed.old.unit) (C.state handed.old.card_a) (C.state handed.old.card_b) }
+    requires unit { IsUnit (U.state unit.old) }
+    requires card_a { IsCard (C.state card_a.old) }
+    requires card_b { IsCard (C.state card_b.old) }
     requires empty { IsEmpty outcome.old }
     ensures ends { EndsDemo seed
-        (told_by (tells S.left S.faults S.asked K.held K.faults F.held F.faults U.state C.state C.card) handed.old)
-        (told_by (tells S.left S.faults S.asked K.held K.faults F.held F.faults U.state C.state C.card) handed.new)
-        outcome.new (end_of result) }
-    ensures others { (handed.new.source ≡ handed.old.source) × (handed.new.file ≡ handed.old.file) }
+        (outside S.left S.faults K.held K.faults U.state C.state C.card source.old sink.old unit.old card_a.old
+        card_b.old)
+        (outside S.left S.faults K.held K.faults U.state C.state C.card source.new sink.new unit.new card_a.new
+        card_b.new) outcome.new (end_of result) }
+    ensures source { source.new ≡ source.old }
     ensures causes { HasCauses
-        (told_by (tells S.left S.faults S.asked K.held K.faults F.held F.faults U.state C.state C.card) handed.old)
-        (told_by (tells S.left S.faults S.asked K.held K.faults F.held F.faults U.state C.state C.card) handed.new)
-        (end_of result) }
+        (outside S.left S.faults K.held K.faults U.state C.state C.card source.old sink.old unit.old card_a.old
+        card_b.old)
+        (outside S.left S.faults K.held K.faults U.state C.state C.card source.new sink.new unit.new card_a.new
+        card_b.new) (end_of result) }
 {
     let Ok(trace) = demo_trace(alloc, seed) else {
         return Err(Fault::Memory);
@@ -89,25 +97,22 @@ pub fn demo<S: Peer<K>, K: Sink, F: Sink, U: Medium, C: Chip>(
     };
     let mut file = MemSink::new(room, Vec::new(alloc));
     *outcome = reserved;
-    let made = NewDevices {
-        vehicle: VEHICLE,
-        image: image.as_slice(),
-    };
     if let Err(fault) = run_anew(
         &trace,
-        made,
-        &mut handed.unit,
-        &mut handed.card_a,
-        &mut handed.card_b,
+        &VEHICLE,
+        image.as_slice(),
+        unit,
+        card_a,
+        card_b,
         outcome,
     ) {
         return Err(refusal_anew(fault));
     }
-    let size = match measure(&mut loader, &mut file, &mut handed.unit) {
+    let size = match measure(&mut loader, &mut file, unit) {
         Ok(size) => size,
         Err(fault) => return Err(refusal_of_file(fault)),
     };
-    print_demo(outcome, size, &mut handed.sink)
+    print_demo(outcome, size, sink)
 }
 
 /// The end where a device failed as it was made new, or the trace was kept from being recorded.

@@ -42,7 +42,7 @@ Example: (echo start 1267401600; echo run 3600 50) | tacho minutes
 ";
 
 /// What `--version` prints: the version, and that of the toolchain which proves it.
-const VERSION: &[u8] = b"tacho 1.6.0
+const VERSION: &[u8] = b"tacho 1.6.1
 rattle-kit-13f logic dac8208d650f15bf
 ";
 

@@ -13,14 +13,12 @@ mod download_command;
 mod end;
 mod format_command;
 mod forms;
-mod handed;
 mod help_command;
 mod match_command;
 mod minutes;
 mod minutes_command;
 mod outcome_text;
 mod packets_command;
-mod performing;
 mod reading_command;
 mod record_command;
 mod report_command;
@@ -37,9 +35,7 @@ use card_layout::LARGEST_IMAGE;
 use end::{Ended, Fault};
 use failure_lines::{put_failures, put_missing, put_refusals, put_turned_away};
 use forms::{Form, form_of};
-use handed::Handed;
 use packet_service::FileSink;
-use performing::nothing;
 use run_model::Device;
 use std::fs::File;
 use std::io::ErrorKind;
@@ -47,7 +43,7 @@ use std::process::ExitCode;
 use std::{env, fs, io, str};
 use tach_media::{FileMedium, Medium, StdSink, StdSource};
 use tacho_types::{FullCardNumber, write_card_number};
-use top::tacho;
+use top::{nothing, tacho};
 use unit_model::layout::IMAGE_SIZE;
 use words::Words;
 
@@ -136,20 +132,24 @@ fn run(rt: &HostRuntime) -> Ended {
     match words_of(rt) {
         Ok(words) => {
             let access = access_of(&words);
-            let mut handed = Handed {
-                source: StdSource::new(rt.stdin()),
-                sink: StdSink::new(rt.stdout()),
-                file: FileSink::new(rt, "unit.ddd"),
-                unit: file(rt, "unit.img", IMAGE_SIZE, access),
-                card_a: SimCard::new(file(rt, "card-a.img", LARGEST_IMAGE, access)),
-                card_b: SimCard::new(file(rt, "card-b.img", LARGEST_IMAGE, access)),
-            };
-            let ended = tacho(rt.alloc(), &words, &mut handed);
+            let mut unit = file(rt, "unit.img", IMAGE_SIZE, access);
+            let mut card_a = SimCard::new(file(rt, "card-a.img", LARGEST_IMAGE, access));
+            let mut card_b = SimCard::new(file(rt, "card-b.img", LARGEST_IMAGE, access));
+            let ended = tacho(
+                rt.alloc(),
+                &words,
+                &mut StdSource::new(rt.stdin()),
+                &mut StdSink::new(rt.stdout()),
+                &mut FileSink::new(rt, "unit.ddd"),
+                &mut unit,
+                &mut card_a,
+                &mut card_b,
+            );
             let _ = put_missing(
                 &mut StdSink::new(rt.stderr()),
-                handed.unit.missing(),
-                handed.card_a.medium().missing(),
-                handed.card_b.medium().missing(),
+                unit.missing(),
+                card_a.medium().missing(),
+                card_b.medium().missing(),
             );
             ended
         }

@@ -3,49 +3,55 @@ ghost use Rattle.std.specs.Prelude.{◌≡◌, ◌≢◌, ◌≤◌, OnOk, IfErr
 ghost use Rattle.std.specs.Io.KnownBytes.{Appends};
 ghost use Rattle.tach_media.specs.Medium.{Rose};
 ghost use Rattle.tach_media.specs.Streams.{AppendsFront};
+ghost use Rattle.unit_model.specs.Image.{IsUnit};
 ghost use Rattle.tacho.specs.End.{end_of, IsBeforeDevices};
-ghost use Rattle.tacho.specs.Outside.{tells, told_by};
-ghost use Rattle.tacho.specs.Program.{AreDevices, HasCauses};
+ghost use Rattle.tacho.specs.Outside.{outside};
+ghost use Rattle.tacho.specs.Program.{HasCauses};
+ghost use Rattle.tacho.specs.Formatting.{IsCard};
 ghost use Rattle.tacho.specs.Outcomes.{IsEmpty, outcome_text as text_of_outcome, IsToldForUnit, refusal_of_run};
 ghost use Rattle.tacho.specs.Recorded.{EndsRecord};
 
 use crate::alone::{is_for_unit, record_alone};
 use crate::end::Fault;
-use crate::handed::Handed;
 use crate::minutes_command::refusal;
 use crate::outcome_text::outcome_text;
-use link_session::Peer;
 use recorder_with_cards::{RunFault, run_trace};
 use run_outcome::Outcome;
 use std::alloc::Global;
-use tach_media::{Chip, Medium, Sink, put_all};
+use tach_media::{Chip, Medium, Sink, Source, put_all};
 use trace_text::{Form, read_trace};
 
 /// The command `record`. A trace without a card's line is recorded on the unit alone, and any other on the unit and
 /// both cards. The outcome is what was recorded; it stays as it was where the trace is not recorded.
-pub fn record<S: Peer<K>, K: Sink, F: Sink, U: Medium, C: Chip>(
+pub fn record<S: Source, K: Sink, U: Medium, C: Chip>(
     alloc: Global,
-    handed: &mut Handed<S, K, F, U, C>,
+    source: &mut S,
+    sink: &mut K,
+    unit: &mut U,
+    card_a: &mut C,
+    card_b: &mut C,
     outcome: &mut Outcome,
 ) -> Result<(), Fault>
-    requires devices { AreDevices (U.state handed.old.unit) (C.state handed.old.card_a) (C.state handed.old.card_b) }
+    requires unit { IsUnit (U.state unit.old) }
+    requires card_a { IsCard (C.state card_a.old) }
+    requires card_b { IsCard (C.state card_b.old) }
     requires empty { IsEmpty outcome.old }
     ensures ends { EndsRecord
-        (told_by (tells S.left S.faults S.asked K.held K.faults F.held F.faults U.state C.state C.card) handed.old)
-        (told_by (tells S.left S.faults S.asked K.held K.faults F.held F.faults U.state C.state C.card) handed.new)
-        outcome.new (end_of result) }
-    ensures before { IfErr result (λ fault. IsBeforeDevices fault → (handed.new.unit ≡ handed.old.unit)
-        × (handed.new.card_a ≡ handed.old.card_a) × (handed.new.card_b ≡ handed.old.card_b)) }
-    ensures nothing { IfErr result (λ fault. fault ≢ Fault.WriteFault → handed.new.sink ≡ handed.old.sink) }
-    ensures for_unit { IsToldForUnit (S.left handed.old.source)
-        → (handed.new.card_a ≡ handed.old.card_a) × (handed.new.card_b ≡ handed.old.card_b) }
-    ensures file { handed.new.file ≡ handed.old.file }
+        (outside S.left S.faults K.held K.faults U.state C.state C.card source.old sink.old unit.old card_a.old
+        card_b.old)
+        (outside S.left S.faults K.held K.faults U.state C.state C.card source.new sink.new unit.new card_a.new
+        card_b.new) outcome.new (end_of result) }
+    ensures before { IfErr result (λ fault. IsBeforeDevices fault
+        → (unit.new ≡ unit.old) × (card_a.new ≡ card_a.old) × (card_b.new ≡ card_b.old)) }
+    ensures nothing { IfErr result (λ fault. fault ≢ Fault.WriteFault → sink.new ≡ sink.old) }
+    ensures for_unit { IsToldForUnit (S.left source.old) → (card_a.new ≡ card_a.old) × (card_b.new ≡ card_b.old) }
     ensures causes { HasCauses
-        (told_by (tells S.left S.faults S.asked K.held K.faults F.held F.faults U.state C.state C.card) handed.old)
-        (told_by (tells S.left S.faults S.asked K.held K.faults F.held F.faults U.state C.state C.card) handed.new)
-        (end_of result) }
+        (outside S.left S.faults K.held K.faults U.state C.state C.card source.old sink.old unit.old card_a.old
+        card_b.old)
+        (outside S.left S.faults K.held K.faults U.state C.state C.card source.new sink.new unit.new card_a.new
+        card_b.new) (end_of result) }
 {
-    let trace = match read_trace(alloc, &mut handed.source, Form::Whole) {
+    let trace = match read_trace(alloc, source, Form::Whole) {
         Ok(trace) => trace,
         Err(fault) => return Err(refusal(fault)),
     };
@@ -54,21 +60,15 @@ pub fn record<S: Peer<K>, K: Sink, F: Sink, U: Medium, C: Chip>(
     };
     *outcome = reserved;
     if is_for_unit(&trace.items) {
-        if let Err(fault) = record_alone(&trace, &mut handed.unit, outcome) {
+        if let Err(fault) = record_alone(&trace, unit, outcome) {
             return Err(refusal_of_run(fault));
         }
-        return print_outcome(outcome, &mut handed.sink);
+        return print_outcome(outcome, sink);
     }
-    if let Err(fault) = run_trace(
-        &trace,
-        &mut handed.unit,
-        &mut handed.card_a,
-        &mut handed.card_b,
-        outcome,
-    ) {
+    if let Err(fault) = run_trace(&trace, unit, card_a, card_b, outcome) {
         return Err(refusal_of_run(fault));
     }
-    print_outcome(outcome, &mut handed.sink)
+    print_outcome(outcome, sink)
 }
 
 /// The end where a device, the unit's image or the cards keep a trace from being recorded.

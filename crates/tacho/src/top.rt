@@ -1,26 +1,41 @@
 //! The top call: all that the program does, over any source, sink and devices.
 ghost use Rattle.std.specs.Prelude.{◌≡◌, Some};
-ghost use Rattle.tach_media.specs.Medium.{Rose};
 ghost use Rattle.tacho.specs.Forms.{form_of};
-ghost use Rattle.tacho.specs.Outcomes.{IsToldForUnit};
-ghost use Rattle.tacho.specs.Outside.{tells, told_by};
-ghost use Rattle.tacho.specs.Packets.{WritesFile};
+ghost use Rattle.tacho.specs.Outside.{outside, tells, handed};
+ghost use Rattle.tacho.specs.declared.forms.Form.TheVariants.{Record as FormOfRecord, FormatCard as FormOfFormat};
+ghost use Rattle.tacho.specs.declared.forms.Form.TheVariants.{CardFile as FormOfCard, Demo as FormOfDemo};
+ghost use Rattle.tacho.specs.Outcomes.{IsEmpty, IsToldForUnit};
 ghost use Rattle.tacho.specs.Program.{AreDevices, Ends, Spares, Does};
 ghost use Rattle.tacho.specs.Serving.{AnswersWaiting};
+ghost use Rattle.tacho.specs.Packets.{WritesFile};
+ghost use Rattle.tach_media.specs.Medium.{Rose};
 
+use crate::card_command::card_end;
+use crate::demo_command::demo;
+use crate::download_command::download_end;
 use crate::end::{Ended, Fault};
+use crate::format_command::{format_card, make_unit};
 use crate::forms::{Form, form_of};
-use crate::handed::Handed;
-use crate::performing::{
-    nothing, perform_card, perform_demo, perform_download, perform_download_noisy,
-    perform_download_packets, perform_format, perform_help, perform_making, perform_minutes,
-    perform_reading, perform_record, perform_serve, perform_serve_hex, perform_serve_packets,
-    perform_state, perform_upgrade, perform_version,
-};
+use crate::help_command::{print_help, print_version};
+use crate::minutes_command::print_minutes;
+use crate::packets_command::packets_end;
+use crate::reading_command::print_reading;
+use crate::record_command::record;
+use crate::serve_command::{lines_end, service_end};
+use crate::state_command::print_state;
+use crate::upgrade_command::upgrade_unit;
 use crate::words::Words;
-use link_session::Peer;
+use card_download::write_card_file;
+use card_files::CardIdentity;
+use device_state::devices_state;
+use link_session::{Peer, serve, serve_lines};
+use noisy_download::download_noisy;
+use packet_service::{download_packets, serve_packets};
+use run_model::{Card, Device};
+use run_outcome::Outcome;
 use std::alloc::Global;
-use tach_media::{Chip, Medium, Sink};
+use tach_media::{Chip, Medium, Sink, Source};
+use unit_download::{Wire, download};
 
 /// Does what the words ask for.
 ///
@@ -57,42 +72,47 @@ use tach_media::{Chip, Medium, Sink};
 pub fn tacho<S: Peer<K>, K: Sink, F: Sink, U: Medium, C: Chip>(
     alloc: Global,
     words: &Words,
-    handed: &mut Handed<S, K, F, U, C>,
+    source: &mut S,
+    sink: &mut K,
+    file: &mut F,
+    unit: &mut U,
+    card_a: &mut C,
+    card_b: &mut C,
 ) -> Ended
-    requires { AreDevices (U.state handed.old.unit) (C.state handed.old.card_a) (C.state handed.old.card_b) }
+    requires { AreDevices (U.state unit.old) (C.state card_a.old) (C.state card_b.old) }
 
     // The call ends as the form of the words says, at usage exactly where they are in none, with the fault's status;
     // and what is told to have failed has failed.
     ensures ends { Ends (form_of words.now)
-        (told_by (tells S.left S.faults S.asked K.held K.faults F.held F.faults U.state C.state C.card) handed.old)
-        (told_by (tells S.left S.faults S.asked K.held K.faults F.held F.faults U.state C.state C.card) handed.new)
-        result }
+        (outside S.left S.faults K.held K.faults U.state C.state C.card source.old sink.old unit.old card_a.old
+        card_b.old)
+        (outside S.left S.faults K.held K.faults U.state C.state C.card source.new sink.new unit.new card_a.new
+        card_b.new) result }
 
     // What the form does not name is as it was, and so are the cards where `record` reads a trace without a card's
     // line; so are the devices where memory ran out, and the sink where nothing is to be printed, but for `serve`,
     // `serve --hex` and `download`, which write as they read, for `show`, which leaves the sink as it was where its
     // file is none, and for `card a` and `card b`, which do so where a field is named.
-    ensures spares { Spares (form_of words.now) result.fault (IsToldForUnit (S.left handed.old.source))
-        (handed.new.source ≡ handed.old.source) (handed.new.sink ≡ handed.old.sink)
-        (handed.new.unit ≡ handed.old.unit) (handed.new.card_a ≡ handed.old.card_a)
-        (handed.new.card_b ≡ handed.old.card_b) }
+    ensures spares { Spares (form_of words.now) result.fault (IsToldForUnit (S.left source.old))
+        (source.new ≡ source.old) (sink.new ≡ sink.old) (unit.new ≡ unit.old) (card_a.new ≡ card_a.old)
+        (card_b.new ≡ card_b.old) }
 
     // A loader that waits for the answers to what it has sent has them before more is read.
     ensures in_time { AnswersWaiting (form_of words.now)
-        (told_by (tells S.left S.faults S.asked K.held K.faults F.held F.faults U.state C.state C.card) handed.old)
-        (told_by (tells S.left S.faults S.asked K.held K.faults F.held F.faults U.state C.state C.card) handed.new)
-        (S.asked handed.old.source) (S.asked handed.new.source) }
+        (outside S.left S.faults K.held K.faults U.state C.state C.card source.old sink.old unit.old card_a.old
+        card_b.old)
+        (outside S.left S.faults K.held K.faults U.state C.state C.card source.new sink.new unit.new card_a.new
+        card_b.new) (S.asked source.old) (S.asked source.new) }
 
     // The file has what a download by packets put out; no other form touches it.
-    ensures file { WritesFile (form_of words.now) (S.left handed.old.source) (S.left handed.new.source)
-        (record { link = K.held handed.old.sink; file = F.held handed.old.file })
-        (record { link = K.held handed.new.sink; file = F.held handed.new.file })
-        (Rose (F.faults handed.old.file) (F.faults handed.new.file)) (handed.new.file ≡ handed.old.file)
-        result.fault }
+    ensures file { WritesFile (form_of words.now) (S.left source.old) (S.left source.new)
+        (record { link = K.held sink.old; file = F.held file.old })
+        (record { link = K.held sink.new; file = F.held file.new }) (Rose (F.faults file.old) (F.faults file.new))
+        (file.new ≡ file.old) result.fault }
 {
     match form_of(words) {
         None => Ended::of(alloc, nothing(alloc), Fault::Usage),
-        Some(form) => perform(alloc, form, handed),
+        Some(form) => perform(alloc, form, source, sink, file, unit, card_a, card_b),
     }
 }
 
@@ -100,29 +120,199 @@ pub fn tacho<S: Peer<K>, K: Sink, F: Sink, U: Medium, C: Chip>(
 fn perform<S: Peer<K>, K: Sink, F: Sink, U: Medium, C: Chip>(
     alloc: Global,
     form: Form,
-    handed: &mut Handed<S, K, F, U, C>,
+    source: &mut S,
+    sink: &mut K,
+    file: &mut F,
+    unit: &mut U,
+    card_a: &mut C,
+    card_b: &mut C,
 ) -> Ended
-    requires { AreDevices (U.state handed.old.unit) (C.state handed.old.card_a) (C.state handed.old.card_b) }
-    ensures does { Does (tells S.left S.faults S.asked K.held K.faults F.held F.faults U.state C.state C.card)
-        (Some form) handed.old handed.new result }
+    requires { AreDevices (U.state unit.old) (C.state card_a.old) (C.state card_b.old) }
+    ensures does { Does (tells S.left S.faults K.held K.faults U.state C.state C.card) (Some form)
+        (handed source.old sink.old unit.old card_a.old card_b.old)
+        (handed source.new sink.new unit.new card_a.new card_b.new) result }
+    ensures in_time { AnswersWaiting (Some form)
+        (outside S.left S.faults K.held K.faults U.state C.state C.card source.old sink.old unit.old card_a.old
+        card_b.old)
+        (outside S.left S.faults K.held K.faults U.state C.state C.card source.new sink.new unit.new card_a.new
+        card_b.new) (S.asked source.old) (S.asked source.new) }
+    ensures file { WritesFile (Some form) (S.left source.old) (S.left source.new)
+        (record { link = K.held sink.old; file = F.held file.old })
+        (record { link = K.held sink.new; file = F.held file.new }) (Rose (F.faults file.old) (F.faults file.new))
+        (file.new ≡ file.old) result.fault }
 {
+    let nothing = nothing(alloc);
     match form {
-        Form::Minutes { rule } => perform_minutes(alloc, rule, handed),
-        Form::Record => perform_record(alloc, handed),
-        Form::FormatCard { card, identity } => perform_format(alloc, card, &identity, handed),
-        Form::FormatUnit { identity } => perform_making(alloc, &identity, handed),
-        Form::Upgrade => perform_upgrade(alloc, handed),
-        Form::State => perform_state(alloc, handed),
-        Form::Serve => perform_serve(alloc, handed),
-        Form::ServeHex => perform_serve_hex(alloc, handed),
-        Form::ServePackets => perform_serve_packets(alloc, handed),
-        Form::DownloadPackets => perform_download_packets(alloc, handed),
-        Form::Download => perform_download(alloc, handed),
-        Form::DownloadNoisy { seed } => perform_download_noisy(alloc, seed, handed),
-        Form::Read { reading } => perform_reading(alloc, reading, handed),
-        Form::CardFile { card } => perform_card(alloc, card, handed),
-        Form::Demo { seed } => perform_demo(alloc, seed, handed),
-        Form::Help => perform_help(alloc, handed),
-        Form::Version => perform_version(alloc, handed),
+        Form::Minutes { rule } => Ended::after(
+            alloc,
+            nothing,
+            print_minutes(alloc, rule, source, sink),
+        ),
+        Form::Record => perform_record(alloc, source, sink, unit, card_a, card_b),
+        Form::FormatCard { card, identity } => {
+            perform_format(alloc, card, &identity, source, sink, unit, card_a, card_b)
+        }
+        Form::FormatUnit { identity } => Ended::after(
+            alloc,
+            nothing,
+            make_unit(&identity, unit, sink),
+        ),
+        Form::Upgrade => Ended::after(alloc, nothing, upgrade_unit(unit, sink)),
+        Form::State => {
+            let told = devices_state(unit, card_a, card_b);
+            Ended::after(alloc, nothing, print_state(alloc, &told, sink))
+        }
+        Form::Serve => Ended::of(alloc, nothing, service_end(serve(source, sink, unit))),
+        Form::ServeHex => {
+            Ended::of(
+                alloc,
+                nothing,
+                lines_end(serve_lines(alloc, source, sink, unit)),
+            )
+        }
+        Form::ServePackets => Ended::of(
+            alloc,
+            nothing,
+            service_end(serve_packets(source, sink, unit)),
+        ),
+        Form::DownloadPackets => Ended::of(
+            alloc,
+            nothing,
+            packets_end(download_packets(alloc, source, sink, file)),
+        ),
+        Form::Download => {
+            let mut wire = Wire::new(alloc);
+            let done = download(alloc, sink, unit, &mut wire);
+            Ended::with(nothing, wire, download_end(done))
+        }
+        Form::DownloadNoisy { seed } => {
+            let mut wire = Wire::new(alloc);
+            let done = download_noisy(alloc, seed, sink, unit, &mut wire);
+            Ended::with(nothing, wire, download_end(done))
+        }
+        Form::Read { reading } => {
+            Ended::after(alloc, nothing, print_reading(alloc, reading, source, sink))
+        }
+        Form::CardFile { card } => perform_card(alloc, card, source, sink, unit, card_a, card_b),
+        Form::Demo { seed } => perform_demo(alloc, seed, source, sink, unit, card_a, card_b),
+        Form::Help => Ended::after(alloc, nothing, print_help(sink)),
+        Form::Version => Ended::after(alloc, nothing, print_version(sink)),
     }
+}
+
+/// Does what `record` asks for.
+fn perform_record<S: Source, K: Sink, U: Medium, C: Chip>(
+    alloc: Global,
+    source: &mut S,
+    sink: &mut K,
+    unit: &mut U,
+    card_a: &mut C,
+    card_b: &mut C,
+) -> Ended
+    requires { AreDevices (U.state unit.old) (C.state card_a.old) (C.state card_b.old) }
+    ensures does { Does (tells S.left S.faults K.held K.faults U.state C.state C.card) (Some FormOfRecord)
+        (handed source.old sink.old unit.old card_a.old card_b.old)
+        (handed source.new sink.new unit.new card_a.new card_b.new) result }
+{
+    let mut outcome = nothing(alloc);
+    let done = record(alloc, source, sink, unit, card_a, card_b, &mut outcome);
+    Ended::after(alloc, outcome, done)
+}
+
+/// Does what `format a` or `format b` asks for; it uses the card and the sink alone.
+fn perform_format<S: Source, K: Sink, U: Medium, C: Chip>(
+    alloc: Global,
+    card: Card,
+    identity: &CardIdentity,
+    source: &mut S,
+    sink: &mut K,
+    unit: &mut U,
+    card_a: &mut C,
+    card_b: &mut C,
+) -> Ended
+    requires { AreDevices (U.state unit.old) (C.state card_a.old) (C.state card_b.old) }
+    ensures does { Does (tells S.left S.faults K.held K.faults U.state C.state C.card)
+        (Some (FormOfFormat card identity.now))
+        (handed source.old sink.old unit.old card_a.old card_b.old)
+        (handed source.new sink.new unit.new card_a.new card_b.new) result }
+{
+    let outcome = nothing(alloc);
+    match card {
+        Card::A => Ended::after(
+            alloc,
+            outcome,
+            format_card(alloc, identity, Device::CardA, card_a, sink),
+        ),
+        Card::B => Ended::after(
+            alloc,
+            outcome,
+            format_card(alloc, identity, Device::CardB, card_b, sink),
+        ),
+    }
+}
+
+/// Does what `card a` or `card b` asks for; it uses the card and the sink alone.
+fn perform_card<S: Source, K: Sink, U: Medium, C: Chip>(
+    alloc: Global,
+    card: Card,
+    source: &mut S,
+    sink: &mut K,
+    unit: &mut U,
+    card_a: &mut C,
+    card_b: &mut C,
+) -> Ended
+    requires { AreDevices (U.state unit.old) (C.state card_a.old) (C.state card_b.old) }
+    ensures does { Does (tells S.left S.faults K.held K.faults U.state C.state C.card) (Some (FormOfCard card))
+        (handed source.old sink.old unit.old card_a.old card_b.old)
+        (handed source.new sink.new unit.new card_a.new card_b.new) result }
+{
+    let outcome = nothing(alloc);
+    match card {
+        Card::A => Ended::of(
+            alloc,
+            outcome,
+            card_end(Device::CardA, write_card_file(card_a, sink)),
+        ),
+        Card::B => Ended::of(
+            alloc,
+            outcome,
+            card_end(Device::CardB, write_card_file(card_b, sink)),
+        ),
+    }
+}
+
+/// Does what `demo` asks for; it uses the sink and the devices alone.
+fn perform_demo<S: Source, K: Sink, U: Medium, C: Chip>(
+    alloc: Global,
+    seed: u32,
+    source: &mut S,
+    sink: &mut K,
+    unit: &mut U,
+    card_a: &mut C,
+    card_b: &mut C,
+) -> Ended
+    requires { AreDevices (U.state unit.old) (C.state card_a.old) (C.state card_b.old) }
+    ensures does { Does (tells S.left S.faults K.held K.faults U.state C.state C.card) (Some (FormOfDemo seed))
+        (handed source.old sink.old unit.old card_a.old card_b.old)
+        (handed source.new sink.new unit.new card_a.new card_b.new) result }
+{
+    let mut outcome = nothing(alloc);
+    let done = demo(
+        alloc,
+        seed,
+        source,
+        sink,
+        unit,
+        card_a,
+        card_b,
+        &mut outcome,
+    );
+    Ended::after(alloc, outcome, done)
+}
+
+/// An outcome without a line.
+pub fn nothing(alloc: Global) -> Outcome
+    ensures { IsEmpty result }
+{
+    Outcome::empty(alloc)
 }

@@ -8,14 +8,8 @@ use Rattle.tacho.proofs.Recordings.{reserved-empty}
 use Rattle.tacho.proofs.Demo.{items-few, demo-memory, demo-refused, demo-unread, demo-done, unread-causes, anew-causes, printed-causes, as-demo, writes-demo, first-of}
 use Rattle.tacho.proofs.demo_command.demo.Goals as goal
 
-pub run_anew-requires-clause-may : goal.run_anew-requires-clause-may
-run_anew-requires-clause-may g c = record {
-  unit = c.requires.devices.of_unit;
-  image = c.as_slice.ensures.len ∙ c.in-Ok-blank_card.ensures.size ∙ largest-size;
-  size_a = c.requires.devices.of_card_a.sized;
-  behind_a = c.requires.devices.of_card_a.behind;
-  size_b = (let sized = c.requires.devices.of_card_b.sized in omega (arith, sized));
-}
+pub run_anew-requires-clause-image : goal.run_anew-requires-clause-image
+run_anew-requires-clause-image g c = c.as_slice.ensures.len ∙ c.in-Ok-blank_card.ensures.size ∙ largest-size
 
 pub returns-in-Err-clause-ends : goal.returns-in-Err-clause-ends
 returns-in-Err-clause-ends g c =
@@ -23,11 +17,11 @@ returns-in-Err-clause-ends g c =
     rw c.refusal_anew.ensures
     (demo-refused c.args.seed _ _ c.run_anew.new.outcome c.in-Err.fault refl
     (λ b starts.
-    let kept = e.kept b (record { may = starts.may; time = starts.clocks; few = rw c.in-Ok.ensures.items (items-few c.args.seed) }) in
-    (subst IsEmpty (sym kept.nothing) (reserved-empty c.in-Ok.trace.items c.in-Ok-reserve.reserved c.in-Ok-reserve.ensures), kept.same_b))
+    let kept = e.nothing b starts.may starts.clocks (rw c.in-Ok.ensures.items (items-few c.args.seed)) in
+    (subst IsEmpty (sym kept.0) (reserved-empty c.in-Ok.trace.items c.in-Ok-reserve.reserved c.in-Ok-reserve.ensures), kept.1))
     e.failed
-    (λ b starts may. (e.kept b (record { may = starts.may; time = starts.clocks; few = rw c.in-Ok.ensures.items (items-few c.args.seed) })).failure (rw (c.as_slice.ensures.value ∙ c.in-Ok-blank_card.ensures.image, c.in-Ok.ensures.start) may))
-    (writes-demo c.args.seed c.in-Ok.trace.start c.in-Ok.trace.items _ _ _ c.in-Ok.ensures.start c.in-Ok.ensures.items e.goes.most))
+    (λ b starts may. e.kept b starts.may starts.clocks (rw c.in-Ok.ensures.items (items-few c.args.seed)) (rw (c.as_slice.ensures.value ∙ c.in-Ok-blank_card.ensures.image, c.in-Ok.ensures.start) may))
+    (writes-demo c.args.seed c.in-Ok.trace.start c.in-Ok.trace.items _ _ _ c.in-Ok.ensures.start c.in-Ok.ensures.items e.most))
 
 pub returns-in-Err-measure-clause-ends : goal.returns-in-Err-measure-clause-ends
 returns-in-Err-measure-clause-ends g c =
@@ -36,13 +30,13 @@ returns-in-Err-measure-clause-ends g c =
     rw c.refusal_of_file.ensures
     (demo-unread c.args.seed _ _ c.run_anew.new.outcome (g.U.Medium.state c.run_anew.new.unit) c.in-Err-measure.fault refl f.unit
     (λ b may time. as-demo c.args.seed _ c.as_slice.result.now b c.in-Ok.trace.start c.in-Ok.trace.items c.run_anew.new.outcome _ _ (c.as_slice.ensures.value ∙ c.in-Ok-blank_card.ensures.image) c.in-Ok.ensures.start c.in-Ok.ensures.items
-    (e.recorded b (record { may = may; time = time; few = rw c.in-Ok.ensures.items (items-few c.args.seed) })))
-    (λ is. f.changed (ap Err is)) e.goes.faults (g.met.U.Medium.coherent c.measure.new.unit) f.bad
-    (writes-demo c.args.seed c.in-Ok.trace.start c.in-Ok.trace.items _ _ _ c.in-Ok.ensures.start c.in-Ok.ensures.items e.goes.most))
+    (e.recorded b may time (rw c.in-Ok.ensures.items (items-few c.args.seed))))
+    (λ is. f.changed (ap Err is)) e.faults (g.met.U.Medium.coherent c.measure.new.unit) f.bad
+    (writes-demo c.args.seed c.in-Ok.trace.start c.in-Ok.trace.items _ _ _ c.in-Ok.ensures.start c.in-Ok.ensures.items e.most))
 
 pub returns-in-Err-measure-clause-causes : goal.returns-in-Err-measure-clause-causes
 returns-in-Err-measure-clause-causes g c =
-    rw c.refusal_of_file.ensures (unread-causes _ _ (g.U.Medium.state c.run_anew.new.unit) c.in-Err-measure.fault c.in_default-run_anew.ensures.goes.faults c.in-Err-measure.ensures.unit (omega arith) (omega arith))
+    rw c.refusal_of_file.ensures (unread-causes _ _ (g.U.Medium.state c.run_anew.new.unit) c.in-Err-measure.fault c.in_default-run_anew.ensures.faults c.in-Err-measure.ensures.unit (omega arith) (omega arith))
 
 pub returns-in-Err-clause-causes : goal.returns-in-Err-clause-causes
 returns-in-Err-clause-causes g c = rw c.refusal_anew.ensures (anew-causes _ _ c.in-Err.fault c.in-Err.ensures.failed (omega arith) (omega arith))
@@ -58,23 +52,23 @@ returns-clause-ends g c =
     let f = c.in-Ok-measure.ensures in
     demo-done c.args.seed _ _ c.run_anew.new.outcome (g.U.Medium.state c.run_anew.new.unit) c.in-Ok-measure.size c.print_demo.result f.unit
     (λ b may time. as-demo c.args.seed _ c.as_slice.result.now b c.in-Ok.trace.start c.in-Ok.trace.items c.run_anew.new.outcome _ _ (c.as_slice.ensures.value ∙ c.in-Ok-blank_card.ensures.image) c.in-Ok.ensures.start c.in-Ok.ensures.items
-    (e.recorded b (record { may = may; time = time; few = rw c.in-Ok.ensures.items (items-few c.args.seed) })))
+    (e.recorded b may time (rw c.in-Ok.ensures.items (items-few c.args.seed))))
     f.measured c.print_demo.ensures.ok c.print_demo.ensures.err c.print_demo.ensures.cause
-    (writes-demo c.args.seed c.in-Ok.trace.start c.in-Ok.trace.items _ _ _ c.in-Ok.ensures.start c.in-Ok.ensures.items e.goes.most)
+    (writes-demo c.args.seed c.in-Ok.trace.start c.in-Ok.trace.items _ _ _ c.in-Ok.ensures.start c.in-Ok.ensures.items e.most)
 
 -- ---- there was no memory
 
 pub returns-in_default-clause-ends : goal.returns-in_default-clause-ends
-returns-in_default-clause-ends g c = demo-memory c.args.seed _ _ c.args.outcome.now refl c.requires.empty (as-it-is (g.C.Chip.state c.args.handed.now.card_b)) (record { unit = omega arith; card_a = omega arith; card_b = omega arith })
+returns-in_default-clause-ends g c = demo-memory c.args.seed _ _ c.args.outcome.now refl c.requires.empty (as-it-is (g.C.Chip.state c.args.card_b.now)) (record { unit = omega arith; card_a = omega arith; card_b = omega arith })
 
 pub returns-in_default-reserve-clause-ends : goal.returns-in_default-reserve-clause-ends
-returns-in_default-reserve-clause-ends g c = demo-memory c.args.seed _ _ c.args.outcome.now refl c.requires.empty (as-it-is (g.C.Chip.state c.args.handed.now.card_b)) (record { unit = omega arith; card_a = omega arith; card_b = omega arith })
+returns-in_default-reserve-clause-ends g c = demo-memory c.args.seed _ _ c.args.outcome.now refl c.requires.empty (as-it-is (g.C.Chip.state c.args.card_b.now)) (record { unit = omega arith; card_a = omega arith; card_b = omega arith })
 
 pub returns-in_default-blank_card-clause-ends : goal.returns-in_default-blank_card-clause-ends
-returns-in_default-blank_card-clause-ends g c = demo-memory c.args.seed _ _ c.args.outcome.now refl c.requires.empty (as-it-is (g.C.Chip.state c.args.handed.now.card_b)) (record { unit = omega arith; card_a = omega arith; card_b = omega arith })
+returns-in_default-blank_card-clause-ends g c = demo-memory c.args.seed _ _ c.args.outcome.now refl c.requires.empty (as-it-is (g.C.Chip.state c.args.card_b.now)) (record { unit = omega arith; card_a = omega arith; card_b = omega arith })
 
 pub returns-then-is_err-clause-ends : goal.returns-then-is_err-clause-ends
-returns-then-is_err-clause-ends g c = demo-memory c.args.seed _ _ c.args.outcome.now refl c.requires.empty (as-it-is (g.C.Chip.state c.args.handed.now.card_b)) (record { unit = omega arith; card_a = omega arith; card_b = omega arith })
+returns-then-is_err-clause-ends g c = demo-memory c.args.seed _ _ c.args.outcome.now refl c.requires.empty (as-it-is (g.C.Chip.state c.args.card_b.now)) (record { unit = omega arith; card_a = omega arith; card_b = omega arith })
 
 pub returns-in_default-with_capacity-clause-ends : goal.returns-in_default-with_capacity-clause-ends
-returns-in_default-with_capacity-clause-ends g c = demo-memory c.args.seed _ _ c.args.outcome.now refl c.requires.empty (as-it-is (g.C.Chip.state c.args.handed.now.card_b)) (record { unit = omega arith; card_a = omega arith; card_b = omega arith })
+returns-in_default-with_capacity-clause-ends g c = demo-memory c.args.seed _ _ c.args.outcome.now refl c.requires.empty (as-it-is (g.C.Chip.state c.args.card_b.now)) (record { unit = omega arith; card_a = omega arith; card_b = omega arith })

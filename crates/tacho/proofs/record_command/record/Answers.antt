@@ -11,7 +11,7 @@ returns-in-Err-record_alone-clause-ends g c =
     let f = c.in-Err-record_alone.ensures in
     rw c.refusal_of_run.ensures
     (ends-refused _ _ _ _ e.judged.finds_bad_line e.judged.finds_too_long (run-refusal c.in-Err-record_alone.fault)
-    (inr (inl (unit-refused _ _ c.record_alone.new.outcome c.in-Ok.trace.start c.in-Ok.trace.items (g.met.U.Medium.coherent c.args.handed.now.unit) (g.met.U.Medium.coherent c.record_alone.new.unit)
+    (inr (inl (unit-refused _ _ c.record_alone.new.outcome c.in-Ok.trace.start c.in-Ok.trace.items (g.met.U.Medium.coherent c.args.unit.now) (g.met.U.Medium.coherent c.record_alone.new.unit)
     (c.is_for_unit.ensures.for_unit c.if-is_for_unit.true) e.judged.reads (let last = e.read.well_formed.within.1 in omega (arith, last)) (let few = e.read.few in omega (arith, few)) c.in-Err-record_alone.fault f.refusal.fault f.breakdowns.later f.breakdowns.broke f.most
     (refused-on-unit c.in-Ok.trace.start c.in-Ok-reserve.reserved c.record_alone.new.outcome _ _ c.in-Err-record_alone.fault (reserved-empty c.in-Ok.trace.items c.in-Ok-reserve.reserved c.in-Ok-reserve.ensures) f.refusal.early)
     (λ x alone clock.
@@ -25,7 +25,7 @@ returns-then-is_for_unit-clause-ends g c =
     ends-run _ _ c.record_alone.new.outcome c.print_outcome.result e.end e.judged.finds_bad_line e.judged.finds_too_long
     (λ fault ran rose. inr (inl (unit-run _ _ c.record_alone.new.outcome c.in-Ok.trace.start c.in-Ok.trace.items (c.is_for_unit.ensures.for_unit c.if-is_for_unit.true) e.judged.reads (let last = e.read.well_formed.within.1 in omega (arith, last)) (let few = e.read.few in omega (arith, few))
     (λ x alone clock cards. f.recorded cards x alone clock (omega (arith, e.read.few)))
-    (λ x alone clock. f.causes x (g.C.Chip.state c.args.handed.now.card_a).breakdowns (g.C.Chip.state c.args.handed.now.card_b).breakdowns alone clock (omega (arith, e.read.few))) f.begun f.breakdowns.broke f.most f.breakdowns.calm f.breakdowns.told f.breakdowns.later refl refl fault ran rose)))
+    (λ x alone clock. f.causes x (g.C.Chip.state c.args.card_a.now).breakdowns (g.C.Chip.state c.args.card_b.now).breakdowns alone clock (omega (arith, e.read.few))) f.begun f.breakdowns.broke f.most f.breakdowns.calm f.breakdowns.told f.breakdowns.later refl refl fault ran rose)))
     c.print_outcome.ensures.ok c.print_outcome.ensures.err c.print_outcome.ensures.cause
 
 pub returns-in-Err-run_trace-clause-ends : goal.returns-in-Err-run_trace-clause-ends

@@ -1,6 +1,6 @@
 use Rattle.std.proofs.Common.{rules}
 use Rattle.tacho.proofs.Recordings.{record-ends}
-use Rattle.tacho.proofs.performing.perform_record.Goals as goal
+use Rattle.tacho.proofs.top.perform_record.Goals as goal
 
 pub returns : goal.returns
 returns g c = record {
@@ -9,7 +9,5 @@ returns g c = record {
         let e = c.record-done.ensures in
         rw c.after.ensures (record-ends _ _ c.record-done.new.outcome c.record-done.result e.ends e.causes);
     spares = search rules;
-    in_time = tt;
-    file = c.record-done.ensures.file;
   };
 }
