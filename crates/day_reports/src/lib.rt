@@ -8,6 +8,3 @@ mod units;
 
 pub use cards::{card_chart, card_totals};
 pub use units::{unit_chart, unit_totals};
-
-#[cfg(test)]
-mod tests;

@@ -9,6 +9,3 @@ mod seen;
 pub use bars::{card_bars, unit_bars};
 pub use days::{day_number, first_day};
 pub use seen::{Gap, Seen};
-
-#[cfg(test)]
-mod tests;

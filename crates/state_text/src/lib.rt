@@ -3,8 +3,6 @@
 
 mod line;
 mod shown;
-#[cfg(test)]
-mod tests;
 mod text;
 
 pub use line::{Line, Name, OwedTo, Value, day_of};

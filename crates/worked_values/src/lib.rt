@@ -4,6 +4,8 @@
 #[cfg(test)]
 mod answer_tests;
 #[cfg(test)]
+mod bar_tests;
+#[cfg(test)]
 mod card_tests;
 #[cfg(test)]
 mod checks;
@@ -32,9 +34,13 @@ mod noisy_tests;
 #[cfg(test)]
 mod packet_tests;
 #[cfg(test)]
+mod report_tests;
+#[cfg(test)]
 mod service_tests;
 #[cfg(test)]
 mod slot_tests;
+#[cfg(test)]
+mod state_tests;
 #[cfg(test)]
 mod trace_tests;
 #[cfg(test)]

@@ -1,9 +1,9 @@
 ghost use Rattle.std.specs.Prelude.{◌≡◌};
 ghost use Rattle.state_text.specs.Lines.{day_of};
 
-use crate::{Line, Name, OwedTo, Value, lines_text};
 use minute_model::Rule;
 use run_model::Device;
+use state_text::{Line, Name, OwedTo, Value, lines_text};
 use std::process::Abort;
 use std::test::Fail;
 use tacho_types::{FullCardNumber, Name36, Nation, Registration};

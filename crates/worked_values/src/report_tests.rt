@@ -1,4 +1,4 @@
-use crate::{card_totals, unit_chart, unit_totals};
+use day_reports::{card_totals, unit_chart, unit_totals};
 use file_view::ViewFault;
 use std::process::Abort;
 use std::test::Fail;

@@ -1,5 +1,5 @@
-use crate::{Gap, Seen, first_day, unit_bars};
 use activity_codec::{Activity, Slot};
+use slot_bars::{Gap, Seen, first_day, unit_bars};
 use std::process::Abort;
 use std::test::Fail;
 use view_model::{Line, State, UnitShown};
