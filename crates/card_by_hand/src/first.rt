@@ -50,7 +50,7 @@ pub fn keep_with_hands<M: Medium>(
         ≤ (M.state port.old).clock + (17 + 4 * length (of_day (kept.now.entry.minute / 1440) held.old.entries)) }
 {
     let minute = kept.entry.minute;
-    let by_hand = of_day(held.entries(), minute / DAY_MINUTES as u32);
+    let by_hand = of_day(held.entries(), minute / DAY_MINUTES);
     keep_first(session, port, by_hand, kept)?;
     held.begin(minute);
     Ok(())

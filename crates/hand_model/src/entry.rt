@@ -14,7 +14,7 @@ pub fn manual_word(entry: &Manual) -> u16
         crew_or_known: true,
         absent: true,
         act: entry.act,
-        minute: (entry.minute % DAY_MINUTES as u32) as u16,
+        minute: (entry.minute % DAY_MINUTES) as u16,
     })
 }
 
