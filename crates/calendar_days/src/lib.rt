@@ -1,5 +1,9 @@
-//! The calendar date of a day number.
+//! The calendar date of a day number, and times of day, as text.
 #![tactic(auto)]
+
+mod clock;
+
+pub use clock::{clock_text, duration_text, seconds_text};
 
 ghost use Rattle.std.specs.Prelude.{◌≡◌, ◌<◌, pos, ◌≤ℤ◌};
 ghost use Rattle.jiff.specs.Words.{epoch_day};

@@ -12,13 +12,10 @@ ghost use Rattle.card_match.specs.Cases.{differing};
 
 use crate::cases::{Case, is_as};
 use crate::difference::Difference;
-use activity_codec::Slot;
+use activity_codec::{DAY_MINUTES, Slot};
 use std::alloc::{AllocError, Global};
 use view_model::{Line, UnitShown};
 use view_text::add_minute;
-
-/// How many minutes a day has.
-const DAY: u32 = 1440;
 
 /// Whether the entries of a card file stand in a unit file.
 #[derive(Clone, Copy, Debug, PartialEq, Eq)]
@@ -141,7 +138,7 @@ fn earlier_day(first: Option<u32>, line: Line<UnitShown>) -> Option<u32>
     if line.last < line.first {
         return first;
     }
-    let day = line.first / DAY;
+    let day = line.first / DAY_MINUTES;
     match first {
         Some(known) => Some(known.min(day)),
         None => Some(day),
@@ -156,7 +153,7 @@ fn sort_of(case: Case, first: Option<u32>) -> Sort
     if !case.own {
         return Sort::Other;
     }
-    if !begins_by(first, case.entry.minute / DAY) {
+    if !begins_by(first, case.entry.minute / DAY_MINUTES) {
         return Sort::Before;
     }
     let Some(shown) = case.seen else {

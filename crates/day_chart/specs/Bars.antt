@@ -2,10 +2,10 @@
 use Rattle.std.specs.Prelude.{ℕ, ◌+◌, ◌-◌, ◌/◌, ◌%◌, ◌==◌, if◌then◌else◌, List, [], ◌∷◌, ◌++◌, codes, decimal}
 use Rattle.activity_codec.specs.declared.values.Activity.{Activity}
 use Rattle.activity_codec.specs.declared.values.Activity.TheVariants.{Rest, Available, Work, Driving}
+use Rattle.calendar_days.specs.Clock.{clock_text}
 use Rattle.view_model.specs.declared.Line.{Line}
 use Rattle.slot_bars.specs.declared.seen.Seen.{Seen}
 use Rattle.slot_bars.specs.Seeing.{seen_words}
-use Rattle.day_totals.specs.Text.{duration_text}
 
 -- without a card: no fill, grey dashes, as high as the activity
 abbrev pub pale : Activity → List ℕ
@@ -38,7 +38,7 @@ half_text n = decimal (n / 2) ++ point_five n
 -- what a bar says: `2010-03-01 07:15-11:44 driver drive, crew`
 abbrev pub title_text : (date name : List ℕ) → Line Seen → List ℕ
 title_text date name bar =
-    date ++ codes " " ++ duration_text (bar.first % 1440) ++ codes "-" ++ duration_text (bar.last % 1440) ++ codes " "
+    date ++ codes " " ++ clock_text bar.first ++ codes "-" ++ clock_text bar.last ++ codes " "
     ++ name ++ codes " " ++ seen_words bar.shown
 
 -- A BAR: two minutes are one unit wide, and the day begins at 60

@@ -1,6 +1,7 @@
 -- The picture of days (profile).
 use Rattle.std.specs.Prelude.{◌≡◌, ℕ, ◌+◌, ◌*◌, List, ◌++◌, length, map, codes, decimal}
 use Rattle.activity_codec.specs.declared.values.Slot.TheVariants.{Driver, CoDriver}
+use Rattle.calendar_days.specs.Clock.{duration_text}
 use Rattle.view_model.specs.declared.UnitShown.{UnitShown}
 use Rattle.view_model.specs.declared.CardShown.{CardShown}
 use Rattle.view_model.specs.declared.Viewed.{Viewed}
@@ -10,7 +11,6 @@ use Rattle.slot_bars.specs.Seeing.{slot_seen, card_seen, bars_of}
 use Rattle.slot_bars.specs.DaysOf.{day_of, days_of, AreEach}
 use Rattle.day_totals.specs.declared.figures.Figure.TheVariants.{Drive, Work, Available, Rest}
 use Rattle.day_totals.specs.Figures.{total}
-use Rattle.day_totals.specs.Text.{duration_text}
 use Rattle.day_chart.specs.declared.mark.Mark.{Mark}
 use Rattle.day_chart.specs.Bars.{bars_text}
 use Rattle.day_chart.specs.Marks.{marks_text}

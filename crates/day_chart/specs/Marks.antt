@@ -1,7 +1,7 @@
 -- The marks of the picture: places that were entered, events, faults and entries by hand (profile).
 use Rattle.std.specs.Prelude.{ℕ, ◌+◌, ◌/◌, ◌%◌, ◌==◌, nat_lt, if◌then◌else◌, List, [], ◌∷◌, ◌++◌, codes, decimal}
 use Rattle.activity_codec.specs.Names.{activity_name}
-use Rattle.day_totals.specs.Text.{duration_text}
+use Rattle.calendar_days.specs.Clock.{clock_text}
 use Rattle.day_chart.specs.declared.mark.Sign.{Sign}
 use Rattle.day_chart.specs.declared.mark.Sign.TheVariants.{Begin, End, Event, Fault, ByHand}
 use Rattle.day_chart.specs.declared.mark.Mark.{Mark}
@@ -42,7 +42,7 @@ code_text (ByHand act) code = activity_name act
 -- what a mark says: `2010-03-01 07:15 work period begins, country 17`, `2010-03-01 07:20 event 07`,
 -- `2010-03-01 05:10 by hand work`
 abbrev pub mark_title : (date : List ℕ) → Mark → List ℕ
-mark_title date mark = date ++ codes " " ++ duration_text (mark.second / 60 % 1440) ++ mark_words mark.sign
+mark_title date mark = date ++ codes " " ++ clock_text (mark.second / 60) ++ mark_words mark.sign
     ++ code_text mark.sign mark.code
 
 -- A MARK: its sign at its minute; two minutes are one unit wide, and the day begins at 60

@@ -5,12 +5,11 @@ ghost use Rattle.slot_bars.specs.Runs.{is_run};
 ghost use Rattle.day_chart.specs.Bars.{point_five, half_text, look, bold, pale, bar_text, title_text};
 
 use activity_codec::Activity;
-use day_totals::write_duration;
 use itoa::Buffer;
 use slot_bars::Seen;
 use std::alloc::AllocError;
 use view_model::Line;
-use view_text::Shown;
+use view_text::{Shown, write_clock};
 
 /// How a bar looks: its height by the activity, its fill too; pale and dashed without a card, and grey where it is
 /// unknown.
@@ -95,9 +94,9 @@ fn write_title(
 {
     text.extend_from_slice(date)?;
     text.extend_from_slice(b" ")?;
-    write_duration(text, bar.first % 1440)?;
+    write_clock(text, bar.first)?;
     text.extend_from_slice(b"-")?;
-    write_duration(text, bar.last % 1440)?;
+    write_clock(text, bar.last)?;
     text.extend_from_slice(b" ")?;
     text.extend_from_slice(name)?;
     text.extend_from_slice(b" ")?;

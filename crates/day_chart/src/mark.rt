@@ -5,9 +5,9 @@ ghost use Rattle.day_chart.specs.Marks.{day_mark_text, marks_text};
 
 use crate::bar::write_half;
 use crate::frame::write_number;
-use activity_codec::Activity;
-use day_totals::write_duration;
+use activity_codec::{Activity, DAY_SECONDS, MINUTE_SECONDS};
 use std::alloc::AllocError;
+use view_text::write_clock;
 
 /// What a mark tells of.
 #[derive(Clone, Copy, Debug, PartialEq, Eq)]
@@ -95,7 +95,7 @@ fn write_mark_title(text: &mut Vec<u8>, date: &[u8], mark: Mark) -> Result<(), A
 {
     text.extend_from_slice(date)?;
     text.extend_from_slice(b" ")?;
-    write_duration(text, mark.second / 60 % 1440)?;
+    write_clock(text, mark.second / MINUTE_SECONDS)?;
     text.extend_from_slice(mark_words(mark.sign))?;
     write_code(text, mark.sign, mark.code)?;
     Ok(())
@@ -119,7 +119,7 @@ fn write_mark(text: &mut Vec<u8>, date: &[u8], mark: Mark) -> Result<(), AllocEr
 fn write_day_mark(text: &mut Vec<u8>, date: &[u8], day: u32, mark: Mark) -> Result<(), AllocError>
     ensures { OnOk result (text.new.items ≡ text.old.items ++ day_mark_text date.now day mark) }
 {
-    if mark.second / 86400 == day {
+    if mark.second / DAY_SECONDS == day {
         write_mark(text, date, mark)?;
     }
     Ok(())

@@ -5,6 +5,7 @@ ghost use Rattle.file_view.specs.CardFiles.{IsBadCardFile};
 ghost use Rattle.day_reports.specs.Printing.{TellsDistances};
 ghost use Rattle.day_reports.specs.Heads.{distance_by};
 
+use activity_codec::DAY_SECONDS;
 use card_days::DayHead;
 use day_totals::Distance;
 use file_view::{ViewFault, day_heads};
@@ -36,7 +37,7 @@ fn distance_by(head: DayHead) -> Distance
     ensures { result ≡ distance_by head }
 {
     Distance {
-        day: head.date.0 / 86400,
+        day: head.date.0 / DAY_SECONDS,
         km: u32::from(head.km.0),
     }
 }

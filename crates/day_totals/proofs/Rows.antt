@@ -11,7 +11,8 @@ use Rattle.slot_bars.specs.declared.seen.Gap.{Gap}
 use Rattle.slot_bars.specs.Seeing.{slot_seen}
 use Rattle.day_totals.specs.declared.figures.Figure.TheVariants.{Drive, Work, Available, Rest, Unknown, In}
 use Rattle.day_totals.specs.Figures.{total, distance_on}
-use Rattle.day_totals.specs.Text.{duration_text, distance_text}
+use Rattle.calendar_days.specs.Clock.{duration_text}
+use Rattle.day_totals.specs.Text.{distance_text}
 
 morning : duration_text 455 ≡ codes "07:35"
 morning = refl

@@ -1,10 +1,10 @@
 -- The text of totals (profile).
-use Rattle.std.specs.Prelude.{ℕ, ◌/◌, ◌%◌, Option, Some, None, List, ◌++◌, map, codes, decimal}
+use Rattle.std.specs.Prelude.{ℕ, Option, Some, None, List, ◌++◌, map, codes, decimal}
 use Rattle.activity_codec.specs.declared.values.Slot.TheVariants.{Driver, CoDriver}
+use Rattle.calendar_days.specs.Clock.{duration_text}
 use Rattle.view_model.specs.declared.UnitShown.{UnitShown}
 use Rattle.view_model.specs.declared.CardShown.{CardShown}
 use Rattle.view_model.specs.declared.Viewed.{Viewed}
-use Rattle.view_text.specs.Text.{two_digits}
 use Rattle.slot_bars.specs.declared.seen.Gap.{Gap}
 use Rattle.slot_bars.specs.declared.seen.Seen.{Seen}
 use Rattle.slot_bars.specs.Seeing.{slot_seen, card_seen}
@@ -13,10 +13,6 @@ use Rattle.day_totals.specs.declared.figures.Distance.{Distance}
 use Rattle.day_totals.specs.declared.figures.Figure.{Figure}
 use Rattle.day_totals.specs.declared.figures.Figure.TheVariants.{Drive, Work, Available, Rest, Unknown, In}
 use Rattle.day_totals.specs.Figures.{total, figure_name, distance_on}
-
--- so many minutes as hours and minutes, `07:35`
-abbrev pub duration_text : ℕ → List ℕ
-duration_text minutes = two_digits (minutes / 60) ++ codes ":" ++ two_digits (minutes % 60)
 
 -- ` drive 07:35`
 abbrev pub figure_text : Figure → List (Viewed Seen) → List ℕ

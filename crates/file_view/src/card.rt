@@ -28,7 +28,7 @@ use crate::entry::part;
 use crate::parts::{Parts, days_len, load_days, vehicles_len};
 use crate::string::{heads, words_of};
 use crate::vehicles::vehicles_in;
-use activity_codec::Change;
+use activity_codec::{Change, DAY_MINUTES};
 use card_days::{DayHead, Days};
 use card_files::{Vehicle, read_vehicle};
 use card_layout::Application;
@@ -43,9 +43,6 @@ use view_text::{add_minute, lines_text};
 const VEHICLE_POINTER: usize = 2;
 
 const VEHICLE_FIRST_USE: u32 = 6;
-
-/// How many minutes a day has.
-const DAY: u32 = 1440;
 
 /// The entries that a card file shows, as the lines of their view.
 #[derive(Drop)]
@@ -266,7 +263,7 @@ fn add_day(
 {
     let words = words_of(string, file, head);
     let first = head.date.0 / 60;
-    for t in 0..DAY {
+    for t in 0..DAY_MINUTES {
         add_told(lines, mark, first + t, words.at(t as usize))?;
     }
     Ok(())

@@ -20,7 +20,7 @@ use crate::ViewFault;
 use crate::card::first_of;
 use crate::day_words::DayWords;
 use crate::entry::part;
-use activity_codec::{Activity, Change};
+use activity_codec::{Activity, Change, DAY_MINUTES, DAY_SECONDS};
 use byteorder::{BigEndian, ByteOrder};
 use std::alloc::{AllocError, Global};
 use std::marker::Model;
@@ -31,9 +31,6 @@ use view_text::{add_minute, lines_text};
 
 /// The least word of the co-driver slot: the slot is the highest bit of a word.
 const CODRIVER: u16 = 32768;
-
-/// How many minutes a day has.
-const DAY: u32 = 1440;
 
 /// The minutes that a unit file shows, as the lines of their view.
 #[derive(Drop)]
@@ -272,12 +269,12 @@ fn count_of(date: u32, time: Option<u32>) -> u32
 {
     let kept = match time {
         Some(time) => time / 60,
-        None => return DAY,
+        None => return DAY_MINUTES,
     };
-    if date / 86400 == kept / DAY {
-        return kept % DAY + 1;
+    if date / DAY_SECONDS == kept / DAY_MINUTES {
+        return kept % DAY_MINUTES + 1;
     }
-    DAY
+    DAY_MINUTES
 }
 
 /// Which changes of each slot decide the minutes of a day.

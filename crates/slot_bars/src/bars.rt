@@ -7,7 +7,7 @@ ghost use Rattle.slot_bars.specs.Runs.{is_run, is_plain, seen_run, with_last, as
 ghost use Rattle.slot_bars.specs.declared.seen.Seen.{Seen as MinuteSeen};
 
 use crate::seen::{Gap, Seen, meets_gap, slot_seen, state_in};
-use activity_codec::{Activity, Slot};
+use activity_codec::{Activity, DAY_MINUTES, Slot};
 use std::alloc::{AllocError, Global};
 use view_model::{CardShown, Line, State, UnitShown, Viewed};
 use view_text::add_minute;
@@ -105,7 +105,7 @@ fn viewed_at(line: Line<UnitShown>, minute: u32) -> Viewed<UnitShown>
 fn is_run(first: u32, last: u32) -> bool
     ensures { result ≡ is_run first last }
 {
-    first <= last && first / 1440 == last / 1440
+    first <= last && first / DAY_MINUTES == last / DAY_MINUTES
 }
 
 /// Whether the same is seen of a slot in each minute of a line, which are some, and of one day.

@@ -11,6 +11,7 @@ ghost use Rattle.unit_marks.specs.Marks.{TellsMarks, gap_of, gaps_of, gaps_told,
 ghost use Rattle.unit_marks.specs.Marks.{whole_minutes};
 
 use crate::places::{MessageAt, messages_at};
+use activity_codec::DAY_SECONDS;
 use byteorder::{BigEndian, ByteOrder};
 use day_totals::Distance;
 use file_view::ViewFault;
@@ -212,7 +213,7 @@ fn add_gained(
 {
     if day.date < next.date && day.odometer <= next.odometer {
         distances.push(Distance {
-            day: day.date / 86400,
+            day: day.date / DAY_SECONDS,
             km: next.odometer - day.odometer,
         })?;
         return Ok(());

@@ -11,5 +11,5 @@ mod views;
 pub use by_hand::by_hand_text;
 pub use lines::add_minute;
 pub use shown::Shown;
-pub use text::lines_text;
+pub use text::{lines_text, write_clock};
 pub use views::{card_text, unit_text};

@@ -6,6 +6,7 @@ ghost use Rattle.view_model.specs.Lines.{lines_of};
 ghost use Rattle.view_text.specs.Growing.{follows, with_more, line_at};
 
 use crate::shown::Shown;
+use activity_codec::DAY_MINUTES;
 use std::alloc::AllocError;
 use view_model::{Line, Viewed};
 
@@ -49,6 +50,6 @@ fn goes_on<T: Shown>(line: Line<T>, minute: Viewed<T>) -> bool
     ensures { result ≡ follows T.same line minute }
 {
     line.last as u64 + 1 == minute.minute as u64
-        && line.last / 1440 == minute.minute / 1440
+        && line.last / DAY_MINUTES == minute.minute / DAY_MINUTES
         && line.shown.is_same(minute.shown)
 }
