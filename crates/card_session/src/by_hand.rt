@@ -12,8 +12,8 @@ ghost use Rattle.card_session.specs.ByHand.{IsCardByHand, IsCardEntering, IsByHa
 ghost use Rattle.card_session.specs.ByHand.{BeginsFrom, with_day_in, IsBeforeDayFrom, by_hand};
 
 use crate::session::CardSession;
-use crate::words::{DAY_MINUTES, bare_word, is_newest_day};
-use activity_codec::Manual;
+use crate::words::{bare_word, is_newest_day};
+use activity_codec::{DAY_MINUTES, Manual};
 use card_validity::date_of;
 use hand_model::manual_word;
 use tach_media::{Failed, Medium};
