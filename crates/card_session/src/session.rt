@@ -1,9 +1,9 @@
 //! A session of a driver card in a slot (profile): its keeping and its withdrawal. A session is a value that knows no
 //! card; each call is lent the card.
-ghost use Rattle.std.specs.Prelude.{◌≡◌, ◌⊎◌, ◌≤◌, ◌<◌, ◌+◌, ◌*◌, ◌/◌, ◌^◌, true, false, Some, None, List, ℕ, IfSome};
+ghost use Rattle.std.specs.Prelude.{◌≡◌, ◌⊎◌, ◌≤◌, ◌<◌, ◌+◌, ◌*◌, ◌/◌, ◌^◌, true, false, Some, None, IfSome};
 ghost use Rattle.std.specs.Prelude.{IfNone, OnOk, is_err, max};
 ghost use Rattle.card_layout.specs.Application.{IsApplication};
-ghost use Rattle.tach_media.specs.Medium.{LeavesOnly, HasCause, IsSettled, last_count};
+ghost use Rattle.tach_media.specs.Medium.{LeavesOnly, HasCause, IsSettled, last_count, Alters};
 ghost use Rattle.card_days.specs.Held.{tail_of};
 ghost use Rattle.card_days.specs.Plans.{most_drops};
 ghost use Rattle.card_validity.specs.card_image.Fields.{file, day_string, vehicle_ring, last_use_of};
@@ -501,14 +501,9 @@ impl CardSession {
         ensures same { (self.new.application ≡ self.old.application) × (self.new.registration ≡ self.old.registration) }
         ensures last { OnOk result ((self.new.minute ≡ kept.now.entry.minute)
             × (self.new.odometer ≡ Some kept.now.odometer)) }
-        ensures kept { OnOk result (IfSome (M.state port.old).image
-            (λ x. IfSome (M.state port.new).image
-            (λ y. IsSession self.old x → IsCardKept self.old self.new kept.now.entry kept.now.odometer.0 x y))) }
-        ensures moments { LeavesOnly (M.state port.old) (M.state port.new)
+        ensures alters { Alters result (M.state port.old) (M.state port.new) 17
+            (λ x y. IsSession self.old x → IsCardKept self.old self.new kept.now.entry kept.now.odometer.0 x y)
             (λ x c. IsSession self.old x → IsCardKeeping self.old kept.now.entry kept.now.odometer.0 x c) }
-        ensures settled { OnOk result ((M.state port.new).clock < last_count → IsSettled (M.state port.new)) }
-        ensures cause { HasCause (M.state port.old) (M.state port.new) (is_err result) }
-        ensures most { (M.state port.new).clock ≤ (M.state port.old).clock + 17 }
         ensures few { EndsByHand self.old kept.now.entry.minute
             → (M.state port.new).clock ≤ (M.state port.old).clock + 10 }
     {
