@@ -4,19 +4,16 @@ ghost use Rattle.card_session.specs.Books.{entry_word, bare_word, km_after};
 ghost use Rattle.card_session.specs.declared.words.TheConstants.{LATEST_MINUTE};
 ghost use Rattle.card_session.specs.Telling.{closing_at, gap_word, is_newest_day, entry_change, km_told};
 
-use activity_codec::{Activity, Change, Entry, Slot, WORD_MINUTES, decode_change, encode_change};
+use activity_codec::{
+    Activity, Change, DAY_MINUTES, Entry, LAST_MINUTE, Slot, WORD_MINUTES, decode_change,
+    encode_change,
+};
 use card_days::Tail;
 use card_validity::date_of;
 use tacho_types::Distance;
 
-/// The seconds of a day.
-pub const DAY_SECONDS: u32 = 86400;
-
-/// The minutes of a day.
-pub const DAY_MINUTES: u32 = 1440;
-
 /// The latest minute that is kept: the closing word, a minute later, has a time in seconds still.
-pub const LATEST_MINUTE: u32 = 71_582_787;
+pub const LATEST_MINUTE: u32 = LAST_MINUTE - 1;
 
 /// No distance of a day is told as more, in km.
 const MOST_KM: u32 = 9999;

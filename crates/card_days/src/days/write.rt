@@ -18,6 +18,8 @@ ghost use Rattle.card_days.specs.Calls.{AddedWord, BeganDay, CutDays, EndedDrop}
 use super::Days;
 use crate::bytes::body_of;
 use crate::{DayHead, Tail};
+use activity_codec::DAY_MINUTES;
+use card_model::lengths::DAY_HEAD;
 use tach_media::{Failed, Medium, put_pieces};
 use tacho_types::{Bcd2, Distance, TimeReal};
 
@@ -64,7 +66,7 @@ impl Days {
         ensures within { IfOk result (λ n. n ≤ self.now.shape.size) }
         ensures even { IfOk result (λ n. n % 2 ≡ 0) }
     {
-        let new = 12 + 2 * words.len() as u32;
+        let new = DAY_HEAD + 2 * words.len() as u32;
         let mut plan = self.writing();
         let once = self.make_room(medium, &mut plan, self.tail.used, new)?;
         let twice = self.make_room(medium, &mut plan, once, new)?;
@@ -255,7 +257,7 @@ fn with_word(tail: &Tail, word: u16, used: u32) -> Tail
             date: tail.head.date,
             counter: tail.head.counter,
             km: tail.head.km,
-            words: if words < 1440 { words + 1 } else { words },
+            words: if words < DAY_MINUTES as u16 { words + 1 } else { words },
         },
         latest: word,
         used,
