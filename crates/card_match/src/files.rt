@@ -26,6 +26,17 @@ pub enum MatchFault {
     Memory,
 }
 
+impl From<AllocError> for MatchFault {
+    ghost use Rattle.std.specs.Prelude.{◌≡◌};
+    ghost use Rattle.card_match.specs.declared.files.MatchFault.TheVariants.{Memory};
+
+    ghost from_gives = { λ _ fault. fault ≡ Memory };
+
+    fn from(_error: AllocError) -> MatchFault {
+        MatchFault::Memory
+    }
+}
+
 /// Matches the entries of a card file against the minutes of a unit file: the first that differs, or the counts.
 pub fn match_files(alloc: Global, unit: &[u8], card: &[u8]) -> Result<Matched, MatchFault>
     requires unit { length unit.now < 2 ^ 32 }
@@ -34,10 +45,8 @@ pub fn match_files(alloc: Global, unit: &[u8], card: &[u8]) -> Result<Matched, M
     ensures dated { IfOk result IsDated }
     ensures bad { IfErr result (IsMatchFault unit.now card.now) }
 {
-    match compare_files(alloc, unit, card) {
-        Ok(all) => Ok(all.first()),
-        Err(fault) => Err(fault),
-    }
+    let all = compare_files(alloc, unit, card)?;
+    Ok(all.first())
 }
 
 /// Compares the entries of a card file with the minutes of a unit file: all that differ, and the counts.
@@ -62,19 +71,14 @@ pub fn compare_files(alloc: Global, unit: &[u8], card: &[u8]) -> Result<Differen
         Err(ViewFault::BadFile(place)) => return Err(MatchFault::BadCardFile(place)),
         Err(ViewFault::Memory) => return Err(MatchFault::Memory),
     };
-    let uses = match uses_of(alloc, read.vehicles.as_slice(), registration) {
-        Ok(uses) => uses,
-        Err(_) => return Err(MatchFault::Memory),
-    };
-    match compare_entries(
+    let uses = uses_of(alloc, read.vehicles.as_slice(), registration)?;
+    let all = compare_entries(
         alloc,
         uses.as_slice(),
         minutes.lines(),
         read.history.lines(),
-    ) {
-        Ok(all) => Ok(all),
-        Err(_) => Err(MatchFault::Memory),
-    }
+    )?;
+    Ok(all)
 }
 
 /// The registration that the first overview of a unit file tells.
@@ -84,10 +88,7 @@ fn registration_of(unit: &[u8]) -> Result<Registration, u32>
         × (registration_in messages ≡ Some r.0)) }
     ensures bad { IfErr result (λ place. IsBadUnit place unit.now) }
 {
-    let front = match read_front(unit) {
-        Ok(front) => front,
-        Err(place) => return Err(place),
-    };
+    let front = read_front(unit)?;
     if front.end < unit.len() {
         return Err(front.end as u32);
     }
@@ -147,10 +148,8 @@ pub fn match_source(alloc: Global, b: &[u8]) -> Result<Matched, SourceFault>
     ensures dated { IfOk result IsDated }
     ensures bad { IfErr result (λ fault. IfBadSource fault (λ place. IsBadSource place b.now)) }
 {
-    match compare_source(alloc, b) {
-        Ok(all) => Ok(all.first()),
-        Err(fault) => Err(fault),
-    }
+    let all = compare_source(alloc, b)?;
+    Ok(all.first())
 }
 
 /// Compares the two files of such a source.

@@ -21,14 +21,8 @@ pub fn card_totals(alloc: Global, b: &[u8], last: Option<u32>) -> Result<Vec<u8>
     ensures text { IfOk result (λ text. PrintsCardTotals last b.now text.items) }
     ensures bad { IfErr result (λ fault. IfBadFile fault (λ place. IsBadCardFile place b.now)) }
 {
-    let history = match card_history(alloc, b, last) {
-        Ok(history) => history,
-        Err(fault) => return Err(fault),
-    };
-    let distances = match card_distances(alloc, b) {
-        Ok(distances) => distances,
-        Err(fault) => return Err(fault),
-    };
+    let history = card_history(alloc, b, last)?;
+    let distances = card_distances(alloc, b)?;
     let text = day_totals::card_days_text(alloc, history.lines(), distances.as_slice())?;
     Ok(text)
 }
@@ -43,22 +37,10 @@ pub fn card_chart(alloc: Global, b: &[u8], last: Option<u32>) -> Result<Vec<u8>,
     ensures text { IfOk result (λ text. PrintsCardChart last b.now text.items) }
     ensures bad { IfErr result (λ fault. IfBadFile fault (λ place. IsBadCardFile place b.now)) }
 {
-    let history = match card_history(alloc, b, last) {
-        Ok(history) => history,
-        Err(fault) => return Err(fault),
-    };
-    let distances = match card_distances(alloc, b) {
-        Ok(distances) => distances,
-        Err(fault) => return Err(fault),
-    };
-    let mut marks = match card_marks(alloc, b) {
-        Ok(marks) => marks,
-        Err(fault) => return Err(fault),
-    };
-    let entries = match by_hand(alloc, b) {
-        Ok(entries) => entries,
-        Err(fault) => return Err(fault),
-    };
+    let history = card_history(alloc, b, last)?;
+    let distances = card_distances(alloc, b)?;
+    let mut marks = card_marks(alloc, b)?;
+    let entries = by_hand(alloc, b)?;
     add_hands(&mut marks, entries.as_slice())?;
     let lines = history.lines();
     let totals = day_totals::card_days_text(alloc, lines, distances.as_slice())?;

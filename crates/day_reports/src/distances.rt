@@ -17,10 +17,7 @@ pub fn card_distances(alloc: Global, b: &[u8]) -> Result<Vec<Distance>, ViewFaul
     ensures distances { IfOk result (λ distances. TellsDistances b.now distances.items) }
     ensures bad { IfErr result (λ fault. IfBadFile fault (λ place. IsBadCardFile place b.now)) }
 {
-    let heads = match day_heads(alloc, b) {
-        Ok(heads) => heads,
-        Err(fault) => return Err(fault),
-    };
+    let heads = day_heads(alloc, b)?;
     let distances = distances_by(alloc, heads.as_slice())?;
     Ok(distances)
 }

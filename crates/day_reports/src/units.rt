@@ -21,14 +21,8 @@ pub fn unit_totals(alloc: Global, b: &[u8], last: Option<u32>) -> Result<Vec<u8>
     ensures text { IfOk result (λ text. PrintsUnitTotals last b.now text.items) }
     ensures bad { IfErr result (λ fault. IfBadFile fault (λ place. IsBadUnitFile place b.now)) }
 {
-    let history = match unit_history(alloc, b, last) {
-        Ok(history) => history,
-        Err(fault) => return Err(fault),
-    };
-    let marks = match marks_of(alloc, b) {
-        Ok(marks) => marks,
-        Err(fault) => return Err(fault),
-    };
+    let history = unit_history(alloc, b, last)?;
+    let marks = marks_of(alloc, b)?;
     let text = day_totals::unit_days_text(
         alloc,
         history.lines(),
@@ -48,18 +42,9 @@ pub fn unit_chart(alloc: Global, b: &[u8], last: Option<u32>) -> Result<Vec<u8>,
     ensures text { IfOk result (λ text. PrintsUnitChart last b.now text.items) }
     ensures bad { IfErr result (λ fault. IfBadFile fault (λ place. IsBadUnitFile place b.now)) }
 {
-    let history = match unit_history(alloc, b, last) {
-        Ok(history) => history,
-        Err(fault) => return Err(fault),
-    };
-    let marks = match marks_of(alloc, b) {
-        Ok(marks) => marks,
-        Err(fault) => return Err(fault),
-    };
-    let entries = match entry_marks(alloc, b) {
-        Ok(entries) => entries,
-        Err(fault) => return Err(fault),
-    };
+    let history = unit_history(alloc, b, last)?;
+    let marks = marks_of(alloc, b)?;
+    let entries = entry_marks(alloc, b)?;
     let gaps = marks.gaps.as_slice();
     let lines = history.lines();
     let totals = day_totals::unit_days_text(alloc, lines, gaps, marks.distances.as_slice())?;

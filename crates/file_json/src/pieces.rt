@@ -57,10 +57,7 @@ pub fn unit_pieces(alloc: Global, last: Option<u32>, b: &[u8]) -> Result<Vec<Pie
     ensures each { IfOk result (λ pieces. All (IsPiece b.now) pieces.items) }
     ensures bad { IfErr result (λ fault. IfBadFile fault (λ place. IsBadUnitFile place b.now)) }
 {
-    let all = match messages_at(alloc, b) {
-        Ok(all) => all,
-        Err(fault) => return Err(fault),
-    };
+    let all = messages_at(alloc, b)?;
     let pieces = pieces_of_messages(alloc, last, b, all.as_slice())?;
     Ok(pieces)
 }
@@ -160,13 +157,9 @@ pub fn card_pieces(alloc: Global, last: Option<u32>, b: &[u8]) -> Result<Vec<Pie
     ensures each { IfOk result (λ pieces. All (IsPiece b.now) pieces.items) }
     ensures bad { IfErr result (λ fault. IfBadFile fault (λ place. IsBadCardFile place b.now)) }
 {
-    match read_card_file(alloc, b) {
-        Ok(_history) => {
-            let pieces = pieces_of_files(alloc, last, b)?;
-            Ok(pieces)
-        }
-        Err(fault) => Err(fault),
-    }
+    let _history = read_card_file(alloc, b)?;
+    let pieces = pieces_of_files(alloc, last, b)?;
+    Ok(pieces)
 }
 
 /// Those of the files of a card, one after the other.

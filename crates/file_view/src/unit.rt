@@ -154,15 +154,9 @@ impl Told {
             time: None,
             days: Vec::new(alloc),
         };
-        let mut place = match told.take_at(b, 0) {
-            Ok(first) => first,
-            Err(fault) => return Err(fault),
-        };
+        let mut place = told.take_at(b, 0)?;
         while place < b.len() {
-            place = match told.take_at(b, place) {
-                Ok(end) => end,
-                Err(fault) => return Err(fault),
-            };
+            place = told.take_at(b, place)?;
         }
         Ok(told)
     }

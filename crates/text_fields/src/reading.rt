@@ -45,12 +45,8 @@ fn first_byte(text: &[u8]) -> Option<(u8, &[u8])>
     if text.len() < 2 {
         return None;
     }
-    let Some(byte) = byte_of(text[0], text[1]) else {
-        return None;
-    };
-    let Some(behind) = behind_space(&text[2..]) else {
-        return None;
-    };
+    let byte = byte_of(text[0], text[1])?;
+    let behind = behind_space(&text[2..])?;
     Some((byte, behind))
 }
 
@@ -73,12 +69,8 @@ fn behind_space(text: &[u8]) -> Option<&[u8]>
 fn byte_of(high: u8, low: u8) -> Option<u8>
     ensures { result ≡ byte_of high low }
 {
-    let Some(high) = digit(high) else {
-        return None;
-    };
-    let Some(low) = digit(low) else {
-        return None;
-    };
+    let high = digit(high)?;
+    let low = digit(low)?;
     Some(16 * high + low)
 }
 

@@ -46,13 +46,9 @@ pub fn card_marks(alloc: Global, b: &[u8]) -> Result<Vec<Mark>, ViewFault>
     ensures marks { IfOk result (λ marks. TellsCardEntries b.now marks.items) }
     ensures bad { IfErr result (λ fault. IfBadFile fault (λ place. IsBadCardFile place b.now)) }
 {
-    match read_card_file(alloc, b) {
-        Ok(_history) => {
-            let marks = marks_of_files(alloc, b)?;
-            Ok(marks)
-        }
-        Err(fault) => Err(fault),
-    }
+    let _history = read_card_file(alloc, b)?;
+    let marks = marks_of_files(alloc, b)?;
+    Ok(marks)
 }
 
 /// Those of its files.

@@ -59,10 +59,7 @@ pub fn entry_marks(alloc: Global, b: &[u8]) -> Result<Vec<Mark>, ViewFault>
     ensures marks { IfOk result (λ marks. TellsEntries b.now marks.items) }
     ensures bad { IfErr result (λ fault. IfBadFile fault (λ place. IsBadUnitFile place b.now)) }
 {
-    let all = match messages_at(alloc, b) {
-        Ok(all) => all,
-        Err(fault) => return Err(fault),
-    };
+    let all = messages_at(alloc, b)?;
     let marks = marks_in(alloc, b, all.as_slice())?;
     Ok(marks)
 }

@@ -58,10 +58,7 @@ pub fn marks_of(alloc: Global, b: &[u8]) -> Result<Marks, ViewFault>
     ensures marks { IfOk result (λ marks. TellsMarks b.now marks.gaps.items marks.distances.items) }
     ensures bad { IfErr result (λ fault. IfBadFile fault (λ place. IsBadUnitFile place b.now)) }
 {
-    let all = match messages_at(alloc, b) {
-        Ok(all) => all,
-        Err(fault) => return Err(fault),
-    };
+    let all = messages_at(alloc, b)?;
     let gaps = gaps_in(alloc, b, all.as_slice())?;
     let midnights = midnights_in(alloc, b, all.as_slice())?;
     let distances = distances_of(alloc, midnights.as_slice())?;

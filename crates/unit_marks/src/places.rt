@@ -30,15 +30,9 @@ pub fn messages_at(alloc: Global, b: &[u8]) -> Result<Vec<MessageAt>, ViewFault>
     ensures bad { IfErr result (λ fault. IfBadFile fault (λ place. IsBadUnitFile place b.now)) }
 {
     let mut all = Vec::new(alloc);
-    let mut place = match take_message(&mut all, b, 0) {
-        Ok(first) => first,
-        Err(fault) => return Err(fault),
-    };
+    let mut place = take_message(&mut all, b, 0)?;
     while place < b.len() {
-        place = match take_message(&mut all, b, place) {
-            Ok(end) => end,
-            Err(fault) => return Err(fault),
-        };
+        place = take_message(&mut all, b, place)?;
     }
     Ok(all)
 }

@@ -26,10 +26,7 @@ pub fn speeds_text(alloc: Global, b: &[u8], last: Option<u32>) -> Result<Vec<u8>
     ensures text { IfOk result (λ text. PrintsSpeeds last b.now text.items) }
     ensures bad { IfErr result (λ fault. IfBadFile fault (λ place. IsBadUnitFile place b.now)) }
 {
-    let all = match messages_at(alloc, b) {
-        Ok(all) => all,
-        Err(fault) => return Err(fault),
-    };
+    let all = messages_at(alloc, b)?;
     let lines = lines_in(alloc, b, all.as_slice())?;
     let text = last_text(alloc, lines.as_slice(), last)?;
     Ok(text)
