@@ -9,7 +9,7 @@ use Rattle.link_model.specs.declared.request.Request.TheVariants.{Overview as As
 use Rattle.link_model.specs.declared.request.Request.TheVariants.{Events as AskEvents, Speed as AskSpeed}
 use Rattle.link_model.specs.declared.request.Request.TheVariants.{Technical as AskTechnical}
 use Rattle.message_model.specs.Messages.{Message as FileMessage, IsMessage, message_bytes}
-use Rattle.unit_marks.specs.declared.places.MessageAt.{MessageAt}
+use Rattle.file_view.specs.declared.places.MessageAt.{MessageAt}
 use Rattle.json.specs.Print.{print}
 use Rattle.json.specs.Tree.{json_tokens}
 use Rattle.file_json.specs.declared.pieces.Piece.{Piece}

@@ -14,9 +14,9 @@ ghost use Rattle.file_json.specs.Cards.{shape_of, told};
 
 use crate::days::{Pointers, write_string};
 use byteorder::{BigEndian, ByteOrder};
+use card_layout::FILE_HEAD;
 use json_fields::{Kind, Name, TextWriter, write_digits, write_record, write_records};
 use std::alloc::{AllocError, Global};
-use unit_marks::FILE_HEAD;
 
 /// What a file of a card holds.
 #[derive(Clone, Copy)]

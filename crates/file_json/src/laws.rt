@@ -23,7 +23,7 @@ ghost use Rattle.message_model.specs.Messages.{Message as FileMessage, IsUnitFil
 ghost use Rattle.message_model.specs.Records.{insertion_widths};
 ghost use Rattle.note_model.specs.Tables.{event_widths, fault_widths, over_widths};
 ghost use Rattle.tacho_types.specs.Places.{place_widths};
-ghost use Rattle.unit_marks.specs.Files.{AreFiles};
+ghost use Rattle.file_view.specs.Files.{AreFiles};
 ghost use Rattle.file_json.specs.declared.card.Shape.TheVariants.{Events, Faults};
 ghost use Rattle.file_json.specs.Cards.{IsCardJson, json_of_card, lists_of, told};
 ghost use Rattle.file_json.specs.Days.{ShowDays, items_count, newest_items, records_of, string_shown};

@@ -7,8 +7,8 @@ ghost use Rattle.file_view.specs.CardFiles.{IsBadCardFile};
 ghost use Rattle.file_view.specs.Faults.{IfBadFile};
 ghost use Rattle.file_view.specs.UnitFiles.{IsBadUnitFile};
 ghost use Rattle.message_model.specs.Messages.{Message as FileMessage, IsUnitFile};
-ghost use Rattle.unit_marks.specs.Files.{AreFiles};
-ghost use Rattle.unit_marks.specs.Places.{ArePlaced};
+ghost use Rattle.file_view.specs.Files.{AreFiles};
+ghost use Rattle.file_view.specs.Places.{ArePlaced};
 ghost use Rattle.file_json.specs.Cards.{IsCardJson, json_of_card};
 ghost use Rattle.file_json.specs.Pieces.{IsPiece, asks_day, day_in, days_asked, item_pieces, piece_text, pieces_text};
 ghost use Rattle.file_json.specs.Units.{IsUnitJson};
@@ -18,9 +18,9 @@ ghost use Rattle.json.specs.Tree.{json_tokens};
 use crate::card::file_text;
 use crate::days::first_of;
 use crate::unit::message_text;
-use file_view::{ViewFault, read_card_file};
+use card_layout::FILE_HEAD;
+use file_view::{MessageAt, ViewFault, file_len, messages_at, read_card_file};
 use std::alloc::{AllocError, Global};
-use unit_marks::{FILE_HEAD, MessageAt, file_len, messages_at};
 use unit_messages::Request;
 
 /// A piece of the text of a file.

@@ -10,7 +10,7 @@ use Rattle.card_layout.specs.Fields.{joined}
 use Rattle.message_model.specs.Messages.{DayMessage, EventMessage, ADay, AnEventList, AreEntries, counted, word_bytes}
 use Rattle.unit_messages.specs.Reading.{BeginsWith}
 use Rattle.unit_marks.specs.Entries.{BeginWith}
-use Rattle.unit_marks.proofs.Laid.{number_behind, joined_length, skip, entry_at}
+use Rattle.file_view.proofs.Laid.{number_behind, joined_length, skip, entry_at}
 
 -- the same bytes begin with the same
 abbrev pub moved : {width size : ℕ} {entries : List (List ℕ)} (bytes other : List ℕ) → other ≡ bytes → BeginWith width size entries bytes → BeginWith width size entries other

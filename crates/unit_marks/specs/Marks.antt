@@ -8,7 +8,8 @@ use Rattle.slot_bars.specs.declared.seen.Gap.{Gap}
 use Rattle.day_totals.specs.declared.figures.Distance.{Distance}
 use Rattle.file_view.specs.UnitFiles.{days_told}
 use Rattle.unit_marks.specs.declared.marks.Midnight.{Midnight}
-use Rattle.unit_marks.specs.declared.marks.TheConstants.{POWER_INTERRUPTION, EVENT_BEGIN, EVENT_END}
+use Rattle.event_model.specs.declared.kinds.TheConstants.{POWER_INTERRUPTION}
+use Rattle.unit_marks.specs.declared.marks.TheConstants.{EVENT_BEGIN, EVENT_END}
 
 -- an event: its type, its begin and its end, in seconds
 abbrev pub kind_in : List ℕ → ℕ

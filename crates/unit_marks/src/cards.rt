@@ -5,16 +5,15 @@ ghost use Rattle.card_layout.specs.Images.{number_at};
 ghost use Rattle.card_image.specs.CardFile.{FileEntry};
 ghost use Rattle.file_view.specs.Faults.{IfBadFile};
 ghost use Rattle.file_view.specs.CardFiles.{IsBadCardFile};
-ghost use Rattle.unit_marks.specs.Files.{AreFiles};
+ghost use Rattle.file_view.specs.Files.{AreFiles};
 ghost use Rattle.unit_marks.specs.Cards.{TellsCardEntries, card_mark, card_width, files_marks, if_written, kind_told};
 ghost use Rattle.unit_marks.specs.Cards.{list_marks, pointer_width, value_marks};
 
 use crate::entries::{Kind, sign_of};
-use crate::files::{file_behind, file_len, file_value};
 use crate::marks::byte_at;
 use byteorder::{BigEndian, ByteOrder};
 use day_chart::{Mark, Sign};
-use file_view::{ViewFault, read_card_file};
+use file_view::{ViewFault, file_behind, file_len, file_value, read_card_file};
 use std::alloc::{AllocError, Global};
 
 /// How many bytes a place has (Annex IB, Appendix 1, PlaceRecord).

@@ -6,16 +6,15 @@ ghost use Rattle.message_model.specs.Messages.{Message as FileMessage, DayMessag
 ghost use Rattle.unit_messages.specs.Reading.{BeginsWith};
 ghost use Rattle.file_view.specs.Faults.{IfBadFile};
 ghost use Rattle.file_view.specs.UnitFiles.{IsBadUnitFile};
-ghost use Rattle.unit_marks.specs.Places.{ArePlaced, IsPlaced};
+ghost use Rattle.file_view.specs.Places.{ArePlaced, IsPlaced};
 ghost use Rattle.unit_marks.specs.Marks.{kind_in, begin_in};
 ghost use Rattle.unit_marks.specs.Entries.{TellsEntries, BeginWith, sign_of, mark_of, place_marks, event_marks};
 ghost use Rattle.unit_marks.specs.Entries.{marks_told};
 
 use crate::marks::{EVENT_BEGIN, byte_at};
-use crate::places::{MessageAt, messages_at};
 use byteorder::{BigEndian, ByteOrder};
 use day_chart::{Mark, Sign};
-use file_view::ViewFault;
+use file_view::{MessageAt, ViewFault, messages_at};
 use message_model::sizes::{EVENT, FAULT, INSERTION, OVER, PLACE};
 use std::alloc::{AllocError, Global};
 use unit_messages::Request;

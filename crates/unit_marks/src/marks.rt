@@ -6,23 +6,20 @@ ghost use Rattle.message_model.specs.Messages.{Message as FileMessage, DayMessag
 ghost use Rattle.unit_messages.specs.Reading.{BeginsWith};
 ghost use Rattle.file_view.specs.Faults.{IfBadFile};
 ghost use Rattle.file_view.specs.UnitFiles.{IsBadUnitFile, days_told};
-ghost use Rattle.unit_marks.specs.Places.{ArePlaced, IsPlaced};
+ghost use Rattle.file_view.specs.Places.{ArePlaced, IsPlaced};
 ghost use Rattle.unit_marks.specs.Marks.{TellsMarks, gap_of, gaps_of, gaps_told, midnight_of, gained, distances_of};
 ghost use Rattle.unit_marks.specs.Marks.{whole_minutes};
 
-use crate::places::{MessageAt, messages_at};
 use activity_codec::DAY_SECONDS;
 use byteorder::{BigEndian, ByteOrder};
 use day_totals::Distance;
-use file_view::ViewFault;
+use event_model::POWER_INTERRUPTION;
+use file_view::{MessageAt, ViewFault, messages_at};
 use message_model::sizes::{EVENT, FAULT};
 use slot_bars::Gap;
 use std::alloc::{AllocError, Global};
 use tacho_types::read_odometer;
 use unit_messages::Request;
-
-/// The type of an interruption of the power (Annex IB, Appendix 1, EventFaultType).
-pub const POWER_INTERRUPTION: u8 = 8;
 
 /// Where an event has its begin and its end, behind its type and its purpose.
 pub const EVENT_BEGIN: usize = 2;

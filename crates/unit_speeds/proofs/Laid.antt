@@ -7,7 +7,7 @@ use Rattle.card_layout.specs.Images.{bytes_at, number_at}
 use Rattle.card_layout.specs.Fields.{joined}
 use Rattle.message_model.specs.Messages.{SpeedMessage, ASpeedList}
 use Rattle.unit_messages.specs.Reading.{BeginsWith}
-use Rattle.unit_marks.proofs.Laid.{number_behind, joined_length, skip, entry_at}
+use Rattle.file_view.proofs.Laid.{number_behind, joined_length, skip, entry_at}
 
 -- the blocks of a message, behind their count
 pub record AreBlocksAt (m : SpeedMessage) (b : List ℕ) : Type 0 where

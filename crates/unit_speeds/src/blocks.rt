@@ -3,14 +3,14 @@ ghost use Rattle.std.specs.Prelude.{◌≡◌, ◌+◌, ◌*◌, ◌≤◌, ◌+
 ghost use Rattle.card_layout.specs.Images.{bytes_at, number_at};
 ghost use Rattle.message_model.specs.Messages.{Message as FileMessage, SpeedMessage, ASpeedList};
 ghost use Rattle.unit_messages.specs.Reading.{BeginsWith};
-ghost use Rattle.unit_marks.specs.Places.{ArePlaced, IsPlaced};
+ghost use Rattle.file_view.specs.Places.{ArePlaced, IsPlaced};
 ghost use Rattle.unit_speeds.specs.Speeds.{line_of, speeds_told};
 
 use crate::line::{SpeedLine, line_of};
 use byteorder::{BigEndian, ByteOrder};
+use file_view::MessageAt;
 use message_model::sizes::SPEED_BLOCK;
 use std::alloc::{AllocError, Global};
-use unit_marks::MessageAt;
 use unit_messages::Request;
 
 /// Where the message of detailed speed has its blocks, behind 76, its number and their count.

@@ -10,10 +10,9 @@ use crate::blocks::lines_in;
 use crate::line::SpeedLine;
 use activity_codec::{DAY_SECONDS, MINUTE_SECONDS};
 use calendar_days::day_text;
-use file_view::ViewFault;
+use file_view::{ViewFault, messages_at};
 use itoa::Buffer;
 use std::alloc::{AllocError, Global};
-use unit_marks::messages_at;
 use view_text::write_clock;
 
 /// The detailed speed of a unit file, a line a minute: of all its blocks, or of the last so many.

@@ -1,6 +1,6 @@
 use Rattle.std.proofs.Common.{◌≡◌, ◌∙◌, List, sym, subst}
-use Rattle.unit_marks.specs.declared.places.MessageAt.{MessageAt}
-use Rattle.unit_marks.specs.Places.{ArePlaced}
+use Rattle.file_view.specs.declared.places.MessageAt.{MessageAt}
+use Rattle.file_view.specs.Places.{ArePlaced}
 use Rattle.unit_marks.proofs.entries.entry_marks.Goals as goal
 
 pub marks_in-requires : goal.marks_in-requires

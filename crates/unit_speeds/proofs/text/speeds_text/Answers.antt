@@ -1,6 +1,6 @@
 use Rattle.std.proofs.Common.{◌≡◌, ◌∙◌, List, sym, subst}
-use Rattle.unit_marks.specs.declared.places.MessageAt.{MessageAt}
-use Rattle.unit_marks.specs.Places.{ArePlaced}
+use Rattle.file_view.specs.declared.places.MessageAt.{MessageAt}
+use Rattle.file_view.specs.Places.{ArePlaced}
 use Rattle.unit_speeds.specs.declared.line.SpeedLine.{SpeedLine}
 use Rattle.unit_speeds.specs.Text.{AreSpeedLines, last_lines}
 use Rattle.unit_speeds.proofs.text.speeds_text.Goals as goal

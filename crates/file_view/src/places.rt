@@ -4,9 +4,9 @@ ghost use Rattle.message_model.specs.Messages.{Message as FileMessage, IsUnitFil
 ghost use Rattle.unit_messages.specs.Reading.{request_of};
 ghost use Rattle.file_view.specs.Faults.{IfBadFile};
 ghost use Rattle.file_view.specs.UnitFiles.{IsBadUnitFile, HasNoMessage};
-ghost use Rattle.unit_marks.specs.Places.{ArePlaced, IsNext};
+ghost use Rattle.file_view.specs.Places.{ArePlaced, IsNext};
 
-use file_view::ViewFault;
+use crate::ViewFault;
 use std::alloc::{AllocError, Global};
 use unit_messages::{Request, read_message};
 

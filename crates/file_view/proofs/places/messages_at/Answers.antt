@@ -1,7 +1,7 @@
 use Rattle.std.proofs.Common.{arith}
 use Rattle.std.proofs.lemmas.Result.{err_from_is_err_and}
-use Rattle.unit_marks.proofs.Placing.{none_yet, one_more, all_read, bad_first, bad_behind, faulty_at}
-use Rattle.unit_marks.proofs.places.messages_at.Goals as goal
+use Rattle.file_view.proofs.Placing.{none_yet, one_more, all_read, bad_first, bad_behind, faulty_at}
+use Rattle.file_view.proofs.places.messages_at.Goals as goal
 
 pub loop-place-init : goal.loop-place-init
 loop-place-init c =
