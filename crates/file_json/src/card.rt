@@ -14,7 +14,7 @@ ghost use Rattle.file_json.specs.Cards.{shape_of, told};
 
 use crate::days::{Pointers, write_string};
 use byteorder::{BigEndian, ByteOrder};
-use card_layout::FILE_HEAD;
+use card_layout::{FILE_HEAD, Fid};
 use json_fields::{Kind, Name, TextWriter, write_digits, write_record, write_records};
 use std::alloc::{AllocError, Global};
 
@@ -369,23 +369,23 @@ fn write_all_bytes(alloc: Global, writer: &mut TextWriter, string: &[u8]) -> Res
 fn file_name(fid: u16) -> &'static str
     ensures { result.now ≡ file_name fid }
 {
-    match fid {
-        0x0002 => "icc",
-        0x0005 => "ic",
-        0x0501 => "applicationIdentification",
-        0x0502 => "eventsData",
-        0x0503 => "faultsData",
-        0x0504 => "driverActivityData",
-        0x0505 => "vehiclesUsed",
-        0x0506 => "places",
-        0x0507 => "currentUsage",
-        0x0508 => "controlActivityData",
-        0x050E => "cardDownload",
-        0x0520 => "identification",
-        0x0521 => "drivingLicenceInfo",
-        0x0522 => "specificConditions",
-        0xC100 => "cardCertificate",
-        0xC108 => "caCertificate",
+    match Fid(fid) {
+        Fid::ICC => "icc",
+        Fid::IC => "ic",
+        Fid::APPLICATION => "applicationIdentification",
+        Fid::EVENTS => "eventsData",
+        Fid::FAULTS => "faultsData",
+        Fid::ACTIVITY => "driverActivityData",
+        Fid::VEHICLES => "vehiclesUsed",
+        Fid::PLACES => "places",
+        Fid::CURRENT_USE => "currentUsage",
+        Fid::CONTROL => "controlActivityData",
+        Fid::DOWNLOAD => "cardDownload",
+        Fid::IDENTIFICATION => "identification",
+        Fid::LICENCE => "drivingLicenceInfo",
+        Fid::CONDITIONS => "specificConditions",
+        Fid::CARD_CERTIFICATE => "cardCertificate",
+        Fid::CA_CERTIFICATE => "caCertificate",
         _ => "other",
     }
 }
@@ -397,23 +397,23 @@ fn shape_of(fid: u16, kind: u8) -> Shape
     if kind != 0 {
         return Shape::Bytes;
     }
-    match fid {
-        0x0002 => Shape::Record(Kind::Icc),
-        0x0005 => Shape::Record(Kind::Ic),
-        0x0501 => Shape::Record(Kind::ApplicationIdentification),
-        0x0502 => Shape::Events,
-        0x0503 => Shape::Faults,
-        0x0504 => Shape::Days,
-        0x0505 => Shape::Vehicles,
-        0x0506 => Shape::Places,
-        0x0507 => Shape::Record(Kind::CurrentUse),
-        0x0508 => Shape::Record(Kind::CardControl),
-        0x050E => Shape::Record(Kind::CardDownload),
-        0x0520 => Shape::Record(Kind::Identification),
-        0x0521 => Shape::Record(Kind::Licence),
-        0x0522 => Shape::Conditions,
-        0xC100 => Shape::Record(Kind::CardCertificate),
-        0xC108 => Shape::Record(Kind::CardCertificate),
+    match Fid(fid) {
+        Fid::ICC => Shape::Record(Kind::Icc),
+        Fid::IC => Shape::Record(Kind::Ic),
+        Fid::APPLICATION => Shape::Record(Kind::ApplicationIdentification),
+        Fid::EVENTS => Shape::Events,
+        Fid::FAULTS => Shape::Faults,
+        Fid::ACTIVITY => Shape::Days,
+        Fid::VEHICLES => Shape::Vehicles,
+        Fid::PLACES => Shape::Places,
+        Fid::CURRENT_USE => Shape::Record(Kind::CurrentUse),
+        Fid::CONTROL => Shape::Record(Kind::CardControl),
+        Fid::DOWNLOAD => Shape::Record(Kind::CardDownload),
+        Fid::IDENTIFICATION => Shape::Record(Kind::Identification),
+        Fid::LICENCE => Shape::Record(Kind::Licence),
+        Fid::CONDITIONS => Shape::Conditions,
+        Fid::CARD_CERTIFICATE => Shape::Record(Kind::CardCertificate),
+        Fid::CA_CERTIFICATE => Shape::Record(Kind::CardCertificate),
         _ => Shape::Bytes,
     }
 }

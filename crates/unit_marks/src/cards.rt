@@ -12,6 +12,7 @@ ghost use Rattle.unit_marks.specs.Cards.{list_marks, pointer_width, value_marks}
 use crate::entries::{Kind, sign_of};
 use crate::marks::byte_at;
 use byteorder::{BigEndian, ByteOrder};
+use card_layout::Fid;
 use day_chart::{Mark, Sign};
 use file_view::{ViewFault, file_behind, file_len, file_value, read_card_file};
 use std::alloc::{AllocError, Global};
@@ -84,10 +85,10 @@ fn kind_told(fid: u16, kind: u8) -> Option<Kind>
     if kind != 0 {
         return None;
     }
-    match fid {
-        0x0502 => Some(Kind::Event),
-        0x0503 => Some(Kind::Fault),
-        0x0506 => Some(Kind::Place),
+    match Fid(fid) {
+        Fid::EVENTS => Some(Kind::Event),
+        Fid::FAULTS => Some(Kind::Fault),
+        Fid::PLACES => Some(Kind::Place),
         _ => None,
     }
 }
