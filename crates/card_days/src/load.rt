@@ -224,7 +224,7 @@ impl Circle {
         ensures place { IfErr result (λ fault. IfBadDays fault (λ p. p < range.len)) }
         ensures reads { Reads (M.state medium.old) (M.state medium.new) (has_failed result) }
     {
-        // so the range ends below 2 ^ 32
+        // for the proof alone: a size is below 2 ^ 32, and so the range ends there
         let _size = medium.size();
         let days = Circle::of(range);
         let oldest = read_two(medium, range.base)?;

@@ -24,10 +24,10 @@ ghost use Rattle.card_session.specs.Parts.{with_last_use, IsSettingUse, used_ses
 ghost use Rattle.card_session.specs.Parts.{SameButVehicle, entered};
 
 use crate::vehicle_use::{begun, counter_behind, goes_on, last_use, measured, used};
-use crate::words::{
-    bare_word, closing, distance, entry_change, entry_word, gap_word, is_newest_day,
+use crate::words::{bare_word, closing, distance, entry_change, gap_word, is_newest_day};
+use activity_codec::{
+    Activity, DAY_MINUTES, Entry, MINUTE_SECONDS, Pick, WORD_MINUTES, entry_word,
 };
-use activity_codec::{Activity, DAY_MINUTES, Entry, MINUTE_SECONDS, Pick, WORD_MINUTES};
 use card_days::{Days, Tail};
 use card_files::{Vehicle, file_range, write_vehicle};
 use card_layout::{Application, Fid};

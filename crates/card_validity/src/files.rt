@@ -111,7 +111,8 @@ fn vehicle_in(image: &[u8], app: &Application, ring: &Ring, index: u32) -> Vehic
 {
     let mut slice = SliceMedium::new(image);
     let mut bytes = [0; Vehicle::SIZE];
-    let _ = ring.entry(&mut slice, index, &mut bytes).unwrap();
+    // the newest entry is there, so the answer is true
+    ring.entry(&mut slice, index, &mut bytes).unwrap();
     read_vehicle(&bytes)
 }
 

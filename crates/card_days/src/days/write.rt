@@ -1,7 +1,7 @@
 ghost use Rattle.std.specs.Prelude.{◌≡◌, ◌⊎◌, false, [], ◌≤◌, ◌<◌, ◌+◌, ◌-◌, ◌*◌, ◌%◌, List, length, IfOk, OnOk};
 ghost use Rattle.std.specs.Prelude.{IfSome, is_err};
 ghost use Rattle.card_model.specs.declared.lengths.TheConstants.{DAYS_MOST};
-ghost use Rattle.tach_media.specs.Medium.{LeavesOnly, Reads, HasCause, LiesInside, IsSettled, last_count, Alters};
+ghost use Rattle.tach_media.specs.Medium.{LeavesOnly, Reads, HasCause, LiesInside, Alters};
 ghost use Rattle.tach_media.specs.Plan.{PutsAll, PutsBy};
 ghost use Rattle.card_model.specs.Days.{Day, last_word};
 ghost use Rattle.card_model.specs.Changes.{fitting, until, date_of};
@@ -206,15 +206,10 @@ impl Days {
         requires writable { LiesInside (M.state medium.old).writable self.old.shape.base (4 + self.old.shape.size) }
         ensures shape { self.new.shape ≡ self.old.shape }
         ensures puts { PutsAll (M.state medium.old) (M.state medium.new) (is_err result) (km_pieces self.old km.0) }
-        ensures measured { OnOk result (IfSome (M.state medium.old).image
-            (λ x. IfSome (M.state medium.new).image (IfKnown self.old (IsMeasured self.old.shape km.0) x))) }
+        ensures alters { Alters result (M.state medium.old) (M.state medium.new) 1
+            (IfKnown self.old (IsMeasured self.old.shape km.0)) (IfKnown self.old (IsMeasuring self.old.shape km.0)) }
         ensures knows { OnOk result (IfSome (M.state medium.old).image
             (λ x. IfSome (M.state medium.new).image (KnowsMeasured self.old self.new km.0 x))) }
-        ensures moments { LeavesOnly (M.state medium.old) (M.state medium.new)
-            (IfKnown self.old (IsMeasuring self.old.shape km.0)) }
-        ensures settled { OnOk result ((M.state medium.new).clock < last_count → IsSettled (M.state medium.new)) }
-        ensures cause { HasCause (M.state medium.old) (M.state medium.new) (is_err result) }
-        ensures most { (M.state medium.new).clock ≤ (M.state medium.old).clock + 1 }
     {
         self.write_km(medium, km.0)?;
         self.tail = with_km(&self.tail, km);
