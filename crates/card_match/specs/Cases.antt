@@ -77,7 +77,7 @@ is_from (Some first) day = nat_le first day
 abbrev pub line_from : Line UnitShown → ℕ → Bool
 line_from line day = nat_le line.first line.last && nat_le (day_of_minute line.first) day
 
--- which of them an entry is
+-- an entry is of another vehicle, before the unit file, or tested; and then it stands, or does not
 abbrev pub IsSort : Against → Entry → Sort → Type 0
 IsSort a e Other = is_own a e ≡ false
 IsSort a e Before = is_before a e ≡ true

@@ -67,7 +67,7 @@ fn first_in(runs: &[Line<Difference>], counts: Counts) -> Matched
     }
 }
 
-/// Which of them an entry is.
+/// What a match finds an entry of a card file to be.
 #[derive(Clone, Copy)]
 pub enum Sort {
     /// Of another vehicle.
@@ -145,7 +145,7 @@ fn earlier_day(first: Option<u32>, line: Line<UnitShown>) -> Option<u32>
     }
 }
 
-/// Which of them an entry is, by what was found out about it.
+/// What an entry is, by what was found out about it: by its use, the unit file's first day, and the unit's minute.
 fn sort_of(case: Case, first: Option<u32>) -> Sort
     ensures { (a : Against) (e : CardEntry) → case ≡ case_of a e
         → ((day : ℕ) → begins_by a.minutes day ≡ is_from first day) → IsSort a e result }

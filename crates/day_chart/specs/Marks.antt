@@ -1,7 +1,8 @@
 -- The marks of the picture: places that were entered, events, faults and entries by hand (profile).
-use Rattle.std.specs.Prelude.{ℕ, ◌+◌, ◌/◌, ◌%◌, ◌==◌, nat_lt, if◌then◌else◌, List, [], ◌∷◌, ◌++◌, codes, decimal}
+use Rattle.std.specs.Prelude.{ℕ, ◌+◌, ◌/◌, ◌%◌, ◌==◌, if◌then◌else◌, List, [], ◌∷◌, ◌++◌, codes, decimal}
 use Rattle.activity_codec.specs.Names.{activity_name}
 use Rattle.calendar_days.specs.Clock.{clock_text}
+use Rattle.hex.specs.Hex.{encode_lower}
 use Rattle.day_chart.specs.declared.mark.Sign.{Sign}
 use Rattle.day_chart.specs.declared.mark.Sign.TheVariants.{Begin, End, Event, Fault, ByHand}
 use Rattle.day_chart.specs.declared.mark.Mark.{Mark}
@@ -23,20 +24,13 @@ mark_words Event = codes " event "
 mark_words Fault = codes " fault "
 mark_words (ByHand act) = codes " by hand "
 
--- a hexadecimal digit, in lower case
-abbrev pub hex_digit : ℕ → ℕ
-hex_digit n = if nat_lt n 10 then 48 + n else 87 + n
-
-abbrev pub two_hex : ℕ → List ℕ
-two_hex code = hex_digit (code / 16) ∷ hex_digit (code % 16) ∷ []
-
 -- a country is a number, a type of events or faults has two hexadecimal digits, as the regulation writes it, and what was
 -- entered by hand is an activity
 abbrev pub code_text : Sign → ℕ → List ℕ
 code_text Begin code = decimal code
 code_text End code = decimal code
-code_text Event code = two_hex code
-code_text Fault code = two_hex code
+code_text Event code = encode_lower (code ∷ [])
+code_text Fault code = encode_lower (code ∷ [])
 code_text (ByHand act) code = activity_name act
 
 -- what a mark says: `2010-03-01 07:15 work period begins, country 17`, `2010-03-01 07:20 event 07`,

@@ -1,12 +1,13 @@
 //! A mark of the picture: a place that was entered, an event, a fault or an entry by hand.
 ghost use Rattle.std.specs.Prelude.{◌≡◌, ◌++◌, ◌<◌, OnOk};
-ghost use Rattle.day_chart.specs.Marks.{sign_name, mark_words, hex_digit, two_hex, code_text, mark_title, mark_text};
+ghost use Rattle.day_chart.specs.Marks.{sign_name, mark_words, code_text, mark_title, mark_text};
 ghost use Rattle.day_chart.specs.Marks.{day_mark_text, marks_text};
 
 use crate::bar::write_half;
 use crate::frame::write_number;
 use activity_codec::{Activity, DAY_SECONDS, MINUTE_SECONDS};
 use std::alloc::AllocError;
+use text_fields::byte_digits;
 use view_text::write_clock;
 
 /// What a mark tells of.
@@ -58,23 +59,6 @@ fn mark_words(sign: Sign) -> &'static [u8]
     }
 }
 
-/// A hexadecimal digit.
-fn hex_digit(n: u8) -> u8
-    requires { n < 16 }
-    ensures { result ≡ hex_digit n }
-{
-    if n < 10 { b'0' + n } else { 87 + n }
-}
-
-/// Adds a byte as two hexadecimal digits.
-fn write_two_hex(text: &mut Vec<u8>, byte: u8) -> Result<(), AllocError>
-    ensures { OnOk result (text.new.items ≡ text.old.items ++ two_hex byte) }
-{
-    text.push(hex_digit(byte / 16))?;
-    text.push(hex_digit(byte % 16))?;
-    Ok(())
-}
-
 /// Adds the code of a mark: of a place as a number, of an event or a fault as the regulation writes it, in two
 /// hexadecimal digits; of an entry by hand the activity.
 fn write_code(text: &mut Vec<u8>, sign: Sign, code: u8) -> Result<(), AllocError>
@@ -83,8 +67,8 @@ fn write_code(text: &mut Vec<u8>, sign: Sign, code: u8) -> Result<(), AllocError
     match sign {
         Sign::Begin => write_number(text, code as u128),
         Sign::End => write_number(text, code as u128),
-        Sign::Event => write_two_hex(text, code),
-        Sign::Fault => write_two_hex(text, code),
+        Sign::Event => text.extend_from_slice(&byte_digits(code)),
+        Sign::Fault => text.extend_from_slice(&byte_digits(code)),
         Sign::ByHand(act) => text.extend_from_slice(act.name()),
     }
 }

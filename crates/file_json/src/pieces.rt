@@ -2,7 +2,6 @@
 ghost use Rattle.std.specs.Prelude.{◌≡◌, ◌≢◌, ◌+◌, ◌-◌, ◌≤◌, ◌<◌, ◌^◌, ◌++◌, ◌∷◌, [], ◌==◌, ◌&&◌, not, true};
 ghost use Rattle.std.specs.Prelude.{if◌then◌else◌, ℕ, List, All, IfOk, IfErr, OnOk, length};
 ghost use Rattle.card_image.specs.CardFile.{FileEntry};
-ghost use Rattle.card_layout.specs.Images.{bytes_at};
 ghost use Rattle.file_view.specs.CardFiles.{IsBadCardFile};
 ghost use Rattle.file_view.specs.Faults.{IfBadFile};
 ghost use Rattle.file_view.specs.UnitFiles.{IsBadUnitFile};
@@ -19,7 +18,7 @@ use crate::card::file_text;
 use crate::days::first_of;
 use crate::unit::message_text;
 use card_layout::FILE_HEAD;
-use file_view::{MessageAt, ViewFault, file_len, messages_at, read_card_file};
+use file_view::{MessageAt, ViewFault, file_len, messages_at, part, read_card_file};
 use std::alloc::{AllocError, Global};
 use unit_messages::Request;
 
@@ -244,12 +243,4 @@ fn bytes_of(alloc: Global, bytes: &[u8]) -> Result<Vec<u8>, AllocError>
     let mut text = Vec::new(alloc);
     text.extend_from_slice(bytes)?;
     Ok(text)
-}
-
-/// So many bytes from a place on.
-fn part(b: &[u8], place: usize, len: usize) -> &[u8]
-    requires { place + len ≤ length b.now }
-    ensures { result.now ≡ bytes_at b.now place len }
-{
-    &b[place..][..len]
 }

@@ -87,7 +87,7 @@ pub fn read_card_file(alloc: Global, b: &[u8]) -> Result<CardHistory, ViewFault>
     ensures rise { IfOk result (λ h. Rise h) }
     ensures bad { IfErr result (λ fault. IfBadFile fault (λ place. IsBadCardFile place b.now)) }
 {
-    read_days(alloc, b, None)
+    card_history(alloc, b, None)
 }
 
 /// What a card file shows and tells.
@@ -127,7 +127,7 @@ pub fn last_days(alloc: Global, b: &[u8], n: u32) -> Result<CardHistory, ViewFau
     ensures rise { IfOk result (λ h. Rise h) }
     ensures bad { IfErr result (λ fault. IfBadFile fault (λ place. IsBadCardFile place b.now)) }
 {
-    read_days(alloc, b, Some(n))
+    card_history(alloc, b, Some(n))
 }
 
 /// The heads of the days of a card file's string, oldest first. It refuses as `read_card_file` does.
@@ -152,8 +152,12 @@ pub fn card_text(alloc: Global, h: &CardHistory) -> Result<Vec<u8>, Memory>
     Ok(text)
 }
 
-/// The entries of all days of a card file, or of the newest so many.
-fn read_days(alloc: Global, b: &[u8], last: Option<u32>) -> Result<CardHistory, ViewFault>
+/// The entries of all days of a card file, or of the newest so many of its string, as `last_days`.
+///
+/// # Errors
+///
+/// As `read_card_file`.
+pub fn card_history(alloc: Global, b: &[u8], last: Option<u32>) -> Result<CardHistory, ViewFault>
     requires { length b.now < 2 ^ 32 }
     ensures entries { IfOk result (λ h. ShowsCardFile last b.now h) }
     ensures rise { IfOk result (λ h. Rise h) }

@@ -74,7 +74,7 @@ pub fn read_download(alloc: Global, b: &[u8]) -> Result<UnitHistory, ViewFault>
     ensures minutes { IfOk result (λ h. ShowsUnitFile None b.now h) }
     ensures bad { IfErr result (λ fault. IfBadFile fault (λ place. IsBadUnitFile place b.now)) }
 {
-    read_days(alloc, b, None)
+    unit_history(alloc, b, None)
 }
 
 /// The minutes of the last `n` messages of a day; of all where there are fewer. It refuses as `read_download` does.
@@ -83,7 +83,7 @@ pub fn last_messages(alloc: Global, b: &[u8], n: u32) -> Result<UnitHistory, Vie
     ensures minutes { IfOk result (λ h. ShowsUnitFile (Some n) b.now h) }
     ensures bad { IfErr result (λ fault. IfBadFile fault (λ place. IsBadUnitFile place b.now)) }
 {
-    read_days(alloc, b, Some(n))
+    unit_history(alloc, b, Some(n))
 }
 
 /// The view text of minutes.
@@ -94,8 +94,12 @@ pub fn unit_text(alloc: Global, h: &UnitHistory) -> Result<Vec<u8>, Memory>
     Ok(text)
 }
 
-/// The minutes of all days of a unit file, or of the last so many.
-fn read_days(alloc: Global, b: &[u8], last: Option<u32>) -> Result<UnitHistory, ViewFault>
+/// The minutes of all messages of a day of a unit file, or of the last so many.
+///
+/// # Errors
+///
+/// As `read_download`.
+pub fn unit_history(alloc: Global, b: &[u8], last: Option<u32>) -> Result<UnitHistory, ViewFault>
     requires { length b.now < 2 ^ 32 }
     ensures minutes { IfOk result (λ h. ShowsUnitFile last b.now h) }
     ensures bad { IfErr result (λ fault. IfBadFile fault (λ place. IsBadUnitFile place b.now)) }

@@ -1,3 +1,4 @@
+//! The bytes that a line of hexadecimal digits spells.
 ghost use Rattle.std.specs.Prelude.{◌≡◌, ◌<◌, ◌≤◌, Some, None, IfSome, IfNone, IfOk, IfErr, Err, length};
 ghost use Rattle.hex.specs.Hex.{hex_digit_value};
 ghost use Rattle.text_fields.specs.Lines.{behind_byte, byte_of, in_front, line_bytes, IsFaultOf};

@@ -48,10 +48,6 @@ entry_inside width size entries b rest i at low =
     let more : size * (i + 1) ≤ size * length entries = mul-le-mul_left size le in
     omega (arith, at.end, more)
 
--- as many bytes as are cut out
-pub cut_long : (b : List ℕ) (from size : ℕ) → from + size ≤ length b → length (bytes_at b from size) ≡ size
-cut_long b from size inside = omega (arith, length-take size (drop from b), length-drop from b, inside)
-
 -- a small number times another one
 pub times_few : (a b : ℕ) → a < 256 → b < 65536 → a * b ≤ 16711425
 times_few a b small few =

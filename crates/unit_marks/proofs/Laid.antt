@@ -1,6 +1,5 @@
 -- Where the fields of messages stand that are read by their places.
-use Rattle.std.proofs.Common.{◌≡◌, ◌∙◌, ℕ, ◌+◌, ◌*◌, ◌<◌, ◌≤◌, List, [], ◌∷◌, ◌++◌, length, get_or, take, drop, ap, sym, arith, append_assoc, length-append}
-use Rattle.std.proofs.lemmas.List.{length-take, length-drop}
+use Rattle.std.proofs.Common.{◌≡◌, ◌∙◌, ℕ, ◌+◌, ◌*◌, ◌<◌, ◌≤◌, List, [], ◌∷◌, ◌++◌, length, get_or, take, ap, sym, arith, append_assoc, length-append}
 use Rattle.byteorder.specs.Endian.{big_bytes}
 use Rattle.byteorder.specs.Numbers.{length-bytes_high_first}
 use Rattle.card_layout.specs.Images.{bytes_at, number_at}
@@ -23,10 +22,6 @@ odometer_laid m b begins =
   where
     by : (date odometer rest more : List ℕ) → (0x76 ∷ 2 ∷ (date ++ (odometer ++ rest))) ++ more ≡ (0x76 ∷ 2 ∷ date) ++ (odometer ++ (rest ++ more))
     by date odometer rest more = simp append_assoc
-
--- as many bytes as are cut out
-pub cut_length : (b : List ℕ) (from : ℕ) → from + 83 ≤ length b → length (bytes_at b from 83) ≡ 83
-cut_length b from inside = omega (arith, length-take 83 (drop from b), length-drop from b, inside)
 
 -- the events of a message, behind its faults
 pub record AreEventsAt (m : EventMessage) (b : List ℕ) : Type 0 where

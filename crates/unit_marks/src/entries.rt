@@ -1,7 +1,7 @@
 //! The places, events and faults that a unit file tells, as marks of a picture.
 ghost use Rattle.std.specs.Prelude.{◌≡◌, ◌+◌, ◌≤◌, ◌<◌, ◌++◌, ◌∷◌, [], ◌^◌, ℕ, List, length, map, drop, IfOk, IfErr};
 ghost use Rattle.std.specs.Prelude.{OnOk};
-ghost use Rattle.card_layout.specs.Images.{bytes_at, number_at};
+ghost use Rattle.card_layout.specs.Images.{number_at};
 ghost use Rattle.message_model.specs.Messages.{Message as FileMessage, DayMessage, EventMessage, ADay, AnEventList};
 ghost use Rattle.unit_messages.specs.Reading.{BeginsWith};
 ghost use Rattle.file_view.specs.Faults.{IfBadFile};
@@ -14,7 +14,7 @@ ghost use Rattle.unit_marks.specs.Entries.{marks_told};
 use crate::marks::{EVENT_BEGIN, byte_at};
 use byteorder::{BigEndian, ByteOrder};
 use day_chart::{Mark, Sign};
-use file_view::{MessageAt, ViewFault, messages_at};
+use file_view::{MessageAt, ViewFault, messages_at, part};
 use message_model::sizes::{EVENT, FAULT, INSERTION, OVER, PLACE};
 use std::alloc::{AllocError, Global};
 use unit_messages::Request;
@@ -178,18 +178,10 @@ fn add_entries(
     let count = byte_at(bytes, 0) as usize;
     for i in 0..count {
         let from = 1 + size * i;
-        let entry = cut_out(bytes, from, size);
+        let entry = part(bytes, from, size);
         add_entry(marks, entry, kind)?;
     }
     Ok(())
-}
-
-/// The entry at a place.
-fn cut_out(bytes: &[u8], from: usize, size: usize) -> &[u8]
-    requires { from + size ≤ length bytes.now }
-    ensures { result.now ≡ bytes_at bytes.now from size }
-{
-    &behind(bytes, from)[..size]
 }
 
 /// Adds the mark of an entry.

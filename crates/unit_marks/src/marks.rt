@@ -1,7 +1,7 @@
 //! The distances of days, and the interruptions of the power, that a unit file tells.
 ghost use Rattle.std.specs.Prelude.{◌≡◌, ◌+◌, ◌*◌, ◌≤◌, ◌<◌, ◌++◌, ◌∷◌, [], ◌^◌, ℕ, List, length, map, IfOk, IfErr};
 ghost use Rattle.std.specs.Prelude.{OnOk};
-ghost use Rattle.card_layout.specs.Images.{bytes_at, number_at};
+ghost use Rattle.card_layout.specs.Images.{number_at};
 ghost use Rattle.message_model.specs.Messages.{Message as FileMessage, DayMessage, EventMessage, ADay, AnEventList};
 ghost use Rattle.unit_messages.specs.Reading.{BeginsWith};
 ghost use Rattle.file_view.specs.Faults.{IfBadFile};
@@ -14,7 +14,7 @@ use activity_codec::DAY_SECONDS;
 use byteorder::{BigEndian, ByteOrder};
 use day_totals::Distance;
 use event_model::POWER_INTERRUPTION;
-use file_view::{MessageAt, ViewFault, messages_at};
+use file_view::{MessageAt, ViewFault, messages_at, part};
 use message_model::sizes::{EVENT, FAULT};
 use slot_bars::Gap;
 use std::alloc::{AllocError, Global};
@@ -137,7 +137,8 @@ fn add_gaps(gaps: &mut Vec<Gap>, message: &[u8]) -> Result<(), AllocError>
     let place = 3 + FAULT as usize * faults;
     let count = byte_at(message, place) as usize;
     for i in 0..count {
-        let event = cut(message, place + 1 + EVENT as usize * i);
+        let from = place + 1 + EVENT as usize * i;
+        let event = part(message, from, EVENT as usize);
         add_gap(gaps, event)?;
     }
     Ok(())
@@ -149,14 +150,6 @@ pub(crate) fn byte_at(bytes: &[u8], place: usize) -> u8
     ensures { result ≡ number_at bytes.now place 1 }
 {
     bytes[place]
-}
-
-/// The event at a place.
-fn cut(message: &[u8], from: usize) -> &[u8]
-    requires { from + 83 ≤ length message.now }
-    ensures { result.now ≡ bytes_at message.now from 83 }
-{
-    &message[from..][..EVENT as usize]
 }
 
 /// Adds an event's minutes where it is an interruption.
