@@ -8,7 +8,7 @@ use Rattle.activity_codec.specs.declared.values.Activity.{Activity}
 use Rattle.activity_codec.specs.declared.values.Activity.TheVariants.{Rest, Work, Driving}
 use Rattle.view_model.specs.declared.Line.{Line}
 use Rattle.slot_bars.specs.declared.seen.Seen.{Seen}
-use Rattle.day_chart.specs.declared.mark.Sign.TheVariants.{Begin, Event, ByHand}
+use Rattle.view_model.specs.declared.marks.Sign.TheVariants.{Begin, Event, ByHand}
 use Rattle.day_chart.specs.Bars.{bar_text}
 use Rattle.day_chart.specs.Marks.{mark_text, day_mark_text}
 

@@ -5,13 +5,13 @@ use Rattle.calendar_days.specs.Clock.{duration_text}
 use Rattle.view_model.specs.declared.UnitShown.{UnitShown}
 use Rattle.view_model.specs.declared.CardShown.{CardShown}
 use Rattle.view_model.specs.declared.Viewed.{Viewed}
-use Rattle.slot_bars.specs.declared.seen.Gap.{Gap}
+use Rattle.view_model.specs.declared.marks.Gap.{Gap}
 use Rattle.slot_bars.specs.declared.seen.Seen.{Seen}
 use Rattle.slot_bars.specs.Seeing.{slot_seen, card_seen, bars_of}
 use Rattle.slot_bars.specs.DaysOf.{day_of, days_of, AreEach}
 use Rattle.day_totals.specs.declared.figures.Figure.TheVariants.{Drive, Work, Available, Rest}
 use Rattle.day_totals.specs.Figures.{total}
-use Rattle.day_chart.specs.declared.mark.Mark.{Mark}
+use Rattle.view_model.specs.declared.marks.Mark.{Mark}
 use Rattle.day_chart.specs.Bars.{bars_text}
 use Rattle.day_chart.specs.Marks.{marks_text}
 use Rattle.day_chart.specs.Frame.{frame_text}

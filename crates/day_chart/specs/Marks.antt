@@ -3,9 +3,9 @@ use Rattle.std.specs.Prelude.{ℕ, ◌+◌, ◌/◌, ◌%◌, ◌==◌, if◌the
 use Rattle.activity_codec.specs.Names.{activity_name}
 use Rattle.calendar_days.specs.Clock.{clock_text}
 use Rattle.hex.specs.Hex.{encode_lower}
-use Rattle.day_chart.specs.declared.mark.Sign.{Sign}
-use Rattle.day_chart.specs.declared.mark.Sign.TheVariants.{Begin, End, Event, Fault, ByHand}
-use Rattle.day_chart.specs.declared.mark.Mark.{Mark}
+use Rattle.view_model.specs.declared.marks.Sign.{Sign}
+use Rattle.view_model.specs.declared.marks.Sign.TheVariants.{Begin, End, Event, Fault, ByHand}
+use Rattle.view_model.specs.declared.marks.Mark.{Mark}
 use Rattle.day_chart.specs.Bars.{half_text}
 
 -- the sign's name in the picture

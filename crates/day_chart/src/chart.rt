@@ -9,12 +9,12 @@ ghost use Rattle.day_chart.specs.Chart.{IsUnitChart, IsCardChart, unit_band, car
 
 use crate::band::{write_band_head, write_lane};
 use crate::frame::frame_head;
-use crate::mark::{Mark, write_marks};
+use crate::mark::write_marks;
 use activity_codec::Slot;
 use calendar_days::day_text;
-use slot_bars::{Gap, card_bars, day_number, first_day, unit_bars};
+use slot_bars::{card_bars, day_number, first_day, unit_bars};
 use std::alloc::{AllocError, Global};
-use view_model::{CardShown, Line, UnitShown};
+use view_model::{CardShown, Gap, Line, Mark, UnitShown};
 
 /// The picture of a unit, by the lines of its view, with these marks; its text are the totals.
 pub fn unit_chart(

@@ -5,33 +5,11 @@ ghost use Rattle.day_chart.specs.Marks.{day_mark_text, marks_text};
 
 use crate::bar::write_half;
 use crate::frame::write_number;
-use activity_codec::{Activity, DAY_SECONDS, MINUTE_SECONDS};
+use activity_codec::{DAY_SECONDS, MINUTE_SECONDS};
 use std::alloc::AllocError;
 use text_fields::byte_digits;
+use view_model::{Mark, Sign};
 use view_text::write_clock;
-
-/// What a mark tells of.
-#[derive(Clone, Copy, Debug, PartialEq, Eq)]
-pub enum Sign {
-    /// A daily work period begins.
-    Begin,
-    /// A daily work period ends.
-    End,
-    Event,
-    Fault,
-    /// A driver has entered by hand what he did without his card.
-    ByHand(Activity),
-}
-
-/// A mark.
-#[derive(Clone, Copy, Debug, PartialEq, Eq)]
-pub struct Mark {
-    pub sign: Sign,
-    /// Of a place its country, of an event or a fault its type, of an entry by hand 0.
-    pub code: u8,
-    /// When the place was entered, or the event or what was entered by hand began.
-    pub second: u32,
-}
 
 /// The sign's name in the picture.
 fn sign_name(sign: Sign) -> &'static [u8]

@@ -12,10 +12,10 @@ use Rattle.file_view.specs.ByHand.{ShowsByHand}
 use Rattle.file_view.specs.Histories.{minute_shown}
 use Rattle.file_view.specs.Showing.{ShowsCardFile}
 use Rattle.file_view.specs.UnitShowing.{ShowsUnitFile}
-use Rattle.slot_bars.specs.declared.seen.Gap.{Gap}
-use Rattle.day_totals.specs.declared.figures.Distance.{Distance}
+use Rattle.view_model.specs.declared.marks.Gap.{Gap}
+use Rattle.view_model.specs.declared.marks.Distance.{Distance}
 use Rattle.day_totals.specs.Text.{IsUnitTotals, IsCardTotals}
-use Rattle.day_chart.specs.declared.mark.Mark.{Mark}
+use Rattle.view_model.specs.declared.marks.Mark.{Mark}
 use Rattle.day_chart.specs.Chart.{IsUnitChart, IsCardChart}
 use Rattle.unit_marks.specs.Marks.{TellsMarks}
 use Rattle.unit_marks.specs.Entries.{TellsEntries}

@@ -7,9 +7,9 @@ ghost use Rattle.day_reports.specs.Heads.{distance_by};
 
 use activity_codec::DAY_SECONDS;
 use card_days::DayHead;
-use day_totals::Distance;
 use file_view::{ViewFault, day_heads};
 use std::alloc::{AllocError, Global};
+use view_model::Distance;
 
 /// The distances that the days of a card file tell, oldest first.
 pub fn card_distances(alloc: Global, b: &[u8]) -> Result<Vec<Distance>, ViewFault>

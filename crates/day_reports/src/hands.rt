@@ -3,8 +3,8 @@ ghost use Rattle.std.specs.Prelude.{◌≡◌, ◌++◌, OnOk};
 ghost use Rattle.day_reports.specs.Hands.{if_in_time, hand_marks};
 
 use activity_codec::{LAST_MINUTE, Manual};
-use day_chart::{Mark, Sign};
 use std::alloc::AllocError;
+use view_model::{Mark, Sign};
 
 /// Adds the marks of entries by hand, in their order.
 pub(crate) fn add_hands(marks: &mut Vec<Mark>, entries: &[Manual]) -> Result<(), AllocError>

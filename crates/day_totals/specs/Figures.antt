@@ -7,7 +7,7 @@ use Rattle.activity_codec.specs.Activity.{same_activity}
 use Rattle.view_model.specs.declared.Viewed.{Viewed}
 use Rattle.view_model.specs.declared.Line.{Line}
 use Rattle.slot_bars.specs.declared.seen.Seen.{Seen}
-use Rattle.day_totals.specs.declared.figures.Distance.{Distance}
+use Rattle.view_model.specs.declared.marks.Distance.{Distance}
 use Rattle.day_totals.specs.declared.figures.Figure.{Figure}
 use Rattle.day_totals.specs.declared.figures.Figure.TheVariants.{Drive, Work, Available, Rest, Unknown, In}
 

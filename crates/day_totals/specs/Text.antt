@@ -5,11 +5,11 @@ use Rattle.calendar_days.specs.Clock.{duration_text}
 use Rattle.view_model.specs.declared.UnitShown.{UnitShown}
 use Rattle.view_model.specs.declared.CardShown.{CardShown}
 use Rattle.view_model.specs.declared.Viewed.{Viewed}
-use Rattle.slot_bars.specs.declared.seen.Gap.{Gap}
+use Rattle.view_model.specs.declared.marks.Gap.{Gap}
 use Rattle.slot_bars.specs.declared.seen.Seen.{Seen}
 use Rattle.slot_bars.specs.Seeing.{slot_seen, card_seen}
 use Rattle.slot_bars.specs.DaysOf.{day_of, days_of, AreEach}
-use Rattle.day_totals.specs.declared.figures.Distance.{Distance}
+use Rattle.view_model.specs.declared.marks.Distance.{Distance}
 use Rattle.day_totals.specs.declared.figures.Figure.{Figure}
 use Rattle.day_totals.specs.declared.figures.Figure.TheVariants.{Drive, Work, Available, Rest, Unknown, In}
 use Rattle.day_totals.specs.Figures.{total, figure_name, distance_on}

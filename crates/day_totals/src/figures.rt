@@ -5,7 +5,7 @@ ghost use Rattle.day_totals.specs.Figures.{counts, is_with_card, figure_name, to
 
 use activity_codec::Activity;
 use slot_bars::Seen;
-use view_model::Line;
+use view_model::{Distance, Line};
 
 /// What is counted: an activity with a card in the slot, minutes that were not recorded, or minutes with a card in the
 /// slot.
@@ -17,14 +17,6 @@ pub enum Figure {
     Rest,
     Unknown,
     In,
-}
-
-/// The distance of a day, in kilometres.
-#[derive(Clone, Copy, Debug, Default, PartialEq, Eq)]
-pub struct Distance {
-    /// The day's number since 1970-01-01.
-    pub day: u32,
-    pub km: u32,
 }
 
 impl Figure {

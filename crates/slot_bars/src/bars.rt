@@ -6,10 +6,10 @@ ghost use Rattle.slot_bars.specs.Seeing.{bars_of, slot_seen, card_seen, state_in
 ghost use Rattle.slot_bars.specs.Runs.{is_run, is_plain, seen_run, with_last, as_unit};
 ghost use Rattle.slot_bars.specs.declared.seen.Seen.{Seen as MinuteSeen};
 
-use crate::seen::{Gap, Seen, meets_gap, slot_seen, state_in};
+use crate::seen::{Seen, meets_gap, slot_seen, state_in};
 use activity_codec::{Activity, DAY_MINUTES, Slot};
 use std::alloc::{AllocError, Global};
-use view_model::{CardShown, Line, State, UnitShown, Viewed};
+use view_model::{CardShown, Gap, Line, State, UnitShown, Viewed};
 use view_text::add_minute;
 
 /// The bars of a slot of a unit, by the lines of its view. A line goes in at once, but for one without a card that

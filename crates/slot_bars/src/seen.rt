@@ -4,15 +4,8 @@ ghost use Rattle.slot_bars.specs.Seeing.{is_in_gap, meets_gap, state_in, slot_se
 
 use activity_codec::{Activity, Slot, is_same_activity};
 use std::alloc::AllocError;
-use view_model::{State, UnitShown, Viewed};
+use view_model::{Gap, State, UnitShown, Viewed};
 use view_text::Shown;
-
-/// Minutes in a row without power: the first, and the one behind the last.
-#[derive(Clone, Copy, Debug, Default, PartialEq, Eq)]
-pub struct Gap {
-    pub first: u32,
-    pub behind: u32,
-}
 
 /// What is seen of one slot in a minute.
 #[derive(Clone, Copy, Debug, Default, PartialEq, Eq)]

@@ -4,8 +4,8 @@ use Rattle.std.specs.Prelude.{length, take, drop}
 use Rattle.card_layout.specs.Images.{number_at}
 use Rattle.card_layout.specs.declared.files.Application.{Application}
 use Rattle.card_image.specs.CardFile.{FileEntry, IsCardFile}
-use Rattle.day_chart.specs.declared.mark.Sign.TheVariants as sign
-use Rattle.day_chart.specs.declared.mark.Mark.{Mark}
+use Rattle.view_model.specs.declared.marks.Sign.TheVariants as sign
+use Rattle.view_model.specs.declared.marks.Mark.{Mark}
 use Rattle.unit_marks.specs.declared.entries.Kind.{Kind}
 use Rattle.unit_marks.specs.declared.entries.Kind.TheVariants.{Place, Event, Fault}
 use Rattle.unit_marks.specs.declared.cards.TheConstants.{CARD_PLACE, CARD_EVENT, POINTER, CARD_EVENT_BEGIN}

@@ -3,9 +3,9 @@ use Rattle.std.specs.Prelude.{◌≡◌, ℕ, ◌%◌, ◌==◌, if◌then◌els
 use Rattle.card_layout.specs.Images.{number_at}
 use Rattle.message_model.specs.Messages.{Message, DayMessage, EventMessage, AnOverview, ADay, AnEventList, ASpeedList}
 use Rattle.message_model.specs.Messages.{ATechnical, AreEntries, counted, IsUnitFile}
-use Rattle.day_chart.specs.declared.mark.Sign.{Sign}
-use Rattle.day_chart.specs.declared.mark.Sign.TheVariants as sign
-use Rattle.day_chart.specs.declared.mark.Mark.{Mark}
+use Rattle.view_model.specs.declared.marks.Sign.{Sign}
+use Rattle.view_model.specs.declared.marks.Sign.TheVariants as sign
+use Rattle.view_model.specs.declared.marks.Mark.{Mark}
 use Rattle.unit_marks.specs.declared.entries.Kind.{Kind}
 use Rattle.unit_marks.specs.declared.entries.Kind.TheVariants.{Place, Event, Fault}
 use Rattle.unit_marks.specs.declared.entries.TheConstants.{ENTRY_TIME, ENTRY_TYPE, COUNTRY}

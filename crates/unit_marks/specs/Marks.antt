@@ -4,8 +4,8 @@ use Rattle.std.specs.Prelude.{map}
 use Rattle.card_layout.specs.Images.{number_at}
 use Rattle.message_model.specs.Messages.{Message, DayMessage, AnOverview, ADay, AnEventList, ASpeedList, ATechnical}
 use Rattle.message_model.specs.Messages.{IsUnitFile}
-use Rattle.slot_bars.specs.declared.seen.Gap.{Gap}
-use Rattle.day_totals.specs.declared.figures.Distance.{Distance}
+use Rattle.view_model.specs.declared.marks.Gap.{Gap}
+use Rattle.view_model.specs.declared.marks.Distance.{Distance}
 use Rattle.file_view.specs.UnitFiles.{days_told}
 use Rattle.unit_marks.specs.declared.marks.Midnight.{Midnight}
 use Rattle.event_model.specs.declared.kinds.TheConstants.{POWER_INTERRUPTION}

@@ -13,9 +13,9 @@ use crate::entries::{Kind, sign_of};
 use crate::marks::byte_at;
 use byteorder::{BigEndian, ByteOrder};
 use card_layout::Fid;
-use day_chart::{Mark, Sign};
 use file_view::{ViewFault, file_behind, file_len, file_value, read_card_file};
 use std::alloc::{AllocError, Global};
+use view_model::{Mark, Sign};
 
 /// How many bytes a place has (Annex IB, Appendix 1, PlaceRecord).
 pub const CARD_PLACE: usize = 10;

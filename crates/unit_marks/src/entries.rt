@@ -13,11 +13,11 @@ ghost use Rattle.unit_marks.specs.Entries.{marks_told};
 
 use crate::marks::{EVENT_BEGIN, byte_at};
 use byteorder::{BigEndian, ByteOrder};
-use day_chart::{Mark, Sign};
 use file_view::{MessageAt, ViewFault, messages_at, part};
 use message_model::sizes::{EVENT, FAULT, INSERTION, OVER, PLACE};
 use std::alloc::{AllocError, Global};
 use unit_messages::Request;
+use view_model::{Mark, Sign};
 
 /// The kinds of entries that are marks.
 #[derive(Clone, Copy, Debug, PartialEq, Eq)]

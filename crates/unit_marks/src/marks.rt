@@ -12,14 +12,13 @@ ghost use Rattle.unit_marks.specs.Marks.{whole_minutes};
 
 use activity_codec::DAY_SECONDS;
 use byteorder::{BigEndian, ByteOrder};
-use day_totals::Distance;
 use event_model::POWER_INTERRUPTION;
 use file_view::{MessageAt, ViewFault, messages_at, part};
 use message_model::sizes::{EVENT, FAULT};
-use slot_bars::Gap;
 use std::alloc::{AllocError, Global};
 use tacho_types::read_odometer;
 use unit_messages::Request;
+use view_model::{Distance, Gap};
 
 /// Where an event has its begin and its end, behind its type and its purpose.
 pub const EVENT_BEGIN: usize = 2;

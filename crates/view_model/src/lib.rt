@@ -2,6 +2,10 @@
 //! the line's text. Here stand the values that they speak of.
 #![tactic(auto)]
 
+mod marks;
+
+pub use marks::{Distance, Gap, Mark, Sign};
+
 use activity_codec::{Activity, Slot};
 
 /// What a minute knows of one slot.

@@ -1,6 +1,6 @@
 use Rattle.std.proofs.Common.{◌≢◌, List, ◌++◌, length, ap, rules}
 use Rattle.card_image.specs.CardFile.{FileEntry}
-use Rattle.day_chart.specs.declared.mark.Mark.{Mark}
+use Rattle.view_model.specs.declared.marks.Mark.{Mark}
 use Rattle.file_view.specs.Files.{AreFiles}
 use Rattle.unit_marks.specs.Cards.{files_marks}
 use Rattle.file_view.proofs.Filing.{head_there}

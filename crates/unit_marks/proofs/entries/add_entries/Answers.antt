@@ -1,7 +1,7 @@
 use Rattle.std.proofs.Common.{◌≡◌, ◌∙◌, ℕ, ◌+◌, ◌*◌, ◌<◌, List, [], ◌∷◌, ◌++◌, length, get_or, take, map, ap, sym, arith, append_assoc}
 use Rattle.std.proofs.Math.Seq.{take-length}
 use Rattle.std.proofs.lemmas.List.{take_more}
-use Rattle.day_chart.specs.declared.mark.Mark.{Mark}
+use Rattle.view_model.specs.declared.marks.Mark.{Mark}
 use Rattle.unit_marks.specs.Entries.{mark_of}
 use Rattle.unit_marks.proofs.Fronts.{at_front, entry_inside, times_few}
 use Rattle.unit_marks.proofs.TellingMarks.{mapped_more}

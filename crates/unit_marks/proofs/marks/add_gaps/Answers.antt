@@ -2,7 +2,7 @@ use Rattle.std.proofs.Common.{◌≡◌, ◌∙◌, ℕ, ◌+◌, ◌*◌, ◌<�
 use Rattle.std.proofs.Math.Seq.{take-length}
 use Rattle.std.proofs.lemmas.List.{take_more}
 use Rattle.card_layout.specs.Images.{bytes_at, number_at}
-use Rattle.slot_bars.specs.declared.seen.Gap.{Gap}
+use Rattle.view_model.specs.declared.marks.Gap.{Gap}
 use Rattle.unit_marks.specs.Marks.{gap_of, gaps_of}
 use Rattle.unit_marks.proofs.Laid.{events_laid, event_inside}
 use Rattle.unit_marks.proofs.Telling.{gaps_of_more}
