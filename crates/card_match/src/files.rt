@@ -38,6 +38,10 @@ impl From<AllocError> for MatchFault {
 }
 
 /// Matches the entries of a card file against the minutes of a unit file: the first that differs, or the counts.
+///
+/// # Errors
+///
+/// As `compare_files`.
 pub fn match_files(alloc: Global, unit: &[u8], card: &[u8]) -> Result<Matched, MatchFault>
     requires unit { length unit.now < 2 ^ 32 }
     requires card { length card.now < 2 ^ 32 }
@@ -50,6 +54,14 @@ pub fn match_files(alloc: Global, unit: &[u8], card: &[u8]) -> Result<Matched, M
 }
 
 /// Compares the entries of a card file with the minutes of a unit file: all that differ, and the counts.
+///
+/// # Errors
+///
+/// 1. `BadUnitFile` where the first bytes are no unit file, with the place of the first message that is not in its
+///    grammar, or one without an overview, with its length.
+/// 2. `BadCardFile` where the others are no card file, with the place of the first entry that is not in its grammar, or
+///    their length where a needed entry is missing.
+/// 3. `Memory`.
 pub fn compare_files(alloc: Global, unit: &[u8], card: &[u8]) -> Result<Differences, MatchFault>
     requires unit { length unit.now < 2 ^ 32 }
     requires card { length card.now < 2 ^ 32 }
@@ -142,6 +154,10 @@ pub enum SourceFault {
 }
 
 /// Matches a source: a unit file, whose messages go on as long as the next byte is 76, and behind it a card file.
+///
+/// # Errors
+///
+/// As `compare_source`.
 pub fn match_source(alloc: Global, b: &[u8]) -> Result<Matched, SourceFault>
     requires { length b.now < 2 ^ 32 }
     ensures matched { IfOk result (MatchesSource b.now) }
@@ -153,6 +169,12 @@ pub fn match_source(alloc: Global, b: &[u8]) -> Result<Matched, SourceFault>
 }
 
 /// Compares the two files of such a source.
+///
+/// # Errors
+///
+/// 1. `BadFile` where the source is no unit file with an overview, followed at once by a card file: with the place, in the
+///    source, of the first message or entry that is not in its grammar, or of the end of the file that lacks something.
+/// 2. `Memory`.
 pub fn compare_source(alloc: Global, b: &[u8]) -> Result<Differences, SourceFault>
     requires { length b.now < 2 ^ 32 }
     ensures compared { IfOk result (ComparesSource b.now) }

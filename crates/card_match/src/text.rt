@@ -19,6 +19,10 @@ use view_model::Line;
 use view_text::{Shown, write_clock};
 
 /// The text of an answer: `match` and three counts, or the first minute that differs, with its slot.
+///
+/// # Errors
+///
+/// `AllocError` where memory runs out.
 pub fn match_text(alloc: Global, matched: Matched) -> Result<Vec<u8>, AllocError>
     requires { IsDated matched }
     ensures { IfOk result (λ text. IsMatchText matched text.items) }
@@ -61,6 +65,10 @@ fn differs_text(alloc: Global, minute: u32, slot: Slot) -> Result<Vec<u8>, Alloc
 }
 
 /// The text of all that differs: a line for each run, or `match` where there is none; and the counts.
+///
+/// # Errors
+///
+/// `AllocError` where memory runs out.
 pub fn differences_text(alloc: Global, all: &Differences) -> Result<Vec<u8>, AllocError>
     requires { AreDatedRuns all.now.runs.items }
     ensures { IfOk result (λ text. IsDifferencesText all.now text.items) }

@@ -176,6 +176,10 @@ fn begins_by(first: Option<u32>, day: u32) -> bool
 }
 
 /// All that differs, by what was found out about each entry.
+///
+/// # Errors
+///
+/// `AllocError` where memory runs out.
 pub fn find_differences(
     alloc: Global,
     cases: &[Case],

@@ -4,8 +4,8 @@ ghost use Rattle.day_chart.specs.Marks.{sign_name, mark_words, code_text, mark_t
 ghost use Rattle.day_chart.specs.Marks.{day_mark_text, marks_text};
 
 use crate::bar::write_half;
-use crate::frame::write_number;
-use activity_codec::{DAY_SECONDS, MINUTE_SECONDS};
+use crate::frame::{DAY_BEGIN, write_number};
+use activity_codec::{DAY_MINUTES, DAY_SECONDS, MINUTE_SECONDS};
 use std::alloc::AllocError;
 use text_fields::byte_digits;
 use view_model::{Mark, Sign};
@@ -70,7 +70,7 @@ fn write_mark(text: &mut Vec<u8>, date: &[u8], mark: Mark) -> Result<(), AllocEr
     text.extend_from_slice(b"<use xlink:href=\"#mark-")?;
     text.extend_from_slice(sign_name(mark.sign))?;
     text.extend_from_slice(b"\" x=\"")?;
-    write_half(text, 120 + (mark.second / 60 % 1440) as u64)?;
+    write_half(text, DAY_BEGIN + (mark.second / MINUTE_SECONDS % DAY_MINUTES) as u64)?;
     text.extend_from_slice(b"\"><title>")?;
     write_mark_title(text, date, mark)?;
     text.extend_from_slice(b"</title></use>\n")?;

@@ -12,6 +12,10 @@ use std::alloc::{AllocError, Global};
 use view_model::Distance;
 
 /// The distances that the days of a card file tell, oldest first.
+///
+/// # Errors
+///
+/// As those of `file_view::read_card_file`.
 pub fn card_distances(alloc: Global, b: &[u8]) -> Result<Vec<Distance>, ViewFault>
     requires { length b.now < 2 ^ 32 }
     ensures distances { IfOk result (λ distances. TellsDistances b.now distances.items) }

@@ -16,6 +16,10 @@ use std::alloc::{AllocError, Global};
 use view_model::{CardShown, Distance, Gap, Line, UnitShown};
 
 /// The totals of a unit, by the lines of its view: two lines a day.
+///
+/// # Errors
+///
+/// `AllocError` where memory runs out.
 pub fn unit_days_text(
     alloc: Global,
     lines: &[Line<UnitShown>],
@@ -36,6 +40,10 @@ pub fn unit_days_text(
 }
 
 /// The totals of a card, by the lines of its view: a line a day.
+///
+/// # Errors
+///
+/// `AllocError` where memory runs out.
 pub fn card_days_text(
     alloc: Global,
     lines: &[Line<CardShown>],

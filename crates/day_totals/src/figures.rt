@@ -11,11 +11,17 @@ use view_model::{Distance, Line};
 /// slot.
 #[derive(Clone, Copy, Debug, PartialEq, Eq)]
 pub enum Figure {
+    /// Driving, with a card in the slot.
     Drive,
+    /// Work, with a card in the slot.
     Work,
+    /// Availability, with a card in the slot.
     Available,
+    /// Rest, with a card in the slot.
     Rest,
+    /// What was not recorded.
     Unknown,
+    /// A card in the slot.
     In,
 }
 

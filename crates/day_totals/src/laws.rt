@@ -1,3 +1,4 @@
+//! What is proved of the figures of a day.
 ghost use Rattle.std.specs.Prelude.{◌≡◌, ◌+◌, List, map, length};
 ghost use Rattle.activity_codec.specs.declared.values.Slot.{Slot};
 ghost use Rattle.view_model.specs.declared.UnitShown.{UnitShown};

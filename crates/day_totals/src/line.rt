@@ -53,7 +53,7 @@ fn write_figure(text: &mut Vec<u8>, bars: &[Line<Seen>], figure: Figure) -> Resu
 ///
 /// # Errors
 ///
-/// `AllocError` where there is no memory for them.
+/// `AllocError` where memory runs out.
 pub fn write_duration(text: &mut Vec<u8>, minutes: u32) -> Result<(), AllocError>
     requires { minutes ≤ 1440 }
     ensures { OnOk result (text.new.items ≡ text.old.items ++ duration_text minutes) }

@@ -42,12 +42,17 @@ pub enum Shape {
 /// A pointer of one byte or two, and a list of records behind it.
 #[derive(Clone, Copy)]
 pub struct Ring {
+    /// What the pointer is called.
     pub pointer: Name,
+    /// How many bytes it has.
     pub width: usize,
+    /// What the list is called.
     pub list: Name,
+    /// What its records are.
     pub kind: Kind,
 }
 
+/// The vehicles used: a pointer of two bytes.
 pub const VEHICLES: Ring = Ring {
     pointer: Name::VehiclePointerNewestRecord,
     width: 2,
@@ -55,6 +60,7 @@ pub const VEHICLES: Ring = Ring {
     kind: Kind::Vehicle,
 };
 
+/// The places: a pointer of one byte.
 pub const PLACES: Ring = Ring {
     pointer: Name::PlacePointerNewestRecord,
     width: 1,
@@ -65,17 +71,22 @@ pub const PLACES: Ring = Ring {
 /// So many lists of as many records each.
 #[derive(Clone, Copy)]
 pub struct Sets {
+    /// How many lists there are.
     pub count: usize,
+    /// What they are called.
     pub list: Name,
+    /// What their records are.
     pub kind: Kind,
 }
 
+/// The events: six types.
 pub const EVENT_SETS: Sets = Sets {
     count: 6,
     list: Name::CardEventRecords,
     kind: Kind::CardEvent,
 };
 
+/// The faults: two types.
 pub const FAULT_SETS: Sets = Sets {
     count: 2,
     list: Name::CardFaultRecords,

@@ -1,3 +1,4 @@
+//! What is proved of a file's JSON: that it is the file's, and that each field is told under its name and in its form.
 ghost use Rattle.std.specs.Prelude.{◌≡◌, ◌+◌, ◌<◌, ◌≤◌, ◌^◌, ℕ, Option, Some, None, List, [], ◌∷◌, codes, drop, length};
 ghost use Rattle.byteorder.specs.Endian.{big_number};
 ghost use Rattle.card_files.specs.Events.{event_widths as card_event_widths};

@@ -222,6 +222,10 @@ fn add_item(pieces: &mut Vec<Piece>, after: bool, piece: Piece) -> Result<(), Al
 }
 
 /// The text of a piece.
+///
+/// # Errors
+///
+/// `AllocError` where memory runs out.
 pub fn piece_text(alloc: Global, b: &[u8], piece: Piece) -> Result<Vec<u8>, AllocError>
     requires { IsPiece b.now piece }
     ensures { IfOk result (λ text. text.items ≡ piece_text b.now piece) }

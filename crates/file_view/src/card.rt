@@ -39,9 +39,10 @@ use tach_media::{Memory, SliceMedium};
 use view_model::{CardShown, Line, Viewed};
 use view_text::{add_minute, lines_text};
 
-/// The width of the pointer of Vehicles_Used, and the place of the first use in an entry.
+/// How many bytes the pointer of Vehicles_Used has (Appendix 1, CardVehiclesUsed).
 const VEHICLE_POINTER: usize = 2;
 
+/// Where an entry has the time of its first use (Appendix 1, CardVehicleRecord).
 const VEHICLE_FIRST_USE: u32 = 6;
 
 /// The entries that a card file shows, as the lines of their view.
@@ -99,7 +100,11 @@ pub struct CardRead {
     pub vehicles: Vec<Vehicle>,
 }
 
-/// The entries of a card file, and its vehicle entries. It refuses as `read_card_file` does.
+/// The entries of a card file, and its vehicle entries.
+///
+/// # Errors
+///
+/// As `read_card_file`.
 pub fn read_card(alloc: Global, b: &[u8]) -> Result<CardRead, ViewFault>
     requires { length b.now < 2 ^ 32 }
     ensures shown { IfOk result (λ card. ShowsCard b.now card.history card.vehicles.items) }
@@ -120,7 +125,11 @@ pub fn read_card(alloc: Global, b: &[u8]) -> Result<CardRead, ViewFault>
 }
 
 /// The entries of the newest `n` days of a card file's string, also of days behind the end mark and of days without an
-/// entry, which show none; of all days where there are fewer. It refuses as `read_card_file` does.
+/// entry, which show none; of all days where there are fewer.
+///
+/// # Errors
+///
+/// As `read_card_file`.
 pub fn last_days(alloc: Global, b: &[u8], n: u32) -> Result<CardHistory, ViewFault>
     requires { length b.now < 2 ^ 32 }
     ensures entries { IfOk result (λ h. ShowsCardFile (Some n) b.now h) }
@@ -130,7 +139,11 @@ pub fn last_days(alloc: Global, b: &[u8], n: u32) -> Result<CardHistory, ViewFau
     card_history(alloc, b, Some(n))
 }
 
-/// The heads of the days of a card file's string, oldest first. It refuses as `read_card_file` does.
+/// The heads of the days of a card file's string, oldest first.
+///
+/// # Errors
+///
+/// As `read_card_file`.
 pub fn day_heads(alloc: Global, b: &[u8]) -> Result<Vec<DayHead>, ViewFault>
     requires { length b.now < 2 ^ 32 }
     ensures heads { IfOk result (λ heads. TellsHeads b.now heads.items) }
@@ -145,6 +158,10 @@ pub fn day_heads(alloc: Global, b: &[u8]) -> Result<Vec<DayHead>, ViewFault>
 }
 
 /// The view text of entries.
+///
+/// # Errors
+///
+/// `Memory` where it runs out.
 pub fn card_text(alloc: Global, h: &CardHistory) -> Result<Vec<u8>, Memory>
     ensures { IfOk result (λ text. IsCardView (map entry_shown h.now) text.items) }
 {

@@ -77,7 +77,11 @@ pub fn read_download(alloc: Global, b: &[u8]) -> Result<UnitHistory, ViewFault>
     unit_history(alloc, b, None)
 }
 
-/// The minutes of the last `n` messages of a day; of all where there are fewer. It refuses as `read_download` does.
+/// The minutes of the last `n` messages of a day; of all where there are fewer.
+///
+/// # Errors
+///
+/// As `read_download`.
 pub fn last_messages(alloc: Global, b: &[u8], n: u32) -> Result<UnitHistory, ViewFault>
     requires { length b.now < 2 ^ 32 }
     ensures minutes { IfOk result (λ h. ShowsUnitFile (Some n) b.now h) }
@@ -87,6 +91,10 @@ pub fn last_messages(alloc: Global, b: &[u8], n: u32) -> Result<UnitHistory, Vie
 }
 
 /// The view text of minutes.
+///
+/// # Errors
+///
+/// `Memory` where it runs out.
 pub fn unit_text(alloc: Global, h: &UnitHistory) -> Result<Vec<u8>, Memory>
     ensures { IfOk result (λ text. IsUnitView (map minute_shown h.now) text.items) }
 {

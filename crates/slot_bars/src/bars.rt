@@ -14,6 +14,10 @@ use view_text::add_minute;
 
 /// The bars of a slot of a unit, by the lines of its view. A line goes in at once, but for one without a card that
 /// meets a gap, which goes in minute by minute.
+///
+/// # Errors
+///
+/// `AllocError` where memory runs out.
 pub fn unit_bars(
     alloc: Global,
     lines: &[Line<UnitShown>],
@@ -30,6 +34,10 @@ pub fn unit_bars(
 }
 
 /// The bars of the card of a card file, by the lines of its view.
+///
+/// # Errors
+///
+/// `AllocError` where memory runs out.
 pub fn card_bars(alloc: Global, lines: &[Line<CardShown>]) -> Result<Vec<Line<Seen>>, AllocError>
     ensures { IfOk result (λ bars. bars.items ≡ bars_of (map card_seen (minutes_on lines.now))) }
 {

@@ -15,6 +15,10 @@ use tacho_types::{FullCardNumber, Name36, Registration};
 use view_text::write_clock;
 
 /// The text of lines, one after the other.
+///
+/// # Errors
+///
+/// `AllocError` where memory runs out.
 pub fn lines_text(alloc: Global, lines: &[Line]) -> Result<Vec<u8>, AllocError>
     requires { AreDated lines.now }
     ensures { IfOk result (λ text. AreLinesText lines.now text.items) }

@@ -36,7 +36,7 @@ pub fn read_line(alloc: Global, line: &[u8]) -> Result<Vec<u8>, LineFault>
     Ok(bytes)
 }
 
-// The first byte, and what stands behind it and a space.
+/// The first byte, and what stands behind it and a space.
 fn first_byte(text: &[u8]) -> Option<(u8, &[u8])>
     requires some { 0 < length text.now }
     ensures found { IfSome result (λ first. line_bytes text.now ≡ in_front (Some first.0) (line_bytes first.1.now)) }
@@ -51,7 +51,7 @@ fn first_byte(text: &[u8]) -> Option<(u8, &[u8])>
     Some((byte, behind))
 }
 
-// What stands behind a space, where there is one and something behind it; all where there is no space.
+/// What stands behind a space, where there is one and something behind it; all where there is no space.
 fn behind_space(text: &[u8]) -> Option<&[u8]>
     ensures found { IfSome result (λ rest. behind_byte text.now ≡ line_bytes rest.now) }
     ensures shorter { IfSome result (λ rest. length rest.now ≤ length text.now) }
@@ -66,7 +66,7 @@ fn behind_space(text: &[u8]) -> Option<&[u8]>
     Some(&text[1..])
 }
 
-// The byte that two digits spell.
+/// The byte that two digits spell.
 fn byte_of(high: u8, low: u8) -> Option<u8>
     ensures { result ≡ byte_of high low }
 {
@@ -75,7 +75,7 @@ fn byte_of(high: u8, low: u8) -> Option<u8>
     Some(16 * high + low)
 }
 
-// The value of a digit.
+/// The value of a digit.
 fn digit(c: u8) -> Option<u8>
     ensures value { result ≡ hex_digit_value c }
     ensures small { IfSome result (λ value. value < 16) }

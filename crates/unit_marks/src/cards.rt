@@ -29,11 +29,13 @@ pub const POINTER: usize = 1;
 /// Where an event has its begin, behind its type.
 pub const CARD_EVENT_BEGIN: usize = 1;
 
-/// Where a place has its time, its type and its country.
+/// Where a place has its time (Annex IB, Appendix 1, PlaceRecord).
 pub const CARD_ENTRY_TIME: usize = 0;
 
+/// Where it has its type.
 pub const CARD_ENTRY_TYPE: usize = 4;
 
+/// Where it has its country.
 pub const CARD_COUNTRY: usize = 5;
 
 /// The places, events and faults that a card file tells, in the order of its files.

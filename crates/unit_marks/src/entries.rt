@@ -27,12 +27,13 @@ pub enum Kind {
     Fault,
 }
 
-/// Where a place has its time, its type and its country, behind the card's number (Annex IB, Appendix 1,
-/// VuPlaceDailyWorkPeriodRecord).
+/// Where a place has its time, behind the card's number (Annex IB, Appendix 1, VuPlaceDailyWorkPeriodRecord).
 pub const ENTRY_TIME: usize = 18;
 
+/// Where it has its type.
 pub const ENTRY_TYPE: usize = 22;
 
+/// Where it has its country.
 pub const COUNTRY: usize = 23;
 
 /// Where the message of a day has its insertions, behind 76, its number, its date and its odometer.

@@ -20,9 +20,10 @@ use tacho_types::read_odometer;
 use unit_messages::Request;
 use view_model::{Distance, Gap};
 
-/// Where an event has its begin and its end, behind its type and its purpose.
+/// Where an event has its begin, behind its type and its purpose (Annex IB, Appendix 1, VuEventRecord).
 pub const EVENT_BEGIN: usize = 2;
 
+/// Where it has its end.
 pub const EVENT_END: usize = 6;
 
 /// Where the message of a day has its odometer, behind 76, its number and its date.
@@ -37,10 +38,12 @@ pub struct Marks {
     pub distances: Vec<Distance>,
 }
 
-/// The first second of a day, and the odometer then.
+/// A midnight that the message of a day tells.
 #[derive(Clone, Copy, Debug, Default, PartialEq, Eq)]
 pub struct Midnight {
+    /// The first second of the day, since 1970-01-01 00:00 GMT.
     pub date: u32,
+    /// The odometer then, in kilometres.
     pub odometer: u32,
 }
 

@@ -10,6 +10,10 @@ use std::alloc::{AllocError, Global};
 use tacho_types::DAYS;
 
 /// The view text of entries by hand: a line for each, in their order.
+///
+/// # Errors
+///
+/// `AllocError` where memory runs out.
 pub fn by_hand_text(alloc: Global, entries: &[Manual]) -> Result<Vec<u8>, AllocError>
     requires { AllByRecursion (λ e. day_of_minute e.minute < DAYS) entries.now }
     ensures { IfOk result (λ text. IsByHandView entries.now text.items) }

@@ -12,6 +12,10 @@ use view_model::{Line, Viewed};
 
 /// Adds a minute to the lines of the minutes before it: at the end of the last line where that goes on with it, else as
 /// a line of its own.
+///
+/// # Errors
+///
+/// `AllocError` where memory runs out.
 pub fn add_minute<T: Shown>(lines: &mut Vec<Line<T>>, minute: Viewed<T>) -> Result<(), AllocError>
     ensures { (minutes : List (ViewedMinute T)) → lines.old.items ≡ lines_of T.same minutes
         → OnOk result (lines.new.items ≡ lines_of T.same (minutes ++ minute ∷ [])) }

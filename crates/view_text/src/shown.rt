@@ -97,7 +97,7 @@ fn write_state(text: &mut Vec<u8>, state: State) -> Result<(), AllocError>
     Ok(())
 }
 
-// The words of a state, as one text.
+/// The words of a state, as one text.
 fn state_name(state: State) -> &'static [u8]
     ensures { result.now ≡ state_words state }
 {

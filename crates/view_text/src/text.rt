@@ -16,6 +16,10 @@ use tacho_types::DAYS;
 use view_model::Line;
 
 /// The text of lines, one after another. The date of a day is made once for lines that follow one another on it.
+///
+/// # Errors
+///
+/// `AllocError` where memory runs out.
 pub fn lines_text<T: Shown>(alloc: Global, lines: &[Line<T>]) -> Result<Vec<u8>, AllocError>
     requires { AllByRecursion (λ line. day_of_minute line.first < DAYS) lines.now }
     ensures { IfOk result (λ text. IsTextOf T.words lines.now text.items) }
@@ -57,6 +61,10 @@ fn write_line<T: Shown>(text: &mut Vec<u8>, date: &[u8], line: Line<T>) -> Resul
 }
 
 /// The date of a day number.
+///
+/// # Errors
+///
+/// `AllocError` where memory runs out.
 pub fn write_day(text: &mut Vec<u8>, day: u32) -> Result<(), AllocError>
     requires { day < DAYS }
     ensures { OnOk result (AddsDay text.old.items text.new.items day) }
@@ -70,7 +78,7 @@ pub fn write_day(text: &mut Vec<u8>, day: u32) -> Result<(), AllocError>
 ///
 /// # Errors
 ///
-/// `AllocError` where there is no memory for it.
+/// `AllocError` where memory runs out.
 pub fn write_clock(text: &mut Vec<u8>, minute: u32) -> Result<(), AllocError>
     ensures { OnOk result (text.new.items ≡ text.old.items ++ clock_text minute) }
 {
