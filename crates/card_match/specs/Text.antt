@@ -85,5 +85,6 @@ AreAllText (run ∷ runs) c text =
     × (text ≡ front ++ count_line (codes "tested") c.tested ++ count_line (codes "other") c.other
     ++ count_line (codes "before") c.before)
 
+-- THE TEXT of all that differs, and of the counts
 abbrev pub IsDifferencesText : Differences → List ℕ → Type 0
 IsDifferencesText all text = AreAllText all.runs.items all.counts text

@@ -172,8 +172,9 @@ pub fn match_source(alloc: Global, b: &[u8]) -> Result<Matched, SourceFault>
 ///
 /// # Errors
 ///
-/// 1. `BadFile` where the source is no unit file with an overview, followed at once by a card file: with the place, in the
-///    source, of the first message or entry that is not in its grammar, or of the end of the file that lacks something.
+/// 1. `BadFile` where the source is no unit file with an overview, followed at once by a card file: with the place, in
+///    the source, of the first message or entry that is not in its grammar, or of the end of the file that lacks
+///    something.
 /// 2. `Memory`.
 pub fn compare_source(alloc: Global, b: &[u8]) -> Result<Differences, SourceFault>
     requires { length b.now < 2 ^ 32 }

@@ -54,14 +54,14 @@ card_band marks place date minutes =
     ++ marks_text date (day_of minutes) marks
     ++ codes "<use xlink:href=\"#axis\"/></g>\n"
 
--- THE PICTURE of a unit's minutes, and of a card's: a band a day, in their order, with the marks of the day, and the
--- totals as its text
+-- THE PICTURE of a unit's minutes: a band a day, in their order, with the marks of the day, and the totals as its text
 pub record IsUnitChart (gaps : List Gap) (marks : List Mark) (totals : List ℕ) (minutes : List (Viewed UnitShown))
     (text : List ℕ) : Type 0 where
   pub bands : List ℕ
   pub each : AreEach (unit_band gaps marks) 0 (days_of minutes) bands
   pub framed : text ≡ frame_text (FRAME_HEIGHT + UNIT_BAND * length (days_of minutes)) totals bands
 
+-- THE PICTURE of a card's minutes: a band a day, in the same way
 pub record IsCardChart (marks : List Mark) (totals : List ℕ) (minutes : List (Viewed CardShown)) (text : List ℕ) :
     Type 0 where
   pub bands : List ℕ

@@ -52,8 +52,8 @@ pub record PrintsCardTotals (last : Option ℕ) (bytes out : List ℕ) : Type 0 
   pub tells : TellsDistances bytes distances
   pub totals : IsCardTotals distances (map entry_shown entries) out
 
--- THE PICTURE of a unit file, and of a card file: of the same minutes, with the totals as its text, and with the marks
--- of its places, events and faults, and of the entries by hand of a card
+-- THE PICTURE of a unit file: of the same minutes, with the totals as its text, and with the marks of its places,
+-- events and faults
 pub record PrintsUnitChart (last : Option ℕ) (bytes out : List ℕ) : Type 0 where
   pub minutes : List UnitMinute
   pub gaps : List Gap
@@ -66,6 +66,8 @@ pub record PrintsUnitChart (last : Option ℕ) (bytes out : List ℕ) : Type 0 w
   pub totals : IsUnitTotals gaps distances (map minute_shown minutes) text
   pub chart : IsUnitChart gaps marks text (map minute_shown minutes) out
 
+-- THE PICTURE of a card file: of the same entries, with the totals as its text, and with the marks of its places,
+-- events and faults, and of its entries by hand
 pub record PrintsCardChart (last : Option ℕ) (bytes out : List ℕ) : Type 0 where
   pub entries : List Entry
   pub distances : List Distance

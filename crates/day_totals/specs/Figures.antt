@@ -33,6 +33,7 @@ total figure minutes = count_by (λ m. counts figure m.shown) minutes
 abbrev pub line_total : Figure → Line Seen → ℕ
 line_total figure bar = if counts figure bar.shown then bar.last + 1 - bar.first else 0
 
+-- what a figure is called
 abbrev pub figure_name : Figure → List ℕ
 figure_name Drive = codes "drive"
 figure_name Work = codes "work"

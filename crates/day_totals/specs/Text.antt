@@ -30,22 +30,24 @@ totals_text name minutes km =
     codes " " ++ name ++ figure_text Drive minutes ++ figure_text Work minutes ++ figure_text Available minutes
     ++ figure_text Rest minutes ++ figure_text Unknown minutes ++ figure_text In minutes ++ distance_text km
 
--- the two lines of a day of a unit, and the line of a day of a card
+-- the two lines of a day of a unit
 abbrev pub unit_day_text : List Gap → List Distance → (date : List ℕ) → List (Viewed UnitShown) → List ℕ
 unit_day_text gaps distances date minutes =
     date ++ totals_text (codes "driver") (map (slot_seen gaps Driver) minutes) (distance_on distances (day_of minutes))
     ++ date ++ totals_text (codes "codriver") (map (slot_seen gaps CoDriver) minutes)
     (distance_on distances (day_of minutes))
 
+-- the line of a day of a card
 abbrev pub card_day_text : List Distance → (date : List ℕ) → List (Viewed CardShown) → List ℕ
 card_day_text distances date minutes = date
     ++ totals_text (codes "holder") (map card_seen minutes) (distance_on distances (day_of minutes))
 
--- THE TOTALS of a unit's minutes, and of a card's, day by day
+-- THE TOTALS of a unit's minutes, day by day
 unfoldable pub IsUnitTotals : List Gap → List Distance → List (Viewed UnitShown) → List ℕ → Type 0
 IsUnitTotals gaps distances minutes text = AreEach (λ place date day. unit_day_text gaps distances date day) 0
     (days_of minutes) text
 
+-- THE TOTALS of a card's minutes, day by day
 unfoldable pub IsCardTotals : List Distance → List (Viewed CardShown) → List ℕ → Type 0
 IsCardTotals distances minutes text = AreEach (λ place date day. card_day_text distances date day) 0 (days_of minutes)
     text

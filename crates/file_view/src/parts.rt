@@ -38,7 +38,8 @@ impl Parts {
     ///
     /// # Errors
     ///
-    /// The place of the first entry that is not in the grammar, or the length of the bytes where a needed entry is missing.
+    /// The place of the first entry that is not in the grammar, or the length of the bytes where a needed entry is
+    /// missing.
     pub fn read(b: &[u8]) -> Result<Parts, u32>
         requires { length b.now < 2 ^ 32 }
         ensures parts { IfOk result (AreParts b.now) }

@@ -26,10 +26,11 @@ mark_of Place entry = record {
 mark_of Event entry = record { sign = sign.Event; code = kind_in entry; second = begin_in entry }
 mark_of Fault entry = record { sign = sign.Fault; code = kind_in entry; second = begin_in entry }
 
--- those of the places of a day, and of the faults, the events and the over speedings
+-- the marks of the places of a day
 abbrev pub place_marks : DayMessage → List Mark
 place_marks m = map (mark_of Place) m.places
 
+-- those of the faults, the events and the over speedings of a message
 abbrev pub event_marks : EventMessage → List Mark
 event_marks m = map (mark_of Fault) m.faults ++ map (mark_of Event) m.events ++ map (mark_of Event) m.overs
 

@@ -18,10 +18,11 @@ speed_words line =
     ++ figure_text (codes " mean ") line.mean
     ++ figure_text (codes " moving ") line.moving ++ codes "\n"
 
--- the date of a day at the end of a text, and a line
+-- the date of a day at the end of a text
 abbrev pub AddsDate : (old new : List ℕ) → (day : ℕ) → Type 0
 AddsDate old new day = (date : List ℕ) × IsDateText day date × (new ≡ old ++ date)
 
+-- a line at the end of a text
 abbrev pub AddsSpeedLine : (old new : List ℕ) → SpeedLine → Type 0
 AddsSpeedLine old new line = (date : List ℕ) × IsDateText (line.time / 86400) date
     × (new ≡ old ++ date ++ speed_words line)
