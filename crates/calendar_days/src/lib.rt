@@ -3,13 +3,12 @@
 
 mod clock;
 
-pub use clock::{clock_text, duration_text, seconds_text};
-
 ghost use Rattle.std.specs.Prelude.{◌≡◌, ◌<◌, pos, ◌≤ℤ◌};
 ghost use Rattle.jiff.specs.Words.{epoch_day};
 ghost use Rattle.calendar_days.specs.Calendar.{IsDateText};
 
 use arrayvec::ArrayVec;
+pub use clock::{clock_text, duration_text, seconds_text};
 use jiff::ToSpan;
 use jiff::civil::{Date, date};
 use tacho_types::DAYS;

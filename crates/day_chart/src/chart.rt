@@ -103,7 +103,11 @@ fn write_unit_band(
 {
     let day = day_number(lines);
     let date = day_text(day);
-    write_band_head(text, FIRST_BAND + UNIT_BAND * place as u128, date.as_slice())?;
+    write_band_head(
+        text,
+        FIRST_BAND + UNIT_BAND * place as u128,
+        date.as_slice(),
+    )?;
     let driver = unit_bars(alloc, lines, gaps, Slot::Driver)?;
     write_lane(text, date.as_slice(), b"driver", driver.as_slice())?;
     let codriver = unit_bars(alloc, lines, gaps, Slot::CoDriver)?;
@@ -128,7 +132,11 @@ fn write_card_band(
 {
     let day = day_number(lines);
     let date = day_text(day);
-    write_band_head(text, FIRST_BAND + CARD_BAND * place as u128, date.as_slice())?;
+    write_band_head(
+        text,
+        FIRST_BAND + CARD_BAND * place as u128,
+        date.as_slice(),
+    )?;
     let bars = card_bars(alloc, lines)?;
     write_lane(text, date.as_slice(), b"holder", bars.as_slice())?;
     write_marks(text, date.as_slice(), day, marks)?;

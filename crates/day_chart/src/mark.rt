@@ -70,7 +70,10 @@ fn write_mark(text: &mut Vec<u8>, date: &[u8], mark: Mark) -> Result<(), AllocEr
     text.extend_from_slice(b"<use xlink:href=\"#mark-")?;
     text.extend_from_slice(sign_name(mark.sign))?;
     text.extend_from_slice(b"\" x=\"")?;
-    write_half(text, DAY_BEGIN + (mark.second / MINUTE_SECONDS % DAY_MINUTES) as u64)?;
+    write_half(
+        text,
+        DAY_BEGIN + (mark.second / MINUTE_SECONDS % DAY_MINUTES) as u64,
+    )?;
     text.extend_from_slice(b"\"><title>")?;
     write_mark_title(text, date, mark)?;
     text.extend_from_slice(b"</title></use>\n")?;

@@ -24,7 +24,8 @@ fn one_day() -> [u8; 152] {
 
 #[test]
 fn the_totals_of_a_day(rt: HostRuntime) -> Result<(), Fail> {
-    let told = b"2010-03-01 driver drive 04:30 work 00:00 available 00:00 rest 19:30 unknown 00:00 in 24:00 km -\n2010-03-01 codriver drive 00:00 work 00:00 available 00:00 rest 00:00 unknown 00:00 in 00:00 km -\n";
+    let told =
+        b"2010-03-01 driver drive 04:30 work 00:00 available 00:00 rest 19:30 unknown 00:00 in 24:00 km -\n2010-03-01 codriver drive 00:00 work 00:00 available 00:00 rest 00:00 unknown 00:00 in 00:00 km -\n";
     match unit_totals(rt.alloc(), &one_day(), None) {
         Ok(text) => assert!(rt; text.as_slice() == told.as_slice()),
         Err(_) => assert!(rt; false),

@@ -156,7 +156,9 @@ fn part_len(part: Part, bytes: &[u8]) -> usize
         Part::Fields(kind) => kind.width(),
         Part::Record { kind, .. } => kind.width(),
         Part::List {
-            count_width, kind, ..
+            count_width,
+            kind,
+            ..
         } => count_width + kind.width() * number(bytes, count_width),
         Part::Changes => 2 + 2 * number(bytes, 2),
     }

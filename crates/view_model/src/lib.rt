@@ -4,9 +4,8 @@
 
 mod marks;
 
-pub use marks::{Distance, Gap, Mark, Sign};
-
 use activity_codec::{Activity, Slot};
+pub use marks::{Distance, Gap, Mark, Sign};
 
 /// What a minute knows of one slot.
 #[derive(Clone, Copy, Debug, Default, PartialEq, Eq)]
