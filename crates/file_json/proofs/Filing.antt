@@ -1,17 +1,17 @@
 -- The files of a card whose pieces are still to be made.
-use Rattle.std.proofs.Common.{◌≡◌, ◌≢◌, ◌∙◌, ℕ, ◌+◌, ◌≤◌, List, [], ◌∷◌, ◌++◌, length, take, drop, map, All, ap, sym, subst, arith, append-nil, length-append, length-drop}
+use Rattle.std.proofs.Common.{◌≡◌, ◌≢◌, ◌∙◌, ℕ, ◌+◌, ◌≤◌, List, [], ◌∷◌, ◌++◌, length, take, drop, map, All, ap, sym, subst, arith, append-nil, length-drop}
 use Rattle.std.specs.Prelude.{Option, Bool, true, slice_index}
 use Rattle.std.proofs.lemmas.List.{take_at, drop_at}
 use Rattle.std.proofs.lemmas.List.Elements.{All-head, All-tail}
-use Rattle.byteorder.specs.Endian.{big_number, big_bytes}
+use Rattle.byteorder.specs.Endian.{big_number}
 use Rattle.card_layout.specs.Fields.{joined}
 use Rattle.card_layout.specs.Images.{bytes_at}
 use Rattle.card_layout.proofs.Numbers.{big_number-big_bytes}
 use Rattle.card_image.specs.CardFile.{FileEntry, IsFileEntry, entry_bytes}
 use Rattle.json.specs.Print.{print}
 use Rattle.json.specs.Tree.{json_tokens}
-use Rattle.unit_marks.specs.Files.{AreFiles}
-use Rattle.unit_marks.proofs.Filing.{head_of}
+use Rattle.file_view.specs.Files.{AreFiles}
+use Rattle.file_view.proofs.Filing.{head_of}
 use Rattle.file_json.specs.declared.pieces.Piece.{Piece}
 use Rattle.file_json.specs.declared.pieces.Piece.TheVariants.{File, End}
 use Rattle.file_json.specs.Pieces.{IsPiece, entry_in, item_pieces, pieces_text}

@@ -1,8 +1,8 @@
 use activity_codec::{Activity, Slot};
-use slot_bars::{Gap, Seen, first_day, unit_bars};
+use slot_bars::unit_bars;
 use std::process::Abort;
 use std::test::Fail;
-use view_model::{Line, State, UnitShown};
+use view_model::{Gap, Line, State, UnitShown};
 
 /// A line of a unit with this activity of the driver, or with no card.
 fn line(first: u32, last: u32, act: Activity, present: bool) -> Line<UnitShown> {
