@@ -33,9 +33,12 @@ pub enum Header {
     Update { offset: u16 },
 }
 
-/// Reads the bytes of a command: class, instruction, P1, P2, then a length and data. An `Err` is the status word of the
-/// first check that the bytes fail: 6700 where there are fewer than five, 6E00 for the class, 6D00 for the instruction,
-/// 6A86 for P1 and P2, 6700 for the length, 6A82 for the name of another application.
+/// Reads the bytes of a command: class, instruction, P1, P2, then a length and data.
+///
+/// # Errors
+///
+/// The status word of the first check that the bytes fail: 6700 where there are fewer than five, 6E00 for the class,
+/// 6D00 for the instruction, 6A86 for P1 and P2, 6700 for the length, 6A82 for the name of another application.
 pub fn read_command(b: &[u8]) -> Result<Command, u16>
     ensures value { result ≡ command_of b.now }
     ensures writable { IfOk result IsWritable }
@@ -47,6 +50,10 @@ pub fn read_command(b: &[u8]) -> Result<Command, u16>
 }
 
 /// The same without the data of an update.
+///
+/// # Errors
+///
+/// The same.
 pub fn read_header(b: &[u8]) -> Result<Header, u16>
     ensures value { read_with result (drop 5 b.now) ≡ command_of b.now }
     ensures writable { IfOk result (λ header. IsWritable (command_with header (drop 5 b.now))) }

@@ -10,6 +10,10 @@ const CARD_TYPE: u32 = APPLICATION_RANGE.base;
 
 /// Writes a new image over the first bytes of a medium. The card type is 0 from the first write to the last, so that
 /// what a stop leaves in between is no card.
+///
+/// # Errors
+///
+/// `Failed` where a call on the medium failed.
 pub fn issue<M: Medium>(medium: &mut M, image: &[u8]) -> Result<(), Failed>
     requires least { 34 ≤ length image.now }
     requires most { length image.now ≤ (M.state medium.old).size }

@@ -45,6 +45,12 @@ pub const APPLICATION: ElementaryFile = ElementaryFile {
 };
 
 /// Reads the sizes of a card's files. The chip has Application_Identification selected then.
+///
+/// # Errors
+///
+/// 1. `Failed` where a call on the chip failed.
+/// 2. `BadApplication` exactly where a field of Application_Identification is out of its range, with the number of the
+///    first such field.
 pub fn read_sizes<C: Chip>(chip: &mut C) -> Result<Application, PortFault>
     requires { LARGEST_IMAGE ≤ (C.state chip.old).size }
     ensures loaded { IfOk result (λ app. IsPort app (Some application_file) (C.card chip.new) (C.state chip.new)) }

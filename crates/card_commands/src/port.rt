@@ -201,6 +201,12 @@ impl<C: Chip> Port<C> {
 impl<C: Chip + Drop> Port<C> {
     /// Reads the card's sizes. The chip's size is at least 24959. A refusal drops `chip`, so callers hand in a `&mut
     /// C`.
+    ///
+    /// # Errors
+    ///
+    /// 1. `Failed` where a call on the chip failed.
+    /// 2. `BadApplication` exactly where a field of Application_Identification is out of its range, with the number of
+    ///    the first such field.
     pub fn load(mut chip: C) -> Result<Port<C>, PortFault>
         requires { LARGEST_IMAGE ≤ (C.state chip).size }
         ensures reads { IfOk result (λ port. Reads (C.state chip) (C.state port.chip) false) }

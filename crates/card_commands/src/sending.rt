@@ -24,6 +24,10 @@ fn send<C: Chip>(chip: &mut C, command: &Command, answer: &mut Answer) -> Result
 }
 
 /// Makes a directory current.
+///
+/// # Errors
+///
+/// `Failed` where the call on the chip failed.
 pub fn enter<C: Chip>(chip: &mut C, directory: Directory) -> Result<(), Failed>
     ensures card { OnOk result (C.card chip.new ≡ in_directory directory (C.card chip.old)) }
     ensures reads { Reads (C.state chip.old) (C.state chip.new) (is_err result) }
@@ -37,6 +41,10 @@ pub fn enter<C: Chip>(chip: &mut C, directory: Directory) -> Result<(), Failed>
 }
 
 /// Selects a file under the current directory.
+///
+/// # Errors
+///
+/// `Failed` where the call on the chip failed.
 pub fn select<C: Chip>(chip: &mut C, file: ElementaryFile) -> Result<(), Failed>
     requires { found (C.card chip.old) file.fid ≡ Some file }
     ensures card { OnOk result (C.card chip.new ≡ record (C.card chip.old) { selected = Some file }) }
@@ -47,6 +55,10 @@ pub fn select<C: Chip>(chip: &mut C, file: ElementaryFile) -> Result<(), Failed>
 }
 
 /// Reads at most 256 bytes of the selected file.
+///
+/// # Errors
+///
+/// `Failed` where the call on the chip failed.
 pub fn read<C: Chip>(
     chip: &mut C,
     file: ElementaryFile,
@@ -81,6 +93,10 @@ pub fn read<C: Chip>(
 }
 
 /// Writes at most 255 bytes to the selected file, which may be updated.
+///
+/// # Errors
+///
+/// `Failed` where the call on the chip failed.
 pub fn update<C: Chip>(
     chip: &mut C,
     file: ElementaryFile,

@@ -9,6 +9,10 @@ ghost use Rattle.card_model.specs.Days.{body};
 use tach_media::{Failed, Medium};
 
 /// The number in two bytes, the highest first.
+///
+/// # Errors
+///
+/// `Failed` where a call on the medium failed.
 pub fn read_two<M: Medium>(medium: &mut M, place: u32) -> Result<u32, Failed>
     requires { place + 2 ≤ (M.state medium.old).size }
     ensures value { IfOk result (λ n. IfSome (M.state medium.old).image (λ x. n ≡ number (bytes_at x place 2))) }
@@ -32,6 +36,10 @@ pub fn number_of(bytes: &[u8]) -> u32
 }
 
 /// Writes a number in two bytes.
+///
+/// # Errors
+///
+/// `Failed` where a call on the medium failed.
 pub fn write_two<M: Medium>(medium: &mut M, place: u32, n: u32) -> Result<(), Failed>
     requires inside { place + 2 ≤ (M.state medium.old).size }
     requires writable { LiesInside (M.state medium.old).writable place 2 }

@@ -23,6 +23,11 @@ use tacho_types::TimeReal;
 impl CardSession {
     /// Writes an entry by hand, which is later than all words of the card and than its end mark. That stays, so no
     /// minute of the card changes: the entry counts once the end mark is moved behind it.
+    ///
+    /// # Errors
+    ///
+    /// `Failed` where a call on the card failed: the entry may stand behind the end mark, and the next insertion cuts
+    /// it off.
     pub fn enter_by_hand<M: Medium>(&mut self, port: &mut M, entry: &Manual) -> Result<(), Failed>
         requires card { MayKeep self.old.application (M.state port.old) }
         requires later { self.old.minute < entry.now.minute }

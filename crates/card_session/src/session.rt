@@ -475,6 +475,10 @@ impl CardSession {
     }
 
     /// Withdraws the card: the closing word with the selected activity, and the end of the session.
+    ///
+    /// # Errors
+    ///
+    /// `Failed` where a call on the card failed: some of this may be written, and the next insertion repairs the card.
     pub fn close<M: Medium>(mut self, port: &mut M, selected: Pick) -> Result<(), Failed>
         requires card { MayClose self.application (M.state port.old) }
         ensures closed { OnOk result (IfSome (M.state port.old).image
@@ -492,6 +496,10 @@ impl CardSession {
 
     /// Keeps a minute on the card: its word where the state is new, the distance, and last the use of the vehicle,
     /// which is the commit.
+    ///
+    /// # Errors
+    ///
+    /// `Failed` where a call on the card failed: some of this may be written, and the next insertion repairs the card.
     pub fn keep<M: Medium>(&mut self, port: &mut M, kept: &Kept) -> Result<(), Failed>
         requires card { MayKeep self.old.application (M.state port.old) }
         requires later { self.old.minute < kept.now.entry.minute }

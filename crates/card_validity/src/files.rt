@@ -211,8 +211,11 @@ fn judge_words(
     }
 }
 
-/// Judges the image of a card of these sizes: the string of days, the two rings, and the words of the days. `BadFile`
-/// exactly where one of these fails, with the first.
+/// Judges the image of a card of these sizes: the string of days, the two rings, and the words of the days.
+///
+/// # Errors
+///
+/// `BadFile` exactly where one of these fails, with the file that first fails and the place in it.
 pub fn judge_image(image: &[u8], app: &Application) -> Result<Judged, BadFile>
     requires sizes { IsApplication app.now }
     requires inside { image_size_of app.now ≤ length image.now }

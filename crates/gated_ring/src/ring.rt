@@ -206,6 +206,10 @@ impl Ring {
     }
 
     /// Reads where the next entry goes: the pointer's own index where no entry is there, else the next.
+    ///
+    /// # Errors
+    ///
+    /// `Failed` where a call on the medium failed.
     pub fn room<M: Medium>(&self, medium: &mut M) -> Result<Room, Failed>
         requires fits { FitsIn self.now (M.state medium.old) }
         ensures last { IfOk result (λ room. IfSome (M.state medium.old).image (λ x. PointsInside self.now x → room.last
@@ -408,6 +412,10 @@ impl Ring {
     ///
     /// The gate is shut first and opened last, so a stop at a moment of the call leaves the list before, that list
     /// without the entry whose place is taken, or the new list.
+    ///
+    /// # Errors
+    ///
+    /// `Failed` where a call on the medium failed.
     pub fn add<M: Medium>(&mut self, medium: &mut M, head: &[u8]) -> Result<u32, Failed>
         requires fits { FitsIn self.old (M.state medium.old) }
         requires writable { LiesInside (M.state medium.old).writable self.old.base (size_of self.old) }
@@ -431,6 +439,10 @@ impl Ring {
 
     /// Adds the newest entry as [`Ring::add`] does, behind one that is known to be there at the pointer, and answers
     /// its index. Of the ring it reads the gate alone whose place is taken.
+    ///
+    /// # Errors
+    ///
+    /// `Failed` where a call on the medium failed.
     pub fn add_behind<M: Medium>(
         &mut self,
         medium: &mut M,
@@ -466,6 +478,10 @@ impl Ring {
     /// a head that is shorter than the entry stays as it was.
     ///
     /// A stop at a moment of the call leaves the entry as it was, none, or the new one.
+    ///
+    /// # Errors
+    ///
+    /// `Failed` where a call on the medium failed.
     pub fn put_at<M: Medium>(
         &mut self,
         medium: &mut M,
@@ -490,6 +506,10 @@ impl Ring {
     }
 
     /// Writes 0 into the gate of an entry, which then is not there. A stop leaves it as it was or shut.
+    ///
+    /// # Errors
+    ///
+    /// `Failed` where a call on the medium failed.
     pub fn close_gate<M: Medium>(&mut self, medium: &mut M, index: u32) -> Result<(), Failed>
         requires fits { FitsIn self.old (M.state medium.old) }
         requires writable { LiesInside (M.state medium.old).writable (gate_of self.old index) 4 }
@@ -508,6 +528,10 @@ impl Ring {
 
     /// Writes 1 to 4 bytes of an entry, at `offset` in it and beside its gate. A stop leaves all of them written or
     /// none.
+    ///
+    /// # Errors
+    ///
+    /// `Failed` where a call on the medium failed.
     pub fn set_small<M: Medium>(
         &mut self,
         medium: &mut M,
@@ -558,6 +582,10 @@ impl Ring {
     }
 
     /// The index of the newest entry, or `None` exactly where the list is empty.
+    ///
+    /// # Errors
+    ///
+    /// `Failed` where a call on the medium failed.
     pub fn newest<M: Medium>(&self, medium: &mut M) -> Result<Option<u32>, Failed>
         requires fits { FitsIn self.now (M.state medium.old) }
         requires pointer { 0 < self.now.pointer_width }
@@ -574,6 +602,10 @@ impl Ring {
     }
 
     /// Whether an entry is there, and then its beginning in `out`, which else stays as it was.
+    ///
+    /// # Errors
+    ///
+    /// `Failed` where a call on the medium failed.
     pub fn entry<M: Medium>(
         &self,
         medium: &mut M,

@@ -53,6 +53,13 @@ impl Held {
     }
 
     /// Whether an entry by hand of this minute is taken, where the card's newest minute is this.
+    ///
+    /// # Errors
+    ///
+    /// 1. `Begun` where the session has kept a minute, with the first such.
+    /// 2. `NotFree` where the minute is not later than the newest one of the card and of the entries by hand, or not
+    ///    earlier than the insertion, with these two minutes.
+    /// 3. `Full` where it holds 8 already.
     pub fn may_enter(&self, newest: u32, minute: u32) -> Result<(), EnterFault>
         ensures answer { result_err result ≡ stopped_by self.now newest minute }
     {

@@ -69,6 +69,10 @@ impl Model for Log {
 
 impl Log {
     /// No write yet, and room for so many, with so many bytes.
+    ///
+    /// # Errors
+    ///
+    /// `AllocError` where memory runs out.
     pub fn new(
         alloc: Global,
         image: Vec<u8>,

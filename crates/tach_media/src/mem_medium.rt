@@ -31,6 +31,10 @@ impl Model for MemMedium {
 
 impl MemMedium {
     /// A medium with this image, and room for a log of so many writes with so many bytes.
+    ///
+    /// # Errors
+    ///
+    /// `Memory` where memory runs out.
     pub fn new(
         alloc: Global,
         image: Vec<u8>,

@@ -76,6 +76,10 @@ fn kept<const B: usize>(bytes: &[u8]) -> ArrayVec<u8, B>
 
 /// Writes the pieces of a plan, one after the other. At each moment of the call those before one are written, and that
 /// one is cut short; where none has more than four bytes, the first few are written.
+///
+/// # Errors
+///
+/// `Failed` where a write failed; none is begun behind it.
 pub fn put_pieces<M: Medium, const N: usize, const B: usize>(
     medium: &mut M,
     plan: &Plan<N, B>,

@@ -100,6 +100,10 @@ impl Days {
 
     /// Begins a day. The oldest days go where there is no room. A stop at a moment of the call leaves the days before,
     /// without those of the oldest that must go, or the new list.
+    ///
+    /// # Errors
+    ///
+    /// `Failed` where a call on the medium failed. What is kept is given up then: the string is loaded again.
     pub fn begin_day<M: Medium>(
         &mut self,
         medium: &mut M,
@@ -132,6 +136,10 @@ impl Days {
 
     /// Adds a word to the newest day. The oldest day goes where there is no room. A stop at a moment of the call leaves
     /// the days before, without the oldest where it must go, or the new ones.
+    ///
+    /// # Errors
+    ///
+    /// `Failed` where a call on the medium failed. What is kept is given up then: the string is loaded again.
     pub fn add_change<M: Medium>(&mut self, medium: &mut M, word: u16) -> Result<(), Failed>
         requires fits { FileFitsIn self.old.shape (M.state medium.old) }
         requires writable { LiesInside (M.state medium.old).writable self.old.shape.base (4 + self.old.shape.size) }
@@ -167,6 +175,10 @@ impl Days {
 
     /// Ends a drop that a stop may have cut short: the oldest day has no length before it. Where there is no day, it
     /// makes no call.
+    ///
+    /// # Errors
+    ///
+    /// `Failed` where a call on the medium failed. What is kept is given up then: the string is loaded again.
     pub fn finish_drop<M: Medium>(&mut self, medium: &mut M) -> Result<(), Failed>
         requires fits { FileFitsIn self.old.shape (M.state medium.old) }
         requires writable { LiesInside (M.state medium.old).writable self.old.shape.base (4 + self.old.shape.size) }
@@ -201,6 +213,10 @@ impl Days {
     }
 
     /// Sets the distance of the newest day, which there is.
+    ///
+    /// # Errors
+    ///
+    /// `Failed` where a call on the medium failed. What is kept is given up then: the string is loaded again.
     pub fn set_distance<M: Medium>(&mut self, medium: &mut M, km: Distance) -> Result<(), Failed>
         requires fits { FileFitsIn self.old.shape (M.state medium.old) }
         requires writable { LiesInside (M.state medium.old).writable self.old.shape.base (4 + self.old.shape.size) }
@@ -219,6 +235,10 @@ impl Days {
     /// Leaves no day and no word later than a minute: the days later than the minute's day go, the newest first, and
     /// then the words of the newest day that are later. A stop at a moment of the call leaves a list of days between.
     /// Where there is no day, it only reads. It reads the string, and not what was kept of it.
+    ///
+    /// # Errors
+    ///
+    /// `Failed` where a call on the medium failed. What is kept is given up then: the string is loaded again.
     pub fn trim<M: Medium>(&mut self, medium: &mut M, minute: u32) -> Result<(), Failed>
         requires fits { FileFitsIn self.old.shape (M.state medium.old) }
         requires writable { LiesInside (M.state medium.old).writable self.old.shape.base (4 + self.old.shape.size) }
