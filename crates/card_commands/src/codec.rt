@@ -1,3 +1,4 @@
+//! Commands in bytes, read and written (Annex IB, Appendix 2, section 3.6).
 ghost use Rattle.std.specs.Prelude.{◌^◌, ◌≡◌, ◌<◌, ◌≤◌, ◌+◌, ◌++◌, Ok, IfOk, length, drop};
 ghost use Rattle.card_commands.specs.declared.port.TheConstants.{WRITE_MOST};
 ghost use Rattle.card_layout.specs.Images.{number_at};

@@ -1,3 +1,4 @@
+//! The files that a command finds.
 ghost use Rattle.std.specs.Prelude.{◌≡◌, ◌≤◌, ◌||◌, ◌&&◌, ◌==◌, nat_le, is_some, false, None, IfSome};
 ghost use Rattle.card_layout.specs.Application.{application_of};
 ghost use Rattle.card_layout.specs.Files.{is_updated};

@@ -1,3 +1,4 @@
+//! A card is issued: its image is written anew.
 ghost use Rattle.std.specs.Prelude.{◌≡◌, ◌≤◌, ◌<◌, ◌+◌, ◌/◌, length, option_map, OnOk, is_err};
 ghost use Rattle.tach_media.specs.Medium.{LiesInside, LeavesOnly, IsSettled, HasCause, Rose, put, last_count};
 ghost use Rattle.card_layout.specs.Issue.{IsIssued};

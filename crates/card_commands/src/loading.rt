@@ -1,3 +1,4 @@
+//! The sizes of a card's files, read by its commands.
 ghost use Rattle.std.specs.Prelude.{◌≡◌, ◌≤◌, Some, IfOk, IfSome, IsErrOf};
 ghost use Rattle.card_layout.specs.Application.{application_in};
 ghost use Rattle.tach_media.specs.Medium.{Reads};

@@ -1,3 +1,4 @@
+//! The file in which a place of the flat image lies.
 ghost use Rattle.std.specs.Prelude.{◌≡◌, ◌+◌, ◌<◌, ◌≤◌, ◌^◌, Some};
 ghost use Rattle.card_layout.specs.Files.{image_size_of, total_size};
 ghost use Rattle.card_commands.specs.Ports.{file_at, file_from};

@@ -1,3 +1,4 @@
+//! A card as a medium, reached by its commands.
 ghost use Rattle.std.specs.Prelude.{◌≡◌, ◌≤◌, ◌<◌, ◌+◌, ◌^◌, true, false, length, take, Some, None, Ok, Err, OnOk};
 ghost use Rattle.std.specs.Prelude.{IfOk, IfErr, IfSome, is_err};
 ghost use Rattle.card_commands.specs.declared.port.TheConstants.{READ_MOST, WRITE_MOST};

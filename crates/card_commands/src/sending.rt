@@ -1,3 +1,4 @@
+//! One command to a chip, and its answer.
 ghost use Rattle.std.specs.Prelude.{◌^◌, ◌≡◌, ◌≤◌, ◌<◌, ◌+◌, true, length, Some, OnOk, OnErr, IfSome, is_err};
 ghost use Rattle.card_commands.specs.declared.port.TheConstants.{READ_MOST, WRITE_MOST};
 ghost use Rattle.tach_media.specs.Medium.{Reads, bytes_at};

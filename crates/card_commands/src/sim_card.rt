@@ -1,3 +1,4 @@
+//! A driver card over a medium, which answers commands by their tables.
 ghost use Rattle.std.specs.Prelude.{◌≡◌, ◌≤◌, ◌<◌, ◌+◌, ◌++◌, ◌/◌, ◌%◌, [], ◌∷◌, true, not, length, Some, None, Ok};
 ghost use Rattle.std.specs.Prelude.{OnOk, OnErr, IfOk, IfSome, is_ok, is_err};
 ghost use Rattle.card_commands.specs.declared.port.TheConstants.{READ_MOST, WRITE_MOST};

@@ -1,3 +1,4 @@
+//! Numbers of the string in bytes.
 ghost use Rattle.std.specs.Prelude.{◌≡◌, ◌≤◌, ◌<◌, ◌+◌, length, IfOk, OnOk, IfSome, is_err, option_map, take};
 ghost use Rattle.std.specs.Prelude.{slice_index, ◌*◌};
 ghost use Rattle.tach_media.specs.Medium.{LeavesOnly, Reads, HasCause, LiesInside, IsPartlyWritten, IsSettled};

@@ -1,3 +1,4 @@
+//! The circle of bytes in which the days stand: its pointers, its lengths and its heads.
 ghost use Rattle.std.specs.Prelude.{◌≡◌, ◌≤◌, ◌<◌, ◌+◌, ◌%◌, ℕ, length, slice_index, IfOk, OnOk, IfSome, is_err};
 ghost use Rattle.std.specs.Prelude.{option_map, take, Some, None, []};
 ghost use Rattle.card_model.specs.declared.lengths.TheConstants.{DAY_MOST};

@@ -1,3 +1,4 @@
+//! The string of days as its callers have it: it is loaded, and read day by day.
 ghost use Rattle.std.specs.Prelude.{◌≡◌, ◌≢◌, ◌≤◌, ◌<◌, ◌+◌, ◌*◌, ◌%◌, ℕ, List, [], length, slice_get, slice_index};
 ghost use Rattle.std.specs.Prelude.{None, IfOk, IfErr, OnOk, IfSome, is_err};
 ghost use Rattle.card_layout.specs.declared.files.TheConstants.{STRING_LEAST, STRING_MOST};

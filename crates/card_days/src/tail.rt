@@ -1,3 +1,4 @@
+//! What is kept of the newest end of a string.
 ghost use Rattle.std.specs.Prelude.{◌≡◌, ◌≤◌, ◌<◌, ◌%◌, List, IfOk, IfSome, is_err};
 ghost use Rattle.tach_media.specs.Medium.{Reads};
 ghost use Rattle.card_model.specs.Days.{Day};

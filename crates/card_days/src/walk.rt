@@ -1,3 +1,4 @@
+//! Walks from a day to the next, and to the one before.
 ghost use Rattle.std.specs.Prelude.{◌≡◌, ◌≤◌, ◌<◌, ◌+◌, List, length, slice_get, slice_index, None, IfOk, OnOk, IfSome};
 ghost use Rattle.std.specs.Prelude.{is_err};
 ghost use Rattle.std.specs.List.{last_or};

@@ -1,3 +1,4 @@
+//! A ring of entries in a medium: what stands in it, and its writes, each entry behind a gate.
 ghost use Rattle.std.specs.Prelude.{◌≡◌, ◌≤◌, ◌<◌, ◌+◌, ◌^◌, min, length, take, drop, IfOk, OnOk, IfSome, is_err};
 ghost use Rattle.std.specs.Prelude.{true, IsTrue, IsFalse, IfErr, IsOk, ◌⊎◌, ◌*◌, ◌-◌};
 ghost use Rattle.std.specs.List.{range_with_len};

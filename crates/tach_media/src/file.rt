@@ -1,3 +1,4 @@
+//! A file of the file system as a medium.
 ghost use Rattle.std.specs.Prelude.{◌≡◌, None, true, false, is_some};
 ghost use Rattle.tach_media.specs.Files.{missing_in, unlocked};
 ghost use Rattle.tach_media.specs.Medium.{IsUntouched};

@@ -1,3 +1,4 @@
+//! The log of a medium in memory: each write that was begun, and what is left of it.
 ghost use Rattle.std.specs.Prelude.{◌≡◌, ◌≤◌, ◌+◌, ◌<◌, ◌^◌, ◌++◌, ◌∷◌, [], length, vec_len, vec_capacity, IfOk};
 ghost use Rattle.std.specs.Bool.{OnTrue, OnFalse};
 ghost use Rattle.card_layout.specs.Fields.{IsBytes};

@@ -1,3 +1,4 @@
+//! A medium in memory, which tells what each stop may leave of it.
 ghost use Rattle.std.specs.Prelude.{◌≡◌, ◌<◌, ◌≤◌, ◌^◌, ◌+◌, length, min, true, [], IfOk, IfSome};
 ghost use Rattle.std.specs.Prelude.{IsOk, OnOk, option_map, find, is_err, ◌==◌};
 ghost use Rattle.tach_media.specs.Medium.{IsNew, bytes_at, put, last_count, LeavesOnly, Reads, IsSettled, HasCause};

@@ -1,3 +1,4 @@
+//! Sources and sinks in memory.
 ghost use Rattle.std.specs.Prelude.{◌≡◌, ◌↔◌, ◌⊎◌, ◌+◌, ◌-◌, ◌<◌, ◌≤◌, drop, take, min, length, vec_capacity, Contains};
 ghost use Rattle.std.specs.Prelude.{IfOk, IsErr};
 ghost use Rattle.std.specs.declared.option.Option.TheVariants.{Some as Told};

@@ -1,3 +1,4 @@
+//! A number in a medium.
 ghost use Rattle.std.specs.Prelude.{◌≡◌, ◌≤◌, ◌+◌, IfOk, IfSome, is_err};
 ghost use Rattle.card_layout.specs.Images.{number_at};
 ghost use Rattle.tach_media.specs.Medium.{Reads};

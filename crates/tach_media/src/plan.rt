@@ -1,3 +1,4 @@
+//! Writes that are known before the first of them is made.
 ghost use Rattle.std.specs.Prelude.{◌≡◌, ◌≤◌, ◌<◌, ◌+◌, ◌-◌, ◌∷◌, [], length, is_err, true};
 ghost use Rattle.tach_media.specs.Medium.{LiesInside, LeavesOnly};
 ghost use Rattle.tach_media.specs.Plan.{piece, more, none, PutsAll, AreShort, IsAfterSome};

@@ -1,3 +1,4 @@
+//! The days and words that are later than a minute go.
 ghost use Rattle.std.specs.Prelude.{◌≡◌, ◌≤◌, ◌<◌, ◌+◌, List, length, IfOk, OnOk, IfSome, is_err, option_map};
 ghost use Rattle.std.specs.Prelude.{true, [], ◌≢◌};
 ghost use Rattle.card_model.specs.declared.lengths.TheConstants.{DAYS_MOST};
