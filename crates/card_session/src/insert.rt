@@ -22,7 +22,7 @@ ghost use Rattle.card_session.specs.Parts.{DoesPart, IsPartDone, IsPartMoment, H
 ghost use Rattle.card_session.specs.Inserting.{Follow, MayInsert, lacked, with_cut, IsCutting, with_owed};
 ghost use Rattle.card_session.specs.Inserting.{IsBeforeAll, IsReplaying, MayShut, EndsCut, IsSessionMended};
 ghost use Rattle.card_session.specs.Inserting.{IsMendMoment, IsShutThen, IsShutThenMoment, IsReopened, IsReopening};
-ghost use Rattle.card_session.specs.Inserting.{IsStarted, IsStartMoment, IsTaken, IsTaking, replayed_count, repaired};
+ghost use Rattle.card_session.specs.Inserting.{IsStarted, IsStartMoment, IsTaken, IsTaking, Replays, repaired};
 ghost use Rattle.card_session.specs.Inserting.{IsRepairMoment, IsNoted, IsNoting, timed, registered, IsOpening};
 ghost use Rattle.card_session.specs.Inserting.{CardAccepted, CardMayBePutIn, CardRefused, LeavesInserting, MayBePutIn};
 
@@ -314,9 +314,8 @@ impl CardSession {
         ensures part { DoesPart (M.state port.old) (M.state port.new) (is_err result)
             (IsTaken self.old self.new current.now odometer.0 owed.now now.0)
             (IsTaking self.old current.now odometer.0 owed.now now.0) }
-        ensures few { IfOk result (λ n. n ≤ length owed.now) }
-        ensures count { IfOk result (λ n. n
-            ≡ replayed_count current.now.session.0 (last_use_of self.old.vehicle / 60) owed.now) }
+        ensures replays { IfOk result
+            (Replays current.now.session.0 (last_use_of self.old.vehicle / 60) owed.now) }
         ensures settled { OnOk result ((M.state port.new).clock < last_count → IsSettled (M.state port.new)) }
         ensures called { HasCause (M.state port.old) (M.state port.new) (is_err result) }
         ensures most { (M.state port.new).clock ≤ (M.state port.old).clock + (DAYS_MOST + 84) }

@@ -1,6 +1,6 @@
 //! The days and words that are later than a minute go.
 ghost use Rattle.std.specs.Prelude.{◌≡◌, ◌≤◌, ◌<◌, ◌+◌, List, length, IfOk, OnOk, IfSome, is_err, option_map};
-ghost use Rattle.std.specs.Prelude.{true, [], ◌≢◌};
+ghost use Rattle.std.specs.Prelude.{true, []};
 ghost use Rattle.card_model.specs.declared.lengths.TheConstants.{DAYS_MOST};
 ghost use Rattle.tach_media.specs.Medium.{LeavesOnly, Reads, HasCause, LiesInside, IsPartlyWritten, IsSettled};
 ghost use Rattle.tach_media.specs.Medium.{last_count, put};
@@ -10,10 +10,9 @@ ghost use Rattle.card_model.specs.Changes.{early, until, date_of, cut};
 ghost use Rattle.card_model.specs.Image.{HoldsDays, IsAt, IsPointer, IsStringShape};
 ghost use Rattle.card_days.specs.Moments.{FileFitsIn};
 ghost use Rattle.card_days.specs.Rears.{IsRear, LiesOn};
-ghost use Rattle.card_days.specs.Steps.{SettlesIfSettled};
 ghost use Rattle.card_days.specs.Trim.{IsWithoutLast, IsLosingLast, IsTrimming, IsCutLast};
-ghost use Rattle.card_days.specs.Trim.{IsCuttingLast, IsTrim, IsTrimMoment, WritesWhereDays};
-ghost use Rattle.card_days.specs.Calls.{DroppedDays};
+ghost use Rattle.card_days.specs.Trim.{IsCuttingLast, IsTrimMoment, WritesWhereDays};
+ghost use Rattle.card_days.specs.Calls.{DroppedDays, TrimmedDays};
 
 use super::Circle;
 use crate::bytes::write_two;
@@ -180,13 +179,8 @@ impl Circle {
     pub(crate) fn trim<M: Medium>(&self, medium: &mut M, minute: u32) -> Result<(), Failed>
         requires fits { FileFitsIn self.now (M.state medium.old) }
         requires writable { LiesInside (M.state medium.old).writable self.now.base (4 + self.now.size) }
-        ensures trimmed { OnOk result (IfSome (M.state medium.old).image
-            (λ x. IfSome (M.state medium.new).image (IsTrim self.now minute x))) }
+        ensures trimmed { OnOk result (TrimmedDays self.now minute (M.state medium.old) (M.state medium.new)) }
         ensures moments { LeavesOnly (M.state medium.old) (M.state medium.new) (IsTrimMoment self.now minute) }
-        ensures settled { OnOk result (IfSome (M.state medium.old).image
-            (λ x. (days : List Day) → HoldsDays self.now x days → days ≢ [] → (M.state medium.new).clock < last_count
-            → IsSettled (M.state medium.new))) }
-        ensures still { OnOk result (SettlesIfSettled (M.state medium.old) (M.state medium.new)) }
         ensures empty { IfSome (M.state medium.old).image
             (λ x. HoldsDays self.now x [] → Reads (M.state medium.old) (M.state medium.new) (is_err result)) }
         ensures cause { HasCause (M.state medium.old) (M.state medium.new) (is_err result) }
