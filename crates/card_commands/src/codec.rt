@@ -91,7 +91,7 @@ pub fn behind_header(b: &[u8]) -> &[u8]
     &b[5..]
 }
 
-// A command with its data.
+/// A command with its data.
 fn with_data(header: Header, behind: &[u8]) -> Command
     requires { length behind.now ≤ WRITE_MOST }
     ensures { result ≡ command_with header behind.now }
@@ -107,7 +107,7 @@ fn with_data(header: Header, behind: &[u8]) -> Command
     }
 }
 
-// Whether P1 and P2 are those of the instruction.
+/// Whether P1 and P2 are those of the instruction.
 fn has_good_parameters(b: &[u8]) -> bool
     requires { 5 ≤ length b.now }
     ensures { result ≡ has_good_parameters b.now }
@@ -119,7 +119,7 @@ fn has_good_parameters(b: &[u8]) -> bool
     }
 }
 
-// Whether the length and the number of data bytes are those of the instruction.
+/// Whether the length and the number of data bytes are those of the instruction.
 fn has_good_length(b: &[u8]) -> bool
     requires { 5 ≤ length b.now }
     ensures { result ≡ has_good_length b.now }
@@ -132,7 +132,7 @@ fn has_good_length(b: &[u8]) -> bool
     }
 }
 
-// The command that these bytes are, which have passed the checks.
+/// The command that these bytes are, which have passed the checks.
 fn meaning(b: &[u8]) -> Header
     requires { command_of b.now ≡ Ok (meaning b.now) }
     ensures { command_with result (drop 5 b.now) ≡ meaning b.now }
@@ -150,7 +150,7 @@ fn meaning(b: &[u8]) -> Header
     }
 }
 
-// The number in two bytes, the highest first.
+/// The number in two bytes, the highest first.
 fn two_bytes(b: &[u8], place: usize) -> u16
     requires { place + 2 ≤ length b.now }
     ensures { result ≡ number_at b.now place 2 }
@@ -158,7 +158,7 @@ fn two_bytes(b: &[u8], place: usize) -> u16
     u16::from_be_bytes([b[place], b[place + 1]])
 }
 
-// These bytes, for which there is room.
+/// These bytes, for which there is room.
 fn held<const ROOM: usize>(bytes: &[u8]) -> ArrayVec<u8, ROOM>
     requires { length bytes.now ≤ ROOM }
     ensures { result.items ≡ bytes.now }
@@ -203,7 +203,7 @@ pub fn write_update(offset: u16, bytes: &[u8]) -> ArrayVec<u8, 260>
     written([0x00, UPDATE_BINARY, high, low, bytes.len() as u8], bytes)
 }
 
-// A header with data behind it.
+/// A header with data behind it.
 fn written(header: [u8; 5], bytes: &[u8]) -> ArrayVec<u8, 260>
     requires { length bytes.now ≤ WRITE_MOST }
     ensures { result.items ≡ header ++ bytes.now }

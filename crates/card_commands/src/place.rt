@@ -17,7 +17,7 @@ pub fn file_at(app: &Application, place: u32) -> ElementaryFile
     file_in(&files(app), place).unwrap()
 }
 
-// The same among files that stand one after the other.
+/// The same among files that stand one after the other.
 fn file_in(files: &[CardFile], place: u32) -> Option<ElementaryFile>
     requires { total_size files.now < 2 ^ 32 }
     ensures { result ≡ file_from 0 files.now place }

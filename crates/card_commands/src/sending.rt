@@ -12,7 +12,7 @@ use crate::codec::{write_command, write_update};
 use card_layout::{Command, Directory, ElementaryFile, Fid};
 use tach_media::{Answer, Chip, Failed};
 
-// Sends a command and takes its answer.
+/// Sends a command and takes its answer.
 fn send<C: Chip>(chip: &mut C, command: &Command, answer: &mut Answer) -> Result<(), Failed>
     requires { IsWritable command.now }
     ensures sent { OnOk result (IsSent command.now (C.state chip.old).image (C.card chip.old) (C.card chip.new)
@@ -117,7 +117,7 @@ pub fn update<C: Chip>(
     send_update(chip, offset, bytes, &mut Answer::new())
 }
 
-// Sends an update and takes its answer.
+/// Sends an update and takes its answer.
 fn send_update<C: Chip>(
     chip: &mut C,
     offset: u16,

@@ -71,7 +71,7 @@ pub fn counter_after(n: u32) -> u32
     if n >= 9999 { 0 } else { n + 1 }
 }
 
-// The second word, where there is one.
+/// The second word, where there is one.
 fn second(words: &[u16]) -> u16
     requires { 1 ≤ length words.now }
     ensures { length words.now ≡ 2 → result ≡ slice_index words.now 1 }

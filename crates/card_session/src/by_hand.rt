@@ -47,7 +47,7 @@ impl CardSession {
         Ok(())
     }
 
-    // Writes its word: on the newest day, or with its day.
+    /// Writes its word: on the newest day, or with its day.
     fn write_by_hand<M: Medium>(&mut self, port: &mut M, entry: &Manual) -> Result<(), Failed>
         requires card { MayKeep self.old.application (M.state port.old) }
         requires first { 1440 ≤ entry.now.minute }
@@ -71,7 +71,7 @@ impl CardSession {
         }
     }
 
-    // Adds its word to the newest day.
+    /// Adds its word to the newest day.
     fn append_by_hand<M: Medium>(&mut self, port: &mut M, entry: &Manual) -> Result<(), Failed>
         requires card { MayKeep self.old.application (M.state port.old) }
         ensures same { HasSame self.old self.new }
@@ -87,7 +87,7 @@ impl CardSession {
         self.days.add_change(port, manual_word(entry))
     }
 
-    // Begins its day with it.
+    /// Begins its day with it.
     fn begin_by_hand<M: Medium>(&mut self, port: &mut M, entry: &Manual) -> Result<(), Failed>
         requires card { MayKeep self.old.application (M.state port.old) }
         requires last { entry.now.minute ≤ LATEST_MINUTE }

@@ -99,7 +99,7 @@ impl Held {
         self.entries.as_slice()
     }
 
-    // The later of the card's newest minute and of the last entry by hand.
+    /// The later of the card's newest minute and of the last entry by hand.
     fn latest(&self, newest: u32) -> u32
         ensures { result ≡ last_minute newest self.now.entries }
     {
@@ -112,7 +112,7 @@ impl Held {
     }
 }
 
-// The first minute that was kept, behind a keep of a minute.
+/// The first minute that was kept, behind a keep of a minute.
 fn first_of(begun: Option<u32>, minute: u32) -> Option<u32>
     ensures { result ≡ first_of minute begun }
 {

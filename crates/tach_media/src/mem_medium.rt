@@ -163,7 +163,7 @@ impl Medium for MemMedium {
     }
 }
 
-// What is to be left of the call with this number, where it is to fail.
+/// What is to be left of the call with this number, where it is to fail.
 fn stop_at(stops: &[Stop], call: u64) -> Option<Left>
     ensures { result ≡ option_map (λ s. s.left) (find (λ s. s.call == call) stops.now) }
 {

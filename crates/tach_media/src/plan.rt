@@ -65,7 +65,7 @@ impl<const N: usize, const B: usize> Plan<N, B> {
     }
 }
 
-// These bytes, for which there is room.
+/// These bytes, for which there is room.
 fn kept<const B: usize>(bytes: &[u8]) -> ArrayVec<u8, B>
     requires { length bytes.now ≤ B }
     ensures { result.items ≡ bytes.now }

@@ -25,7 +25,7 @@ use tach_media::{Failed, Medium, put_pieces};
 use tacho_types::{Bcd2, Distance, TimeReal};
 
 impl Days {
-    // Makes the writes of a change: how many bytes are in use then.
+    /// Makes the writes of a change: how many bytes are in use then.
     fn change<M: Medium>(&self, medium: &mut M, word: u16) -> Result<u32, Failed>
         requires fits { FileFitsIn self.now.shape (M.state medium.old) }
         requires writable { LiesInside (M.state medium.old).writable self.now.shape.base (4 + self.now.shape.size) }
@@ -48,7 +48,7 @@ impl Days {
         Ok(left + 2)
     }
 
-    // Makes the writes of a new day: how many bytes are in use then.
+    /// Makes the writes of a new day: how many bytes are in use then.
     fn begin<M: Medium>(&self, medium: &mut M, date: u32, words: &[u16]) -> Result<u32, Failed>
         requires fits { FileFitsIn self.now.shape (M.state medium.old) }
         requires writable { LiesInside (M.state medium.old).writable self.now.shape.base (4 + self.now.shape.size) }
@@ -77,7 +77,7 @@ impl Days {
         Ok(twice + new)
     }
 
-    // The tail with that day.
+    /// The tail with that day.
     fn new_tail(&self, date: TimeReal, words: &[u16], used: u32) -> Tail
         requires some { 1 ≤ length words.now }
         requires few { length words.now ≤ 2 }
@@ -162,7 +162,7 @@ impl Days {
         Ok(())
     }
 
-    // Clears the length before the oldest day.
+    /// Clears the length before the oldest day.
     fn clear_oldest<M: Medium>(&self, medium: &mut M) -> Result<(), Failed>
         requires fits { FileFitsIn self.now.shape (M.state medium.old) }
         requires writable { LiesInside (M.state medium.old).writable self.now.shape.base (4 + self.now.shape.size) }
@@ -201,7 +201,7 @@ impl Days {
         self.clear_oldest(medium)
     }
 
-    // Writes the distance of the newest day.
+    /// Writes the distance of the newest day.
     fn write_km<M: Medium>(&self, medium: &mut M, km: u16) -> Result<(), Failed>
         requires fits { FileFitsIn self.now.shape (M.state medium.old) }
         requires writable { LiesInside (M.state medium.old).writable self.now.shape.base (4 + self.now.shape.size) }
@@ -261,7 +261,7 @@ impl Days {
     }
 }
 
-// The tail with a word more.
+/// The tail with a word more.
 fn with_word(tail: &Tail, word: u16, used: u32) -> Tail
     ensures tail { result ≡ tail_more tail.now word used }
     ensures few { tail.now.head.words ≤ 1440 → result.head.words ≤ 1440 }
@@ -280,7 +280,7 @@ fn with_word(tail: &Tail, word: u16, used: u32) -> Tail
     }
 }
 
-// The tail with another distance of the newest day.
+/// The tail with another distance of the newest day.
 fn with_km(tail: &Tail, km: Distance) -> Tail
     ensures tail { result ≡ tail_km tail.now km.0 }
 {
