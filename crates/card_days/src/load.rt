@@ -1,3 +1,4 @@
+//! The string is judged day by day, from the oldest to the newest.
 ghost use Rattle.std.specs.Prelude.{◌≡◌, ◌≤◌, ◌<◌, ◌+◌, ◌*◌, ◌%◌, Some, None, true, drop, IfOk, IfErr, IfSome, IfNone};
 ghost use Rattle.std.specs.Prelude.{OnOk, is_err, ◌&&◌, nat_le, nat_lt};
 ghost use Rattle.card_model.specs.declared.lengths.TheConstants.{DAY_LEAST, DAY_MOST, DAYS_MOST};
@@ -16,12 +17,13 @@ use crate::DaysFault;
 use crate::bytes::read_two;
 use crate::circle::Circle;
 use crate::head::RecordHead;
+use activity_codec::{DAY_MINUTES, DAY_SECONDS};
 use card_layout::Range;
-use card_model::lengths::{DAY_LEAST, DAY_MOST};
+use card_model::lengths::{DAY_HEAD, DAY_LEAST, DAY_MOST};
 use tach_media::{Failed, Medium};
 
 impl Circle {
-    // Whether a length is that of a day behind so many bytes.
+    /// Whether a length is that of a day behind so many bytes.
     fn is_len(&self, so_far: u32, len: u32) -> bool
         requires short { so_far < 65536 }
         requires low { len < 65536 }
@@ -31,7 +33,7 @@ impl Circle {
         len % 2 == 0 && DAY_LEAST <= len && len <= DAY_MOST && so_far + len <= size
     }
 
-    // The offset of the first field of a record that fails.
+    /// The offset of the first field of a record that fails.
     fn first_bad_field(&self, head: &RecordHead, so_far: u32, before: u32, date: u32) -> Option<u32>
         requires below { so_far < self.now.size }
         requires even { so_far % 2 ≡ 0 }
@@ -58,7 +60,7 @@ impl Circle {
         None
     }
 
-    // The offset of the first word of a record that fails.
+    /// The offset of the first word of a record that fails.
     fn first_bad_word<M: Medium>(
         &self,
         medium: &mut M,
@@ -81,19 +83,19 @@ impl Circle {
         let mut below = 1;
         let mut index = 0;
         while index < count {
-            let offset = 12 + 2 * index;
+            let offset = DAY_HEAD + 2 * index;
             let minute = self.two_at(medium, place, offset)? % 2048;
             if !is_between(from, minute, below) {
                 return Ok(Some(offset));
             }
             from = minute;
-            below = 1440;
+            below = DAY_MINUTES;
             index += 1;
         }
         Ok(None)
     }
 
-    // The fault of a string that fails so far behind the oldest day.
+    /// The fault of a string that fails so far behind the oldest day.
     fn bad_at(&self, oldest: u32, distance: u32) -> DaysFault
         requires pointer { IsPointer self.now.size oldest }
         requires even { distance % 2 ≡ 0 }
@@ -105,8 +107,8 @@ impl Circle {
         DaysFault::BadDays(4 + self.spot(oldest, distance))
     }
 
-    // The head of the record that begins so far behind the oldest day, where it passes its checks. The day before has
-    // this length and this date.
+    /// The head of the record that begins so far behind the oldest day, where it passes its checks. The day before has
+    /// this length and this date.
     fn check_day<M: Medium>(
         &self,
         medium: &mut M,
@@ -135,14 +137,14 @@ impl Circle {
         if let Some(offset) = self.first_bad_field(&head, so_far, before, date) {
             return Err(self.bad_at(oldest, so_far + offset));
         }
-        let count = (head.len as u32 - 12) / 2;
+        let count = (head.len as u32 - DAY_HEAD) / 2;
         if let Some(offset) = self.first_bad_word(medium, place, count)? {
             return Err(self.bad_at(oldest, so_far + offset));
         }
         Ok(head)
     }
 
-    // Walks from the oldest day to the newest, which begins so far behind it.
+    /// Walks from the oldest day to the newest, which begins so far behind it.
     fn check_days<M: Medium>(
         &self,
         medium: &mut M,
@@ -182,7 +184,7 @@ impl Circle {
         }
     }
 
-    // Whether there is no day: both pointers are equal, and the length there is 0.
+    /// Whether there is no day: both pointers are equal, and the length there is 0.
     fn is_empty<M: Medium>(&self, medium: &mut M, oldest: u32, newest: u32) -> Result<bool, Failed>
         requires works { (M.state medium.old).works ≡ true }
         requires fits { FileFitsIn self.now (M.state medium.old) }
@@ -199,17 +201,17 @@ impl Circle {
         Ok(len == 0)
     }
 
-    // Whether a number is a pointer into the string.
+    /// Whether a number is a pointer into the string.
     fn is_pointer(&self, n: u32) -> bool
         ensures { result ≡ is_pointer self.now.size n }
     {
         n < self.size() && n % 2 == 0
     }
 
-    // The days of a range, which is the file Driver_Activity_Data. It writes nothing. `BadDays` comes exactly where the
-    // string holds no list of days, with the place in the file where it first fails: the pointers; then of each day,
-    // oldest first, its length, the length of the day before, its date, its counter and its words; and that the next
-    // day begins at the newest pointer or before it.
+    /// The days of a range, which is the file Driver_Activity_Data. It writes nothing. `BadDays` comes exactly where
+    /// the string holds no list of days, with the place in the file where it first fails: the pointers; then of each
+    /// day, oldest first, its length, the length of the day before, its date, its counter and its words; and that the
+    /// next day begins at the newest pointer or before it.
     pub(crate) fn load<M: Medium>(medium: &mut M, range: Range) -> Result<Circle, DaysFault>
         requires inside { range.base + range.len ≤ (M.state medium.old).size }
         requires even { range.len % 2 ≡ 0 }
@@ -223,7 +225,7 @@ impl Circle {
         ensures place { IfErr result (λ fault. IfBadDays fault (λ p. p < range.len)) }
         ensures reads { Reads (M.state medium.old) (M.state medium.new) (has_failed result) }
     {
-        // so the range ends below 2 ^ 32
+        // for the proof alone: a size is below 2 ^ 32, and so the range ends there
         let _size = medium.size();
         let days = Circle::of(range);
         let oldest = read_two(medium, range.base)?;
@@ -243,28 +245,28 @@ impl Circle {
     }
 }
 
-// Whether a minute is not before one and before another.
+/// Whether a minute is not before one and before another.
 fn is_between(from: u32, minute: u32, below: u32) -> bool
     ensures { result ≡ (nat_le from minute && nat_lt minute below) }
 {
     from <= minute && minute < below
 }
 
-// Whether a previous length is that of the day before, which is not asked of the oldest day.
+/// Whether a previous length is that of the day before, which is not asked of the oldest day.
 fn is_previous(so_far: u32, before: u32, previous: u32) -> bool
     ensures { result ≡ is_previous so_far before previous }
 {
     so_far == 0 || previous == before
 }
 
-// Whether a date is a midnight later than the date before.
+/// Whether a date is a midnight later than the date before.
 fn is_date(before: u32, date: u32) -> bool
     ensures { result ≡ is_date before date }
 {
-    date % 86400 == 0 && before < date
+    date % DAY_SECONDS == 0 && before < date
 }
 
-// Whether the half-bytes of a number are decimal digits.
+/// Whether the half-bytes of a number are decimal digits.
 fn is_decimal(n: u32) -> bool
     ensures { result ≡ is_decimal n }
 {

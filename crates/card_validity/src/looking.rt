@@ -13,7 +13,7 @@ ghost use Rattle.card_validity.specs.Judged.{IsCopy, TellsSizes, IsSized, IsKnow
 
 use crate::files::last_use;
 use crate::{BadFile, InsertFault, Judged, judge_image};
-use activity_codec::WORD_MINUTES;
+use activity_codec::{MINUTE_SECONDS, WORD_MINUTES};
 use card_files::{Vehicle, file_of};
 use card_layout::{Application, Fid, LARGEST_IMAGE};
 use tach_media::{Failed, Medium};
@@ -49,7 +49,7 @@ const FIRST_NAMES: usize = 101;
 /// The card type of a driver card.
 const DRIVER_CARD: u8 = 1;
 
-// Reads the files that are judged, one after the other, into their places in room for an image.
+/// Reads the files that are judged, one after the other, into their places in room for an image.
 fn read_files<M: Medium>(port: &mut M, app: &Application, room: &mut [u8]) -> Result<(), Failed>
     requires sizes { IsApplication app.now }
     requires fits { image_size_of app.now ≤ (M.state port.old).size }
@@ -88,24 +88,26 @@ pub fn judge<M: Medium>(port: &mut M, app: &Application) -> Result<Judged, Inser
     }
 }
 
-// The newest minute of a card, of the days that count.
+/// The newest minute of a card, of the days that count.
 fn newest_minute(judged: &Judged) -> u32
     ensures { (app : Application) (x : List ℕ) → IsKnown app x judged.now
         → result ≡ max (end_mark app x) (newest_word
         (counting (session_time app x) (end_mark app x) (card_days app x))) }
 {
-    let mark = last_use(&judged.vehicle).0 / 60;
+    let mark = last_use(&judged.vehicle).0 / MINUTE_SECONDS;
     let session = judged.current.session.0;
     if session != 0 {
         return mark;
     }
     match judged.days.tail() {
         None => mark,
-        Some(tail) => mark.max(tail.head.date.0 / 60 + u32::from(tail.latest % WORD_MINUTES)),
+        Some(tail) => {
+            mark.max(tail.head.date.0 / MINUTE_SECONDS + u32::from(tail.latest % WORD_MINUTES))
+        }
     }
 }
 
-// The card's number, of a driver card with these bytes of Identification.
+/// The card's number, of a driver card with these bytes of Identification.
 fn number_of(identification: &[u8]) -> FullCardNumber
     requires { length identification.now ≡ IDENTIFICATION }
     ensures { result ≡ card_number_of (1 ∷ take 17 identification.now) }

@@ -9,20 +9,21 @@ ghost use Rattle.card_image.specs.Judging.{words_placed, rising_checks, newest_r
 ghost use Rattle.card_validity.specs.Words.{passes_after, first_of, limit_of};
 ghost use Rattle.card_validity.specs.Walks.{IsInMemory, IsMet, IsLastOf};
 ghost use Rattle.card_layout.specs.declared.files.TheConstants.{STRING_MOST};
-ghost use Rattle.card_validity.specs.declared.behind.TheConstants.{LAST_MINUTE};
+ghost use Rattle.activity_codec.specs.declared.day.TheConstants.{LAST_MINUTE};
 
-use crate::behind::{DAY_MINUTES, date_of};
+use crate::behind::date_of;
 use crate::memory::word;
 use crate::round::Round;
-use crate::walk::{HEAD, Met, walk};
-use activity_codec::WORD_MINUTES;
+use crate::walk::{Met, walk};
+use activity_codec::{DAY_MINUTES, WORD_MINUTES};
 use card_days::Days;
+use card_model::lengths::DAY_HEAD;
 
 /// No minute of a word is later.
 const ANY_MINUTE: u16 = 2047;
 
-// The place of the first word of a day, among those up to a minute of the day, that is not later than the one before
-// it.
+/// The place of the first word of a day, among those up to a minute of the day, that is not later than the one before
+/// it.
 fn first_not_later(days: &Days, image: &[u8], round: &Round, met: &Met, limit: u16) -> Option<u32>
     requires known { IsInMemory days.now.shape image.now }
     requires size { round.now.size ≡ days.now.shape.size }
@@ -42,14 +43,14 @@ fn first_not_later(days: &Days, image: &[u8], round: &Round, met: &Met, limit: u
             return None;
         }
         if !is_later(before, minute) {
-            return Some(round.file_place(met.so_far + HEAD + 2 * index as u32));
+            return Some(round.file_place(met.so_far + DAY_HEAD + 2 * index as u32));
         }
         before = Some(minute);
     }
     None
 }
 
-// Whether a minute is later than the one before it, if there is one.
+/// Whether a minute is later than the one before it, if there is one.
 fn is_later(before: Option<u16>, minute: u16) -> bool
     ensures { result ≡ passes_after before minute }
 {
@@ -86,7 +87,7 @@ pub fn first_bad_word(
     first_of(walked.behind.answer(), rising)
 }
 
-// The first of two, if there is one.
+/// The first of two, if there is one.
 fn first_of(first: Option<u32>, second: Option<u32>) -> Option<u32>
     ensures { result ≡ first_of first second }
 {
@@ -96,7 +97,7 @@ fn first_of(first: Option<u32>, second: Option<u32>) -> Option<u32>
     }
 }
 
-// The place of the first word of the newest day that is not later than the one before it.
+/// The place of the first word of the newest day that is not later than the one before it.
 fn first_of_newest(days: &Days, image: &[u8], round: &Round, newest: Option<Met>) -> Option<u32>
     requires known { IsInMemory days.now.shape image.now }
     requires size { round.now.size ≡ days.now.shape.size }
@@ -112,7 +113,7 @@ fn first_of_newest(days: &Days, image: &[u8], round: &Round, newest: Option<Met>
     }
 }
 
-// The same of the newest day up to the mark.
+/// The same of the newest day up to the mark.
 fn first_of_cut(
     days: &Days,
     image: &[u8],
@@ -138,7 +139,7 @@ fn first_of_cut(
     }
 }
 
-// Up to which minute a day counts that is not later than the mark's: the mark's own up to the mark.
+/// Up to which minute a day counts that is not later than the mark's: the mark's own up to the mark.
 fn limit_of(mark: u32, date: u32) -> u16
     requires { mark ≤ LAST_MINUTE }
     ensures { result ≡ limit_of mark date }

@@ -1,3 +1,4 @@
+//! What a device counts of its failures.
 ghost use Rattle.std.specs.Prelude.{◌≡◌, ◌+◌, ◌≤◌, false, true};
 ghost use Rattle.tach_media.specs.Medium.{Rose};
 
@@ -35,6 +36,7 @@ impl Counts {
         ensures once { self.new.breakdowns ≤ self.old.breakdowns + 1 }
     {
         self.faults = self.faults.saturating_add(1);
+        // for the proof alone: what was read is below 2 ^ 64
         let _breakdowns = self.breakdowns;
         if self.works {
             self.breakdowns = self.breakdowns.saturating_add(1);

@@ -1,6 +1,7 @@
+//! The writes of a call on the string, in their order, before the first of them is made.
 ghost use Rattle.std.specs.Prelude.{◌≡◌, ◌≤◌, ◌<◌, ◌+◌, ◌-◌, ◌*◌, ◌%◌, ◌∷◌, [], length, true, IfOk, OnOk, OnErr};
 ghost use Rattle.std.specs.Prelude.{IfSome};
-ghost use Rattle.card_model.specs.declared.lengths.TheConstants.{DAY_MOST};
+ghost use Rattle.card_model.specs.declared.lengths.TheConstants.{DAY_LEAST, DAY_MOST};
 ghost use Rattle.tach_media.specs.Medium.{Reads};
 ghost use Rattle.tach_media.specs.Plan.{more, none, piece};
 ghost use Rattle.card_model.specs.Bytes.{two_bytes};
@@ -13,6 +14,7 @@ ghost use Rattle.card_days.specs.Plans.{day_pieces, count_of};
 
 use super::Days;
 use crate::bytes::{counter_after, read_two};
+use card_model::lengths::{DAY_HEAD, DAY_LEAST, DAY_MOST};
 use tach_media::{Failed, Medium, Plan};
 
 /// The writes of a call: two drops of two, and a day of five.
@@ -26,22 +28,22 @@ pub fn two_bytes(n: u32) -> [u8; 2]
     [(n / 256) as u8, (n % 256) as u8]
 }
 
-// A number as the length of a day that goes, which counts the least of a day where it is none.
+/// A number as the length of a day that goes, which counts the least of a day where it is none.
 fn dropped_len(n: u32) -> u32
     ensures len { result ≡ dropped_len n }
     ensures even { result % 2 ≡ 0 }
-    ensures least { 14 ≤ result }
+    ensures least { DAY_LEAST ≤ result }
     ensures most { result ≤ DAY_MOST }
 {
-    if n % 2 == 0 && 14 <= n && n <= 2892 {
+    if n % 2 == 0 && DAY_LEAST <= n && n <= DAY_MOST {
         n
     } else {
-        14
+        DAY_LEAST
     }
 }
 
 impl Days {
-    // The length of the newest day, 0 without one.
+    /// The length of the newest day, 0 without one.
     pub(crate) fn newest_len(&self) -> u32
         ensures len { result ≡ newest_len self.now }
         ensures even { result % 2 ≡ 0 }
@@ -50,11 +52,11 @@ impl Days {
         if self.tail.used == 0 {
             0
         } else {
-            12 + 2 * self.tail.head.words as u32
+            DAY_HEAD + 2 * self.tail.head.words as u32
         }
     }
 
-    // The place behind the newest day.
+    /// The place behind the newest day.
     pub(crate) fn end(&self) -> u32
         ensures place { result ≡ end_of self.now }
         ensures pointer { IsPointer self.now.shape.size result }
@@ -63,7 +65,7 @@ impl Days {
         self.circle.spot(self.tail.head.place, self.newest_len())
     }
 
-    // Where the oldest day begins, if the days have so many bytes.
+    /// Where the oldest day begins, if the days have so many bytes.
     pub(crate) fn oldest(&self, used: u32) -> u32
         requires most { used ≤ self.now.shape.size }
         requires even { used % 2 ≡ 0 }
@@ -74,7 +76,7 @@ impl Days {
         self.circle.spot(self.end(), self.circle.size() - used)
     }
 
-    // No write on the string yet.
+    /// No write on the string yet.
     pub(crate) fn writing(&self) -> Writing
         ensures { result ≡ none self.now.shape.base (self.now.shape.base + (4 + self.now.shape.size)) }
     {
@@ -82,7 +84,7 @@ impl Days {
         Writing::new(base, base + (4 + self.circle.size()))
     }
 
-    // Adds a write on the string.
+    /// Adds a write on the string.
     pub(crate) fn plan_at(&self, plan: &mut Writing, place: u32, bytes: &[u8])
         requires from { plan.old.from ≡ self.now.shape.base }
         requires end { plan.old.end ≡ self.now.shape.base + (4 + self.now.shape.size) }
@@ -95,7 +97,7 @@ impl Days {
         plan.put(self.circle.base() + 4 + place, bytes);
     }
 
-    // Adds the write of a number on the string.
+    /// Adds the write of a number on the string.
     pub(crate) fn plan_two(&self, plan: &mut Writing, place: u32, n: u32)
         requires from { plan.old.from ≡ self.now.shape.base }
         requires end { plan.old.end ≡ self.now.shape.base + (4 + self.now.shape.size) }
@@ -107,7 +109,7 @@ impl Days {
         self.plan_at(plan, place, &two_bytes(n));
     }
 
-    // Adds a drop of the oldest day, after which so many bytes are in use.
+    /// Adds a drop of the oldest day, after which so many bytes are in use.
     fn plan_drop(&self, plan: &mut Writing, left: u32)
         requires from { plan.old.from ≡ self.now.shape.base }
         requires end { plan.old.end ≡ self.now.shape.base + (4 + self.now.shape.size) }
@@ -122,7 +124,7 @@ impl Days {
         self.plan_two(plan, oldest, 0);
     }
 
-    // Adds the drop of the oldest day, where these and so many bytes more do not fit: how many are in use then.
+    /// Adds the drop of the oldest day, where these and so many bytes more do not fit: how many are in use then.
     pub(crate) fn make_room<M: Medium>(
         &self,
         medium: &mut M,
@@ -157,7 +159,7 @@ impl Days {
         Ok(left)
     }
 
-    // Adds a word behind the newest day, and the length that counts it.
+    /// Adds a word behind the newest day, and the length that counts it.
     pub(crate) fn plan_word(&self, plan: &mut Writing, word: u16)
         requires from { plan.old.from ≡ self.now.shape.base }
         requires end { plan.old.end ≡ self.now.shape.base + (4 + self.now.shape.size) }
@@ -169,7 +171,7 @@ impl Days {
         self.plan_two(plan, field, self.newest_len() + 2);
     }
 
-    // Adds bytes on the string, round its end.
+    /// Adds bytes on the string, round its end.
     fn plan_round(&self, plan: &mut Writing, place: u32, bytes: &[u8])
         requires from { plan.old.from ≡ self.now.shape.base }
         requires end { plan.old.end ≡ self.now.shape.base + (4 + self.now.shape.size) }
@@ -189,7 +191,7 @@ impl Days {
         self.plan_at(plan, 0, &bytes[room..]);
     }
 
-    // Adds the newest pointer, where it differs.
+    /// Adds the newest pointer, where it differs.
     fn plan_pointer(&self, plan: &mut Writing, place: u32)
         requires from { plan.old.from ≡ self.now.shape.base }
         requires end { plan.old.end ≡ self.now.shape.base + (4 + self.now.shape.size) }
@@ -203,7 +205,7 @@ impl Days {
         plan.put(self.circle.base() + 2, &two_bytes(place));
     }
 
-    // Adds a day behind the newest: the length before it, its body, its length, and the newest pointer.
+    /// Adds a day behind the newest: the length before it, its body, its length, and the newest pointer.
     pub(crate) fn plan_day(&self, plan: &mut Writing, bytes: &[u8])
         requires from { plan.old.from ≡ self.now.shape.base }
         requires end { plan.old.end ≡ self.now.shape.base + (4 + self.now.shape.size) }
@@ -219,7 +221,7 @@ impl Days {
         self.plan_pointer(plan, place);
     }
 
-    // The counter of the next day.
+    /// The counter of the next day.
     pub(crate) fn next_counter(&self) -> u32
         ensures counter { result ≡ count_of self.now }
         ensures most { result ≤ 9999 }
