@@ -1,5 +1,5 @@
 ghost use Rattle.unit_model.specs.declared.layout.TheConstants.{IMAGE_SIZE};
-ghost use Rattle.std.specs.Prelude.{◌≡◌, ℕ, ◌≤◌, ◌<◌, [], ◌∷◌, IfOk, OnOk, OnErr, IfErr, IfSome, Some, List, length};
+ghost use Rattle.std.specs.Prelude.{◌≡◌, ◌≤◌, ◌<◌, [], ◌∷◌, IfOk, OnOk, OnErr, IfErr, IfSome, length};
 ghost use Rattle.std.specs.Prelude.{take};
 ghost use Rattle.tach_media.specs.Medium.{Rose};
 ghost use Rattle.link_model.specs.declared.side.End.TheVariants as side;
@@ -7,13 +7,11 @@ ghost use Rattle.link_model.specs.Hearing.{heard_in, kept_after};
 ghost use Rattle.link_model.specs.Answers.{Idle};
 ghost use Rattle.link_frames.specs.Seen.{meant};
 ghost use Rattle.message_model.specs.Sending.{content_sent};
-ghost use Rattle.unit_model.specs.Decoding.{first_bad_place};
-ghost use Rattle.unit_minutes.specs.Reading.{ReadsIfAny};
 ghost use Rattle.link_session.specs.Told.{Knows, fresh};
 ghost use Rattle.std.specs.Io.KnownBytes.{Appends};
 ghost use Rattle.tach_media.specs.Streams.{AppendsFront};
 ghost use Rattle.link_session.specs.Lines.{listening, spelled, IsAnswered};
-ghost use Rattle.link_session.specs.Served.{Stops, StopsWithin, has_failed, IsCaused};
+ghost use Rattle.link_session.specs.Served.{Stops, StopsWithin, LinkGoes};
 
 use crate::Session;
 use crate::fault::ServeFault;
@@ -68,11 +66,7 @@ impl Line {
         ensures stops { IfErr result (λ fault. IfSome (U.state unit.old).image (λ x.
             Stops spelling fault (content_sent x) self.old.session.state
             (heard_in side.Unit self.old.scanner.kept bytes.now) (K.held sink.old) (K.held sink.new))) }
-        ensures cause { IfErr result (λ fault.
-            IsCaused fault ⊥ (Rose (K.faults sink.old) (K.faults sink.new))
-            (λ p. IfSome (U.state unit.old).image (λ x. first_bad_place x ≡ Some p))) }
-        ensures counts { K.faults sink.old ≤ K.faults sink.new }
-        ensures unit { ReadsIfAny (U.state unit.old) (U.state unit.new) (has_failed result) }
+        ensures goes { LinkGoes result (U.state unit.old) (U.state unit.new) (K.faults sink.old) (K.faults sink.new) }
     {
         let mut done = 0usize;
         while done < bytes.len() {
@@ -104,11 +98,7 @@ impl Line {
         ensures stops { IfErr result (λ fault. IfSome (U.state unit.old).image (λ x.
             StopsWithin spelling fault (content_sent x) self.old.session.state self.old.scanner.kept left bytes.now
             (K.held sink.old) (K.held sink.new))) }
-        ensures cause { IfErr result (λ fault.
-            IsCaused fault ⊥ (Rose (K.faults sink.old) (K.faults sink.new))
-            (λ p. IfSome (U.state unit.old).image (λ x. first_bad_place x ≡ Some p))) }
-        ensures counts { K.faults sink.old ≤ K.faults sink.new }
-        ensures unit { ReadsIfAny (U.state unit.old) (U.state unit.new) (has_failed result) }
+        ensures goes { LinkGoes result (U.state unit.old) (U.state unit.new) (K.faults sink.old) (K.faults sink.new) }
     {
         if bytes.len() <= left {
             return self.answer(spelling, bytes, sink, unit);
@@ -140,11 +130,7 @@ impl Line {
         ensures stops { IfErr result (λ fault. IfSome (U.state unit.old).image (λ x.
             Stops spelling fault (content_sent x) self.old.session.state
             (heard_in side.Unit self.old.scanner.kept bytes.now) (K.held sink.old) (K.held sink.new))) }
-        ensures cause { IfErr result (λ fault.
-            IsCaused fault ⊥ (Rose (K.faults sink.old) (K.faults sink.new))
-            (λ p. IfSome (U.state unit.old).image (λ x. first_bad_place x ≡ Some p))) }
-        ensures counts { K.faults sink.old ≤ K.faults sink.new }
-        ensures unit { ReadsIfAny (U.state unit.old) (U.state unit.new) (has_failed result) }
+        ensures goes { LinkGoes result (U.state unit.old) (U.state unit.new) (K.faults sink.old) (K.faults sink.new) }
     {
         let (taken, heard) = self.scanner.feed(bytes);
         let Some(seen) = heard else {
@@ -172,11 +158,7 @@ fn answer_frame<K: Sink, U: Medium>(
     ensures stops { IfErr result (λ fault. IfSome (U.state unit.old).image (λ x.
         Stops spelling fault (content_sent x) session.old.state (meant seen.now ∷ []) (K.held sink.old)
         (K.held sink.new))) }
-    ensures cause { IfErr result (λ fault.
-        IsCaused fault ⊥ (Rose (K.faults sink.old) (K.faults sink.new))
-        (λ p. IfSome (U.state unit.old).image (λ x. first_bad_place x ≡ Some p))) }
-    ensures counts { K.faults sink.old ≤ K.faults sink.new }
-    ensures unit { ReadsIfAny (U.state unit.old) (U.state unit.new) (has_failed result) }
+    ensures goes { LinkGoes result (U.state unit.old) (U.state unit.new) (K.faults sink.old) (K.faults sink.new) }
 {
     let answer = session.answer(unit, seen)?;
     let Some(frame) = answer else {

@@ -1,4 +1,4 @@
-ghost use Rattle.std.specs.Prelude.{◌≡◌, ℕ, ◌+◌, ◌≤◌, ◌<◌, ◌++◌, [], ◌∷◌, length, OnOk, OnErr, IfErr, IfSome, Some};
+ghost use Rattle.std.specs.Prelude.{◌≡◌, ◌+◌, ◌≤◌, ◌<◌, ◌++◌, [], ◌∷◌, length, OnOk, IfErr, IfSome, Some};
 ghost use Rattle.std.specs.Io.KnownBytes.{IsAtEnd};
 ghost use Rattle.tach_media.specs.Medium.{Rose};
 ghost use Rattle.text_fields.specs.Pieces.{pieces};
@@ -11,7 +11,7 @@ ghost use Rattle.link_session.specs.Told.{Knows, fresh};
 ghost use Rattle.link_session.specs.declared.fault.LinesFault.TheVariants.{Memory};
 ghost use Rattle.link_session.specs.Lines.{listening};
 ghost use Rattle.link_session.specs.ServedLines.{AreServed, have_failed, AreCaused, AreHeard, IsHeard, StopsAt};
-ghost use Rattle.link_session.specs.ServedLines.{StopsAmong, WholeAnswered};
+ghost use Rattle.link_session.specs.ServedLines.{StopsAmong, WholeAnswered, LinesGo};
 ghost use Rattle.link_session.specs.Asked.{AnswersInTime};
 
 use crate::fault::{LinesFault, ServeFault};
@@ -75,11 +75,7 @@ impl Lines {
         ensures stops { IfErr result (λ fault. IfSome (U.state unit.old).image (λ x.
             StopsAt fault (content_sent x) self.old.line.session.state self.old.line.scanner.kept self.old.text.items
             (self.old.whole + 1) (K.held sink.old) (K.held sink.new))) }
-        ensures cause { IfErr result (λ fault.
-            AreCaused fault ⊥ (Rose (K.faults sink.old) (K.faults sink.new))
-            (λ p. IfSome (U.state unit.old).image (λ x. first_bad_place x ≡ Some p))) }
-        ensures counts { K.faults sink.old ≤ K.faults sink.new }
-        ensures unit { ReadsIfAny (U.state unit.old) (U.state unit.new) (have_failed result) }
+        ensures goes { LinesGo result (U.state unit.old) (U.state unit.new) (K.faults sink.old) (K.faults sink.new) }
     {
         self.whole += 1;
         let bytes = match read_line(self.alloc, self.text.as_slice()) {
@@ -118,11 +114,7 @@ impl Lines {
         ensures stops { IfErr result (λ fault. IfSome (U.state unit.old).image (λ x.
             StopsAmong fault ⊥ (pieces 10 (self.old.text.items ++ text.now)) (content_sent x) self.old.whole
             self.old.line.scanner.kept self.old.line.session.state (K.held sink.old) (K.held sink.new))) }
-        ensures cause { IfErr result (λ fault.
-            AreCaused fault ⊥ (Rose (K.faults sink.old) (K.faults sink.new))
-            (λ p. IfSome (U.state unit.old).image (λ x. first_bad_place x ≡ Some p))) }
-        ensures counts { K.faults sink.old ≤ K.faults sink.new }
-        ensures unit { ReadsIfAny (U.state unit.old) (U.state unit.new) (have_failed result) }
+        ensures goes { LinesGo result (U.state unit.old) (U.state unit.new) (K.faults sink.old) (K.faults sink.new) }
     {
         let (front, mut behind) = first_piece(text, b'\n');
         self.keep(front)?;
