@@ -18,7 +18,7 @@ use Rattle.noisy_model.specs.Ends.{Sides, Taken, request_of}
 use Rattle.noisy_model.specs.Worlds.{World, fresh_world, Passes}
 use Rattle.noisy_link.specs.Sides.{Sized, IsReply, asked, puts_of}
 use Rattle.noisy_link.specs.Steps.{frame_of, brought_by}
-use Rattle.noisy_download.specs.Ending.{IsDownloaded}
+use Rattle.unit_download.specs.Ending.{IsDownloaded}
 
 -- a loader, and the exchanges that have passed with it
 pub record Listing : Type 0 where

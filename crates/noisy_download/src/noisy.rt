@@ -4,11 +4,10 @@ ghost use Rattle.unit_model.specs.declared.layout.TheConstants.{IMAGE_SIZE};
 ghost use Rattle.unit_model.specs.Image.{IsUnit};
 ghost use Rattle.unit_minutes.specs.Reading.{ReadsIfAny};
 ghost use Rattle.link_session.specs.Told.{Knows};
-ghost use Rattle.unit_download.specs.Ending.{has_failed};
+ghost use Rattle.unit_download.specs.Ending.{has_failed, IsDownloaded};
 ghost use Rattle.noisy_model.specs.Ends.{request_of};
 ghost use Rattle.noisy_link.specs.Sides.{asked};
 ghost use Rattle.noisy_link.specs.Steps.{frame_of, brought_by};
-ghost use Rattle.noisy_download.specs.Ending.{IsDownloaded};
 ghost use Rattle.noisy_download.specs.Listing.{DownloadGoesOn, IsListed, RequestIsListed, AnswerIsListed, IsUnderway};
 
 use crate::draws::drawn_event;
