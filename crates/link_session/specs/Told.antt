@@ -1,13 +1,15 @@
 -- A session as its callers see it, and why it does not answer.
 use Rattle.std.specs.Prelude.{◌≡◌, ◌||◌, ℕ, Bool, true, false, Result, Ok, Err, Option, Some, None, IfSome, IfErr, OnOk, is_some, List}
+use Rattle.std.specs.Prelude.{OnErr}
 use Rattle.link_model.specs.Answers.{LinkState}
 use Rattle.unit_model.specs.Decoding.{Decodes, first_bad_place}
 use Rattle.unit_minutes.specs.declared.notes.Notes.{Notes}
-use Rattle.unit_minutes.specs.Reading.{AreRight}
+use Rattle.unit_minutes.specs.Reading.{AreRight, ReadsIfAny}
 use Rattle.unit_messages.specs.declared.outline.Plan.{Plan}
 use Rattle.unit_messages.specs.Outlines.{Outlines}
 use Rattle.link_session.specs.declared.asking.AnswerFault.{AnswerFault}
 use Rattle.link_session.specs.declared.asking.AnswerFault.TheVariants.{Failed, BadUnit}
+use Rattle.tach_media.specs.Medium.{State}
 
 -- where the session stands; the notes of its unit's journal, from when it was judged on; and the outline of the message
 -- that was asked for last
@@ -57,3 +59,16 @@ pub record AnswersNot {T : Type 0} (result : Result T AnswerFault) (asks : Bool)
   pub silent : IfErr result (λ fault. asks ≡ true)
   pub bad : IfErr result (λ fault. IfBadUnit fault (λ p. (is_judged old ≡ false)
       × IfSome image (λ x. first_bad_place x ≡ Some p)))
+
+-- WHAT A SESSION LEAVES that asks its unit: after an answer it stands where it stood, the unit is judged, and what was
+-- found of it is so; else the session is as it was, and only a unit that was not judged before is bad, at this place.
+-- The unit is read, if at all, and never written.
+pub record AsksUnit {T : Type 0} (result : Result T AnswerFault) (old new : SessionView) (unit now : State) : Type 0
+  where
+    pub stays : OnOk result (new.state ≡ old.state)
+    pub judged : OnOk result (is_judged new ≡ true)
+    pub knows : OnOk result (IfSome unit.image (Knows new))
+    pub same : OnErr result (new ≡ old)
+    pub bad : IfErr result (λ fault. IfBadUnit fault (λ p. (is_judged old ≡ false)
+        × IfSome unit.image (λ x. first_bad_place x ≡ Some p)))
+    pub reads : ReadsIfAny unit now (has_failed result)

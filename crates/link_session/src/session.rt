@@ -1,17 +1,17 @@
 ghost use Rattle.unit_model.specs.declared.layout.TheConstants.{IMAGE_SIZE};
 ghost use Rattle.std.specs.Prelude.{◌≡◌, ℕ, ◌≤◌, true, false, IfOk, OnOk, OnErr, IfErr, IfSome, Some, List};
-ghost use Rattle.std.specs.Prelude.{Option, is_some};
+ghost use Rattle.std.specs.Prelude.{Option};
 ghost use Rattle.link_model.specs.declared.request.Request.{Request as Asked};
 ghost use Rattle.link_model.specs.Answers.{Idle, answered, sends_on};
 ghost use Rattle.link_frames.specs.Seen.{meant};
 ghost use Rattle.message_model.specs.Sending.{content_sent};
-ghost use Rattle.unit_model.specs.Decoding.{Decodes, first_bad_place};
+ghost use Rattle.unit_model.specs.Decoding.{first_bad_place};
 ghost use Rattle.unit_minutes.specs.Reading.{ReadsIfAny};
 ghost use Rattle.link_frames.specs.Asking.{asks_unit};
 ghost use Rattle.link_frames.specs.Steps.{state_of, begins, performed, asks};
 ghost use Rattle.link_frames.specs.Sending.{IsPart, reply_of};
 ghost use Rattle.link_session.specs.Told.{Knows, is_judged, fresh, IfBadUnit, has_failed};
-ghost use Rattle.link_session.specs.Told.{AnswersNot, HasFound};
+ghost use Rattle.link_session.specs.Told.{AnswersNot, HasFound, AsksUnit};
 
 use crate::asking::{AnswerFault, Part, judge, part_of};
 use link_frames::{Frame, Reply, Seen, Standing, Step, begun, place_of, sent_on, step_of};
@@ -134,13 +134,7 @@ impl Session {
             (content_sent x request))) }
         ensures possible { IfOk result (λ reply. (content : Option (List ℕ))
             × (reply_of reply ≡ begins (state_of standing) request content)) }
-        ensures stays { OnOk result (self.new.state ≡ self.old.state) }
-        ensures judged { OnOk result (is_judged self.new ≡ true) }
-        ensures knows { OnOk result (IfSome (M.state unit.old).image (Knows self.new)) }
-        ensures same { OnErr result (self.new ≡ self.old) }
-        ensures bad { IfErr result (λ fault. IfBadUnit fault (λ p. (is_judged self.old ≡ false) × IfSome
-            (M.state unit.old).image (λ x. first_bad_place x ≡ Some p))) }
-        ensures reads { ReadsIfAny (M.state unit.old) (M.state unit.new) (has_failed result) }
+        ensures asks { AsksUnit result self.old self.new (M.state unit.old) (M.state unit.new) }
     {
         let part = self.ask(unit, &request, 2)?;
         Ok(begun(request, standing, part.told, part.bytes.as_slice()))
@@ -160,13 +154,7 @@ impl Session {
             counter (content_sent x request) code)) }
         ensures possible { IfOk result (λ reply. (content : Option (List ℕ))
             × (reply_of reply ≡ sends_on request counter content code)) }
-        ensures stays { OnOk result (self.new.state ≡ self.old.state) }
-        ensures judged { OnOk result (is_judged self.new ≡ true) }
-        ensures knows { OnOk result (IfSome (M.state unit.old).image (Knows self.new)) }
-        ensures same { OnErr result (self.new ≡ self.old) }
-        ensures bad { IfErr result (λ fault. IfBadUnit fault (λ p. (is_judged self.old ≡ false) × IfSome
-            (M.state unit.old).image (λ x. first_bad_place x ≡ Some p))) }
-        ensures reads { ReadsIfAny (M.state unit.old) (M.state unit.new) (has_failed result) }
+        ensures asks { AsksUnit result self.old self.new (M.state unit.old) (M.state unit.new) }
     {
         let place = place_of(code);
         let part = self.ask(unit, &request, place)?;
@@ -187,13 +175,7 @@ impl Session {
             from part.told part.bytes.items)) }
         ensures possible { IfOk result (λ part. (content : Option (List ℕ)) × IsPart content from part.told
             part.bytes.items) }
-        ensures stays { OnOk result (self.new.state ≡ self.old.state) }
-        ensures judged { OnOk result (is_judged self.new ≡ true) }
-        ensures knows { OnOk result (IfSome (M.state unit.old).image (Knows self.new)) }
-        ensures same { OnErr result (self.new ≡ self.old) }
-        ensures bad { IfErr result (λ fault. IfBadUnit fault (λ p. (is_judged self.old ≡ false) × IfSome
-            (M.state unit.old).image (λ x. first_bad_place x ≡ Some p))) }
-        ensures reads { ReadsIfAny (M.state unit.old) (M.state unit.new) (has_failed result) }
+        ensures asks { AsksUnit result self.old self.new (M.state unit.old) (M.state unit.new) }
     {
         let Some(journal) = &self.journal else {
             return self.ask_first(unit, request, from);
@@ -217,13 +199,7 @@ impl Session {
             from part.told part.bytes.items)) }
         ensures possible { IfOk result (λ part. (content : Option (List ℕ)) × IsPart content from part.told
             part.bytes.items) }
-        ensures stays { OnOk result (self.new.state ≡ self.old.state) }
-        ensures judged { OnOk result (is_judged self.new ≡ true) }
-        ensures knows { OnOk result (IfSome (M.state unit.old).image (Knows self.new)) }
-        ensures same { OnErr result (self.new ≡ self.old) }
-        ensures bad { IfErr result (λ fault. IfBadUnit fault (λ p. IfSome (M.state unit.old).image
-            (λ x. first_bad_place x ≡ Some p))) }
-        ensures reads { ReadsIfAny (M.state unit.old) (M.state unit.new) (has_failed result) }
+        ensures asks { AsksUnit result self.old self.new (M.state unit.old) (M.state unit.new) }
     {
         let journal = judge(unit)?;
         let part = part_of(&journal, unit, &None, request, from)?;
