@@ -5,6 +5,7 @@ use Rattle.std.specs.Io.KnownBytes.{Keeps}
 use Rattle.tach_media.specs.Medium.{Rose}
 use Rattle.tach_media.specs.Streams.{AppendsFront}
 use Rattle.link_model.specs.declared.request.Request.{Request}
+use Rattle.link_model.specs.declared.lengths.TheConstants.{FRAME_MOST}
 use Rattle.message_model.specs.Messages.{Message, IsMessage, message_bytes}
 use Rattle.unit_messages.specs.Reading.{request_of}
 use Rattle.unit_messages.specs.Joining.{Joined, wanted, begun_with}
@@ -45,7 +46,7 @@ over now = at_stage now.end Finished
 abbrev pub with_piece : List ℕ → (frame : List ℕ) → List ℕ
 with_piece bytes frame = begun_with bytes frame ++ drop 4 frame
 
--- a piece that another one follows has 255 bytes, and the next one is acknowledged by its counter
+-- a piece that another one follows fills its frame, and the next one is acknowledged by its counter
 abbrev pub continued : Loading → Request → (frame : List ℕ) → Loading
 continued now request frame =
     record {
@@ -59,7 +60,7 @@ abbrev pub goes_on_by : Loading → (frame : List ℕ) → Kind → Option Loadi
 goes_on_by now frame (Negative service code) = option_map (at_stage now.end)
     (passed_over now.end now.stage service code)
 goes_on_by now frame Agreed = Some (at_stage now.end (behind_answer now.stage))
-goes_on_by now frame (Piece request) = if length frame == 255 then Some (continued now request frame) else None
+goes_on_by now frame (Piece request) = if length frame == FRAME_MOST then Some (continued now request frame) else None
 goes_on_by now frame kind = None
 
 abbrev pub goes_on : Loading → (frame : List ℕ) → Option Loading
@@ -67,7 +68,7 @@ goes_on now frame = goes_on_by now frame (kind_of now.stage frame)
 
 -- the message that a frame of this kind closes: what was asked for, and all its bytes
 abbrev pub closed_by : Loading → (frame : List ℕ) → Kind → Option (Request × List ℕ)
-closed_by now frame (Piece request) = if length frame == 255 then None else Some (request, with_piece now.bytes frame)
+closed_by now frame (Piece request) = if length frame == FRAME_MOST then None else Some (request, with_piece now.bytes frame)
 closed_by now frame (Single request) = Some (request, frame)
 closed_by now frame kind = None
 

@@ -6,16 +6,19 @@ ghost use Rattle.link_loader.specs.Stages.{counter_at};
 ghost use Rattle.link_loader.specs.Coming.{begins_as, piece_kind, request_kind, acknowledgement_kind, answer_kind};
 ghost use Rattle.link_loader.specs.Coming.{kind_at, kind_of, IsInOrder};
 
-use crate::stage::{MESSAGE, Stage};
+use crate::stage::Stage;
+use link_model::lengths::FRAME_MOST;
+use link_model::services::{
+    COMMUNICATION_STARTED, COMMUNICATION_STOPPED, DIAGNOSTIC_STARTED, MESSAGE, REFUSAL,
+    TRANSFER_EXITED, UPLOAD_ACCEPTED,
+};
 use link_model::{Request, number_of};
 
-/// The length of a piece that another one follows.
-pub const FULL: usize = 255;
+/// The length of a piece that another one follows: it fills its frame.
+pub const FULL: usize = FRAME_MOST as usize;
 
-/// How many bytes stand in a piece before those of the message.
+/// How many bytes stand in a piece before those of the message: 76, the number, and the counter of two bytes.
 pub const FRONT: usize = 4;
-
-const REFUSAL: u8 = 0x7F;
 
 /// What a frame is.
 #[derive(Clone, Copy, Debug, PartialEq, Eq)]
@@ -30,6 +33,7 @@ pub enum Kind {
     Piece(Request),
     /// What may be this message in one frame.
     Single(Request),
+    /// Any other frame: it is no answer to what was sent.
     Other,
 }
 
@@ -50,13 +54,13 @@ fn kind_at(stage: Stage, frame: &[u8]) -> Kind
     ensures order { IsInOrder (counter_at stage) frame.now result }
 {
     match stage {
-        Stage::Start => answer_kind(&[0xC1, 0xEA, 0x8F], frame),
-        Stage::Diagnostic => answer_kind(&[0x50, 0x81], frame),
-        Stage::Upload => answer_kind(&[0x75, 0x00, 0xFF], frame),
+        Stage::Start => answer_kind(&COMMUNICATION_STARTED, frame),
+        Stage::Diagnostic => answer_kind(&DIAGNOSTIC_STARTED, frame),
+        Stage::Upload => answer_kind(&UPLOAD_ACCEPTED, frame),
         Stage::Asked(request) => request_kind(request, frame),
         Stage::Acknowledged(request, counter) => acknowledgement_kind(request, counter, frame),
-        Stage::Exit => answer_kind(&[0x77], frame),
-        Stage::Stop => answer_kind(&[0xC2], frame),
+        Stage::Exit => answer_kind(&TRANSFER_EXITED, frame),
+        Stage::Stop => answer_kind(&COMMUNICATION_STOPPED, frame),
         Stage::Finished => Kind::Other,
     }
 }
