@@ -5,6 +5,7 @@ ghost use Rattle.std.specs.Prelude.{ℕ, List, Some, min, ◌≡◌, ◌≤◌, 
 ghost use Rattle.unit_minutes.specs.Reading.{ReadsIfAny};
 ghost use Rattle.unit_messages.specs.declared.joining.TheConstants.{LONGEST};
 ghost use Rattle.unit_messages.specs.Sent.{IsPiece};
+ghost use Rattle.link_model.specs.declared.lengths.TheConstants.{WHOLE_MOST};
 ghost use Rattle.message_model.specs.Records.{speed_ring};
 ghost use Rattle.unit_messages.specs.Counts.{AreCounted, AreInRange};
 ghost use Rattle.unit_messages.specs.Outlines.{Outlines, HasPassed, IsDayInRange, IsEventInRange, bytes_sent, asked};
@@ -150,7 +151,7 @@ impl Outline {
         requires outlines { IfSome (M.state unit.old).image (Outlines self.now) }
         ensures piece { OnOk result (IfSome (M.state unit.old).image
             (λ x. IsPiece x (asked self.now) from (Some (length_of self.now)) out.new.items)) }
-        ensures fits { OnOk result (length out.new.items ≡ min 252 (length_of self.now - from)) }
+        ensures fits { OnOk result (length out.new.items ≡ min WHOLE_MOST (length_of self.now - from)) }
         ensures reads { ReadsIfAny (M.state unit.old) (M.state unit.new) (is_err result) }
     {
         let mut window = Window::new(from);
@@ -177,8 +178,8 @@ impl Outline {
 
     // How many bytes a piece has.
     fn due(&self, from: u32) -> usize
-        ensures due { result ≡ min 252 (length_of self.now - from) }
-        ensures few { result ≤ 252 }
+        ensures due { result ≡ min WHOLE_MOST (length_of self.now - from) }
+        ensures few { result ≤ WHOLE_MOST }
     {
         let len = self.len();
         (len - len.min(from)).min(ROOM as u32) as usize

@@ -3,19 +3,21 @@ ghost use Rattle.std.specs.Prelude.{◌≡◌, ◌≤◌, ◌<◌, ◌+◌, ◌*
 ghost use Rattle.card_layout.specs.Images.{bytes_at, number_at};
 ghost use Rattle.unit_messages.specs.Parts.{within, counted_end, part_end, parts_end, most, most_of};
 
-/// A part of a message: a field of so many bytes, or entries of one size behind a count of one byte or of two.
+use link_model::lengths::MESSAGE_HEADER;
+
+/// A part of a message; each size is in bytes.
 #[derive(Clone, Copy, Debug, PartialEq, Eq)]
 pub enum Part {
+    /// A field of this size.
     Field(u32),
+    /// Entries of this size, behind their count in one byte.
     Few(u32),
+    /// Entries of this size, behind their count in two bytes.
     Many(u32),
 }
 
-/// The first byte of a message; its number follows.
-pub const SERVICE: u8 = 0x76;
-
-/// How many bytes stand before a message's first part.
-pub const HEADER: usize = 2;
+/// How many bytes stand before a message's first part: 76 and the number.
+pub const HEADER: usize = MESSAGE_HEADER as usize;
 
 /// Certificates of the state and the unit, vehicle, registration, the unit's time, the period's begin and end, the
 /// slots' cards, the last download, locks, controls, signature.

@@ -3,6 +3,7 @@ ghost use Rattle.unit_model.specs.declared.layout.TheConstants.{IMAGE_SIZE};
 ghost use Rattle.std.specs.Prelude.{◌≡◌, ◌≤◌, ◌<◌, ◌+◌, IfOk, IfErr, IfNone, OnOk, IfSome, Some, is_some, true};
 ghost use Rattle.std.specs.Prelude.{option_map, ◌++◌, ◌-◌, min, length};
 ghost use Rattle.tach_media.specs.Medium.{Reads};
+ghost use Rattle.link_model.specs.declared.lengths.TheConstants.{WHOLE_MOST};
 ghost use Rattle.unit_model.specs.Decoding.{Decodes, first_bad_place};
 ghost use Rattle.unit_messages.specs.Faults.{IfBadPiece, piece_failed, IfBadMessage, message_failed};
 ghost use Rattle.unit_minutes.specs.Reading.{ReadsIfAny};
@@ -105,7 +106,7 @@ pub fn piece<M: Medium>(
     requires { (M.state unit.old).size ≡ IMAGE_SIZE }
     ensures piece { IfOk result (λ found. IfSome (M.state unit.old).image (λ x. IsPiece x request.now from found
         out.new.items)) }
-    ensures fits { IfOk result (λ found. IfSome found (λ len. length out.new.items ≡ min 252 (len - from))) }
+    ensures fits { IfOk result (λ found. IfSome found (λ len. length out.new.items ≡ min WHOLE_MOST (len - from))) }
     ensures none { IfOk result (λ found. IfNone found (out.new ≡ out.old)) }
     ensures decodes { OnOk result (IfSome (M.state unit.old).image Decodes) }
     ensures bad { IfErr result (λ fault. IfBadPiece fault (λ p. IfSome (M.state unit.old).image
@@ -131,7 +132,7 @@ fn piece_of<M: Medium>(
     requires outlines { IfSome (M.state unit.old).image (Outlines outline.now) }
     ensures piece { IfOk result (λ found. IfSome (M.state unit.old).image (λ x. IsPiece x (asked outline.now) from found
         out.new.items)) }
-    ensures fits { IfOk result (λ found. IfSome found (λ len. length out.new.items ≡ min 252 (len - from))) }
+    ensures fits { IfOk result (λ found. IfSome found (λ len. length out.new.items ≡ min WHOLE_MOST (len - from))) }
     ensures some { IfOk result (λ found. is_some found ≡ true) }
     ensures failed { IfErr result (λ fault. fault ≡ PieceFault.Failed) }
     ensures reads { ReadsIfAny (M.state unit.old) (M.state unit.new) (piece_failed result) }

@@ -5,18 +5,23 @@ ghost use Rattle.card_layout.specs.Images.{bytes_at};
 ghost use Rattle.card_layout.specs.Fields.{joined};
 ghost use Rattle.unit_model.specs.Image.{words_at};
 ghost use Rattle.unit_minutes.specs.Reading.{ReadsIfAny};
+ghost use Rattle.link_model.specs.declared.lengths.TheConstants.{WHOLE_MOST};
 ghost use Rattle.message_model.specs.Messages.{word_bytes};
 ghost use Rattle.unit_messages.specs.Windows.{passed, IsFull, IsWordCount};
 
 use arrayvec::ArrayVec;
+use link_model::lengths::WHOLE_MOST;
 use std::marker::Model;
 use tach_media::{Failed, Medium};
 
-/// How many bytes a window holds at most.
-pub const ROOM: usize = 252;
+/// How many bytes a window holds at most: as many of a message as go in one frame.
+pub const ROOM: usize = WHOLE_MOST as usize;
 
 // How many words are read at once: a window takes no more of them, also where it begins with the second byte of one.
 const WORDS: u32 = 127;
+
+// How many bytes these have.
+const WORD_BYTES: usize = 2 * WORDS as usize;
 
 /// A window on bytes that pass by.
 #[derive(Drop)]
@@ -27,13 +32,14 @@ pub struct Window {
 
 impl Model for Window {
     ghost use Rattle.std.specs.Prelude.{◌≤◌, length};
+    ghost use Rattle.link_model.specs.declared.lengths.TheConstants.{WHOLE_MOST};
     ghost use Rattle.unit_messages.specs.Windows.{Sight};
 
     ghost Value = { Sight };
 
     ghost view = { λ w. record { skip = w.skip; held = w.held.items } };
 
-    ghost invariant = { λ w. length w.held.items ≤ 252 };
+    ghost invariant = { λ w. length w.held.items ≤ WHOLE_MOST };
 }
 
 impl Window {
@@ -56,7 +62,7 @@ impl Window {
 
     /// What it holds, as so many bytes: cut off, or with zeros behind, where it holds another number.
     pub fn into_piece(self, len: usize) -> ArrayVec<u8, ROOM>
-        requires { len ≤ 252 }
+        requires { len ≤ WHOLE_MOST }
         ensures long { length result.items ≡ len }
         ensures same { length self.held ≡ len → result.items ≡ self.held }
     {
@@ -94,8 +100,8 @@ impl Window {
 
     // How many bytes it takes of a part, of those that it does not pass over.
     fn taken(&self, len: usize) -> usize
-        ensures count { result ≡ min (len - self.now.skip) (252 - length self.now.held) }
-        ensures room { length self.now.held + result ≤ 252 }
+        ensures count { result ≡ min (len - self.now.skip) (WHOLE_MOST - length self.now.held) }
+        ensures room { length self.now.held + result ≤ WHOLE_MOST }
     {
         let over = len.min(self.skip as usize);
         (len - over).min(ROOM - self.held.len())
@@ -116,7 +122,7 @@ impl Window {
     // Takes what was read of a part: the bytes behind those that it passes over.
     fn take(&mut self, over: u32, bytes: &[u8])
         requires over { over ≤ self.old.skip }
-        requires room { length self.old.held + length bytes.now ≤ 252 }
+        requires room { length self.old.held + length bytes.now ≤ WHOLE_MOST }
         ensures skip { self.new.skip ≡ self.old.skip - over }
         ensures held { self.new.held ≡ self.old.held ++ bytes.now }
     {
@@ -169,7 +175,7 @@ impl Window {
         requires { len ≤ self.old.skip }
         ensures skip { self.new.skip ≡ self.old.skip - len }
         ensures held { self.new.held ≡ self.old.held }
-        ensures room { length self.old.held ≤ 252 }
+        ensures room { length self.old.held ≤ WHOLE_MOST }
     {
         self.skip -= len;
     }
@@ -200,7 +206,7 @@ impl Window {
         let over = self.words_over(count);
         self.pass_over(2 * over);
         let taken = self.words_taken(count - over);
-        let mut block = [0u8; 254];
+        let mut block = [0u8; WORD_BYTES];
         let part = &mut block[..2 * taken as usize];
         read_some(unit, place + 2 * over, part)?;
         self.pass_words(part);
