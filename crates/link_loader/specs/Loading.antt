@@ -63,6 +63,7 @@ goes_on_by now frame Agreed = Some (at_stage now.end (behind_answer now.stage))
 goes_on_by now frame (Piece request) = if length frame == FRAME_MOST then Some (continued now request frame) else None
 goes_on_by now frame kind = None
 
+-- behind any frame that neither finishes a message nor is refused
 abbrev pub goes_on : Loading → (frame : List ℕ) → Option Loading
 goes_on now frame = goes_on_by now frame (kind_of now.stage frame)
 
@@ -72,6 +73,7 @@ closed_by now frame (Piece request) = if length frame == FRAME_MOST then None el
 closed_by now frame (Single request) = Some (request, frame)
 closed_by now frame kind = None
 
+-- the message that a frame closes, if any
 abbrev pub closed : Loading → (frame : List ℕ) → Option (Request × List ℕ)
 closed now frame = closed_by now frame (kind_of now.stage frame)
 
@@ -81,6 +83,7 @@ pub record IsAnswer (request : Request) (bytes : List ℕ) (m : Message) : Type 
   pub spelled : bytes ≡ message_bytes m
   pub asked : request ≡ request_of m
 
+-- the bytes are no message of the grammar that answers the request
 abbrev pub AnswersNone : Request → List ℕ → Type 0
 AnswersNone request bytes = (m : Message) → IsAnswer request bytes m → ⊥
 
@@ -91,10 +94,11 @@ pub record Finishes (now : Loading) (frame : List ℕ) (m : Message) : Type 0 wh
   pub closes : closed now frame ≡ Some (request, bytes)
   pub answer : IsAnswer request bytes m
 
--- behind a message
+-- what is sent behind a message, and the period's end
 abbrev pub next_of : (end : ℕ) → Message → Next
 next_of end m = record { stage = behind_message end m; end = end_told end m }
 
+-- a download behind a message
 abbrev pub after_message : Loading → Message → Loading
 after_message now m = at_stage (end_told now.end m) (behind_message now.end m)
 

@@ -21,6 +21,7 @@ pub record Talk : Type 0 where
   pub loader : Loading
   pub out : List ℕ
 
+-- nothing has passed yet
 abbrev pub fresh_talk : Talk
 fresh_talk = record { unit = Idle; loader = begun; out = [] }
 

@@ -1,3 +1,4 @@
+//! The loader's side of a download: where it stands, the frame to send, and what a frame that comes does.
 ghost use Rattle.std.specs.Prelude.{◌≡◌, ◌≤◌, ◌<◌, ℕ, List, length, Some, None, IfNone, IfOk, OnOk};
 ghost use Rattle.std.specs.Prelude.{IfErr, OnErr, IsErrOf};
 ghost use Rattle.std.specs.Io.KnownBytes.{Appends};

@@ -36,7 +36,9 @@ pub enum Stage {
 /// What is sent behind a message, and the end of the period that is downloaded.
 #[derive(Clone, Copy, Debug, PartialEq, Eq)]
 pub struct Next {
+    /// The stage at which the next frame is sent.
     pub stage: Stage,
+    /// The end of the period in seconds, as the overview told it; 0 before it has come.
     pub end: u32,
 }
 

@@ -18,6 +18,7 @@ pub record SessionView : Type 0 where
   pub journal : Option Notes
   pub outline : Option Plan
 
+-- a session that stands so, and has found nothing yet
 abbrev pub fresh : LinkState → SessionView
 fresh state = record { state = state; journal = None; outline = None }
 
@@ -32,6 +33,7 @@ pub record KnowsUnit (journal : Option Notes) (outline : Option Plan) (x : List 
   pub notes : IfSome journal (λ j. AreRight j x)
   pub outlines : IfSome outline (λ o. Outlines o x)
 
+-- what a session has found of its unit is so of this image
 abbrev pub Knows : SessionView → List ℕ → Type 0
 Knows s x = KnowsUnit s.journal s.outline x
 

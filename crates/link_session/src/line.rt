@@ -1,3 +1,4 @@
+//! A unit on the link: the frames among the bytes that come, and their answers to the sink.
 ghost use Rattle.unit_model.specs.declared.layout.TheConstants.{IMAGE_SIZE};
 ghost use Rattle.std.specs.Prelude.{◌≡◌, ◌≤◌, ◌<◌, [], ◌∷◌, IfOk, OnOk, OnErr, IfErr, IfSome, length};
 ghost use Rattle.std.specs.Prelude.{take};
@@ -19,17 +20,21 @@ use link_frames::{End, Frame, Scanner, Seen, write_frame};
 use tach_media::{Failed, Medium, Sink, put_all};
 use text_fields::write_line;
 
-/// How the answers go to the sink: byte for byte, or each as a line of hexadecimal digits.
+/// How the answers go to the sink.
 #[derive(Clone, Copy, Debug, PartialEq, Eq)]
 pub enum Spelling {
+    /// Byte for byte.
     Bytes,
+    /// Each as a line of hexadecimal digits.
     HexLines,
 }
 
-/// A unit on the link: what it hears, and where it stands.
+/// A unit on the link.
 #[derive(Drop)]
 pub struct Line {
+    /// What it hears: of a frame that has begun it keeps the bytes.
     pub scanner: Scanner,
+    /// Where it stands.
     pub session: Session,
 }
 
@@ -46,6 +51,11 @@ impl Line {
     }
 
     /// Answers the frames that end in these bytes.
+    ///
+    /// # Errors
+    ///
+    /// `WriteFault` after a front of the answers; `Failed` and `BadUnit` after the answers to the frames before one whose
+    /// answer hangs on the unit.
     pub fn answer<K: Sink, U: Medium>(
         &mut self,
         spelling: Spelling,
@@ -76,6 +86,11 @@ impl Line {
     }
 
     /// Answers the frames that end in these bytes, of which so many may come; where more come, those in the first.
+    ///
+    /// # Errors
+    ///
+    /// `WriteFault` after a front of the answers; `Failed` and `BadUnit` after the answers to the frames before one whose
+    /// answer hangs on the unit; `TooLong` after the answers to as many bytes as may come, where more came.
     pub fn answer_within<K: Sink, U: Medium>(
         &mut self,
         spelling: Spelling,

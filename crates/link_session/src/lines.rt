@@ -1,3 +1,4 @@
+//! The service of lines of hexadecimal digits: each line's bytes are heard, and each answer is a line.
 ghost use Rattle.std.specs.Prelude.{◌≡◌, ◌+◌, ◌≤◌, ◌<◌, ◌++◌, [], ◌∷◌, length, OnOk, IfErr, IfSome, Some};
 ghost use Rattle.std.specs.Io.KnownBytes.{IsAtEnd};
 ghost use Rattle.tach_media.specs.Medium.{Rose};
@@ -22,12 +23,16 @@ use std::alloc::Global;
 use tach_media::{Medium, Sink};
 use text_fields::{LineFault, first_piece, read_line};
 
-/// A unit on the link that hears lines: what has come of the next one, and how many were whole.
+/// A unit on the link that hears lines.
 #[derive(Drop)]
 pub struct Lines {
+    /// From where the line that is read takes its memory.
     pub alloc: Global,
+    /// What it hears in the lines' bytes, and where it stands.
     pub line: Line,
+    /// What has come of the next line.
     pub text: Vec<u8>,
+    /// How many lines were whole.
     pub whole: u32,
 }
 

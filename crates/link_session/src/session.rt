@@ -1,3 +1,4 @@
+//! A session: where it stands, what it has found of its unit, and what it answers to a frame.
 ghost use Rattle.unit_model.specs.declared.layout.TheConstants.{IMAGE_SIZE};
 ghost use Rattle.std.specs.Prelude.{◌≡◌, ℕ, ◌≤◌, true, false, IfOk, OnOk, OnErr, IfErr, IfSome, Some, List};
 ghost use Rattle.std.specs.Prelude.{Option};
@@ -16,6 +17,7 @@ ghost use Rattle.link_session.specs.Told.{AnswersNot, HasFound, AsksUnit};
 use crate::asking::{AnswerFault, Part, judge, part_of};
 use link_frames::{Frame, Reply, Seen, Standing, Step, begun, place_of, sent_on, step_of};
 use link_model::Request;
+use link_model::lengths::MESSAGE_HEADER;
 use std::marker::Model;
 use tach_media::Medium;
 use unit_messages::Outline;
@@ -136,7 +138,7 @@ impl Session {
             × (reply_of reply ≡ begins (state_of standing) request content)) }
         ensures asks { AsksUnit result self.old self.new (M.state unit.old) (M.state unit.new) }
     {
-        let part = self.ask(unit, &request, 2)?;
+        let part = self.ask(unit, &request, MESSAGE_HEADER)?;
         Ok(begun(request, standing, part.told, part.bytes.as_slice()))
     }
 

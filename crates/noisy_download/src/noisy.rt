@@ -1,3 +1,4 @@
+//! A download over a noisy link, round by round: events that are drawn, and what of them goes to the wire.
 ghost use Rattle.std.specs.Prelude.{◌≡◌, ◌≤◌, [], ℕ, List, Option, slice_get, OnOk, IfErr, IfSome, IsErrOf};
 ghost use Rattle.tach_media.specs.Medium.{Rose};
 ghost use Rattle.unit_model.specs.declared.layout.TheConstants.{IMAGE_SIZE};
@@ -19,12 +20,14 @@ use tach_media::{Medium, Sink};
 use trace_text::next_drawn;
 use unit_download::{DownloadFault, Tape, Wire};
 
-/// A download over a noisy link as it goes: both ends, whether the wire has the request that is asked now, and the
-/// number drawn last.
+/// A download over a noisy link as it goes.
 #[derive(Drop)]
 pub struct Noisy {
+    /// Both ends, and all packets that were sent.
     pub world: World,
+    /// Whether the wire has the request that is asked now.
     pub listed: bool,
+    /// The number that was drawn last.
     pub drawn: u32,
 }
 

@@ -1,3 +1,4 @@
+//! What holds of a noisy link: laws, which are functions without a body.
 ghost use Rattle.std.specs.Prelude.{◌≡◌, ◌<◌, ◌≤◌, ◌^◌, ℕ, List, Option, Some, IfSome, length, map, take, slice_get};
 ghost use Rattle.std.specs.Io.KnownBytes.{Appends};
 ghost use Rattle.tach_media.specs.Streams.{AppendsFront};

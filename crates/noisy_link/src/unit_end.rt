@@ -1,3 +1,4 @@
+//! The unit's end of a noisy link.
 ghost use Rattle.unit_model.specs.declared.layout.TheConstants.{IMAGE_SIZE};
 ghost use Rattle.std.specs.Prelude.{◌≡◌, ◌+◌, ◌==◌, ℕ, List, true, false, Some, IfOk, OnOk, IfErr, OnErr, IfSome};
 ghost use Rattle.link_model.specs.Answers.{Idle};

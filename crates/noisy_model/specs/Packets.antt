@@ -5,22 +5,25 @@ use Rattle.std.specs.Prelude.{slice_index, Option, Some, None}
 use Rattle.byteorder.specs.Endian.{big_bytes, big_number}
 use Rattle.noisy_model.specs.declared.packet.Packet.{Packet}
 
--- the data of a frame, where there is one, and back: no frame is without data
+-- the data of a frame, where there is one: no frame is without data
 abbrev pub data_of : Option (List ℕ) → List ℕ
 data_of None = []
 data_of (Some frame) = frame
 
+-- the frame of these data: none where there are none
 abbrev pub frame_in : List ℕ → Option (List ℕ)
 frame_in [] = None
 frame_in (byte ∷ bytes) = Some (byte ∷ bytes)
 
--- a number in eight bytes, the highest first, and back
+-- a number in eight bytes, the highest first
 unfoldable pub number_bytes : ℕ → List ℕ
 number_bytes number = big_bytes 8 number
 
+-- the number in the first eight bytes
 unfoldable pub number_in : List ℕ → ℕ
 number_in bytes = big_number 8 bytes
 
+-- a packet as bytes
 abbrev pub packet_bytes : Packet → List ℕ
 packet_bytes p = 0x4E ∷ (number_bytes p.number ++ data_of p.frame)
 

@@ -11,7 +11,9 @@ pub const LONGEST: usize = 264;
 /// What a byte more makes of a datagram.
 #[derive(Clone, Copy, Debug, PartialEq, Eq)]
 pub enum Gathered {
+    /// Some of it are still to come.
     More,
+    /// It is whole.
     Whole,
     /// Its length is more than 264.
     TooLong,

@@ -1,3 +1,4 @@
+//! A file as a sink, which the first write makes.
 ghost use Rattle.std.specs.Prelude.{◌≡◌, length, IfOk};
 ghost use Rattle.std.specs.Io.{WritesAtMost};
 
@@ -9,6 +10,7 @@ use tach_media::{Failed, Sink, StdSink};
 enum Backing {
     // Nothing was written yet.
     Unopened,
+    // It is written.
     Open(StdSink<File>),
     // It cannot be made: every write fails.
     Lost,

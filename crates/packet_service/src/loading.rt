@@ -1,3 +1,4 @@
+//! The loader's end of a link of packets over streams of bytes.
 ghost use Rattle.std.specs.Prelude.{◌≡◌, ◌≤◌, ◌++◌, [], ◌∷◌, ℕ, List, OnOk, IfErr};
 ghost use Rattle.tach_media.specs.Medium.{Rose};
 ghost use Rattle.std.specs.Io.KnownBytes.{Appends};
@@ -31,13 +32,16 @@ pub enum PacketsFault {
     TooLong,
     /// The source ended.
     Ended,
+    /// Memory ran out: for the room of a message before the first request, or for a piece.
     Memory,
 }
 
-/// The loader's end of a link of packets: where it stands, and what has come of the next datagram.
+/// The loader's end of a link of packets.
 #[derive(Drop)]
 pub struct LoaderLine {
+    /// Where it stands.
     pub end: LoaderEnd,
+    /// What has come of the next datagram.
     pub gathering: Gathering,
 }
 

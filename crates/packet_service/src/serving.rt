@@ -1,3 +1,4 @@
+//! The unit's end of a link of packets over streams of bytes.
 ghost use Rattle.std.specs.Prelude.{◌≡◌, ◌≤◌, ◌++◌, [], ◌∷◌, ℕ, List, Option, Some, OnOk, OnErr, IfErr, IfSome};
 ghost use Rattle.std.specs.Io.KnownBytes.{Appends, IsAtEnd};
 ghost use Rattle.tach_media.specs.Medium.{Rose};
@@ -19,13 +20,15 @@ use noisy_link::{UnitEnd, read_packet, write_packet};
 use noisy_model::Packet;
 use tach_media::{Failed, Medium, Sink, put_all};
 
-/// As many reads as a service makes at most.
+/// As many reads as a service, or a download, makes at most.
 pub const MOST_TURNS: u32 = 4294967295;
 
-/// The unit's end of a link of packets: where it stands, and what has come of the next datagram.
+/// The unit's end of a link of packets.
 #[derive(Drop)]
 pub struct UnitLine {
+    /// Where it stands.
     pub end: UnitEnd,
+    /// What has come of the next datagram.
     pub gathering: Gathering,
 }
 
@@ -188,6 +191,10 @@ fn send_back<K: Sink>(answer: &Packet, sink: &mut K) -> Result<(), ServeFault>
 }
 
 /// Puts a packet into a sink, as a datagram.
+///
+/// # Errors
+///
+/// `Failed` where the sink failed; it has a front of the datagram.
 pub fn put_packet<K: Sink>(packet: &Packet, sink: &mut K) -> Result<(), Failed>
     ensures ok { OnOk result (Appends (K.held sink.old) (K.held sink.new) (datagram (packet_bytes packet.now))) }
     ensures err { OnErr result (AppendsFront (K.held sink.old) (K.held sink.new) (datagram (packet_bytes packet.now))) }

@@ -1,3 +1,4 @@
+//! A unit downloaded: loader and unit against each other, exchange by exchange.
 ghost use Rattle.unit_model.specs.Image.{IsUnit};
 ghost use Rattle.std.specs.Prelude.{◌≡◌, ◌≤◌, [], List};
 ghost use Rattle.unit_minutes.specs.Reading.{ReadsIfAny};

@@ -17,28 +17,36 @@ use crate::window::Window;
 use tach_media::{Failed, Medium};
 use unit_model::layout::DAY_SECONDS;
 
-/// Which entries of a ring are meant: each, the insertions of which the insertion or the withdrawal lies in a day, or
-/// the places of a day. A day is told by its first second.
+/// Which entries of a ring are meant.
 #[derive(Clone, Copy, Debug, PartialEq, Eq)]
 pub enum Choice {
+    /// Each entry.
     Each,
+    /// The insertions of which the insertion or the withdrawal lies in the day that begins at this second.
     Touching(u32),
+    /// The places of the day that begins at this second.
     PlaceOn(u32),
 }
 
-/// Entries of one width behind gates of four bytes, of which the first stands at the base.
+/// Entries of one width in the unit's image, one after the other.
 #[derive(Clone, Copy, Debug, PartialEq, Eq)]
 pub struct Entries {
+    /// The place in the image of the first one.
     pub base: u32,
+    /// How many bytes each has.
     pub width: u32,
+    /// For how many there is room.
     pub count: u32,
+    /// The place of the gate in an entry: four bytes that are not 0 where the entry is there.
     pub gate: u32,
+    /// Which of those that are there are meant.
     pub choice: Choice,
 }
 
-/// Where an insertion has its time, and the time of its withdrawal.
+/// Where an insertion has its time.
 pub(crate) const INSERTION_TIME: u32 = 94;
 
+/// Where an insertion has the time of its withdrawal.
 pub(crate) const WITHDRAWAL_TIME: usize = 102;
 
 /// Where a place has its time, behind the card's number.
@@ -234,6 +242,10 @@ impl Entries {
 
     /// The entries that are there and meant pass by, from the one at an index on and round the end. None is read where
     /// the window is full.
+    ///
+    /// # Errors
+    ///
+    /// `Failed` where the unit failed.
     pub fn pass<M: Medium>(
         &self,
         unit: &mut M,
@@ -309,6 +321,10 @@ impl Entries {
 
     /// `pass`, where so many of the entries are there and meant. Where that is each of them, those before the window's
     /// begin are not read.
+    ///
+    /// # Errors
+    ///
+    /// `Failed` where the unit failed.
     pub fn pass_some_of<M: Medium>(
         &self,
         unit: &mut M,
@@ -335,6 +351,10 @@ impl Entries {
     }
 
     /// How many entries are there and meant.
+    ///
+    /// # Errors
+    ///
+    /// `Failed` where the unit failed.
     pub fn count<M: Medium>(&self, unit: &mut M) -> Result<u32, Failed>
         requires unit { (M.state unit.old).size ≡ IMAGE_SIZE }
         requires entries { AreEntries self.now }

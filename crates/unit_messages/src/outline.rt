@@ -41,11 +41,14 @@ pub const EVENTS_LENGTH: u32 = 143;
 /// How many bytes the message of detailed speed has beside its blocks.
 pub const SPEED_LENGTH: u32 = 132;
 
-/// What an overview tells beside fields of the image: the unit's time, and the period's begin and end.
+/// What an overview tells beside fields of the image, in seconds since 1970-01-01 00:00 UTC.
 #[derive(Clone, Copy, Debug, PartialEq, Eq)]
 pub struct Times {
+    /// The unit's time: its last-kept minute.
     pub now: u32,
+    /// The first second of the oldest day, 0 where there is no day.
     pub begin: u32,
+    /// The unit's time, 0 where there is no day.
     pub end: u32,
 }
 
@@ -54,33 +57,49 @@ pub struct Times {
 /// through for each day.
 #[derive(Clone, Copy, Debug, PartialEq, Eq)]
 pub struct DayOutline {
+    /// The day's first second.
     pub date: u32,
+    /// The odometer at the day's begin, in km.
     pub odometer: u32,
+    /// The place in the image of its first change word.
     pub words_place: u32,
+    /// How many change words it has.
     pub words: u32,
+    /// How many insertions touch it.
     pub insertions: u32,
+    /// How many places it has.
     pub places: u32,
+    /// The same counts of the dates beside it.
     pub counts: Counts,
 }
 
 /// How many faults, events and over speedings there are; the begin of the first over speeding, and their number.
 #[derive(Clone, Copy, Debug, PartialEq, Eq)]
 pub struct EventOutline {
+    /// How many faults there are, 0 to 24.
     pub faults: u32,
+    /// How many events there are, 0 to 60.
     pub events: u32,
+    /// How many over speedings there are, 0 to 10.
     pub overs: u32,
+    /// The begin of the first over speeding in seconds, as the image has it.
     pub first_over: u32,
+    /// Their number as the image has it, 0 to 255.
     pub over_count: u32,
 }
 
 /// The message that an outline is of.
 #[derive(Clone, Copy, Debug, PartialEq, Eq)]
 pub enum Plan {
+    /// The overview, with these times.
     Overview(Times),
+    /// A day.
     Day(DayOutline),
+    /// Events and faults.
     Events(EventOutline),
-    /// How many blocks there are.
+    /// Detailed speed: how many blocks there are.
     Speed(u32),
+    /// Technical data.
     Technical,
 }
 
@@ -117,7 +136,7 @@ impl Outline {
         }
     }
 
-    /// How many insertions and places other dates have, where the message is a day's.
+    // How many insertions and places other dates have, where the message is a day's.
     fn counts(&self) -> Option<Counts>
         ensures range { IfSome result AreInRange }
         ensures counted { (x : List ℕ) → Outlines self.now x → IfSome result (λ c. AreCounted c x) }
@@ -141,6 +160,10 @@ impl Outline {
 
     /// Reads at most 252 bytes of the message, from a place on; none at its end and behind it. Of a unit that changed
     /// since, as one that tells nothing may, it gives as many bytes as the outline says.
+    ///
+    /// # Errors
+    ///
+    /// `Failed` where the unit failed.
     pub fn read<M: Medium>(
         &self,
         unit: &mut M,

@@ -1,4 +1,5 @@
-//! The messages of a unit's image, piece after piece, of a unit that is judged first (Annex IB, Appendix 7, 2.2.6).
+//! The messages of a unit's image, whole or piece after piece, of a unit that is judged first (Annex IB, Appendix 7,
+//! 2.2.6): for callers who have no session. A session judges its unit once, and reads by an outline.
 ghost use Rattle.unit_model.specs.declared.layout.TheConstants.{IMAGE_SIZE};
 ghost use Rattle.std.specs.Prelude.{◌≡◌, ◌≤◌, ◌<◌, ◌+◌, IfOk, IfErr, IfNone, OnOk, IfSome, Some, is_some, true};
 ghost use Rattle.std.specs.Prelude.{option_map, ◌++◌, ◌-◌, min, length};
@@ -89,10 +90,10 @@ impl From<UnitFault> for PieceFault {
     }
 }
 
-/// Reads at most 252 bytes of the message that answers a request, from a place on, and tells the message's length; at
-/// its end and behind it there are none. `None` exactly where there is no such message: for a day that is not recorded.
-/// Then `out` is as it was. The unit is judged first; nothing is written to it. Of a unit that tells nothing there are
-/// as many bytes as the length that is told says.
+/// Reads at most 252 bytes of the message that answers a request, from a place on, and tells the message's length in
+/// bytes; at its end and behind it there are none. `None` exactly where there is no such message: for a day that is not
+/// recorded. Then `out` is as it was. The unit is judged first; nothing is written to it. Of a unit that tells nothing
+/// there are as many bytes as the length that is told says.
 ///
 /// # Errors
 ///

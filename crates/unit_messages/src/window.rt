@@ -131,6 +131,10 @@ impl Window {
     }
 
     /// The bytes of a range of the unit's image pass by; those that it takes are read at once.
+    ///
+    /// # Errors
+    ///
+    /// `Failed` where the unit failed.
     pub fn pass_range<M: Medium>(
         &mut self,
         unit: &mut M,
@@ -191,6 +195,10 @@ impl Window {
 
     /// Words of two bytes, which stand in the unit's image from a place on, pass by; those that it takes are read at
     /// once.
+    ///
+    /// # Errors
+    ///
+    /// `Failed` where the unit failed.
     pub fn pass_words_at<M: Medium>(
         &mut self,
         unit: &mut M,

@@ -26,14 +26,18 @@ pub const DATES: usize = 366;
 pub struct Counts {
     /// The first second of the first date.
     pub first: u32,
+    /// How many insertions touch each date.
     pub insertions: [u16; DATES],
+    /// How many places each date has.
     pub places: [u16; DATES],
 }
 
 /// What is counted by dates.
 #[derive(Clone, Copy, Debug, PartialEq, Eq)]
 pub enum Dated {
+    /// Insertions, each on the date of the insertion and on that of the withdrawal.
     Insertions,
+    /// Places, each on its date.
     Places,
 }
 
@@ -200,6 +204,10 @@ fn count_each<M: Medium>(kind: Dated, unit: &mut M, first: u32) -> Result<[u16; 
 
 /// How many insertions and places there are on each of the dates from a second on, of a unit whose image is known to
 /// decode.
+///
+/// # Errors
+///
+/// `Failed` where the unit failed.
 pub fn count_dates<M: Medium>(unit: &mut M, first: u32) -> Result<Counts, Failed>
     requires unit { (M.state unit.old).size ≡ IMAGE_SIZE }
     requires decodes { IfSome (M.state unit.old).image Decodes }

@@ -22,6 +22,10 @@ use unit_model::layout::{DAY_WORDS, FIRST_OVER, OVER_COUNT};
 
 /// What the message is made of that answers a request, of a unit whose image is known to decode, as from its journal's
 /// load; `None` exactly where there is no such message: for a day that is not recorded.
+///
+/// # Errors
+///
+/// `Failed` where the unit failed.
 pub fn find_outline<M: Medium>(
     journal: &Journal,
     unit: &mut M,
@@ -38,6 +42,10 @@ pub fn find_outline<M: Medium>(
 }
 
 /// `find_outline` behind another message, whose outline is known: what that tells of other dates is not counted again.
+///
+/// # Errors
+///
+/// `Failed` where the unit failed.
 pub fn find_next_outline<M: Medium>(
     journal: &Journal,
     unit: &mut M,
@@ -63,6 +71,7 @@ pub fn find_next_outline<M: Medium>(
     }
 }
 
+// The outline of an overview.
 fn overview_outline<M: Medium>(journal: &Journal, unit: &mut M) -> Result<Option<Outline>, Failed>
     requires unit { (M.state unit.old).size ≡ IMAGE_SIZE }
     requires right { IfSome (M.state unit.old).image (AreRight journal.now) }
@@ -78,6 +87,8 @@ fn overview_outline<M: Medium>(journal: &Journal, unit: &mut M) -> Result<Option
     }))
 }
 
+// The times that an overview tells: the last-kept minute is the unit's time, and the period goes from the oldest day to
+// it; it is 0 to 0 where there is no day.
 fn overview_times<M: Medium>(journal: &Journal, unit: &mut M) -> Result<Times, Failed>
     requires unit { (M.state unit.old).size ≡ IMAGE_SIZE }
     requires right { IfSome (M.state unit.old).image (AreRight journal.now) }
@@ -236,6 +247,7 @@ fn counts_on<M: Medium>(
     Ok(DateCounts { counts, index: 0 })
 }
 
+// The outline of the message of events and faults.
 fn events_outline<M: Medium>(unit: &mut M) -> Result<Option<Outline>, Failed>
     requires unit { (M.state unit.old).size ≡ IMAGE_SIZE }
     requires decodes { IfSome (M.state unit.old).image Decodes }
@@ -249,6 +261,7 @@ fn events_outline<M: Medium>(unit: &mut M) -> Result<Option<Outline>, Failed>
     }))
 }
 
+// How many events, faults and over speedings there are, and what the image tells of the over speedings.
 fn event_outline<M: Medium>(unit: &mut M) -> Result<EventOutline, Failed>
     requires unit { (M.state unit.old).size ≡ IMAGE_SIZE }
     requires decodes { IfSome (M.state unit.old).image Decodes }

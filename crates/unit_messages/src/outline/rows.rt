@@ -26,14 +26,16 @@ use unit_model::layout::{
     EVENTS, FAULTS, INSERTION_SLOTS, INSERTIONS, OVERS, PLACE_SLOTS, PLACES, SPEED_SLOTS, SPEEDS,
 };
 
-/// How many places there are for faults, events and over speedings.
+// How many places there are for faults.
 const FAULT_PLACES: u32 = 24;
 
+// How many there are for events.
 const EVENT_PLACES: u32 = 60;
 
+// How many there are for over speedings.
 const OVER_PLACES: u32 = 10;
 
-/// Where a fault, an event and an over speeding have their begin, behind their type and their purpose.
+// Where a fault, an event and an over speeding have their begin, behind their type and their purpose.
 const BEGIN: u32 = 2;
 
 /// The insertions that touch a day.
@@ -149,6 +151,10 @@ fn bytes_of(count: u32, width: u32) -> u32
 }
 
 /// The entries of a table pass by, behind their count.
+///
+/// # Errors
+///
+/// `Failed` where the unit failed.
 pub fn pass_table<M: Medium>(
     unit: &mut M,
     entries: &Entries,
@@ -216,6 +222,10 @@ fn pass_ring<M: Medium>(
 }
 
 /// The insertions of a day pass by, behind their count.
+///
+/// # Errors
+///
+/// `Failed` where the unit failed.
 pub fn pass_insertions<M: Medium>(
     unit: &mut M,
     day: DayOutline,
@@ -236,6 +246,10 @@ pub fn pass_insertions<M: Medium>(
 }
 
 /// The words of a day pass by, behind their count.
+///
+/// # Errors
+///
+/// `Failed` where the unit failed.
 pub fn pass_words<M: Medium>(
     unit: &mut M,
     day: DayOutline,
@@ -253,6 +267,10 @@ pub fn pass_words<M: Medium>(
 }
 
 /// The places of a day pass by, behind their count.
+///
+/// # Errors
+///
+/// `Failed` where the unit failed.
 pub fn pass_places<M: Medium>(
     unit: &mut M,
     day: DayOutline,
@@ -273,6 +291,10 @@ pub fn pass_places<M: Medium>(
 }
 
 /// The blocks of detailed speed pass by, behind their count.
+///
+/// # Errors
+///
+/// `Failed` where the unit failed.
 pub fn pass_blocks<M: Medium>(unit: &mut M, blocks: u32, window: &mut Window) -> Result<(), Failed>
     requires unit { (M.state unit.old).size ≡ IMAGE_SIZE }
     requires few { blocks ≤ speed_ring.count }
