@@ -1,5 +1,12 @@
-//! What goes over a noisy link.
+//! What goes over a noisy link, and the bytes of it (profile).
 use link_frames::Frame;
+
+/// The first byte of a packet.
+pub const PACKET_START: u8 = 0x4E;
+/// How many bytes stand before a packet's data: 4E, and its number in eight bytes.
+pub const PACKET_HEADER: u32 = 9;
+/// How many bytes a packet has at most: behind its header stand up to 255 of a frame.
+pub const PACKET_MOST: u32 = 264;
 
 /// What goes over a noisy link: a frame's data behind a number, or the number alone.
 #[derive(Drop)]
