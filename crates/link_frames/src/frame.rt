@@ -46,7 +46,7 @@ impl Frame {
     }
 }
 
-// These bytes, for which there is room.
+/// These bytes, for which there is room.
 fn held(bytes: &[u8]) -> ArrayVec<u8, ROOM>
     requires { length bytes.now ≤ FRAME_MOST }
     ensures { result.items ≡ bytes.now }

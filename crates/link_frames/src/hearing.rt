@@ -27,7 +27,7 @@ pub fn addresses(end: End) -> [u8; 2]
     }
 }
 
-// Whether a frame may begin with this byte.
+/// Whether a frame may begin with this byte.
 fn starts(end: End, byte: u8) -> bool
     ensures { result ≡ starts end byte }
 {
@@ -37,7 +37,7 @@ fn starts(end: End, byte: u8) -> bool
     }
 }
 
-// Whether the byte goes on with the beginning of a frame.
+/// Whether the byte goes on with the beginning of a frame.
 fn goes_on(end: End, kept: &[u8], byte: u8) -> bool
     requires { looks_right end kept.now ≡ true }
     ensures { result ≡ looks_right end (kept.now ++ byte ∷ []) }
@@ -51,7 +51,7 @@ fn goes_on(end: End, kept: &[u8], byte: u8) -> bool
     }
 }
 
-// Whether the next byte is the frame's last.
+/// Whether the next byte is the frame's last.
 fn is_last(kept: &[u8], byte: u8) -> bool
     requires { length kept.now < size_of kept.now }
     ensures value { result ≡ (length (kept.now ++ byte ∷ []) == size_of (kept.now ++ byte ∷ [])) }
@@ -79,7 +79,7 @@ pub fn sum_of(bytes: &[u8]) -> u8
     (total % 256) as u8
 }
 
-// What a frame says, of which these bytes stand before the last.
+/// What a frame says, of which these bytes stand before the last.
 fn judged(kept: &[u8], last: u8) -> Seen
     requires some { header_size kept.now < length kept.now }
     requires few { length kept.now ≤ header_size kept.now + FRAME_MOST }
@@ -94,7 +94,7 @@ fn judged(kept: &[u8], last: u8) -> Seen
     }
 }
 
-// Hears one byte more.
+/// Hears one byte more.
 fn hear_byte(end: End, kept: &mut ArrayVec<u8, KEPT>, byte: u8) -> Option<Seen>
     requires { is_kept end kept.old.items ≡ true }
     ensures kept { kept.new.items ≡ (after_byte end kept.old.items byte).kept }

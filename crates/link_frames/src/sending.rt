@@ -74,7 +74,7 @@ pub fn place_of(counter: u16) -> u32
     MESSAGE_HEADER + PIECE_MOST * counter.saturating_sub(1) as u32
 }
 
-// There is no such message.
+/// There is no such message.
 fn refused(standing: Standing, service: u8) -> Reply
     ensures { reply_of result ≡ refuses (state_of standing) service DATA_NOT_AVAILABLE }
 {
@@ -84,7 +84,7 @@ fn refused(standing: Standing, service: u8) -> Reply
     }
 }
 
-// A piece of a message, whose bytes these begin with.
+/// A piece of a message, whose bytes these begin with.
 fn sent(request: Request, counter: u16, bytes: &[u8]) -> Reply
     ensures { reply_of result ≡ sends_piece request counter (take PIECE_MOST bytes.now) }
 {
@@ -95,7 +95,7 @@ fn sent(request: Request, counter: u16, bytes: &[u8]) -> Reply
     }
 }
 
-// The bytes that a piece has room for.
+/// The bytes that a piece has room for.
 #[tactic(auto, using(std::proofs::lemmas::List::take_min))]
 fn front(bytes: &[u8]) -> &[u8]
     ensures value { result.now ≡ take PIECE_MOST bytes.now }
@@ -104,7 +104,7 @@ fn front(bytes: &[u8]) -> &[u8]
     &bytes[..PIECE.min(bytes.len())]
 }
 
-// A frame with these data.
+/// A frame with these data.
 fn framed(header: &[u8], bytes: &[u8]) -> Frame
     requires some { 0 < length header.now }
     requires few { length header.now + length bytes.now ≤ FRAME_MOST }

@@ -65,7 +65,7 @@ pub fn checked(standing: Standing, service: u8, checks: &[Check], step: Step) ->
     step
 }
 
-// The code of the first check that fails.
+/// The code of the first check that fails.
 fn failing(checks: &[Check]) -> Option<u8>
     ensures { result ≡ failing_code checks.now }
 {

@@ -45,7 +45,7 @@ pub fn step_of(standing: Standing, seen: &Seen) -> Step
     }
 }
 
-// Before communication has started its start alone is answered.
+/// Before communication has started its start alone is answered.
 fn idle(seen: &Seen) -> Step
     ensures performs { (messages : Asked → Option (List ℕ)) → performed messages result ≡ idle (meant seen.now) }
     ensures asks { asks result ≡ false }
@@ -56,7 +56,7 @@ fn idle(seen: &Seen) -> Step
     }
 }
 
-// The positive answer to the start of communication.
+/// The positive answer to the start of communication.
 fn started() -> Step
     ensures performs { (messages : Asked → Option (List ℕ))
         → performed messages result ≡ answers COMMUNICATION_STARTED Started }
@@ -65,7 +65,7 @@ fn started() -> Step
     Step::Answer(Frame::new(&COMMUNICATION_STARTED), Standing::Started)
 }
 
-// Elsewhere a wrong sum is refused.
+/// Elsewhere a wrong sum is refused.
 fn active(standing: Standing, seen: &Seen) -> Step
     ensures performs { (messages : Asked → Option (List ℕ))
         → performed messages result ≡ active messages (state_of standing) (meant seen.now) }
@@ -77,7 +77,7 @@ fn active(standing: Standing, seen: &Seen) -> Step
     }
 }
 
-// The table, by the service.
+/// The table, by the service.
 fn served(standing: Standing, bytes: &[u8]) -> Step
     ensures performs { (messages : Asked → Option (List ℕ))
         → performed messages result ≡ served messages (state_of standing) bytes.now }
@@ -108,7 +108,7 @@ fn served(standing: Standing, bytes: &[u8]) -> Step
     refused(standing, service, SERVICE_NOT_SUPPORTED)
 }
 
-// The start of communication.
+/// The start of communication.
 fn start_communication(standing: Standing, bytes: &[u8]) -> Step
     ensures performs { (messages : Asked → Option (List ℕ)) → performed messages result
         ≡ checked (state_of standing) START_COMMUNICATION (check (length bytes.now == 1) INCORRECT_LENGTH ∷ [])
@@ -119,7 +119,7 @@ fn start_communication(standing: Standing, bytes: &[u8]) -> Step
     checked(standing, START_COMMUNICATION, &checks, started())
 }
 
-// The stop of communication.
+/// The stop of communication.
 fn stop_communication(standing: Standing, bytes: &[u8]) -> Step
     ensures performs { (messages : Asked → Option (List ℕ)) → performed messages result
         ≡ checked (state_of standing) STOP_COMMUNICATION (check (length bytes.now == 1) INCORRECT_LENGTH ∷ [])
@@ -131,7 +131,7 @@ fn stop_communication(standing: Standing, bytes: &[u8]) -> Step
     checked(standing, STOP_COMMUNICATION, &checks, stopped)
 }
 
-// The start of the diagnostic service.
+/// The start of the diagnostic service.
 fn start_diagnostic(standing: Standing, bytes: &[u8]) -> Step
     ensures performs { (messages : Asked → Option (List ℕ)) → performed messages result
         ≡ checked (state_of standing) START_DIAGNOSTIC (check (length bytes.now == 2) INCORRECT_LENGTH
@@ -152,7 +152,7 @@ fn start_diagnostic(standing: Standing, bytes: &[u8]) -> Step
     )
 }
 
-// A request of an upload, of all data.
+/// A request of an upload, of all data.
 fn request_upload(standing: Standing, bytes: &[u8]) -> Step
     ensures performs { (messages : Asked → Option (List ℕ)) → performed messages result
         ≡ checked (state_of standing) REQUEST_UPLOAD (check (length bytes.now == 10) INCORRECT_LENGTH
@@ -173,7 +173,7 @@ fn request_upload(standing: Standing, bytes: &[u8]) -> Step
     )
 }
 
-// The exit from the transfer.
+/// The exit from the transfer.
 fn exit_transfer(standing: Standing, bytes: &[u8]) -> Step
     ensures performs { (messages : Asked → Option (List ℕ)) → performed messages result
         ≡ checked (state_of standing) TRANSFER_EXIT (check (length bytes.now == 1) INCORRECT_LENGTH
@@ -192,7 +192,7 @@ fn exit_transfer(standing: Standing, bytes: &[u8]) -> Step
     )
 }
 
-// A request of a message.
+/// A request of a message.
 fn transfer_data(standing: Standing, bytes: &[u8]) -> Step
     ensures performs { (messages : Asked → Option (List ℕ))
         → performed messages result ≡ transfer messages (state_of standing) bytes.now }
@@ -217,14 +217,14 @@ fn transfer_data(standing: Standing, bytes: &[u8]) -> Step
     )
 }
 
-// How many bytes the request of a number has.
+/// How many bytes the request of a number has.
 fn size_of(number: u8) -> usize
     ensures { result ≡ (if number == DAY_NUMBER then 6 else 2) }
 {
     if number == DAY_NUMBER { 6 } else { 2 }
 }
 
-// How far into its day the second of a request of a day lies.
+/// How far into its day the second of a request of a day lies.
 fn past_midnight(number: u8, bytes: &[u8]) -> u32
     ensures { result ≡ (if number == DAY_NUMBER then day_in bytes.now % DAY_SECONDS else 0) }
 {
@@ -235,7 +235,7 @@ fn past_midnight(number: u8, bytes: &[u8]) -> u32
     }
 }
 
-// The request that these bytes make, behind its checks.
+/// The request that these bytes make, behind its checks.
 fn request_in(bytes: &[u8]) -> Request
     ensures { result ≡ request_in bytes.now }
 {
@@ -255,18 +255,18 @@ fn request_in(bytes: &[u8]) -> Request
     Request::Technical
 }
 
-// The four bytes of a day, the highest first.
+/// The four bytes of a day, the highest first; a byte that has not come is 0.
 fn day_in(bytes: &[u8]) -> u32
     ensures { result ≡ day_in bytes.now }
 {
-    let first = byte_at(bytes, 2) as u32;
-    let second = byte_at(bytes, 3) as u32;
-    let third = byte_at(bytes, 4) as u32;
-    let fourth = byte_at(bytes, 5) as u32;
-    ((first * 256 + second) * 256 + third) * 256 + fourth
+    let first = byte_at(bytes, 2);
+    let second = byte_at(bytes, 3);
+    let third = byte_at(bytes, 4);
+    let fourth = byte_at(bytes, 5);
+    u32::from_be_bytes([first, second, third, fourth])
 }
 
-// An acknowledged piece.
+/// An acknowledged piece.
 fn acknowledge_piece(standing: Standing, bytes: &[u8]) -> Step
     ensures performs { (messages : Asked → Option (List ℕ))
         → performed messages result ≡ acknowledge messages (state_of standing) bytes.now }
@@ -286,14 +286,16 @@ fn acknowledge_piece(standing: Standing, bytes: &[u8]) -> Step
     )
 }
 
-// The two bytes of the acknowledged counter, the higher first.
+/// The two bytes of the acknowledged counter, the higher first; a byte that has not come is 0.
 fn code_in(bytes: &[u8]) -> u16
     ensures { result ≡ code_in bytes.now }
 {
-    byte_at(bytes, 2) as u16 * 256 + byte_at(bytes, 3) as u16
+    let high = byte_at(bytes, 2);
+    let low = byte_at(bytes, 3);
+    u16::from_be_bytes([high, low])
 }
 
-// Behind a piece: the end of the transfer, the next piece, or the same one again.
+/// Behind a piece: the end of the transfer, the next piece, or the same one again.
 fn after_piece(standing: Standing, code: u16) -> Step
     ensures performs { (messages : Asked → Option (List ℕ))
         → performed messages result ≡ after_piece messages (state_of standing) code }
@@ -314,7 +316,7 @@ fn after_piece(standing: Standing, code: u16) -> Step
     )
 }
 
-// This is answered.
+/// This is answered.
 fn answer(bytes: &[u8], standing: Standing) -> Step
     requires some { 0 < length bytes.now }
     requires few { length bytes.now ≤ FRAME_MOST }
@@ -325,14 +327,14 @@ fn answer(bytes: &[u8], standing: Standing) -> Step
     Step::Answer(Frame::new(bytes), standing)
 }
 
-// A check, and the code of its refusal.
+/// A check, and the code of its refusal.
 fn of(holds: bool, code: u8) -> Check
     ensures { result ≡ record { holds = holds; code = code } }
 {
     Check { holds, code }
 }
 
-// The byte at an index, 0 where there is none.
+/// The byte at an index, 0 where there is none.
 fn byte_at(bytes: &[u8], index: usize) -> u8
     ensures { result ≡ slice_index bytes.now index }
 {

@@ -27,7 +27,7 @@ pub fn write_frame(from: End, frame: &Frame) -> ArrayVec<u8, WRITTEN>
     written(from, frame.bytes())
 }
 
-// The bytes of a frame with this data.
+/// The bytes of a frame with this data.
 fn written(from: End, body: &[u8]) -> ArrayVec<u8, WRITTEN>
     requires { length body.now ≤ FRAME_MOST }
     ensures { result.items ≡ written_to (other from) body.now }
@@ -42,7 +42,7 @@ fn written(from: End, body: &[u8]) -> ArrayVec<u8, WRITTEN>
     }
 }
 
-// A frame in the form with a length, to this side.
+/// A frame in the form with a length, to this side.
 fn long(to: End, body: &[u8]) -> ArrayVec<u8, WRITTEN>
     requires { length body.now ≤ FRAME_MOST }
     ensures { result.items ≡ written_long to body.now }
@@ -51,7 +51,7 @@ fn long(to: End, body: &[u8]) -> ArrayVec<u8, WRITTEN>
     with_sum(&[LONG_FORM, second, third, body.len() as u8], body)
 }
 
-// A header with data behind it, and their sum.
+/// A header with data behind it, and their sum.
 fn with_sum(header: &[u8; 4], body: &[u8]) -> ArrayVec<u8, WRITTEN>
     requires { length body.now ≤ FRAME_MOST }
     ensures { result.items ≡ with_sum (header.now ++ body.now) }

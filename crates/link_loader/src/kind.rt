@@ -7,6 +7,7 @@ ghost use Rattle.link_loader.specs.Coming.{begins_as, piece_kind, request_kind, 
 ghost use Rattle.link_loader.specs.Coming.{kind_at, kind_of, IsInOrder};
 
 use crate::stage::Stage;
+use byteorder::{BigEndian, ByteOrder};
 use link_model::lengths::FRAME_MOST;
 use link_model::services::{
     COMMUNICATION_STARTED, COMMUNICATION_STOPPED, DIAGNOSTIC_STARTED, MESSAGE, REFUSAL,
@@ -48,7 +49,7 @@ pub fn kind_of(stage: Stage, frame: &[u8]) -> Kind
     kind_at(stage, frame)
 }
 
-// The same of a frame that is no negative answer.
+/// The same of a frame that is no negative answer.
 fn kind_at(stage: Stage, frame: &[u8]) -> Kind
     ensures kind { result ≡ kind_at stage frame.now }
     ensures order { IsInOrder (counter_at stage) frame.now result }
@@ -65,7 +66,7 @@ fn kind_at(stage: Stage, frame: &[u8]) -> Kind
     }
 }
 
-// Where no message was asked for there is one positive answer.
+/// Where no message was asked for there is one positive answer.
 fn answer_kind(answer: &[u8], frame: &[u8]) -> Kind
     ensures kind { result ≡ answer_kind answer.now frame.now }
     ensures order { (wanted : ℕ) → IsInOrder wanted frame.now result }
@@ -77,7 +78,7 @@ fn answer_kind(answer: &[u8], frame: &[u8]) -> Kind
     }
 }
 
-// The answer to the request of a message.
+/// The answer to the request of a message.
 fn request_kind(request: Request, frame: &[u8]) -> Kind
     ensures kind { result ≡ request_kind request frame.now }
     ensures order { IsInOrder 1 frame.now result }
@@ -91,7 +92,7 @@ fn request_kind(request: Request, frame: &[u8]) -> Kind
     Kind::Other
 }
 
-// The answer to an acknowledgement.
+/// The answer to an acknowledgement.
 fn acknowledgement_kind(request: Request, wanted: u16, frame: &[u8]) -> Kind
     ensures kind { result ≡ acknowledgement_kind request wanted frame.now }
     ensures order { IsInOrder wanted frame.now result }
@@ -102,7 +103,7 @@ fn acknowledgement_kind(request: Request, wanted: u16, frame: &[u8]) -> Kind
     Kind::Other
 }
 
-// A piece, by its counter.
+/// A piece, by its counter.
 fn piece_kind(request: Request, wanted: u16, frame: &[u8]) -> Kind
     requires { 4 ≤ length frame.now }
     ensures kind { result ≡ piece_kind request wanted (counter_in frame.now) }
@@ -115,7 +116,7 @@ fn piece_kind(request: Request, wanted: u16, frame: &[u8]) -> Kind
     Kind::Broken(wanted, counter)
 }
 
-// 76 and the number stand in front.
+/// 76 and the number stand in front.
 fn begins_as(request: Request, frame: &[u8]) -> bool
     requires { 2 ≤ length frame.now }
     ensures { result ≡ begins_as request frame.now }
@@ -124,10 +125,10 @@ fn begins_as(request: Request, frame: &[u8]) -> bool
     frame[0] == MESSAGE && frame[1] == number
 }
 
-// The counter of a piece.
+/// The counter of a piece.
 fn counter_in(frame: &[u8]) -> u16
     requires { 4 ≤ length frame.now }
     ensures { result ≡ counter_in frame.now }
 {
-    u16::from_be_bytes([frame[2], frame[3]])
+    BigEndian::read_u16(&frame[2..FRONT])
 }

@@ -58,7 +58,7 @@ pub fn sent_at(stage: Stage) -> Option<Frame>
     }
 }
 
-// The request of a message.
+/// The request of a message.
 fn request_frame(request: Request) -> Frame
     ensures { result ≡ request_bytes request }
 {
@@ -70,7 +70,7 @@ fn request_frame(request: Request) -> Frame
     }
 }
 
-// The request of the day that begins at this second.
+/// The request of the day that begins at this second.
 fn day_frame(second: u32) -> Frame
     ensures { result ≡ request_bytes (Request.Day second) }
 {
@@ -78,7 +78,7 @@ fn day_frame(second: u32) -> Frame
     Frame::new(&[TRANSFER_DATA, DAY_NUMBER, first, next, third, last])
 }
 
-// The piece before the one of this counter is acknowledged.
+/// The piece before the one of this counter is acknowledged.
 fn acknowledgement(counter: u16) -> Frame
     ensures { result ≡ acknowledgement counter }
 {
@@ -108,7 +108,7 @@ pub fn next_day(second: u32, end: u32) -> Stage
     Stage::Asked(Request::Events)
 }
 
-// What is asked for where there is no message of a request, if that is passed over.
+/// What is asked for where there is no message of a request, if that is passed over.
 fn behind_lack(end: u32, request: Request) -> Option<Stage>
     ensures stage { result ≡ behind_lack end request }
     ensures first { IfSome result (λ stage. counter_at stage ≡ 1) }
@@ -131,7 +131,7 @@ pub fn passed_over(end: u32, stage: Stage, service: u8, code: u8) -> Option<Stag
     }
 }
 
-// The same where a message was asked for.
+/// The same where a message was asked for.
 fn lack_passed_over(end: u32, request: Request, service: u8, code: u8) -> Option<Stage>
     ensures stage { result ≡ passed_over end (Stage.Asked request) service code }
     ensures first { IfSome result (λ stage. counter_at stage ≡ 1) }

@@ -113,7 +113,7 @@ pub fn part_of<M: Medium>(
     })
 }
 
-// The outline of a message; the one that is known where it is this message's.
+/// The outline of a message; the one that is known where it is this message's.
 fn outline_of<M: Medium>(
     journal: &Journal,
     unit: &mut M,

@@ -122,7 +122,7 @@ impl Line {
         Err(ServeFault::TooLong)
     }
 
-    // Takes bytes up to the end of the next frame, or all of them, answers the frame, and says how many it took.
+    /// Takes bytes up to the end of the next frame, or all of them, answers the frame, and says how many it took.
     fn answer_next<K: Sink, U: Medium>(
         &mut self,
         spelling: Spelling,
@@ -156,7 +156,7 @@ impl Line {
     }
 }
 
-// Answers a frame, if there is an answer to it.
+/// Answers a frame, if there is an answer to it.
 fn answer_frame<K: Sink, U: Medium>(
     spelling: Spelling,
     session: &mut Session,
@@ -185,7 +185,7 @@ fn answer_frame<K: Sink, U: Medium>(
     }
 }
 
-// Puts a frame into the sink, so spelled.
+/// Puts a frame into the sink, so spelled.
 fn put_frame<K: Sink>(spelling: Spelling, frame: &Frame, sink: &mut K) -> Result<(), Failed>
     ensures ok { OnOk result (Appends (K.held sink.old) (K.held sink.new) (spelled spelling frame.now)) }
     ensures err { OnErr result (AppendsFront (K.held sink.old) (K.held sink.new) (spelled spelling frame.now)) }

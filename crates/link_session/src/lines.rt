@@ -37,7 +37,7 @@ pub struct Lines {
 }
 
 impl Lines {
-    // Nothing has come yet.
+    /// Nothing has come yet.
     fn new(alloc: Global) -> Lines
         ensures scanner { result.line.scanner ≡ listening [] }
         ensures session { result.line.session ≡ fresh Idle }
@@ -52,7 +52,7 @@ impl Lines {
         }
     }
 
-    // What comes of the next line is kept.
+    /// What comes of the next line is kept.
     fn keep(&mut self, text: &[u8]) -> Result<(), LinesFault>
         ensures text { OnOk result (self.new.text.items ≡ self.old.text.items ++ text.now) }
         ensures line { self.new.line ≡ self.old.line }
@@ -65,7 +65,7 @@ impl Lines {
         Ok(())
     }
 
-    // The line that has begun ends: the frames that end in its bytes are answered.
+    /// The line that has begun ends: the frames that end in its bytes are answered.
     fn end_line<K: Sink, U: Medium>(&mut self, sink: &mut K, unit: &mut U) -> Result<(), LinesFault>
         requires unit { (U.state unit.old).size ≡ IMAGE_SIZE }
         requires room { self.old.whole < 4294967295 }
@@ -98,7 +98,7 @@ impl Lines {
         }
     }
 
-    // The lines that end in this text are answered, and what comes of the next one is kept.
+    /// The lines that end in this text are answered, and what comes of the next one is kept.
     fn take<K: Sink, U: Medium>(
         &mut self,
         text: &[u8],

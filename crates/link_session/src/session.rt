@@ -93,7 +93,7 @@ impl Session {
         Ok(reply.answer)
     }
 
-    // What a step answers, by the unit's messages where it hangs on them.
+    /// What a step answers, by the unit's messages where it hangs on them.
     fn perform<M: Medium>(&mut self, unit: &mut M, step: Step) -> Result<Reply, AnswerFault>
         requires unit { (M.state unit.old).size ≡ IMAGE_SIZE }
         requires knows { IfSome (M.state unit.old).image (Knows self.old) }
@@ -122,7 +122,7 @@ impl Session {
         }
     }
 
-    // Begins to send a message, where there is one.
+    /// Begins to send a message, where there is one.
     fn begin<M: Medium>(
         &mut self,
         unit: &mut M,
@@ -142,7 +142,7 @@ impl Session {
         Ok(begun(request, standing, part.told, part.bytes.as_slice()))
     }
 
-    // Goes on with a message.
+    /// Goes on with a message.
     fn go_on<M: Medium>(
         &mut self,
         unit: &mut M,
@@ -163,7 +163,7 @@ impl Session {
         Ok(sent_on(request, counter, code, part.told, part.bytes.as_slice()))
     }
 
-    // Reads a part of a message, of a unit that is judged before, if it was not yet.
+    /// Reads a part of a message, of a unit that is judged before, if it was not yet.
     fn ask<M: Medium>(
         &mut self,
         unit: &mut M,
@@ -187,7 +187,7 @@ impl Session {
         Ok(part)
     }
 
-    // Judges the unit, and reads a part of a message.
+    /// Judges the unit, and reads a part of a message.
     fn ask_first<M: Medium>(
         &mut self,
         unit: &mut M,

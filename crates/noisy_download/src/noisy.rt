@@ -71,7 +71,7 @@ pub fn download_noisy<K: Sink, U: Medium>(
 }
 
 impl Noisy {
-    // The next number that is drawn.
+    /// The next number that is drawn.
     fn draw(&mut self) -> u32
         ensures world { self.new.world ≡ self.old.world }
         ensures listed { self.new.listed ≡ self.old.listed }
@@ -80,7 +80,7 @@ impl Noisy {
         self.drawn
     }
 
-    // A round: up to five events that are drawn, and an exchange.
+    /// A round: up to five events that are drawn, and an exchange.
     fn round<K: Sink, U: Medium>(
         &mut self,
         sink: &mut K,
@@ -105,7 +105,7 @@ impl Noisy {
         self.exchange(sink, unit, wire)
     }
 
-    // An event that is drawn.
+    /// An event that is drawn.
     fn stray<K: Sink, U: Medium>(
         &mut self,
         sink: &mut K,
@@ -130,7 +130,7 @@ impl Noisy {
         self.happen(&event, sink, unit, wire)
     }
 
-    // The loader's end sends, what was sent last comes to the unit's end, and the last answer to the loader's.
+    /// The loader's end sends, what was sent last comes to the unit's end, and the last answer to the loader's.
     fn exchange<K: Sink, U: Medium>(
         &mut self,
         sink: &mut K,
@@ -155,7 +155,7 @@ impl Noisy {
         self.happen(&Event::ToLoader(answered), sink, unit, wire)
     }
 
-    // What an event does, while the download is not over.
+    /// What an event does, while the download is not over.
     fn happen<K: Sink, U: Medium>(
         &mut self,
         event: &Event,
@@ -181,7 +181,7 @@ impl Noisy {
         self.world.step(unit, event, sink)
     }
 
-    // What an event adds to the wire.
+    /// What an event adds to the wire.
     fn list(&mut self, event: &Event, wire: &mut Wire) -> Result<(), DownloadFault>
         ensures world { self.new.world ≡ self.old.world }
         ensures listed { OnOk result (IsListed self.old.world self.old.listed event.now wire.old self.new.listed
@@ -195,7 +195,7 @@ impl Noisy {
         }
     }
 
-    // The request that is asked now, if it is not on the wire.
+    /// The request that is asked now, if it is not on the wire.
     fn list_request(&mut self, wire: &mut Wire) -> Result<(), DownloadFault>
         ensures world { self.new.world ≡ self.old.world }
         ensures listed { OnOk result (RequestIsListed self.old.listed
@@ -215,7 +215,7 @@ impl Noisy {
         Ok(())
     }
 
-    // The answer that the packet of this place brings.
+    /// The answer that the packet of this place brings.
     fn list_answer(&mut self, place: u32, wire: &mut Wire) -> Result<(), DownloadFault>
         ensures world { self.new.world ≡ self.old.world }
         ensures listed { OnOk result (AnswerIsListed

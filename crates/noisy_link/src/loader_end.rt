@@ -138,7 +138,7 @@ impl LoaderEnd {
     }
 }
 
-// The number behind a refusal.
+/// The number behind a refusal.
 fn number_left(fault: LoadFault, number: u64) -> u64
     requires { number + 1 < 2 ^ 64 }
     ensures { result ≡ number_left fault number }

@@ -37,7 +37,7 @@ pub fn read_packet(bytes: &[u8]) -> Option<Packet>
     Some(Packet { number, frame })
 }
 
-// A number as eight bytes.
+/// A number as eight bytes.
 fn number_bytes(number: u64) -> [u8; 8]
     ensures value { result ≡ number_bytes number }
     ensures eight { length result ≡ 8 }
@@ -47,7 +47,7 @@ fn number_bytes(number: u64) -> [u8; 8]
     bytes
 }
 
-// The number in the first eight bytes.
+/// The number in the first eight bytes.
 fn number_in(bytes: &[u8]) -> u64
     requires { 8 ≤ length bytes.now }
     ensures { result ≡ number_in bytes.now }
@@ -55,7 +55,7 @@ fn number_in(bytes: &[u8]) -> u64
     BigEndian::read_u64(bytes)
 }
 
-// The data of a frame, if there is one.
+/// The data of a frame, if there is one.
 fn data_of(frame: &Option<Frame>) -> &[u8]
     ensures value { result.now ≡ data_of frame.now }
     ensures few { length result.now ≤ FRAME_MOST }
@@ -66,7 +66,7 @@ fn data_of(frame: &Option<Frame>) -> &[u8]
     }
 }
 
-// The frame with this data, if there is any.
+/// The frame with this data, if there is any.
 fn frame_in(bytes: &[u8]) -> Option<Frame>
     requires { length bytes.now ≤ FRAME_MOST }
     ensures { result ≡ frame_in bytes.now }

@@ -98,14 +98,14 @@ impl UnitEnd {
     }
 }
 
-// Whether this number is the one behind the last.
+/// Whether this number is the one behind the last.
 fn is_next(last: u64, number: u64) -> bool
     ensures { result ≡ (number == last + 1) }
 {
     number > 0 && number - 1 == last
 }
 
-// A frame that was heard.
+/// A frame that was heard.
 fn heard(frame: &Frame) -> Seen
     ensures { meant result ≡ Right frame.now }
 {

@@ -77,7 +77,7 @@ impl Gathering {
     }
 }
 
-// What bytes are, of which all but the last were a part.
+/// What bytes are, of which all but the last were a part.
 fn told_by(kept: &[u8]) -> Gathered
     ensures { result ≡ gathered kept.now }
 {
@@ -88,7 +88,7 @@ fn told_by(kept: &[u8]) -> Gathered
     gathered_by(size as usize, kept.len() - 2)
 }
 
-// By the length that is told, and how many bytes are there.
+/// By the length that is told, and how many bytes are there.
 fn gathered_by(size: usize, count: usize) -> Gathered
     ensures { result ≡ gathered_by size count }
 {

@@ -97,7 +97,7 @@ pub fn download_packets<S: Peer<K>, K: Sink, F: Sink>(
 }
 
 impl LoaderLine {
-    // These bytes come.
+    /// These bytes come.
     fn take_all<K: Sink, F: Sink>(
         &mut self,
         bytes: &[u8],
@@ -122,7 +122,7 @@ impl LoaderLine {
         Ok(())
     }
 
-    // A byte comes.
+    /// A byte comes.
     fn take<K: Sink, F: Sink>(
         &mut self,
         byte: u8,
@@ -153,7 +153,7 @@ impl LoaderLine {
     }
 }
 
-// A datagram comes.
+/// A datagram comes.
 fn hear<K: Sink, F: Sink>(
     end: &mut LoaderEnd,
     bytes: &[u8],
@@ -189,7 +189,7 @@ fn hear<K: Sink, F: Sink>(
     }
 }
 
-// The loader's end sends, if it has anything to send.
+/// The loader's end sends, if it has anything to send.
 fn send<K: Sink>(end: &LoaderEnd, link: &mut K) -> Result<(), PacketsFault>
     ensures ok { OnOk result (Appends (K.held link.old) (K.held link.new) (stream_of_packets (sent_by end.now))) }
     ensures err { IfErr result (λ fault. (fault ≡ PacketsFault.WriteFault)

@@ -85,7 +85,7 @@ impl UnitLine {
         }
     }
 
-    // These bytes come.
+    /// These bytes come.
     fn take_all<K: Sink, U: Medium>(
         &mut self,
         bytes: &[u8],
@@ -113,7 +113,7 @@ impl UnitLine {
         Ok(())
     }
 
-    // A byte comes.
+    /// A byte comes.
     fn take<K: Sink, U: Medium>(
         &mut self,
         byte: u8,
@@ -147,7 +147,7 @@ impl UnitLine {
     }
 }
 
-// Answers a datagram.
+/// Answers a datagram.
 fn hear<K: Sink, U: Medium>(
     end: &mut UnitEnd,
     bytes: &[u8],
@@ -176,7 +176,7 @@ fn hear<K: Sink, U: Medium>(
     }
 }
 
-// Sends an answer back.
+/// Sends an answer back.
 fn send_back<K: Sink>(answer: &Packet, sink: &mut K) -> Result<(), ServeFault>
     ensures ok { OnOk result (Appends (K.held sink.old) (K.held sink.new) (datagram (packet_bytes answer.now))) }
     ensures err { IfErr result (λ fault. (fault ≡ ServeFault.WriteFault)

@@ -58,14 +58,14 @@ pub(crate) const AT_ONCE: u32 = 31;
 // The room for them, where they are of the widest, as an insertion is.
 pub(crate) const BLOCK: usize = 3999;
 
-// Whether a second lies in the day that begins at another.
+/// Whether a second lies in the day that begins at another.
 fn is_in_day(date: u32, second: u32) -> bool
     ensures { result ≡ is_in_day date second }
 {
     second / DAY_SECONDS * DAY_SECONDS == date
 }
 
-// The first second of the day in which a time of an entry lies.
+/// The first second of the day in which a time of an entry lies.
 pub(crate) fn date_of(entry: &[u8], place: usize) -> u32
     requires { place + 4 ≤ length entry.now }
     ensures { (date : ℕ) → is_in_day date (number_at entry.now place 4) ≡ (date == result) }
@@ -73,7 +73,7 @@ pub(crate) fn date_of(entry: &[u8], place: usize) -> u32
     four_in(entry, place) / DAY_SECONDS * DAY_SECONDS
 }
 
-// How many of the entries that are left are read at once.
+/// How many of the entries that are left are read at once.
 pub(crate) fn at_once(left: u32) -> u32
     requires { 0 < left }
     ensures some { 0 < result }
@@ -84,7 +84,7 @@ pub(crate) fn at_once(left: u32) -> u32
 }
 
 impl Choice {
-    // Whether an entry is meant.
+    /// Whether an entry is meant.
     fn takes(&self, entry: &[u8]) -> bool
         requires { room_of self.now ≤ length entry.now }
         ensures { result ≡ chosen self.now entry.now }
@@ -101,7 +101,7 @@ impl Choice {
 }
 
 impl Entries {
-    // Where the entry at an index begins, of so many that are read at once.
+    /// Where the entry at an index begins, of so many that are read at once.
     pub(crate) fn place_of(&self, index: u32, count: u32) -> u32
         requires entries { AreEntries self.now }
         requires inside { index + count ≤ self.now.count }
@@ -111,7 +111,7 @@ impl Entries {
         self.base + index * self.width
     }
 
-    // How many bytes so many entries have.
+    /// How many bytes so many entries have.
     pub(crate) fn bytes_of(&self, count: u32) -> u32
         requires entries { AreEntries self.now }
         requires few { count ≤ AT_ONCE }
@@ -121,7 +121,7 @@ impl Entries {
         count * self.width
     }
 
-    // Whether an entry is there.
+    /// Whether an entry is there.
     pub(crate) fn is_there(&self, entry: &[u8]) -> bool
         requires entries { AreEntries self.now }
         requires whole { length entry.now ≡ self.now.width }
@@ -130,7 +130,7 @@ impl Entries {
         four_in(entry, self.gate as usize) != 0
     }
 
-    // Whether an entry is there and meant.
+    /// Whether an entry is there and meant.
     fn takes(&self, entry: &[u8]) -> bool
         requires entries { AreEntries self.now }
         requires whole { length entry.now ≡ self.now.width }
@@ -143,7 +143,7 @@ impl Entries {
         self.choice.takes(entry)
     }
 
-    // An entry that was read passes by, where it is there and meant.
+    /// An entry that was read passes by, where it is there and meant.
     fn pass_read(&self, entry: &[u8], window: &mut Window)
         requires entries { AreEntries self.now }
         requires whole { length entry.now ≡ self.now.width }
@@ -156,7 +156,7 @@ impl Entries {
         window.pass(entry);
     }
 
-    // An entry of some that were read at once.
+    /// An entry of some that were read at once.
     pub(crate) fn entry_in<'a>(&self, block: &'a [u8], turn: u32) -> &'a [u8]
         requires entries { AreEntries self.now }
         requires few { turn < AT_ONCE }
@@ -168,7 +168,7 @@ impl Entries {
         cut(block, place as usize, self.width as usize)
     }
 
-    // Entries that were read at once pass by, those that are there and meant.
+    /// Entries that were read at once pass by, those that are there and meant.
     fn pass_block(&self, block: &[u8], count: u32, window: &mut Window)
         requires entries { AreEntries self.now }
         requires few { count ≤ AT_ONCE }
@@ -184,7 +184,7 @@ impl Entries {
         }
     }
 
-    // So many entries from an index on are read at once, and pass by.
+    /// So many entries from an index on are read at once, and pass by.
     fn pass_some<M: Medium>(
         &self,
         unit: &mut M,
@@ -210,7 +210,7 @@ impl Entries {
         Ok(())
     }
 
-    // The entries from one index to another pass by.
+    /// The entries from one index to another pass by.
     fn pass_from<M: Medium>(
         &self,
         unit: &mut M,
@@ -265,7 +265,7 @@ impl Entries {
         Ok(())
     }
 
-    // So many entries are passed over: as many as lie before the window's begin.
+    /// So many entries are passed over: as many as lie before the window's begin.
     fn pass_ahead(&self, window: &mut Window) -> u32
         requires { AreEntries self.now }
         ensures few { result ≤ self.now.count }
@@ -281,7 +281,7 @@ impl Entries {
         0
     }
 
-    // How many bytes so many of all entries have.
+    /// How many bytes so many of all entries have.
     fn room_of(&self, count: u32) -> u32
         requires entries { AreEntries self.now }
         requires few { count ≤ self.now.count }
@@ -290,8 +290,8 @@ impl Entries {
         count * self.width
     }
 
-    // The entries from the one at an index on and round the end pass by, of which each is there and meant: those before
-    // the window's begin are not read.
+    /// The entries from the one at an index on and round the end pass by, of which each is there and meant: those before
+    /// the window's begin are not read.
     fn pass_each<M: Medium>(
         &self,
         unit: &mut M,

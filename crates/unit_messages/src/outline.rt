@@ -136,7 +136,7 @@ impl Outline {
         }
     }
 
-    // How many insertions and places other dates have, where the message is a day's.
+    /// How many insertions and places other dates have, where the message is a day's.
     fn counts(&self) -> Option<Counts>
         ensures range { IfSome result AreInRange }
         ensures counted { (x : List ℕ) → Outlines self.now x → IfSome result (λ c. AreCounted c x) }
@@ -184,7 +184,7 @@ impl Outline {
         Ok(())
     }
 
-    // The bytes of the message, by its numbers.
+    /// The bytes of the message, by its numbers.
     fn total(&self) -> u32
         ensures len { result ≡ length_of self.now }
         ensures some { 2 ≤ result }
@@ -199,7 +199,7 @@ impl Outline {
         }
     }
 
-    // How many bytes a piece has.
+    /// How many bytes a piece has.
     fn due(&self, from: u32) -> usize
         ensures due { result ≡ min WHOLE_MOST (length_of self.now - from) }
         ensures few { result ≤ WHOLE_MOST }
@@ -208,7 +208,7 @@ impl Outline {
         (len - len.min(from)).min(ROOM as u32) as usize
     }
 
-    // The bytes of the message pass by.
+    /// The bytes of the message pass by.
     fn pass<M: Medium>(&self, unit: &mut M, window: &mut Window) -> Result<(), Failed>
         requires unit { (M.state unit.old).size ≡ IMAGE_SIZE }
         ensures passed { OnOk result (IfSome (M.state unit.old).image
@@ -225,7 +225,7 @@ impl Outline {
     }
 }
 
-// How many bytes the message of a day has.
+/// How many bytes the message of a day has.
 fn day_total(day: DayOutline) -> u32
     requires { IsDayInRange day }
     ensures len { result ≡ length_of (Plan.Day day) }
@@ -235,7 +235,7 @@ fn day_total(day: DayOutline) -> u32
     DAY_LENGTH + INSERTION * day.insertions + 2 * day.words + PLACE * day.places
 }
 
-// How many bytes the message of events and faults has.
+/// How many bytes the message of events and faults has.
 fn event_total(events: EventOutline) -> u32
     requires { IsEventInRange events }
     ensures len { result ≡ length_of (Plan.Events events) }
@@ -245,7 +245,7 @@ fn event_total(events: EventOutline) -> u32
     EVENTS_LENGTH + FAULT * events.faults + EVENT * events.events + OVER * events.overs
 }
 
-// How many bytes the message of detailed speed has.
+/// How many bytes the message of detailed speed has.
 fn speed_total(blocks: u32) -> u32
     requires { blocks ≤ speed_ring.count }
     ensures len { result ≡ length_of (Plan.Speed blocks) }

@@ -62,7 +62,7 @@ pub fn read_message(b: &[u8]) -> Result<MessageRead, BadMessage>
     }
 }
 
-// The message at the front.
+/// The message at the front.
 fn at_front(b: &[u8]) -> Option<MessageRead>
     ensures { result ≡ at_front b.now }
 {
@@ -73,7 +73,7 @@ fn at_front(b: &[u8]) -> Option<MessageRead>
     numbered_at_front(b, number)
 }
 
-// The message of this number at the front.
+/// The message of this number at the front.
 fn numbered_at_front(b: &[u8], number: u8) -> Option<MessageRead>
     requires { 2 ≤ length b.now }
     ensures { result ≡ numbered_at_front b.now number }
@@ -88,7 +88,7 @@ fn numbered_at_front(b: &[u8], number: u8) -> Option<MessageRead>
     }
 }
 
-// A message that is read, by where its parts end.
+/// A message that is read, by where its parts end.
 fn read_as(request: Request, end: Option<usize>) -> Option<MessageRead>
     requires { IfSome end (λ end. end < 2 ^ 32) }
     ensures { result ≡ read_as request end }
@@ -100,7 +100,7 @@ fn read_as(request: Request, end: Option<usize>) -> Option<MessageRead>
     })
 }
 
-// The message of a day at the front.
+/// The message of a day at the front.
 fn day_at_front(b: &[u8]) -> Option<MessageRead>
     requires { 2 ≤ length b.now }
     ensures { result ≡ day_at_front b.now (parts_end b.now DAY_PARTS 2) }
@@ -111,7 +111,7 @@ fn day_at_front(b: &[u8]) -> Option<MessageRead>
     }
 }
 
-// The message of a day whose parts end there.
+/// The message of a day whose parts end there.
 fn day_that_ends(b: &[u8], end: usize) -> Option<MessageRead>
     requires some { 2 ≤ length b.now }
     requires ends { parts_end b.now DAY_PARTS 2 ≡ Some end }
@@ -127,7 +127,7 @@ fn day_that_ends(b: &[u8], end: usize) -> Option<MessageRead>
     }
 }
 
-// The place of a day's first word, and how many words it has.
+/// The place of a day's first word, and how many words it has.
 fn words_of(b: &[u8]) -> (u32, u16)
     requires some { 2 ≤ length b.now }
     requires ends { (end : ℕ) × (parts_end b.now DAY_PARTS 2 ≡ Some end) }
@@ -142,7 +142,7 @@ fn words_of(b: &[u8]) -> (u32, u16)
     (place, count)
 }
 
-// Whether each of so many words from a place on stands in a day.
+/// Whether each of so many words from a place on stands in a day.
 fn are_words(b: &[u8], place: usize, count: usize) -> bool
     requires { place + 2 * count ≤ length b.now }
     ensures { result ≡ are_words (words_at b.now place count) }

@@ -122,7 +122,7 @@ pub fn piece<M: Medium>(
     }
 }
 
-// A piece of a message, and the message's length.
+/// A piece of a message, and the message's length.
 fn piece_of<M: Medium>(
     outline: &Outline,
     unit: &mut M,
@@ -171,7 +171,7 @@ pub fn message<M: Medium>(
     }
 }
 
-// The whole message of an outline.
+/// The whole message of an outline.
 fn whole<M: Medium>(
     alloc: Global,
     outline: &Outline,
@@ -196,7 +196,7 @@ fn whole<M: Medium>(
     Ok(Some(bytes))
 }
 
-// Bytes with a piece more.
+/// Bytes with a piece more.
 fn append(bytes: &mut Vec<u8>, piece: &[u8]) -> Result<(), MessageFault>
     ensures items { OnOk result (bytes.new.items ≡ bytes.old.items ++ piece.now) }
     ensures memory { IfErr result (λ fault. fault ≡ MessageFault.Memory) }

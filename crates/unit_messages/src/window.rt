@@ -91,14 +91,14 @@ impl Window {
         self.take(over, &behind[..taken]);
     }
 
-    // How many bytes of a part it passes over.
+    /// How many bytes of a part it passes over.
     fn over(&self, len: usize) -> u32
         ensures { result ≡ min len self.now.skip }
     {
         len.min(self.skip as usize) as u32
     }
 
-    // How many bytes it takes of a part, of those that it does not pass over.
+    /// How many bytes it takes of a part, of those that it does not pass over.
     fn taken(&self, len: usize) -> usize
         ensures count { result ≡ min (len - self.now.skip) (WHOLE_MOST - length self.now.held) }
         ensures room { length self.now.held + result ≤ WHOLE_MOST }
@@ -119,7 +119,7 @@ impl Window {
         self.is_full()
     }
 
-    // Takes what was read of a part: the bytes behind those that it passes over.
+    /// Takes what was read of a part: the bytes behind those that it passes over.
     fn take(&mut self, over: u32, bytes: &[u8])
         requires over { over ≤ self.old.skip }
         requires room { length self.old.held + length bytes.now ≤ WHOLE_MOST }
@@ -156,14 +156,14 @@ impl Window {
         Ok(())
     }
 
-    // How many words of a part it passes over.
+    /// How many words of a part it passes over.
     fn words_over(&self, count: u32) -> u32
         ensures { result ≡ min count (self.now.skip / 2) }
     {
         count.min(self.skip / 2)
     }
 
-    // How many words are read of those to come: none where it is full, else all, but no more than it has room for.
+    /// How many words are read of those to come: none where it is full, else all, but no more than it has room for.
     fn words_taken(&self, count: u32) -> u32
         ensures { IsWordCount self.now count result }
     {
@@ -174,7 +174,7 @@ impl Window {
         count.min(WORDS)
     }
 
-    // So many bytes are passed over.
+    /// So many bytes are passed over.
     fn pass_over(&mut self, len: u32)
         requires { len ≤ self.old.skip }
         ensures skip { self.new.skip ≡ self.old.skip - len }
@@ -184,7 +184,7 @@ impl Window {
         self.skip -= len;
     }
 
-    // Words that were read pass by.
+    /// Words that were read pass by.
     fn pass_words(&mut self, bytes: &[u8])
         ensures passed { self.new ≡ passed self.old bytes.now }
         ensures spelled { (n : ℕ) → length bytes.now ≡ 2 * n
@@ -222,7 +222,7 @@ impl Window {
     }
 }
 
-// The bytes from a place on; where none are asked for, no call is made.
+/// The bytes from a place on; where none are asked for, no call is made.
 fn read_some<M: Medium>(unit: &mut M, place: u32, out: &mut [u8]) -> Result<(), Failed>
     requires { place + length out.old ≤ (M.state unit.old).size }
     ensures bytes { OnOk result (IfSome (M.state unit.old).image (λ x. out.new ≡ bytes_at x place (length out.old))) }

@@ -23,7 +23,7 @@ use unit_model::layout::{
     Field, IDENTIFICATION, REGISTRATION, SENSOR, STATE_CERTIFICATE, UNIT_CERTIFICATE, VIN,
 };
 
-// A number of four bytes passes by.
+/// A number of four bytes passes by.
 fn pass_number(window: &mut Window, number: u32)
     ensures { window.new ≡ passed window.old (big_bytes 4 number) }
 {
@@ -31,7 +31,7 @@ fn pass_number(window: &mut Window, number: u32)
     window.pass(&bytes);
 }
 
-// A number of three bytes passes by.
+/// A number of three bytes passes by.
 fn pass_odometer(window: &mut Window, number: u32)
     ensures { window.new ≡ passed window.old (big_bytes 3 number) }
 {
@@ -39,7 +39,7 @@ fn pass_odometer(window: &mut Window, number: u32)
     window.pass(&bytes[1..]);
 }
 
-// Two fields of the image pass by.
+/// Two fields of the image pass by.
 fn pass_fields<M: Medium>(
     unit: &mut M,
     first: Field,

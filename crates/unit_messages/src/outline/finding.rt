@@ -71,7 +71,7 @@ pub fn find_next_outline<M: Medium>(
     }
 }
 
-// The outline of an overview.
+/// The outline of an overview.
 fn overview_outline<M: Medium>(journal: &Journal, unit: &mut M) -> Result<Option<Outline>, Failed>
     requires unit { (M.state unit.old).size ≡ IMAGE_SIZE }
     requires right { IfSome (M.state unit.old).image (AreRight journal.now) }
@@ -87,8 +87,8 @@ fn overview_outline<M: Medium>(journal: &Journal, unit: &mut M) -> Result<Option
     }))
 }
 
-// The times that an overview tells: the last-kept minute is the unit's time, and the period goes from the oldest day to
-// it; it is 0 to 0 where there is no day.
+/// The times that an overview tells: the last-kept minute is the unit's time, and the period goes from the oldest day to
+/// it; it is 0 to 0 where there is no day.
 fn overview_times<M: Medium>(journal: &Journal, unit: &mut M) -> Result<Times, Failed>
     requires unit { (M.state unit.old).size ≡ IMAGE_SIZE }
     requires right { IfSome (M.state unit.old).image (AreRight journal.now) }
@@ -114,7 +114,7 @@ fn overview_times<M: Medium>(journal: &Journal, unit: &mut M) -> Result<Times, F
     })
 }
 
-// The outline of the message of a day; `None` exactly where no recorded day begins at this second.
+/// The outline of the message of a day; `None` exactly where no recorded day begins at this second.
 fn dated_outline<M: Medium>(
     journal: &Journal,
     unit: &mut M,
@@ -139,7 +139,7 @@ fn dated_outline<M: Medium>(
     }
 }
 
-// The outline of the message of a day that was found.
+/// The outline of the message of a day that was found.
 fn found_outline<M: Medium>(
     journal: &Journal,
     unit: &mut M,
@@ -174,7 +174,7 @@ struct DateCounts {
     index: usize,
 }
 
-// What is known of a day that was found.
+/// What is known of a day that was found.
 fn day_outline<M: Medium>(
     unit: &mut M,
     known: &Option<Outline>,
@@ -213,7 +213,7 @@ fn day_outline<M: Medium>(
     })
 }
 
-// The counts that an outline tells, where one is known.
+/// The counts that an outline tells, where one is known.
 fn counts_known(known: &Option<Outline>) -> Option<Counts>
     ensures range { IfSome result AreInRange }
     ensures counted { (x : List ℕ) → IfSome known.now (λ o. Outlines o x) → IfSome result (λ c. AreCounted c x) }
@@ -224,7 +224,7 @@ fn counts_known(known: &Option<Outline>) -> Option<Counts>
     }
 }
 
-// Counts among which a date has this index: those that are known, or else those from this date on.
+/// Counts among which a date has this index: those that are known, or else those from this date on.
 fn counts_on<M: Medium>(
     unit: &mut M,
     known: &Option<Outline>,
@@ -247,7 +247,7 @@ fn counts_on<M: Medium>(
     Ok(DateCounts { counts, index: 0 })
 }
 
-// The outline of the message of events and faults.
+/// The outline of the message of events and faults.
 fn events_outline<M: Medium>(unit: &mut M) -> Result<Option<Outline>, Failed>
     requires unit { (M.state unit.old).size ≡ IMAGE_SIZE }
     requires decodes { IfSome (M.state unit.old).image Decodes }
@@ -261,7 +261,7 @@ fn events_outline<M: Medium>(unit: &mut M) -> Result<Option<Outline>, Failed>
     }))
 }
 
-// How many events, faults and over speedings there are, and what the image tells of the over speedings.
+/// How many events, faults and over speedings there are, and what the image tells of the over speedings.
 fn event_outline<M: Medium>(unit: &mut M) -> Result<EventOutline, Failed>
     requires unit { (M.state unit.old).size ≡ IMAGE_SIZE }
     requires decodes { IfSome (M.state unit.old).image Decodes }
@@ -283,7 +283,7 @@ fn event_outline<M: Medium>(unit: &mut M) -> Result<EventOutline, Failed>
     })
 }
 
-// The outline of the message of detailed speed.
+/// The outline of the message of detailed speed.
 fn speed_outline<M: Medium>(unit: &mut M) -> Result<Option<Outline>, Failed>
     requires unit { (M.state unit.old).size ≡ IMAGE_SIZE }
     requires decodes { IfSome (M.state unit.old).image Decodes }
@@ -297,7 +297,7 @@ fn speed_outline<M: Medium>(unit: &mut M) -> Result<Option<Outline>, Failed>
     }))
 }
 
-// How many blocks of detailed speed there are.
+/// How many blocks of detailed speed there are.
 fn block_count<M: Medium>(unit: &mut M) -> Result<u32, Failed>
     requires unit { (M.state unit.old).size ≡ IMAGE_SIZE }
     requires decodes { IfSome (M.state unit.old).image Decodes }

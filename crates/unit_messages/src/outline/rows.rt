@@ -83,7 +83,7 @@ pub fn speed_blocks() -> Entries
     }
 }
 
-// All entries of a table, of which each begins with its type and its purpose.
+/// All entries of a table, of which each begins with its type and its purpose.
 fn table(base: u32, width: u32, count: u32) -> Entries
     ensures { result ≡ entries_of base width count }
 {
@@ -132,7 +132,7 @@ pub fn pass_byte(window: &mut Window, number: u32)
     window.pass(&bytes);
 }
 
-// A number of two bytes passes by.
+/// A number of two bytes passes by.
 fn pass_count(window: &mut Window, number: u32)
     requires { number < 2 ^ 16 }
     ensures { window.new ≡ passed window.old (big_bytes 2 number) }
@@ -141,7 +141,7 @@ fn pass_count(window: &mut Window, number: u32)
     window.pass(&bytes);
 }
 
-// How many bytes so many entries have.
+/// How many bytes so many entries have.
 fn bytes_of(count: u32, width: u32) -> u32
     requires few { count ≤ INSERTION_SLOTS }
     requires narrow { width ≤ 129 }
@@ -180,7 +180,7 @@ pub fn pass_table<M: Medium>(
     Ok(())
 }
 
-// The index behind the pointer, round the end; 0 where the pointer is no index.
+/// The index behind the pointer, round the end; 0 where the pointer is no index.
 fn turn_at(pointer: u32, count: u32) -> u32
     ensures turn { pointer < count → result ≡ (if pointer + 1 == count then 0 else pointer + 1) }
     ensures below { result ≤ count }
@@ -192,8 +192,8 @@ fn turn_at(pointer: u32, count: u32) -> u32
     }
 }
 
-// The entries of a ring, of which so many are meant, pass by; where none of them can be taken, none is read, and where
-// each is meant, none before the window's begin.
+/// The entries of a ring, of which so many are meant, pass by; where none of them can be taken, none is read, and where
+/// each is meant, none before the window's begin.
 fn pass_ring<M: Medium>(
     unit: &mut M,
     place: u32,
