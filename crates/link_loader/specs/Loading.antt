@@ -69,7 +69,8 @@ goes_on now frame = goes_on_by now frame (kind_of now.stage frame)
 
 -- the message that a frame of this kind closes: what was asked for, and all its bytes
 abbrev pub closed_by : Loading → (frame : List ℕ) → Kind → Option (Request × List ℕ)
-closed_by now frame (Piece request) = if length frame == FRAME_MOST then None else Some (request, with_piece now.bytes frame)
+closed_by now frame (Piece request) =
+    if length frame == FRAME_MOST then None else Some (request, with_piece now.bytes frame)
 closed_by now frame (Single request) = Some (request, frame)
 closed_by now frame kind = None
 

@@ -171,7 +171,8 @@ abbrev pub after_piece : (Request → Option (List ℕ)) → LinkState → ℕ �
 after_piece messages (Sending request counter) code =
     if code == END_OF_TRANSFER then silent Upload
     else checked (Sending request counter) ACKNOWLEDGE
-    (check (code == counter + 1 || code == counter) OUT_OF_RANGE ∷ []) (sends_on request counter (messages request) code)
+    (check (code == counter + 1 || code == counter) OUT_OF_RANGE ∷ [])
+    (sends_on request counter (messages request) code)
 after_piece messages state code = silent state
 
 -- the checks of an acknowledgement: its length; it names a message; and one is sent in pieces

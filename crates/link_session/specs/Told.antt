@@ -1,6 +1,7 @@
 -- A session as its callers see it, and why it does not answer.
-use Rattle.std.specs.Prelude.{◌≡◌, ◌||◌, ℕ, Bool, true, false, Result, Ok, Err, Option, Some, None, IfSome, IfErr, OnOk, is_some, List}
-use Rattle.std.specs.Prelude.{OnErr}
+use Rattle.std.specs.Prelude.{◌≡◌, ◌||◌, ℕ, Bool, true, false, Result, Ok, Err, Option, Some, None, IfSome, IfErr}
+use Rattle.std.specs.Prelude.{OnOk, OnErr, is_some, List}
+use Rattle.tach_media.specs.Medium.{State}
 use Rattle.link_model.specs.Answers.{LinkState}
 use Rattle.unit_model.specs.Decoding.{Decodes, first_bad_place}
 use Rattle.unit_minutes.specs.declared.notes.Notes.{Notes}
@@ -9,7 +10,6 @@ use Rattle.unit_messages.specs.declared.outline.Plan.{Plan}
 use Rattle.unit_messages.specs.Outlines.{Outlines}
 use Rattle.link_session.specs.declared.asking.AnswerFault.{AnswerFault}
 use Rattle.link_session.specs.declared.asking.AnswerFault.TheVariants.{Failed, BadUnit}
-use Rattle.tach_media.specs.Medium.{State}
 
 -- where the session stands; the notes of its unit's journal, from when it was judged on; and the outline of the message
 -- that was asked for last

@@ -54,8 +54,8 @@ impl Line {
     ///
     /// # Errors
     ///
-    /// `WriteFault` after a front of the answers; `Failed` and `BadUnit` after the answers to the frames before one whose
-    /// answer hangs on the unit.
+    /// `WriteFault` after a front of the answers; `Failed` and `BadUnit` after the answers to the frames before one
+    /// whose answer hangs on the unit.
     pub fn answer<K: Sink, U: Medium>(
         &mut self,
         spelling: Spelling,
@@ -89,8 +89,8 @@ impl Line {
     ///
     /// # Errors
     ///
-    /// `WriteFault` after a front of the answers; `Failed` and `BadUnit` after the answers to the frames before one whose
-    /// answer hangs on the unit; `TooLong` after the answers to as many bytes as may come, where more came.
+    /// `WriteFault` after a front of the answers; `Failed` and `BadUnit` after the answers to the frames before one
+    /// whose answer hangs on the unit; `TooLong` after the answers to as many bytes as may come, where more came.
     pub fn answer_within<K: Sink, U: Medium>(
         &mut self,
         spelling: Spelling,

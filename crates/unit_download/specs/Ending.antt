@@ -142,9 +142,10 @@ pub record CountsFrames {A : Type 0} (result : Result A DownloadFault) (before a
   pub more : OnOk result (before < after)
   pub few : OnOk result (before < 2 ^ 64)
 
--- A UNIT IS JUDGED: one that was asked, and gives no answer, decodes; a bad one is bad at this place, and was not judged
--- before
-pub record JudgesUnit {A : Type 0} (result : Result A DownloadFault) (asked judged : Bool) (image : Option (List ℕ)) : Type 0 where
+-- A UNIT IS JUDGED: one that was asked, and gives no answer, decodes; a bad one is bad at this place, and was not
+-- judged before
+pub record JudgesUnit {A : Type 0} (result : Result A DownloadFault) (asked judged : Bool)
+    (image : Option (List ℕ)) : Type 0 where
   pub found : IsErrOf result Changed → asked ≡ true → IfSome image Decodes
   pub bad : IfErr result (λ fault. IfBad fault (λ p. (judged ≡ false)
       × IfSome image (λ x. first_bad_place x ≡ Some p)))

@@ -290,8 +290,8 @@ impl Entries {
         count * self.width
     }
 
-    /// The entries from the one at an index on and round the end pass by, of which each is there and meant: those before
-    /// the window's begin are not read.
+    /// The entries from the one at an index on and round the end pass by, of which each is there and meant: those
+    /// before the window's begin are not read.
     fn pass_each<M: Medium>(
         &self,
         unit: &mut M,

@@ -19,8 +19,8 @@ use unit_model::layout::{DAY_WORDS, INSERTIONS, PLACES};
 /// How many bytes stand in a piece before those of the message: 76, the number, and the counter of two bytes.
 const FRONT: usize = 4;
 
-/// The length in bytes of the longest message of a unit: that of a day with all insertions, words and places that the unit has
-/// room for. Beside them it has 144 bytes, and a ring's pointer of four bytes is none of them.
+/// The length in bytes of the longest message of a unit: that of a day with all insertions, words and places that the
+/// unit has room for. Beside them it has 144 bytes, and a ring's pointer of four bytes is none of them.
 pub const LONGEST: u32 = 136 + INSERTIONS.size + DAY_WORDS.size + PLACES.size;
 
 /// Where the piece of a counter, from 1 on, stands in so many bytes behind a message's number, as a place from 0, and

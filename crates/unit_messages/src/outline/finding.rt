@@ -87,8 +87,8 @@ fn overview_outline<M: Medium>(journal: &Journal, unit: &mut M) -> Result<Option
     }))
 }
 
-/// The times that an overview tells: the last-kept minute is the unit's time, and the period goes from the oldest day to
-/// it; it is 0 to 0 where there is no day.
+/// The times that an overview tells: the last-kept minute is the unit's time, and the period goes from the oldest day
+/// to it; it is 0 to 0 where there is no day.
 fn overview_times<M: Medium>(journal: &Journal, unit: &mut M) -> Result<Times, Failed>
     requires unit { (M.state unit.old).size ≡ IMAGE_SIZE }
     requires right { IfSome (M.state unit.old).image (AreRight journal.now) }
