@@ -3,6 +3,7 @@ use Rattle.std.specs.Prelude.{◌≡◌, ◌⊎◌, ℕ, ◌<◌, ◌==◌, Bool
 use Rattle.std.specs.Prelude.{◌++◌, length, map, drop, All}
 use Rattle.card_layout.specs.Fields.{joined}
 use Rattle.tacho_types.specs.declared.texts.Registration.{Registration}
+use Rattle.link_model.specs.declared.services.TheConstants.{MESSAGE}
 use Rattle.message_model.specs.Messages.{Message, AnOverview, ADay, AnEventList, ASpeedList, ATechnical, message_bytes}
 use Rattle.message_model.specs.Messages.{IsMessage}
 use Rattle.file_view.specs.UnitFiles.{HasNoMessage}
@@ -17,9 +18,10 @@ registration_in (AnEventList m ∷ ms) = registration_in ms
 registration_in (ASpeedList m ∷ ms) = registration_in ms
 registration_in (ATechnical m ∷ ms) = registration_in ms
 
+-- a message may begin here: the next byte is 76
 abbrev pub begins_message : List ℕ → Bool
 begins_message [] = false
-begins_message (b ∷ bytes) = b == 0x76
+begins_message (b ∷ bytes) = b == MESSAGE
 
 abbrev pub registration_bytes : Option Registration → Option (List ℕ)
 registration_bytes r = option_map (λ x. x.0) r

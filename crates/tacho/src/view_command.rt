@@ -15,11 +15,9 @@ use file_view::{
     CardHistory, UnitHistory, ViewFault, by_hand, card_text, last_days, last_messages,
     read_card_file, read_download, unit_text,
 };
+use link_model::services::MESSAGE;
 use std::alloc::Global;
 use view_text::by_hand_text;
-
-/// The first byte of a message of a unit file (Annex IB, Appendix 7, 2.2.6); a card file begins with no such byte.
-const MESSAGE: u8 = 0x76;
 
 /// The view text of a file, of all its days or of the last so many.
 pub fn file_view(alloc: Global, last: Option<u32>, b: &[u8]) -> Result<Vec<u8>, Fault>
@@ -33,7 +31,7 @@ pub fn file_view(alloc: Global, last: Option<u32>, b: &[u8]) -> Result<Vec<u8>, 
     card_view(alloc, last, b)
 }
 
-/// Whether a file is read as a unit file.
+/// Whether a file is read as a unit file: it begins with a message (Annex IB, Appendix 7, 2.2.6), as no card file does.
 pub fn is_unit_file(b: &[u8]) -> bool
     ensures { result ≡ is_unit_file b.now }
 {

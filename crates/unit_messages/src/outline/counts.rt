@@ -26,19 +26,23 @@ pub const DATES: usize = 366;
 pub struct Counts {
     /// The first second of the first date.
     pub first: u32,
+    /// How many insertions touch each date.
     pub insertions: [u16; DATES],
+    /// How many places each date has.
     pub places: [u16; DATES],
 }
 
 /// What is counted by dates.
 #[derive(Clone, Copy, Debug, PartialEq, Eq)]
 pub enum Dated {
+    /// Insertions, each on the date of the insertion and on that of the withdrawal.
     Insertions,
+    /// Places, each on its date.
     Places,
 }
 
 impl Dated {
-    // Those of a date.
+    /// Those of a date.
     fn entries_on(self, date: u32) -> Entries
         ensures is { result ≡ entries_on self date }
         ensures entries { AreEntries result }
@@ -49,7 +53,7 @@ impl Dated {
         }
     }
 
-    // The dates on which an entry that is there is meant: two, which may be one.
+    /// The dates on which an entry that is there is meant: two, which may be one.
     fn dates_of(self, entry: &[u8]) -> (u32, u32)
         requires wide { (entries_on self 0).width ≤ length entry.now }
         requires there { not (number_at entry.now (entries_on self 0).gate 4 == 0) ≡ true }
@@ -92,7 +96,7 @@ pub fn count_at(counts: &[u16; DATES], index: usize) -> u32
     counts[index] as u32
 }
 
-// One more on a date, where it is one of them.
+/// One more on a date, where it is one of them.
 fn add_on(counts: &mut [u16], first: u32, date: u32)
     requires whole { length counts.old ≡ DATES }
     requires few { AreFew (u16.MAX - 1) counts.old }
@@ -106,7 +110,7 @@ fn add_on(counts: &mut [u16], first: u32, date: u32)
     }
 }
 
-// One entry more, on each date on which it is meant.
+/// One entry more, on each date on which it is meant.
 fn add_entry(kind: Dated, entry: &[u8], first: u32, counts: &mut [u16])
     requires whole { length counts.old ≡ DATES }
     requires wide { length entry.now ≡ (entries_on kind 0).width }
@@ -129,7 +133,7 @@ fn add_entry(kind: Dated, entry: &[u8], first: u32, counts: &mut [u16])
     }
 }
 
-// The entries that were read at once.
+/// The entries that were read at once.
 fn add_block(kind: Dated, block: &[u8], count: u32, first: u32, counts: &mut [u16])
     requires whole { length counts.old ≡ DATES }
     requires at_once { count ≤ AT_ONCE }
@@ -149,7 +153,7 @@ fn add_block(kind: Dated, block: &[u8], count: u32, first: u32, counts: &mut [u1
     }
 }
 
-// So many entries from an index on, which are read at once.
+/// So many entries from an index on, which are read at once.
 fn add_some<M: Medium>(
     kind: Dated,
     unit: &mut M,
@@ -178,7 +182,7 @@ fn add_some<M: Medium>(
     Ok(count)
 }
 
-// How many there are on each date.
+/// How many there are on each date.
 fn count_each<M: Medium>(kind: Dated, unit: &mut M, first: u32) -> Result<[u16; DATES], Failed>
     requires unit { (M.state unit.old).size ≡ IMAGE_SIZE }
     ensures counted { IfOk result (λ counts.
@@ -200,6 +204,10 @@ fn count_each<M: Medium>(kind: Dated, unit: &mut M, first: u32) -> Result<[u16; 
 
 /// How many insertions and places there are on each of the dates from a second on, of a unit whose image is known to
 /// decode.
+///
+/// # Errors
+///
+/// `Failed` where the unit failed.
 pub fn count_dates<M: Medium>(unit: &mut M, first: u32) -> Result<Counts, Failed>
     requires unit { (M.state unit.old).size ≡ IMAGE_SIZE }
     requires decodes { IfSome (M.state unit.old).image Decodes }

@@ -22,6 +22,10 @@ use unit_model::layout::{DAY_WORDS, FIRST_OVER, OVER_COUNT};
 
 /// What the message is made of that answers a request, of a unit whose image is known to decode, as from its journal's
 /// load; `None` exactly where there is no such message: for a day that is not recorded.
+///
+/// # Errors
+///
+/// `Failed` where the unit failed.
 pub fn find_outline<M: Medium>(
     journal: &Journal,
     unit: &mut M,
@@ -38,6 +42,10 @@ pub fn find_outline<M: Medium>(
 }
 
 /// `find_outline` behind another message, whose outline is known: what that tells of other dates is not counted again.
+///
+/// # Errors
+///
+/// `Failed` where the unit failed.
 pub fn find_next_outline<M: Medium>(
     journal: &Journal,
     unit: &mut M,
@@ -63,6 +71,7 @@ pub fn find_next_outline<M: Medium>(
     }
 }
 
+/// The outline of an overview.
 fn overview_outline<M: Medium>(journal: &Journal, unit: &mut M) -> Result<Option<Outline>, Failed>
     requires unit { (M.state unit.old).size ≡ IMAGE_SIZE }
     requires right { IfSome (M.state unit.old).image (AreRight journal.now) }
@@ -78,6 +87,8 @@ fn overview_outline<M: Medium>(journal: &Journal, unit: &mut M) -> Result<Option
     }))
 }
 
+/// The times that an overview tells: the last-kept minute is the unit's time, and the period goes from the oldest day
+/// to it; it is 0 to 0 where there is no day.
 fn overview_times<M: Medium>(journal: &Journal, unit: &mut M) -> Result<Times, Failed>
     requires unit { (M.state unit.old).size ≡ IMAGE_SIZE }
     requires right { IfSome (M.state unit.old).image (AreRight journal.now) }
@@ -103,7 +114,7 @@ fn overview_times<M: Medium>(journal: &Journal, unit: &mut M) -> Result<Times, F
     })
 }
 
-// The outline of the message of a day; `None` exactly where no recorded day begins at this second.
+/// The outline of the message of a day; `None` exactly where no recorded day begins at this second.
 fn dated_outline<M: Medium>(
     journal: &Journal,
     unit: &mut M,
@@ -128,7 +139,7 @@ fn dated_outline<M: Medium>(
     }
 }
 
-// The outline of the message of a day that was found.
+/// The outline of the message of a day that was found.
 fn found_outline<M: Medium>(
     journal: &Journal,
     unit: &mut M,
@@ -163,7 +174,7 @@ struct DateCounts {
     index: usize,
 }
 
-// What is known of a day that was found.
+/// What is known of a day that was found.
 fn day_outline<M: Medium>(
     unit: &mut M,
     known: &Option<Outline>,
@@ -202,7 +213,7 @@ fn day_outline<M: Medium>(
     })
 }
 
-// The counts that an outline tells, where one is known.
+/// The counts that an outline tells, where one is known.
 fn counts_known(known: &Option<Outline>) -> Option<Counts>
     ensures range { IfSome result AreInRange }
     ensures counted { (x : List ℕ) → IfSome known.now (λ o. Outlines o x) → IfSome result (λ c. AreCounted c x) }
@@ -213,7 +224,7 @@ fn counts_known(known: &Option<Outline>) -> Option<Counts>
     }
 }
 
-// Counts among which a date has this index: those that are known, or else those from this date on.
+/// Counts among which a date has this index: those that are known, or else those from this date on.
 fn counts_on<M: Medium>(
     unit: &mut M,
     known: &Option<Outline>,
@@ -236,6 +247,7 @@ fn counts_on<M: Medium>(
     Ok(DateCounts { counts, index: 0 })
 }
 
+/// The outline of the message of events and faults.
 fn events_outline<M: Medium>(unit: &mut M) -> Result<Option<Outline>, Failed>
     requires unit { (M.state unit.old).size ≡ IMAGE_SIZE }
     requires decodes { IfSome (M.state unit.old).image Decodes }
@@ -249,6 +261,7 @@ fn events_outline<M: Medium>(unit: &mut M) -> Result<Option<Outline>, Failed>
     }))
 }
 
+/// How many events, faults and over speedings there are, and what the image tells of the over speedings.
 fn event_outline<M: Medium>(unit: &mut M) -> Result<EventOutline, Failed>
     requires unit { (M.state unit.old).size ≡ IMAGE_SIZE }
     requires decodes { IfSome (M.state unit.old).image Decodes }
@@ -270,7 +283,7 @@ fn event_outline<M: Medium>(unit: &mut M) -> Result<EventOutline, Failed>
     })
 }
 
-// The outline of the message of detailed speed.
+/// The outline of the message of detailed speed.
 fn speed_outline<M: Medium>(unit: &mut M) -> Result<Option<Outline>, Failed>
     requires unit { (M.state unit.old).size ≡ IMAGE_SIZE }
     requires decodes { IfSome (M.state unit.old).image Decodes }
@@ -284,7 +297,7 @@ fn speed_outline<M: Medium>(unit: &mut M) -> Result<Option<Outline>, Failed>
     }))
 }
 
-// How many blocks of detailed speed there are.
+/// How many blocks of detailed speed there are.
 fn block_count<M: Medium>(unit: &mut M) -> Result<u32, Failed>
     requires unit { (M.state unit.old).size ≡ IMAGE_SIZE }
     requires decodes { IfSome (M.state unit.old).image Decodes }

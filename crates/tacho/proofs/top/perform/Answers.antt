@@ -96,7 +96,7 @@ returns-in-Download-clause-does g c = record {
   ends =
       let e = c.download-done.ensures in
       rw (c.in-Download.is, c.with.ensures, c.download_end.ensures)
-      (download-ends _ _ c.download-done.new.wire c.download-done.result e.downloaded e.file e.front e.changed e.bad e.nothing e.faults.cause (omega arith) e.faults.counts e.unit c.nothing-nothing.result c.nothing-nothing.ensures);
+      (download-ends _ _ c.download-done.new.wire c.download-done.result e.downloaded e.faults.cause (omega arith) e.faults.counts e.unit c.nothing-nothing.result c.nothing-nothing.ensures);
   spares = rw c.in-Download.is (record { others = (refl, refl, refl); cards = λ is. absurd (cc); before = λ none. absurd none; nothing = λ none. absurd none; unprinted = λ none. absurd none });
 }
 
