@@ -1,6 +1,6 @@
 -- What the calls on one device each leave: the unit, its rules, its images, and a card, each in a record (profile).
 use Rattle.std.specs.Prelude.{ℕ, ◌/◌, ◌<◌, ◌^◌, ◌∷◌, ◌≡◌, ◌≤◌, Bool, IfOk, IfSome, List, None, OnErr, OnOk}
-use Rattle.std.specs.Prelude.{Option, Result, Some, [], false, is_err, is_some, option_to_list, true, ◌+◌, ◌⊎◌}
+use Rattle.std.specs.Prelude.{Option, Result, Some, [], false, is_err, is_some, true, ◌+◌}
 use Rattle.std.specs.Prelude.{IsTrue, ◌==◌, ◌||◌, ◌≢◌}
 use Rattle.activity_codec.specs.declared.entries.Entry.{Entry}
 use Rattle.card_by_hand.specs.First.{IsFirstKeeping, IsFirstKept}
@@ -46,10 +46,7 @@ use Rattle.device_calls.specs.Rule.{IsRowTaken, IsTakenUp, card_seen, number_of,
 use Rattle.device_calls.specs.Travel.{HasGone}
 use Rattle.device_calls.specs.declared.entering.Entered.{Entered}
 use Rattle.device_calls.specs.declared.entering.NotEntered.{NotEntered}
-use Rattle.card_session.specs.card_days.Steps.{IsIdle}
-use Rattle.card_layout.specs.Application.{IsApplication}
 pub use Rattle.card_session.specs.Inserting.{CardMayBePutIn, MayBePutIn}
-use Rattle.card_validity.specs.Judged.{TellsSizes}
 use Rattle.unit_rule.specs.card_model.declared.lengths.TheConstants.{DAYS_MOST}
 use Rattle.card_files.specs.declared.card_event.CardEvent.{CardEvent}
 use Rattle.card_files.specs.Noting.{IsEventNoted, IsNotingEvent, IsNotingPlace, IsPlaceNoted}
@@ -132,20 +129,6 @@ pub record LeavesOwing (which : Card) (number : List ℕ) (entry : Entry) (U V X
   pub travelled : (start : ℕ) (b : Book) (g : Travel) → HasTravelled start b g U → HasTravelled start b g V
   pub moments : LeavesOnly U V (IsPuttingRow number entry)
   pub keeps : (t : ℕ) (x : List ℕ) → t ≤ U.clock → U.left_since t x → V.left_since t x
-
--- THE RULES behind an entry that was put, if the minute that comes says one on the card
-pub record RulesOwingSome (which : Card) (result : Result (Unit {0}) Failed) (number : List ℕ) (entry : Option Entry)
-    (U V X Z : State) : Type 0 where
-  pub holds : (s : Started) (due : ℕ) (b : Book) (marks : List Mark) → IsCards s number
-      → UnitFollowsBook s due b marks U → UnitFollowsBook s due b marks V
-  pub mine : (r : Both) (s : Started) (due : ℕ) (b : Book) (marks : List Mark) (z : Standing)
-      → number ≡ number_of r which → UnitFollowsBook s due b marks U
-      → IfSome entry (λ e. (due ≤ e.minute) × (1440 ≤ e.minute) × IsPresent (opened r which).start z e.minute)
-      → CardHolds r which b z [] [] U X → IsKeptUp r which b z (option_to_list entry) [] (is_err result) V X
-  pub others : (r : Both) (s : Started) (due : ℕ) (b : Book) (marks : List Mark) (y z : Standing) (m d : List Entry)
-      → number ≡ number_of r which → UnitFollowsBook s due b marks U
-      → IfSome entry (λ e. (due ≤ e.minute) × (1440 ≤ e.minute)) → CardHolds r which b y [] [] U X
-      → CardHolds r (other which) b z m d U Z → IsKeptUp r (other which) b z m d (is_err result) V Z
 
 -- THE UNIT STANDS behind a minute: it is a unit still; where it did not fail its journal has the minute and its
 -- odometer, they agree, and each row is whose it was; where it failed the journal is as it was
@@ -307,14 +290,6 @@ pub record MayKeepEntry (session : Session) (kept : Kept) (hands : Holding) : Ty
 -- THE UNIT ANSWERS so, and begins so many writes at most
 pub record UnitAnswersWithin (writes : ℕ) (failed : Bool) (U V : State) : Type 0 where
   pub goes : UnitAnswers failed U V
-  pub most : V.clock ≤ U.clock + writes
-
--- THE UNIT ANSWERS, if it was called: its clock does not fall, and it tells its image where it did; it failed exactly
--- where that was answered, or was not called; and it begins so many writes at most
-pub record UnitAnswersIfCalled (writes : ℕ) (failed : Bool) (U V : State) : Type 0 where
-  pub clock : U.clock ≤ V.clock
-  pub tells : is_some V.image ≡ is_some U.image
-  pub cause : HasCause U V failed ⊎ ((failed ≡ false) × IsIdle U V)
   pub most : V.clock ≤ U.clock + writes
 
 -- THE CARD IS WRITTEN as one that is put in: only where it told of no later time, and so many writes at most
