@@ -96,13 +96,3 @@ module _ (P : Application → List ℕ → Type 0) (before : ℕ)
       let there = step s t e x z (first_follows s before e es x may are) behind.3 p in
       subst (λ (a : Application). Q a c) behind.2.application
       (at_moment Q moment es t z c (rest_follows s t before e es x z may are behind.2 behind.3) (rest_hands s t before e es are behind.2) behind.4 (subst (λ (a : Application). P a z) (sym behind.2.application) there))
-
--- the newest day behind some of them is that of the minute
-pub newest_behind : (before : ℕ) (e : Manual) (es : List Manual) (s next : Session) (x y : List ℕ) → MayFollow s before x → AreHandsOf s before (e ∷ es) → AreEntered (e ∷ es) s next x y
-    → is_newest (before / 1440) (sizes (card_days next.application y)) ≡ true
-newest_behind before e [] s next x y may are entered =
-    subst (λ (q : Session). is_newest (before / 1440) (sizes (card_days q.application y)) ≡ true) (sym entered.4.0)
-    (subst (λ (l : List ℕ). is_newest (before / 1440) (sizes (card_days entered.0.application l)) ≡ true) (sym entered.4.1)
-    (newest_known entered.0 before entered.1 entered.3.knows (ends_on entered.0 e.minute before are.day.0 entered.2.ends)))
-newest_behind before e (d ∷ es) s next x y may are entered =
-    newest_behind before d es entered.0 next entered.1 y (rest_follows s entered.0 before e (d ∷ es) x entered.1 may are entered.2 entered.3) (rest_hands s entered.0 before e (d ∷ es) are entered.2) entered.4

@@ -34,9 +34,6 @@ use Rattle.card_by_hand.proofs.Counting.{counted_lives}
 use Rattle.card_by_hand.proofs.Over.{over_first, over_next, over_words, over_entered, over_rests}
 
 module _ (app : Application) (sound : IsApplication app) (x : List ℕ) (ordered : AreDays 0 (book_of app x).days) where
-  abbrev size : ℕ
-  size = app.activity
-
   -- the same of an image's days as of its book's
   there : AreDays 0 (card_days app x)
   there = subst (λ (ds : List Day). AreDays 0 ds) (book_days app x) ordered

@@ -36,7 +36,7 @@ use Rattle.card_by_hand.specs.Listed.{AreLeft}
 use Rattle.card_by_hand.specs.Over.{IsOver}
 use Rattle.card_by_hand.specs.Wider.{with_hands}
 use Rattle.card_by_hand.specs.First.{Follows, AreEntered, IsEntering, IsFirstKept, IsKeepingBehind, IsFirstKeeping, MayCome, MayFollow, AreHandsOf, ComeFrom}
-use Rattle.card_by_hand.proofs.Along.{along, at_moment, behind_one, newest_known, newest_behind, first_follows, rest_follows, rest_hands}
+use Rattle.card_by_hand.proofs.Along.{along, at_moment, behind_one, newest_known, first_follows, rest_follows, rest_hands}
 use Rattle.card_by_hand.proofs.Chain.{ends_on}
 use Rattle.card_by_hand.proofs.Silent.{silent_stays}
 use Rattle.card_by_hand.proofs.Staying.{late_of, shows_before, valid_stays, some_open}

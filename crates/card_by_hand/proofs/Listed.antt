@@ -97,9 +97,6 @@ entry_none e =
     let told = change_of-word_of (record { slot = e.slot; crew_or_known = e.crew; absent = false; act = e.act; minute = e.minute % 1440 }) (omega arith) in
     ap (λ (b : Bool). b && word_crew (entry_word e)) (ap (λ (c : Change). c.absent) told)
 
-bare_none : is_by_hand bare_word ≡ false
-bare_none = refl
-
 -- ---- AN ENTRY BY HAND, by a mark that it is not behind
 
 module _ (size : ℕ) (long : 5544 ≤ size) (days : List Day) (ordered : AreDays 0 days) (e : Manual) (mark : ℕ) (low : e.minute ≤ mark) where

@@ -168,10 +168,6 @@ wider_more n day es (d ∷ e ∷ ds) newest le = subst (λ (l : List WordDay). W
     by_front (suc n) d e [] = by_front n d (record { day = e.day; words = e.words + 1 }) []
     by_front (suc n) d e (f ∷ ds) = by_front n d e (more (f ∷ ds))
 
-pub wider_same : (ws : List WordDay) → Wider ws ws
-wider_same [] = tt
-wider_same (w ∷ ws) = (refl, omega arith, wider_same ws)
-
 pub wider_then : (ws vs us : List WordDay) → Wider ws vs → Wider vs us → Wider ws us
 wider_then [] [] us one two = two
 wider_then [] (v ∷ vs) us one two = absurd one

@@ -1,6 +1,6 @@
 //! A session's first keep, with the entries by hand that it holds.
-ghost use Rattle.std.specs.Prelude.{◌≡◌, ◌≤◌, ◌<◌, ◌+◌, ◌*◌, ◌/◌, ◌^◌, Some, OnOk, IfSome, length, is_err};
-ghost use Rattle.tach_media.specs.Medium.{LeavesOnly, HasCause, IsSettled, last_count};
+ghost use Rattle.std.specs.Prelude.{◌≡◌, ◌≤◌, ◌<◌, ◌+◌, ◌*◌, ◌/◌, ◌^◌, Some, OnOk, length, is_err};
+ghost use Rattle.tach_media.specs.Medium.{Alters};
 ghost use Rattle.hand_model.specs.Holding.{LieBetween, AreOfDay, of_day, begun_by};
 ghost use Rattle.card_session.specs.declared.words.TheConstants.{LATEST_MINUTE};
 ghost use Rattle.card_session.specs.Sessions.{IsSession, MayKeep};
@@ -37,20 +37,15 @@ pub fn keep_with_hands<M: Medium>(
     ensures last { OnOk result ((session.new.minute ≡ kept.now.entry.minute)
         × (session.new.odometer ≡ Some kept.now.odometer)) }
     ensures held { OnOk result (held.new ≡ begun_by kept.now.entry.minute held.old) }
-    ensures kept { OnOk result (IfSome (M.state port.old).image
-        (λ x. IfSome (M.state port.new).image (λ y. IsSession session.old x →
-        IsFirstKept session.old session.new (of_day (kept.now.entry.minute / 1440) held.old.entries) kept.now.entry
-        kept.now.odometer.0 x y))) }
-    ensures moments { LeavesOnly (M.state port.old) (M.state port.new) (λ x c. IsSession session.old x →
-        IsFirstKeeping session.old (of_day (kept.now.entry.minute / 1440) held.old.entries) kept.now.entry
-        kept.now.odometer.0 x c) }
-    ensures settled { OnOk result ((M.state port.new).clock < last_count → IsSettled (M.state port.new)) }
-    ensures cause { HasCause (M.state port.old) (M.state port.new) (is_err result) }
-    ensures most { (M.state port.new).clock
-        ≤ (M.state port.old).clock + (17 + 4 * length (of_day (kept.now.entry.minute / 1440) held.old.entries)) }
+    ensures alters { Alters result (M.state port.old) (M.state port.new)
+        (17 + 4 * length (of_day (kept.now.entry.minute / 1440) held.old.entries))
+        (λ x y. IsSession session.old x → IsFirstKept session.old session.new
+        (of_day (kept.now.entry.minute / 1440) held.old.entries) kept.now.entry kept.now.odometer.0 x y)
+        (λ x c. IsSession session.old x → IsFirstKeeping session.old
+        (of_day (kept.now.entry.minute / 1440) held.old.entries) kept.now.entry kept.now.odometer.0 x c) }
 {
     let minute = kept.entry.minute;
-    let by_hand = of_day(held.entries(), minute / DAY_MINUTES as u32);
+    let by_hand = of_day(held.entries(), minute / DAY_MINUTES);
     keep_first(session, port, by_hand, kept)?;
     held.begin(minute);
     Ok(())
@@ -73,16 +68,11 @@ fn keep_first<M: Medium>(
         × (session.new.registration ≡ session.old.registration) }
     ensures last { OnOk result ((session.new.minute ≡ kept.now.entry.minute)
         × (session.new.odometer ≡ Some kept.now.odometer)) }
-    ensures kept { OnOk result (IfSome (M.state port.old).image
-        (λ x. IfSome (M.state port.new).image
-        (λ y. IsSession session.old x
-        → IsFirstKept session.old session.new by_hand.now kept.now.entry kept.now.odometer.0 x y))) }
-    ensures moments { LeavesOnly (M.state port.old) (M.state port.new)
-        (λ x c. IsSession session.old x
-        → IsFirstKeeping session.old by_hand.now kept.now.entry kept.now.odometer.0 x c) }
-    ensures settled { OnOk result ((M.state port.new).clock < last_count → IsSettled (M.state port.new)) }
-    ensures cause { HasCause (M.state port.old) (M.state port.new) (is_err result) }
-    ensures most { (M.state port.new).clock ≤ (M.state port.old).clock + (17 + 4 * length by_hand.now) }
+    ensures alters { Alters result (M.state port.old) (M.state port.new) (17 + 4 * length by_hand.now)
+        (λ x y. IsSession session.old x → IsFirstKept session.old session.new by_hand.now kept.now.entry
+        kept.now.odometer.0 x y)
+        (λ x c. IsSession session.old x → IsFirstKeeping session.old by_hand.now kept.now.entry kept.now.odometer.0 x
+        c) }
 {
     enter_all(session, port, by_hand, kept.entry.minute)?;
     session.keep(port, kept)

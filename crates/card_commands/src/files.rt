@@ -58,5 +58,5 @@ pub fn sized_file(application: &[u8; 10], fid: Fid) -> Option<ElementaryFile>
 fn is_updated(fid: Fid) -> bool
     ensures { result ≡ (nat_le 0x0502 fid.0 && nat_le fid.0 0x0507) }
 {
-    (0x0502..=0x0507).contains(&fid.0)
+    (Fid::EVENTS.0..=Fid::CURRENT_USE.0).contains(&fid.0)
 }

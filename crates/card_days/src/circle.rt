@@ -18,7 +18,7 @@ use crate::DayHead;
 use crate::bytes::{read_two, write_two};
 use crate::head::RecordHead;
 use card_layout::Range;
-use card_model::lengths::DAY_MOST;
+use card_model::lengths::{DAY_HEAD, DAY_MOST};
 use std::marker::Model;
 use tach_media::{Failed, Medium};
 
@@ -307,7 +307,7 @@ impl Circle {
             → index < length d.words → w ≡ slice_index d.words index)) }
         ensures reads { Reads (M.state medium.old) (M.state medium.new) (is_err result) }
     {
-        let field = self.base + 4 + self.spot(place, 12 + 2 * index as u32);
+        let field = self.base + 4 + self.spot(place, DAY_HEAD + 2 * index as u32);
         read_two(medium, field)
     }
 

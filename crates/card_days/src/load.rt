@@ -16,8 +16,9 @@ use crate::DaysFault;
 use crate::bytes::read_two;
 use crate::circle::Circle;
 use crate::head::RecordHead;
+use activity_codec::{DAY_MINUTES, DAY_SECONDS};
 use card_layout::Range;
-use card_model::lengths::{DAY_LEAST, DAY_MOST};
+use card_model::lengths::{DAY_HEAD, DAY_LEAST, DAY_MOST};
 use tach_media::{Failed, Medium};
 
 impl Circle {
@@ -81,13 +82,13 @@ impl Circle {
         let mut below = 1;
         let mut index = 0;
         while index < count {
-            let offset = 12 + 2 * index;
+            let offset = DAY_HEAD + 2 * index;
             let minute = self.two_at(medium, place, offset)? % 2048;
             if !is_between(from, minute, below) {
                 return Ok(Some(offset));
             }
             from = minute;
-            below = 1440;
+            below = DAY_MINUTES;
             index += 1;
         }
         Ok(None)
@@ -135,7 +136,7 @@ impl Circle {
         if let Some(offset) = self.first_bad_field(&head, so_far, before, date) {
             return Err(self.bad_at(oldest, so_far + offset));
         }
-        let count = (head.len as u32 - 12) / 2;
+        let count = (head.len as u32 - DAY_HEAD) / 2;
         if let Some(offset) = self.first_bad_word(medium, place, count)? {
             return Err(self.bad_at(oldest, so_far + offset));
         }
@@ -223,7 +224,7 @@ impl Circle {
         ensures place { IfErr result (λ fault. IfBadDays fault (λ p. p < range.len)) }
         ensures reads { Reads (M.state medium.old) (M.state medium.new) (has_failed result) }
     {
-        // so the range ends below 2 ^ 32
+        // for the proof alone: a size is below 2 ^ 32, and so the range ends there
         let _size = medium.size();
         let days = Circle::of(range);
         let oldest = read_two(medium, range.base)?;
@@ -261,7 +262,7 @@ fn is_previous(so_far: u32, before: u32, previous: u32) -> bool
 fn is_date(before: u32, date: u32) -> bool
     ensures { result ≡ is_date before date }
 {
-    date % 86400 == 0 && before < date
+    date % DAY_SECONDS == 0 && before < date
 }
 
 // Whether the half-bytes of a number are decimal digits.

@@ -7,6 +7,7 @@ ghost use Rattle.card_days.specs.Moments.{FileFitsIn};
 
 use crate::circle::Circle;
 use crate::{DayHead, Tail};
+use card_model::lengths::DAY_LEAST;
 use tach_media::{Failed, Medium};
 use tacho_types::{Bcd2, Distance, TimeReal};
 
@@ -23,7 +24,7 @@ impl Circle {
         let newest = self.newest(medium)?;
         let record = self.head_at(medium, newest)?;
         let len = Circle::day_len(record.len as u32);
-        if len < 14 {
+        if len < DAY_LEAST {
             return Ok(no_day(newest));
         }
         let head = record.at(newest);

@@ -9,6 +9,7 @@ ghost use Rattle.card_days.specs.Heads.{heads_of, IsAfter, IsBefore};
 
 use crate::DayHead;
 use crate::circle::Circle;
+use activity_codec::DAY_MINUTES;
 use tach_media::{Failed, Medium};
 
 impl Circle {
@@ -92,7 +93,7 @@ impl Circle {
         ensures reads { Reads (M.state medium.old) (M.state medium.new) (is_err result) }
     {
         let place = self.pointer(head.place);
-        let index = if index < 1440 { index } else { 0 };
+        let index = if index < DAY_MINUTES as u16 { index } else { 0 };
         let word = self.word_at(medium, place, index)?;
         Ok(word as u16)
     }

@@ -11,11 +11,8 @@ ghost use Rattle.card_download.specs.declared.files.TheConstants.{BLOCK};
 use crate::fault::CopyFault;
 use byteorder::{BigEndian, ByteOrder};
 use card_files::{file_of, files};
-use card_layout::{Application, CardFile, Fid, Range};
+use card_layout::{Application, CardFile, FILE_HEAD, Fid, Range};
 use tach_media::{Medium, Sink, put_all};
-
-/// Identifier 2 bytes, kind 1, length 2 (Appendix 7, 3.4).
-const HEAD: usize = 5;
 
 /// The kind of an entry that is a file's value; 1 is that of a signature.
 const VALUE: u8 = 0;
@@ -67,10 +64,10 @@ fn copy_file<M: Medium, K: Sink>(
 }
 
 /// The head of an entry: the file's identifier, the kind, and how many bytes follow.
-fn head(fid: Fid, len: u16) -> [u8; HEAD]
+fn head(fid: Fid, len: u16) -> [u8; FILE_HEAD]
     ensures { result ≡ head_bytes fid.0 len }
 {
-    let mut head = [VALUE; HEAD];
+    let mut head = [VALUE; FILE_HEAD];
     BigEndian::write_u16(&mut head[..2], fid.0);
     BigEndian::write_u16(&mut head[3..], len);
     head

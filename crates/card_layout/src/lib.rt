@@ -1,7 +1,7 @@
 //! Fields and images of bytes and the numbers in them; the files of a driver card, as one flat image: their order,
 //! identifiers, sizes and places (Annex IB, Appendix 2, section 4), and the file Application_Identification, which
-//! tells the sizes; and its commands (section
-//! 3.6). The definitions stand in `specs/`; this crate holds the small types that they speak of.
+//! tells the sizes; and its commands (section 3.6). The definitions stand in `specs/`; this crate holds the small types
+//! that they speak of.
 #![tactic(auto)]
 
 mod command;
@@ -9,6 +9,6 @@ mod files;
 
 pub use command::{CardState, Command, Directory, ElementaryFile};
 pub use files::{
-    APPLICATION_RANGE, Application, CardFile, Fid, LARGEST, LARGEST_IMAGE, Range, STRING_LEAST,
-    STRING_MOST,
+    APPLICATION_RANGE, Application, CardFile, FILE_HEAD, Fid, LARGEST, LARGEST_IMAGE, Range,
+    STRING_LEAST, STRING_MOST,
 };

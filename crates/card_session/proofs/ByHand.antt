@@ -99,9 +99,6 @@ module _ (minute w : ℕ) (at : word_minute w ≡ minute % 1440) where
   -- ---- of a book
 
   module _ (size : ℕ) (long : 5544 ≤ size) (b : Book) (are : AreDays 0 b.days) (before : IsBeforeWordAt minute b) where
-    abbrev in_newest : Bool
-    in_newest = is_newest (minute / 1440) (sizes b.days)
-
     abbrev Made : List Day → Vehicles → Type 0
     Made ds v = (Remain (size - word_len minute w b.days) b.days ds ⊎ (ds ≡ with_word_at size minute w b.days)) × (v ≡ b.vehicles)
 

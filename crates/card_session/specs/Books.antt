@@ -7,6 +7,7 @@ use Rattle.activity_codec.specs.declared.values.Activity.TheVariants.{Rest}
 use Rattle.activity_codec.specs.declared.values.Slot.TheVariants.{Driver}
 use Rattle.activity_codec.specs.declared.entries.Entry.{Entry}
 use Rattle.activity_codec.specs.Words.{word_of, word_slot}
+pub use Rattle.activity_codec.specs.Words.{entry_word}
 use Rattle.tacho_types.specs.declared.texts.Registration.{Registration}
 use Rattle.tacho_types.specs.declared.decimal.Bcd2.{Bcd2}
 use Rattle.tacho_types.specs.declared.decimal.BadValue.{BadValue}
@@ -52,16 +53,6 @@ closed_days size mark act days = if is_open mark days
 -- before an entry it stands only where the entry does not come at once
 abbrev pub gap_closed : (size mark next : ℕ) → List Day → List Day
 gap_closed size mark next days = with_closing size (closing_word (suc mark) Rest (latest_of days)) mark next days
-
--- the word of an entry
-abbrev pub entry_word : Entry → ℕ
-entry_word e = word_of (record {
-  slot = e.slot;
-  crew_or_known = e.crew;
-  absent = false;
-  act = e.act;
-  minute = e.minute % 1440;
-})
 
 -- the word that begins a day before its first entry: the driver's slot, not inserted, unknown, rest
 abbrev pub bare_word : ℕ

@@ -1,7 +1,7 @@
 -- What an entry by hand makes of a card, and what is left of it at each moment (profile): one word behind all words of
 -- the card.
 use Rattle.std.specs.Prelude.{◌≡◌, ◌⊎◌, ℕ, ◌+◌, ◌-◌, ◌*◌, ◌/◌, ◌%◌, ◌<◌, true, List, [], ◌∷◌, ◌++◌, length, nat_eq}
-use Rattle.std.specs.Prelude.{if◌then◌else◌}
+use Rattle.std.specs.Prelude.{if◌then◌else◌, ◌≤◌, Result, OnOk}
 use Rattle.activity_codec.specs.Words.{word_absent}
 use Rattle.card_days.specs.card_model.Days.{Day}
 use Rattle.card_days.specs.card_model.Changes.{Remain, IsNext, date_of, fitting, new_day}
@@ -15,6 +15,8 @@ use Rattle.card_session.specs.Books.{Book, with_change, bare_word}
 use Rattle.card_session.specs.Sessions.{Session, IsSession, EndsStrictly, book_of}
 use Rattle.card_session.specs.Moments.{IsBook}
 use Rattle.card_session.specs.Cards.{IsCard}
+use Rattle.tach_media.specs.Medium.{State}
+use Rattle.tach_media.specs.declared.fault.Failed.{Failed}
 
 -- the words that begin the day of a minute with this word, which stands at the minute
 abbrev pub words_from : (minute w : ℕ) → List ℕ
@@ -77,3 +79,16 @@ abbrev pub IsBeforeDayFrom : (size minute w : ℕ) → Book → List Day → Veh
 IsBeforeDayFrom size minute w b days vehicles =
     (Remain (size - (12 + 2 * length (words_from minute w))) b.days days ⊎ (days ≡ with_day_from size minute w b.days))
     × (vehicles ≡ b.vehicles)
+
+-- THE SESSION BEHIND AN ENTRY BY HAND: of the same card, vehicle and odometer; and where it was written, of its minute,
+-- on whose day the card ends
+pub record EntersSession (result : Result (Unit {0}) Failed) (old new : Session) (minute : ℕ) : Type 0 where
+  pub same : (new.application ≡ old.application) × (new.registration ≡ old.registration)
+      × (new.odometer ≡ old.odometer)
+  pub last : OnOk result (new.minute ≡ minute)
+  pub ends : OnOk result (EndsByHand new minute)
+
+-- SO MANY WRITES BEGIN AT MOST for an entry by hand, and fewer where the card ends on its day
+pub record WritesByHand (s : Session) (minute : ℕ) (old new : State) : Type 0 where
+  pub most : new.clock ≤ old.clock + 9
+  pub few : EndsByHand s minute → new.clock ≤ old.clock + 4

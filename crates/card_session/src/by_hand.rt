@@ -1,6 +1,6 @@
 //! Entries by hand of a session (profile): each is one word of the card, behind all its words, before the session's
 //! first keep.
-ghost use Rattle.std.specs.Prelude.{◌≡◌, ◌≤◌, ◌<◌, ◌+◌, OnOk, Some, IfSome, is_err};
+ghost use Rattle.std.specs.Prelude.{◌≤◌, ◌<◌, ◌+◌, OnOk, Some, IfSome, is_err};
 ghost use Rattle.tach_media.specs.Medium.{LeavesOnly, HasCause};
 ghost use Rattle.card_days.specs.card_model.Changes.{date_of};
 ghost use Rattle.card_days.specs.Held.{EndsWith};
@@ -10,10 +10,11 @@ ghost use Rattle.card_session.specs.Sessions.{IsSession, IsValue, MayKeep};
 ghost use Rattle.card_session.specs.Parts.{DoesPart, IsPartDone, IsPartMoment, HasSame, TakesSome, with_some, IsAdding};
 ghost use Rattle.card_session.specs.ByHand.{IsCardByHand, IsCardEntering, IsByHandMoment, EndsByHand, IsBeforeWordAt};
 ghost use Rattle.card_session.specs.ByHand.{BeginsFrom, with_day_in, IsBeforeDayFrom, by_hand};
+ghost use Rattle.card_session.specs.ByHand.{EntersSession, WritesByHand};
 
 use crate::session::CardSession;
-use crate::words::{DAY_MINUTES, bare_word, is_newest_day};
-use activity_codec::Manual;
+use crate::words::{bare_word, is_newest_day};
+use activity_codec::{DAY_MINUTES, Manual};
 use card_validity::date_of;
 use hand_model::manual_word;
 use tach_media::{Failed, Medium};
@@ -27,18 +28,14 @@ impl CardSession {
         requires later { self.old.minute < entry.now.minute }
         requires first { 1440 ≤ entry.now.minute }
         requires last { entry.now.minute ≤ LATEST_MINUTE }
-        ensures same { (self.new.application ≡ self.old.application) × (self.new.registration ≡ self.old.registration)
-            × (self.new.odometer ≡ self.old.odometer) }
-        ensures last { OnOk result (self.new.minute ≡ entry.now.minute) }
+        ensures session { EntersSession result self.old self.new entry.now.minute }
         ensures entered { OnOk result (IfSome (M.state port.old).image
             (λ x. IfSome (M.state port.new).image
             (λ y. IsSession self.old x → IsCardByHand self.old self.new entry.now x y))) }
         ensures moments { LeavesOnly (M.state port.old) (M.state port.new)
             (λ x c. IsSession self.old x → IsCardEntering self.old entry.now x c) }
         ensures cause { HasCause (M.state port.old) (M.state port.new) (is_err result) }
-        ensures ends { OnOk result (EndsByHand self.new entry.now.minute) }
-        ensures most { (M.state port.new).clock ≤ (M.state port.old).clock + 9 }
-        ensures few { EndsByHand self.old entry.now.minute → (M.state port.new).clock ≤ (M.state port.old).clock + 4 }
+        ensures writes { WritesByHand self.old entry.now.minute (M.state port.old) (M.state port.new) }
     {
         self.write_by_hand(port, entry)?;
         self.minute = entry.minute;
@@ -59,8 +56,7 @@ impl CardSession {
             (IsByHandMoment self.old.application.activity entry.now)) }
         ensures called { HasCause (M.state port.old) (M.state port.new) (is_err result) }
         ensures ends { OnOk result (EndsByHand self.new entry.now.minute) }
-        ensures most { (M.state port.new).clock ≤ (M.state port.old).clock + 9 }
-        ensures few { EndsByHand self.old entry.now.minute → (M.state port.new).clock ≤ (M.state port.old).clock + 4 }
+        ensures writes { WritesByHand self.old entry.now.minute (M.state port.old) (M.state port.new) }
     {
         let tail = self.days.tail();
         if is_newest_day(tail, entry.minute) {

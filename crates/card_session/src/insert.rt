@@ -29,7 +29,7 @@ ghost use Rattle.card_session.specs.Inserting.{CardAccepted, CardMayBePutIn, Car
 use crate::session::{CardSession, Kept, newest_minute, session_place};
 use crate::vehicle_use::last_use;
 use crate::words::{LATEST_MINUTE, closing};
-use activity_codec::{Activity, Entry, Owed, WORD_MINUTES};
+use activity_codec::{Activity, Entry, MINUTE_SECONDS, Owed, WORD_MINUTES};
 use card_days::Tail;
 use card_files::{CardEvent, CurrentUse, Vehicle, has_event, note_event};
 use card_layout::Application;
@@ -172,7 +172,9 @@ impl CardSession {
         self.add(port, Some(word))?;
         match self.newest_use() {
             None => Ok(()),
-            Some((index, vehicle)) => self.set_last_use(port, index, vehicle, 60 * (mark + 1)),
+            Some((index, vehicle)) => {
+                self.set_last_use(port, index, vehicle, MINUTE_SECONDS * (mark + 1))
+            }
         }
     }
 
@@ -393,8 +395,8 @@ fn word_second(tail: Option<Tail>) -> u32
     match tail {
         None => 0,
         Some(tail) => {
-            let minute = tail.head.date.0 / 60 + u32::from(tail.latest % WORD_MINUTES);
-            minute.saturating_mul(60)
+            let minute = tail.head.date.0 / MINUTE_SECONDS + u32::from(tail.latest % WORD_MINUTES);
+            minute.saturating_mul(MINUTE_SECONDS)
         }
     }
 }

@@ -1,9 +1,9 @@
 //! A session of a driver card in a slot (profile): its keeping and its withdrawal. A session is a value that knows no
 //! card; each call is lent the card.
-ghost use Rattle.std.specs.Prelude.{◌≡◌, ◌⊎◌, ◌≤◌, ◌<◌, ◌+◌, ◌*◌, ◌/◌, ◌^◌, true, false, Some, None, List, ℕ, IfSome};
+ghost use Rattle.std.specs.Prelude.{◌≡◌, ◌⊎◌, ◌≤◌, ◌<◌, ◌+◌, ◌*◌, ◌/◌, ◌^◌, true, false, Some, None, IfSome};
 ghost use Rattle.std.specs.Prelude.{IfNone, OnOk, is_err, max};
 ghost use Rattle.card_layout.specs.Application.{IsApplication};
-ghost use Rattle.tach_media.specs.Medium.{LeavesOnly, HasCause, IsSettled, last_count};
+ghost use Rattle.tach_media.specs.Medium.{LeavesOnly, HasCause, IsSettled, last_count, Alters};
 ghost use Rattle.card_days.specs.Held.{tail_of};
 ghost use Rattle.card_days.specs.Plans.{most_drops};
 ghost use Rattle.card_validity.specs.card_image.Fields.{file, day_string, vehicle_ring, last_use_of};
@@ -24,10 +24,10 @@ ghost use Rattle.card_session.specs.Parts.{with_last_use, IsSettingUse, used_ses
 ghost use Rattle.card_session.specs.Parts.{SameButVehicle, entered};
 
 use crate::vehicle_use::{begun, counter_behind, goes_on, last_use, measured, used};
-use crate::words::{
-    DAY_MINUTES, bare_word, closing, distance, entry_change, entry_word, gap_word, is_newest_day,
+use crate::words::{bare_word, closing, distance, entry_change, gap_word, is_newest_day};
+use activity_codec::{
+    Activity, DAY_MINUTES, Entry, MINUTE_SECONDS, Pick, WORD_MINUTES, entry_word,
 };
-use activity_codec::{Activity, Entry, Pick, WORD_MINUTES};
 use card_days::{Days, Tail};
 use card_files::{Vehicle, file_range, write_vehicle};
 use card_layout::{Application, Fid};
@@ -153,7 +153,7 @@ impl CardSession {
         ensures mark { result ≡ last_use_of self.now.vehicle / 60 }
         ensures most { result ≤ LATEST_MINUTE }
     {
-        last_use(&self.vehicle) / 60
+        last_use(&self.vehicle) / MINUTE_SECONDS
     }
 
     // Adds a word to the newest day, where there is one to be added.
@@ -313,7 +313,7 @@ impl CardSession {
     {
         self.set_odometer(port, index, vehicle, kept.odometer)?;
         let vehicle = measured(vehicle, kept.odometer);
-        self.set_last_use(port, index, vehicle, 60 * kept.entry.minute)
+        self.set_last_use(port, index, vehicle, MINUTE_SECONDS * kept.entry.minute)
     }
 
     // Writes the odometer value at the end of the newest vehicle entry, which has this index.
@@ -449,7 +449,7 @@ impl CardSession {
         self.add(port, Some(word))?;
         match self.newest {
             None => Ok(()),
-            Some(index) => self.write_last_use(port, index, 60 * (mark + 1)),
+            Some(index) => self.write_last_use(port, index, MINUTE_SECONDS * (mark + 1)),
         }
     }
 
@@ -501,14 +501,9 @@ impl CardSession {
         ensures same { (self.new.application ≡ self.old.application) × (self.new.registration ≡ self.old.registration) }
         ensures last { OnOk result ((self.new.minute ≡ kept.now.entry.minute)
             × (self.new.odometer ≡ Some kept.now.odometer)) }
-        ensures kept { OnOk result (IfSome (M.state port.old).image
-            (λ x. IfSome (M.state port.new).image
-            (λ y. IsSession self.old x → IsCardKept self.old self.new kept.now.entry kept.now.odometer.0 x y))) }
-        ensures moments { LeavesOnly (M.state port.old) (M.state port.new)
+        ensures alters { Alters result (M.state port.old) (M.state port.new) 17
+            (λ x y. IsSession self.old x → IsCardKept self.old self.new kept.now.entry kept.now.odometer.0 x y)
             (λ x c. IsSession self.old x → IsCardKeeping self.old kept.now.entry kept.now.odometer.0 x c) }
-        ensures settled { OnOk result ((M.state port.new).clock < last_count → IsSettled (M.state port.new)) }
-        ensures cause { HasCause (M.state port.old) (M.state port.new) (is_err result) }
-        ensures most { (M.state port.new).clock ≤ (M.state port.old).clock + 17 }
         ensures few { EndsByHand self.old kept.now.entry.minute
             → (M.state port.new).clock ≤ (M.state port.old).clock + 10 }
     {
@@ -534,10 +529,12 @@ pub(crate) fn session_place(app: &Application) -> u32
 pub(crate) fn newest_minute(vehicle: &Option<Vehicle>, tail: Option<Tail>) -> u32
     ensures { result ≡ max (last_use_of vehicle.now / 60) (minute_told tail) }
 {
-    let mark = last_use(vehicle) / 60;
+    let mark = last_use(vehicle) / MINUTE_SECONDS;
     match tail {
         None => mark,
-        Some(tail) => mark.max(tail.head.date.0 / 60 + u32::from(tail.latest % WORD_MINUTES)),
+        Some(tail) => {
+            mark.max(tail.head.date.0 / MINUTE_SECONDS + u32::from(tail.latest % WORD_MINUTES))
+        }
     }
 }
 

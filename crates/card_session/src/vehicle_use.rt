@@ -5,7 +5,7 @@ ghost use Rattle.card_session.specs.Books.{goes_on_in, next_count, vehicle_count
 ghost use Rattle.card_validity.specs.card_image.Fields.{last_use_of};
 ghost use Rattle.card_session.specs.declared.words.TheConstants.{LATEST_MINUTE};
 
-use crate::words::{DAY_MINUTES, DAY_SECONDS};
+use activity_codec::{DAY_MINUTES, DAY_SECONDS, MINUTE_SECONDS};
 use card_files::Vehicle;
 use tacho_types::{Bcd2, Odometer, Registration, TimeReal, read_bcd2, write_bcd2};
 
@@ -61,7 +61,7 @@ pub fn begun(
     requires { minute ≤ LATEST_MINUTE }
     ensures { result ≡ begun_vehicle registration odometer.0 minute counter }
 {
-    let time = TimeReal(60 * minute);
+    let time = TimeReal(MINUTE_SECONDS * minute);
     Vehicle {
         odometer_begin: odometer,
         odometer_end: odometer,

@@ -1,38 +1,22 @@
 //! The change words of a session (Annex IB, Appendix 1, ActivityChangeInfo; when each is written: profile).
 ghost use Rattle.std.specs.Prelude.{◌≡◌, ◌≤◌, ◌<◌, ◌+◌, ◌^◌, IfSome};
-ghost use Rattle.card_session.specs.Books.{entry_word, bare_word, km_after};
+ghost use Rattle.card_session.specs.Books.{bare_word, km_after};
 ghost use Rattle.card_session.specs.declared.words.TheConstants.{LATEST_MINUTE};
 ghost use Rattle.card_session.specs.Telling.{closing_at, gap_word, is_newest_day, entry_change, km_told};
 
-use activity_codec::{Activity, Change, Entry, Slot, WORD_MINUTES, decode_change, encode_change};
+use activity_codec::{
+    Activity, Change, DAY_MINUTES, Entry, LAST_MINUTE, Slot, WORD_MINUTES, decode_change,
+    encode_change, entry_word,
+};
 use card_days::Tail;
 use card_validity::date_of;
 use tacho_types::Distance;
 
-/// The seconds of a day.
-pub const DAY_SECONDS: u32 = 86400;
-
-/// The minutes of a day.
-pub const DAY_MINUTES: u32 = 1440;
-
 /// The latest minute that is kept: the closing word, a minute later, has a time in seconds still.
-pub const LATEST_MINUTE: u32 = 71_582_787;
+pub const LATEST_MINUTE: u32 = LAST_MINUTE - 1;
 
 /// No distance of a day is told as more, in km.
 const MOST_KM: u32 = 9999;
-
-/// The word of an entry.
-pub fn entry_word(entry: &Entry) -> u16
-    ensures { result ≡ entry_word entry.now }
-{
-    encode_change(&Change {
-        slot: entry.slot,
-        crew_or_known: entry.crew,
-        absent: false,
-        act: entry.act,
-        minute: (entry.minute % DAY_MINUTES) as u16,
-    })
-}
 
 /// The word that begins a day before its first entry: the driver's slot, not inserted, unknown, rest.
 pub fn bare_word() -> u16

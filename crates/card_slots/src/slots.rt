@@ -11,7 +11,7 @@ ghost use Rattle.card_slots.specs.Kept.{Kept, SlotsRemember, KnowsNewest, SitSti
 ghost use Rattle.card_slots.specs.Kept.{taken, cut_off, minute_ended, nothing_yet};
 
 use crate::seats::{Ended, Lefts, Present, Seat, is_same};
-use activity_codec::Slot;
+use activity_codec::{MINUTE_SECONDS, Slot};
 use arrayvec::ArrayVec;
 use log_model::SlotFault;
 use std::marker::Model;
@@ -167,7 +167,7 @@ impl Slots {
         ensures kept { self.new ≡ taken slot second self.old }
         ensures newest { KnowsNewest self.old → KnowsNewest self.new }
     {
-        self.leave(self.seat(slot), second / 60);
+        self.leave(self.seat(slot), second / MINUTE_SECONDS);
         self.set_seat(slot, None);
     }
 
@@ -183,8 +183,8 @@ impl Slots {
     {
         let driver = self.seat(Slot::Driver);
         let codriver = self.seat(Slot::CoDriver);
-        self.leave(driver, second / 60);
-        self.leave(codriver, second / 60);
+        self.leave(driver, second / MINUTE_SECONDS);
+        self.leave(codriver, second / MINUTE_SECONDS);
         self.set_seat(Slot::Driver, without_power(driver));
         self.set_seat(Slot::CoDriver, without_power(codriver));
     }

@@ -65,13 +65,6 @@ cut_newest mark ds are = by (is_open mark (trimmed mark ds))
     by true = omega arith
     by false = omega (arith, trimmed_low mark ds are)
 
-at_least : (mark : ℕ) (ds : List Day) → mark ≤ newest_minute mark (trimmed mark ds)
-at_least mark ds = by (is_open mark (trimmed mark ds))
-  where
-    by : (o : Bool) → mark ≤ cond o (suc mark) (max mark (newest_word (trimmed mark ds)))
-    by true = omega arith
-    by false = omega arith
-
 word_told : (app : Application) (x : List ℕ) → (card_view app x).word ≡ newest_word (card_days app x)
 unfolding card_view
 word_told app x = refl

@@ -459,9 +459,6 @@ BeginsClear all (e ∷ es) days = is_newest (e.minute / 1440) (sizes days) ≡ f
 module _ (size : ℕ) (long : 5544 ≤ size) (registration : Registration) (odometer : ℕ) (all : List Manual) where
   -- with an entry
   module _ (b : Book) (t : TellsBook all b) (e : Entry) (gap : IsBeforeGapOf e.minute b) (some : 1440 ≤ e.minute) (clear : is_newest (e.minute / 1440) (sizes b.days) ≡ false → HandsBefore (e.minute / 1440) all) where
-    abbrev one : Book
-    one = with_entry size registration odometer 0 b e
-
     gapped_are : AreDays 0 (gap_closed size (mark_of b) e.minute b.days)
     gapped_are = gap_are size long b t.are e.minute gap
 

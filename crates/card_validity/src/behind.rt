@@ -1,10 +1,12 @@
 //! What stands behind the end mark of a card whose session is closed.
 ghost use Rattle.std.specs.Prelude.{◌≡◌, ◌≤◌, ◌+◌, ◌/◌, ◌%◌, None, false, true, nat_le, if◌then◌else◌};
 ghost use Rattle.activity_codec.specs.Words.{word_absent};
+ghost use Rattle.activity_codec.specs.declared.day.TheConstants.{LAST_MINUTE};
 ghost use Rattle.card_image.specs.card_model.Changes.{date_of};
 ghost use Rattle.card_validity.specs.Words.{seen_by, with_check, answer_by};
 
-use activity_codec::{WORD_ABSENT, WORD_MINUTES};
+use activity_codec::{DAY_MINUTES, DAY_SECONDS, MINUTE_SECONDS, WORD_ABSENT, WORD_MINUTES};
+
 /// What is kept of the first word behind the mark.
 #[derive(Clone, Copy)]
 pub struct First {
@@ -24,15 +26,6 @@ pub struct Behind {
     // where the first of the words behind the first one stands that is an entry's
     pub bad: Option<u32>,
 }
-
-/// The last minute that a `TimeReal` can name, since 1970-01-01.
-pub const LAST_MINUTE: u32 = 71582788;
-
-/// The seconds of a day.
-const DAY_SECONDS: u32 = 86400;
-
-/// The minutes of a day.
-pub const DAY_MINUTES: u32 = 1440;
 
 /// The first second of the day of a minute.
 pub fn date_of(minute: u32) -> u32
@@ -61,7 +54,7 @@ pub fn is_absent(word: u16) -> bool
 pub fn minute_at(date: u32, word: u16) -> u32
     ensures { result ≡ date / 60 + word % 2048 }
 {
-    date / 60 + (word % WORD_MINUTES) as u32
+    date / MINUTE_SECONDS + (word % WORD_MINUTES) as u32
 }
 
 impl Behind {

@@ -16,6 +16,7 @@ ghost use Rattle.card_validity.specs.Judged.{first_bad_behind, IsSized, IsKnown}
 use crate::BadFile;
 use crate::round::Round;
 use crate::words::first_bad_word;
+use activity_codec::MINUTE_SECONDS;
 use byteorder::{BigEndian, ByteOrder};
 use card_days::{Days, DaysFault};
 use card_files::{CurrentUse, Vehicle, file_of, places, read_current_use, read_vehicle, vehicles};
@@ -110,7 +111,8 @@ fn vehicle_in(image: &[u8], app: &Application, ring: &Ring, index: u32) -> Vehic
 {
     let mut slice = SliceMedium::new(image);
     let mut bytes = [0; Vehicle::SIZE];
-    let _ = ring.entry(&mut slice, index, &mut bytes).unwrap();
+    // the newest entry is there, so the answer is true
+    ring.entry(&mut slice, index, &mut bytes).unwrap();
     read_vehicle(&bytes)
 }
 
@@ -192,7 +194,7 @@ fn judge_words(
     let newest = newest_of(image, app, &vehicles);
     let vehicle = newest_vehicle(image, app, &vehicles, newest);
     let current = current_use(image, app);
-    let mark = last_use(&vehicle).0 / 60;
+    let mark = last_use(&vehicle).0 / MINUTE_SECONDS;
     let round = round_of(image, app);
     match first_bad_word(&days, image, &round, mark, current.session.0) {
         Some(place) => Err(BadFile {

@@ -13,7 +13,7 @@ ghost use Rattle.card_validity.specs.Judged.{IsCopy, TellsSizes, IsSized, IsKnow
 
 use crate::files::last_use;
 use crate::{BadFile, InsertFault, Judged, judge_image};
-use activity_codec::WORD_MINUTES;
+use activity_codec::{MINUTE_SECONDS, WORD_MINUTES};
 use card_files::{Vehicle, file_of};
 use card_layout::{Application, Fid, LARGEST_IMAGE};
 use tach_media::{Failed, Medium};
@@ -94,14 +94,16 @@ fn newest_minute(judged: &Judged) -> u32
         → result ≡ max (end_mark app x) (newest_word
         (counting (session_time app x) (end_mark app x) (card_days app x))) }
 {
-    let mark = last_use(&judged.vehicle).0 / 60;
+    let mark = last_use(&judged.vehicle).0 / MINUTE_SECONDS;
     let session = judged.current.session.0;
     if session != 0 {
         return mark;
     }
     match judged.days.tail() {
         None => mark,
-        Some(tail) => mark.max(tail.head.date.0 / 60 + u32::from(tail.latest % WORD_MINUTES)),
+        Some(tail) => {
+            mark.max(tail.head.date.0 / MINUTE_SECONDS + u32::from(tail.latest % WORD_MINUTES))
+        }
     }
 }
 

@@ -7,12 +7,13 @@ ghost use Rattle.card_image.specs.Judging.{PlacedWord, words_placed};
 ghost use Rattle.card_validity.specs.Walks.{IsInMemory, IsMet};
 ghost use Rattle.card_validity.specs.Words.{IsBehind, HasMet};
 ghost use Rattle.card_layout.specs.declared.files.TheConstants.{STRING_MOST};
-ghost use Rattle.card_validity.specs.declared.behind.TheConstants.{LAST_MINUTE};
+ghost use Rattle.activity_codec.specs.declared.day.TheConstants.{LAST_MINUTE};
 
 use crate::behind::{Behind, is_later_day};
 use crate::memory::{after, first, word};
 use crate::round::Round;
 use card_days::{DayHead, Days};
+use card_model::lengths::DAY_HEAD;
 
 /// A day that was met: its head, and how many bytes the days before it have.
 #[derive(Clone, Copy)]
@@ -31,9 +32,6 @@ pub struct Walked {
     pub cut: Option<Met>,
     pub newest: Option<Met>,
 }
-
-/// The bytes of a day before its words.
-pub const HEAD: u32 = 12;
 
 // What was seen with the words of a day.
 fn see_words(
@@ -59,7 +57,7 @@ fn see_words(
     let mut seen = behind;
     for index in 0..met.head.words {
         let change = word(days, image, &met.head, index);
-        let place = round.file_place(met.so_far + HEAD + 2 * index as u32);
+        let place = round.file_place(met.so_far + DAY_HEAD + 2 * index as u32);
         seen = seen.see(mark, met.head.date.0, change, place);
     }
     seen
@@ -124,7 +122,7 @@ pub fn walk(days: &Days, image: &[u8], round: &Round, mark: u32) -> Walked
     let mut next = first(days, image);
     while let Some(head) = next {
         walked = walked.meet(days, image, round, mark, Met { head, so_far });
-        so_far += HEAD + 2 * head.words as u32;
+        so_far += DAY_HEAD + 2 * head.words as u32;
         next = after(days, image, &head);
     }
     walked

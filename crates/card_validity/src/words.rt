@@ -9,14 +9,15 @@ ghost use Rattle.card_image.specs.Judging.{words_placed, rising_checks, newest_r
 ghost use Rattle.card_validity.specs.Words.{passes_after, first_of, limit_of};
 ghost use Rattle.card_validity.specs.Walks.{IsInMemory, IsMet, IsLastOf};
 ghost use Rattle.card_layout.specs.declared.files.TheConstants.{STRING_MOST};
-ghost use Rattle.card_validity.specs.declared.behind.TheConstants.{LAST_MINUTE};
+ghost use Rattle.activity_codec.specs.declared.day.TheConstants.{LAST_MINUTE};
 
-use crate::behind::{DAY_MINUTES, date_of};
+use crate::behind::date_of;
 use crate::memory::word;
 use crate::round::Round;
-use crate::walk::{HEAD, Met, walk};
-use activity_codec::WORD_MINUTES;
+use crate::walk::{Met, walk};
+use activity_codec::{DAY_MINUTES, WORD_MINUTES};
 use card_days::Days;
+use card_model::lengths::DAY_HEAD;
 
 /// No minute of a word is later.
 const ANY_MINUTE: u16 = 2047;
@@ -42,7 +43,7 @@ fn first_not_later(days: &Days, image: &[u8], round: &Round, met: &Met, limit: u
             return None;
         }
         if !is_later(before, minute) {
-            return Some(round.file_place(met.so_far + HEAD + 2 * index as u32));
+            return Some(round.file_place(met.so_far + DAY_HEAD + 2 * index as u32));
         }
         before = Some(minute);
     }

@@ -117,7 +117,7 @@ impl Ring {
         ensures without { pointer_width ≡ 0 → IsOk result }
         ensures reads { ReadsPointer pointer_width (M.state medium.old) (M.state medium.new) (has_failed result) }
     {
-        // so the ring ends below 2 ^ 32
+        // for the proof alone: a size is below 2 ^ 32, and so the ring ends there
         let _size = medium.size();
         let ring = Ring::at(base, width, count, pointer_width, gate);
         if pointer_width > 0 {

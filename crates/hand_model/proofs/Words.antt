@@ -1,22 +1,14 @@
 -- What the word of an entry by hand tells.
 use Rattle.std.proofs.Common.{◌≡◌, ℕ, ◌+◌, ◌*◌, ◌/◌, ◌%◌, ◌<◌, ◌≤◌, Bool, true, cond, Some, None, refl, ◌∙◌, ap, arith}
 use Rattle.std.specs.Prelude.{◌==◌, ◌&&◌}
-use Rattle.activity_codec.specs.declared.values.Activity.{Activity}
-use Rattle.activity_codec.specs.declared.values.Activity.TheVariants.{Rest, Available, Work, Driving}
 use Rattle.activity_codec.specs.declared.entries.Entry.{Entry}
 use Rattle.activity_codec.specs.declared.words.Change.{Change}
-use Rattle.activity_codec.specs.Words.{activity_number, change_of, word_of, word_minute, word_slot, word_act, word_absent, word_crew}
+use Rattle.activity_codec.specs.Words.{change_of, word_of, word_minute, word_slot, word_act, word_absent, word_crew}
 use Rattle.activity_codec.proofs.WordLemmas.{change_of-word_of}
 use Rattle.card_image.specs.card_model.Changes.{date_of}
 use Rattle.card_image.specs.card_retention.Entries.{told_by}
 use Rattle.activity_codec.specs.declared.entries.Manual.{Manual}
 use Rattle.hand_model.specs.Manual.{manual_word, is_by_hand, tells_by_hand}
-
-act_few : (a : Activity) → activity_number a < 4
-act_few Rest = omega arith
-act_few Available = omega arith
-act_few Work = omega arith
-act_few Driving = omega arith
 
 -- the change that it is the word of
 abbrev change : Manual → Change

@@ -3,7 +3,7 @@ ghost use Rattle.std.specs.Prelude.{◌≡◌, ◌+◌, ◌/◌, ◌<◌, ◌≤
 ghost use Rattle.activity_codec.specs.Words.{word_minute};
 ghost use Rattle.hand_model.specs.Manual.{manual_word, is_by_hand, tells_by_hand};
 
-use activity_codec::{Change, DAY_MINUTES, Manual, decode_change, encode_change};
+use activity_codec::{Change, DAY_MINUTES, MINUTE_SECONDS, Manual, decode_change, encode_change};
 
 /// The word of an entry by hand: not inserted, known.
 pub fn manual_word(entry: &Manual) -> u16
@@ -14,7 +14,7 @@ pub fn manual_word(entry: &Manual) -> u16
         crew_or_known: true,
         absent: true,
         act: entry.act,
-        minute: (entry.minute % DAY_MINUTES as u32) as u16,
+        minute: (entry.minute % DAY_MINUTES) as u16,
     })
 }
 
@@ -28,7 +28,7 @@ pub fn told_by_hand(date: u32, word: u16) -> Option<Manual>
     let change = decode_change(word).ok()?;
     if change.absent && change.crew_or_known {
         Some(Manual {
-            minute: date / 60 + u32::from(change.minute),
+            minute: date / MINUTE_SECONDS + u32::from(change.minute),
             slot: change.slot,
             act: change.act,
         })

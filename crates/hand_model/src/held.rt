@@ -120,7 +120,7 @@ pub fn of_day(entries: &[Manual], day: u32) -> &[Manual]
     ensures { result.now ≡ of_day day entries.now }
 {
     for index in 0..entries.len() {
-        if entries[index].minute / DAY_MINUTES as u32 == day {
+        if entries[index].minute / DAY_MINUTES == day {
             return &entries[index..];
         }
     }

@@ -1,8 +1,7 @@
 -- What a slice tells of itself as a medium.
 use Rattle.std.specs.Prelude.{◌≡◌, ℕ, true, List, [], length, Some}
-use Rattle.std.proofs.Common.{ap, subst, arith}
-use Rattle.card_layout.specs.Fields.{IsBytes}
-use Rattle.tach_media.specs.Medium.{State, IsCoherent, HoldsBytes}
+use Rattle.std.proofs.Common.{ap, arith}
+use Rattle.tach_media.specs.Medium.{State, IsCoherent}
 
 -- it works, no range of it may be written, and a stop leaves it as it is
 abbrev pub slice_state : List ℕ → State
@@ -19,13 +18,6 @@ slice_state bytes = record {
   breakdowns = 0;
   broke = λ t n. n ≡ 0;
   layers = [];
-}
-
-pub slice_bytes : (bytes : List ℕ) → IsBytes bytes → HoldsBytes (slice_state bytes)
-slice_bytes bytes fit = record {
-  told = λ x is. let same : bytes ≡ x = cc in subst IsBytes same fit;
-  now = λ c left. let same : bytes ≡ c = cc in subst IsBytes same fit;
-  since = λ t c left. let same : bytes ≡ c = cc in subst IsBytes same fit;
 }
 
 pub slice_coherent : (bytes : List ℕ) → IsCoherent (slice_state bytes)

@@ -35,6 +35,7 @@ impl Counts {
         ensures once { self.new.breakdowns ≤ self.old.breakdowns + 1 }
     {
         self.faults = self.faults.saturating_add(1);
+        // for the proof alone: what was read is below 2 ^ 64
         let _breakdowns = self.breakdowns;
         if self.works {
             self.breakdowns = self.breakdowns.saturating_add(1);

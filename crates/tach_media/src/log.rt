@@ -194,7 +194,7 @@ fn apply(image: &mut [u8], place: usize, bytes: &[u8], left: Left)
     }
 }
 
-/// Each byte of a slice is below 256.
+/// Each byte of a slice is below 256. It does nothing: it stands for the proof of its caller, which takes its clause.
 pub(crate) fn are_bytes(bytes: &[u8])
     ensures { IsBytes bytes.now }
 {

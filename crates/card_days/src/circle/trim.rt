@@ -17,7 +17,8 @@ ghost use Rattle.card_days.specs.Calls.{DroppedDays};
 use super::Circle;
 use crate::bytes::write_two;
 use crate::rear::Rear;
-use card_model::lengths::DAYS_MOST;
+use activity_codec::{DAY_MINUTES, DAY_SECONDS};
+use card_model::lengths::{DAY_HEAD, DAY_LEAST, DAYS_MOST};
 use tach_media::{Failed, Medium};
 
 impl Circle {
@@ -145,7 +146,7 @@ impl Circle {
         if u64::from(date) != first_second(minute) {
             return Ok(count);
         }
-        self.words_until(medium, place, count, minute % 1440)
+        self.words_until(medium, place, count, minute % DAY_MINUTES)
     }
 
     // Cuts the newest day, if there is one, behind its last word that is not later than a minute.
@@ -164,12 +165,12 @@ impl Circle {
         let newest = self.newest(medium)?;
         let head = self.head_at(medium, newest)?;
         let len = Self::day_len(head.len as u32);
-        if len < 14 {
+        if len < DAY_LEAST {
             return Ok(());
         }
-        let count = ((len - 12) / 2) as u16;
+        let count = ((len - DAY_HEAD) / 2) as u16;
         let kept = self.kept_words(medium, newest, count, head.date, minute)?;
-        self.put_two(medium, self.spot(newest, 2), 12 + 2 * kept as u32)
+        self.put_two(medium, self.spot(newest, 2), DAY_HEAD + 2 * kept as u32)
     }
 
     // Leaves no day and no word later than a minute: the days later than the minute's day go, the newest first, and
@@ -203,5 +204,5 @@ impl Circle {
 fn first_second(minute: u32) -> u64
     ensures { result ≡ date_of minute }
 {
-    u64::from(minute / 1440) * 86400
+    u64::from(minute / DAY_MINUTES) * DAY_SECONDS as u64
 }

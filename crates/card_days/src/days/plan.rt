@@ -1,6 +1,6 @@
 ghost use Rattle.std.specs.Prelude.{◌≡◌, ◌≤◌, ◌<◌, ◌+◌, ◌-◌, ◌*◌, ◌%◌, ◌∷◌, [], length, true, IfOk, OnOk, OnErr};
 ghost use Rattle.std.specs.Prelude.{IfSome};
-ghost use Rattle.card_model.specs.declared.lengths.TheConstants.{DAY_MOST};
+ghost use Rattle.card_model.specs.declared.lengths.TheConstants.{DAY_LEAST, DAY_MOST};
 ghost use Rattle.tach_media.specs.Medium.{Reads};
 ghost use Rattle.tach_media.specs.Plan.{more, none, piece};
 ghost use Rattle.card_model.specs.Bytes.{two_bytes};
@@ -13,6 +13,7 @@ ghost use Rattle.card_days.specs.Plans.{day_pieces, count_of};
 
 use super::Days;
 use crate::bytes::{counter_after, read_two};
+use card_model::lengths::{DAY_HEAD, DAY_LEAST, DAY_MOST};
 use tach_media::{Failed, Medium, Plan};
 
 /// The writes of a call: two drops of two, and a day of five.
@@ -30,13 +31,13 @@ pub fn two_bytes(n: u32) -> [u8; 2]
 fn dropped_len(n: u32) -> u32
     ensures len { result ≡ dropped_len n }
     ensures even { result % 2 ≡ 0 }
-    ensures least { 14 ≤ result }
+    ensures least { DAY_LEAST ≤ result }
     ensures most { result ≤ DAY_MOST }
 {
-    if n % 2 == 0 && 14 <= n && n <= 2892 {
+    if n % 2 == 0 && DAY_LEAST <= n && n <= DAY_MOST {
         n
     } else {
-        14
+        DAY_LEAST
     }
 }
 
@@ -50,7 +51,7 @@ impl Days {
         if self.tail.used == 0 {
             0
         } else {
-            12 + 2 * self.tail.head.words as u32
+            DAY_HEAD + 2 * self.tail.head.words as u32
         }
     }
 

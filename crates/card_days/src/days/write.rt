@@ -1,7 +1,7 @@
 ghost use Rattle.std.specs.Prelude.{◌≡◌, ◌⊎◌, false, [], ◌≤◌, ◌<◌, ◌+◌, ◌-◌, ◌*◌, ◌%◌, List, length, IfOk, OnOk};
 ghost use Rattle.std.specs.Prelude.{IfSome, is_err};
 ghost use Rattle.card_model.specs.declared.lengths.TheConstants.{DAYS_MOST};
-ghost use Rattle.tach_media.specs.Medium.{LeavesOnly, Reads, HasCause, LiesInside, IsSettled, last_count, Alters};
+ghost use Rattle.tach_media.specs.Medium.{LeavesOnly, Reads, HasCause, LiesInside, Alters};
 ghost use Rattle.tach_media.specs.Plan.{PutsAll, PutsBy};
 ghost use Rattle.card_model.specs.Days.{Day, last_word};
 ghost use Rattle.card_model.specs.Changes.{fitting, until, date_of};
@@ -18,6 +18,8 @@ ghost use Rattle.card_days.specs.Calls.{AddedWord, BeganDay, CutDays, EndedDrop}
 use super::Days;
 use crate::bytes::body_of;
 use crate::{DayHead, Tail};
+use activity_codec::DAY_MINUTES;
+use card_model::lengths::DAY_HEAD;
 use tach_media::{Failed, Medium, put_pieces};
 use tacho_types::{Bcd2, Distance, TimeReal};
 
@@ -64,7 +66,7 @@ impl Days {
         ensures within { IfOk result (λ n. n ≤ self.now.shape.size) }
         ensures even { IfOk result (λ n. n % 2 ≡ 0) }
     {
-        let new = 12 + 2 * words.len() as u32;
+        let new = DAY_HEAD + 2 * words.len() as u32;
         let mut plan = self.writing();
         let once = self.make_room(medium, &mut plan, self.tail.used, new)?;
         let twice = self.make_room(medium, &mut plan, once, new)?;
@@ -204,15 +206,10 @@ impl Days {
         requires writable { LiesInside (M.state medium.old).writable self.old.shape.base (4 + self.old.shape.size) }
         ensures shape { self.new.shape ≡ self.old.shape }
         ensures puts { PutsAll (M.state medium.old) (M.state medium.new) (is_err result) (km_pieces self.old km.0) }
-        ensures measured { OnOk result (IfSome (M.state medium.old).image
-            (λ x. IfSome (M.state medium.new).image (IfKnown self.old (IsMeasured self.old.shape km.0) x))) }
+        ensures alters { Alters result (M.state medium.old) (M.state medium.new) 1
+            (IfKnown self.old (IsMeasured self.old.shape km.0)) (IfKnown self.old (IsMeasuring self.old.shape km.0)) }
         ensures knows { OnOk result (IfSome (M.state medium.old).image
             (λ x. IfSome (M.state medium.new).image (KnowsMeasured self.old self.new km.0 x))) }
-        ensures moments { LeavesOnly (M.state medium.old) (M.state medium.new)
-            (IfKnown self.old (IsMeasuring self.old.shape km.0)) }
-        ensures settled { OnOk result ((M.state medium.new).clock < last_count → IsSettled (M.state medium.new)) }
-        ensures cause { HasCause (M.state medium.old) (M.state medium.new) (is_err result) }
-        ensures most { (M.state medium.new).clock ≤ (M.state medium.old).clock + 1 }
     {
         self.write_km(medium, km.0)?;
         self.tail = with_km(&self.tail, km);
@@ -255,7 +252,7 @@ fn with_word(tail: &Tail, word: u16, used: u32) -> Tail
             date: tail.head.date,
             counter: tail.head.counter,
             km: tail.head.km,
-            words: if words < 1440 { words + 1 } else { words },
+            words: if words < DAY_MINUTES as u16 { words + 1 } else { words },
         },
         latest: word,
         used,

@@ -54,7 +54,7 @@ enter_by_hand-requires-clause-last g c =
 
 pub returns-in_err-enter_by_hand-clause-same : goal.returns-in_err-enter_by_hand-clause-same
 returns-in_err-enter_by_hand-clause-same g c =
-    let a = c.in_err-enter_by_hand.ensures.same in
+    let a = c.in_err-enter_by_hand.ensures.session.same in
     let b = c.loop-entry.invariant.same in
     (a.0 ∙ b.0, a.1 ∙ b.1, a.2 ∙ b.2)
 
@@ -87,7 +87,7 @@ returns-in_err-enter_by_hand-clause-most g c =
     let v = c.loop-entry.invariant in
     let e = c.in_err-enter_by_hand.ensures in
     let day = (next_day (c.args.before / 1440) c.loop-entry.entry-index c.args.entries.now c.loop-entry-test.true c.loop-entry.invariant.day).0 in
-    let now = few i _ _ _ v.none v.most e.most (λ some. e.few (ends_on c.loop-entry.session c.args.before (get_or c.args.entries.now c.loop-entry.entry-index none).minute (sym day) (v.ends some))) in
+    let now = few i _ _ _ v.none v.most e.writes.most (λ some. e.writes.few (ends_on c.loop-entry.session c.args.before (get_or c.args.entries.now c.loop-entry.entry-index none).minute (sym day) (v.ends some))) in
     omega (arith, now, c.loop-entry-test.true)
 
 pub loop-entry-preserved : goal.loop-entry-preserved
@@ -100,14 +100,14 @@ loop-entry-preserved g c =
     let day = next_day (c.args.before / 1440) i es low v.day in
     let lie = next_lies c.loop-entry.session.minute c.args.before i es low v.lie in
     record {
-      same = (a.same.0 ∙ v.same.0, a.same.1 ∙ v.same.1, a.same.2 ∙ v.same.2);
-      lie = subst (λ (m : ℕ). LieBetween m c.args.before (drop (i + 1) es)) (sym a.last) lie.1;
+      same = (a.session.same.0 ∙ v.same.0, a.session.same.1 ∙ v.same.1, a.session.same.2 ∙ v.same.2);
+      lie = subst (λ (m : ℕ). LieBetween m c.args.before (drop (i + 1) es)) (sym a.session.last) lie.1;
       day = day.1;
       part = entries_then es i low c.args.session.now c.loop-entry.session c.enter_by_hand.new.self v.part
-          (with_value c.loop-entry.session c.enter_by_hand.new.self (get_or es i none) (record { application = a.same.0; registration = a.same.1; odometer = a.same.2; minute = a.last; ends = a.ends }) (record { done = λ fine. a.entered; leaves = a.moments; cause = inl a.cause }));
-      ends = λ some. ends_on c.enter_by_hand.new.self (get_or es i none).minute c.args.before day.0 a.ends;
+          (with_value c.loop-entry.session c.enter_by_hand.new.self (get_or es i none) (record { application = a.session.same.0; registration = a.session.same.1; odometer = a.session.same.2; minute = a.session.last; ends = a.session.ends }) (record { done = λ fine. a.entered; leaves = a.moments; cause = inl a.cause }));
+      ends = λ some. ends_on c.enter_by_hand.new.self (get_or es i none).minute c.args.before day.0 a.session.ends;
       none = λ is. absurd (omega (arith, is));
-      most = few i _ _ _ v.none v.most a.most (λ some. a.few (ends_on c.loop-entry.session c.args.before (get_or es i none).minute (sym day.0) (v.ends some)));
+      most = few i _ _ _ v.none v.most a.writes.most (λ some. a.writes.few (ends_on c.loop-entry.session c.args.before (get_or es i none).minute (sym day.0) (v.ends some)));
     }
 
 pub returns-clause-later : goal.returns-clause-later

@@ -14,18 +14,18 @@ returns-clause-keeps g c = record {
     held = c.keep_with_hands.ensures.held;
   };
   keeps = record {
-    is = c.keep_with_hands.ensures.kept;
-    moments = c.keep_with_hands.ensures.moments;
+    is = c.keep_with_hands.ensures.alters.done;
+    moments = c.keep_with_hands.ensures.alters.moments;
   };
   string = record {
     shown =
         λ w.
-        weaken c.keep_with_hands.ensures.moments (λ x y told k ready. shown _ w.slack w.covered w.from w.counted w.all (hands_for c.args.held.now c.args.kept.now.entry.minute) c.args.kept.now.entry c.args.kept.now.odometer.0
+        weaken c.keep_with_hands.ensures.alters.moments (λ x y told k ready. shown _ w.slack w.covered w.from w.counted w.all (hands_for c.args.held.now c.args.kept.now.entry.minute) c.args.kept.now.entry c.args.kept.now.odometer.0
         (hands-are c.args.session.now c.args.held.now c.args.kept.now.entry.minute c.requires.may.later) x y ready (k ready.carried.session));
     done =
         λ w.
         all-done _ _ w.slack w.covered w.from w.counted w.all (hands_for c.args.held.now c.args.kept.now.entry.minute) c.args.kept.now.entry c.args.kept.now.odometer.0 (hands-are c.args.session.now c.args.held.now c.args.kept.now.entry.minute c.requires.may.later)
-        c.keep_with_hands.ensures.same.0 _ _ _ c.keep_with_hands.ensures.kept;
+        c.keep_with_hands.ensures.same.0 _ _ _ c.keep_with_hands.ensures.alters.done;
   };
 }
 
@@ -33,13 +33,13 @@ pub returns-clause-rule : goal.returns-clause-rule
 returns-clause-rule g c = λ k which time w may.
     let hands = hands_for c.args.held.now c.args.kept.now.entry.minute in
     let are = hands-are c.args.session.now c.args.held.now c.args.kept.now.entry.minute c.requires.may.later in
-    kept-torn k.both which k.started k.due k.book k.marks time _ w.slack w.covered w.from w.counted w.all hands c.args.kept.now.entry c.args.kept.now.odometer.0 are (g.met.M.Medium.coherent c.args.unit.now) may.tells (g.met.C.Medium.coherent c.args.card.now) may.holds may.none may.owed may.late may.takes c.keep_with_hands.ensures.moments _
-    (λ well. ends-on_card k.both which k.started k.due k.book k.marks time _ w.slack w.covered w.from w.counted w.all hands c.args.kept.now.entry c.args.kept.now.odometer.0 are (g.met.M.Medium.coherent c.args.unit.now) may.tells (g.met.C.Medium.coherent c.args.card.now) may.holds may.none may.owed may.late may.takes c.keep_with_hands.ensures.moments
-    _ (g.met.C.Medium.coherent c.keep_with_hands.new.port) (worked well c.keep_with_hands.ensures.cause).0 (worked well c.keep_with_hands.ensures.cause).1 c.keep_with_hands.ensures.same.0 (ok_gives _ c.keep_with_hands.ensures.last well).0 (ok_gives _ c.keep_with_hands.ensures.kept well))
+    kept-torn k.both which k.started k.due k.book k.marks time _ w.slack w.covered w.from w.counted w.all hands c.args.kept.now.entry c.args.kept.now.odometer.0 are (g.met.M.Medium.coherent c.args.unit.now) may.tells (g.met.C.Medium.coherent c.args.card.now) may.holds may.none may.owed may.late may.takes c.keep_with_hands.ensures.alters.moments _
+    (λ well. ends-on_card k.both which k.started k.due k.book k.marks time _ w.slack w.covered w.from w.counted w.all hands c.args.kept.now.entry c.args.kept.now.odometer.0 are (g.met.M.Medium.coherent c.args.unit.now) may.tells (g.met.C.Medium.coherent c.args.card.now) may.holds may.none may.owed may.late may.takes c.keep_with_hands.ensures.alters.moments
+    _ (g.met.C.Medium.coherent c.keep_with_hands.new.port) (worked well c.keep_with_hands.ensures.alters.cause).0 (worked well c.keep_with_hands.ensures.alters.cause).1 c.keep_with_hands.ensures.same.0 (ok_gives _ c.keep_with_hands.ensures.last well).0 (ok_gives _ c.keep_with_hands.ensures.alters.done well))
 
 pub returns-clause-card : goal.returns-clause-card
 returns-clause-card g c = record {
-  leaves = weaken {R = Anything} c.keep_with_hands.ensures.moments (λ x y told k. tt);
+  leaves = weaken {R = Anything} c.keep_with_hands.ensures.alters.moments (λ x y told k. tt);
   settled = first_of (search rules, grind (arith, common_steps));
   cause = first_of (search rules, grind (arith, common_steps));
 }

@@ -12,8 +12,8 @@ use Rattle.card_days.proofs.CutLast.{cut_none, cut_made, none_there, none_where_
 use Rattle.card_days.proofs.Told.{if_told}
 use Rattle.card_days.proofs.circle.Circle.cut.Goals as goal
 
-pub returns-then-len-lt14-clause-cut : goal.returns-then-len-lt14-clause-cut
-returns-then-len-lt14-clause-cut g c =
+pub returns-then-len-lt-DAY_LEAST-clause-cut : goal.returns-then-len-lt-DAY_LEAST-clause-cut
+returns-then-len-lt-DAY_LEAST-clause-cut g c =
     let r = c.args.self.now in
     let n = c.in_ok-newest in
     let h = c.in_ok-head.head in
@@ -25,7 +25,7 @@ returns-then-len-lt14-clause-cut g c =
     (cut_none r n.ensures.shape x (omega (arith, c.requires.fits, (g.met.M.Medium.coherent c.args.medium.now).sized x was)) m n.newest
     (at_image (λ x. IsPointer r.size (newest_pointer r x) → n.newest ≡ newest_pointer r x) was n.ensures.newest) h
     (at_image (λ x. head_bytes h ≡ take 12 (turned n.newest (string_of r x))) (n.ensures.reads.same refl ∙ was) c.in_ok-head.ensures.head)
-    c.day_len-len.result c.day_len-len.ensures.same c.if-len-lt14.true))
+    c.day_len-len.result c.day_len-len.ensures.same c.if-len-lt-DAY_LEAST.true))
 
 pub returns-clause-cut : goal.returns-clause-cut
 returns-clause-cut g c =
@@ -44,7 +44,7 @@ returns-clause-cut g c =
     (cut_made r n.ensures.shape x (omega (arith, c.requires.fits, (g.met.M.Medium.coherent c.args.medium.now).sized x was)) m n.newest
     (at_image (λ x. IsPointer r.size (newest_pointer r x) → n.newest ≡ newest_pointer r x) was n.ensures.newest) h
     (at_image (λ x. head_bytes h ≡ take 12 (turned n.newest (string_of r x))) (n.ensures.reads.same refl ∙ was) c.in_ok-head.ensures.head)
-    len c.day_len-len.ensures.same (omega (arith, c.if-len-lt14.false)) n.ensures.pointer c.spot.result c.spot.ensures.place c.spot.ensures.pointer k
+    len c.day_len-len.ensures.same (omega (arith, c.if-len-lt-DAY_LEAST.false)) n.ensures.pointer c.spot.result c.spot.ensures.place c.spot.ensures.pointer k
     (at_image (λ x. (d : Day) → IsAt r x n.newest d → (len - 12) / 2 ≡ length d.words → h.date ≡ d.date → k ≡ length (cut m d).words) (both.same refl ∙ was) c.in_ok-kept.ensures.kept)))) c.put_two.ensures.written
 
 pub returns-clause-moments : goal.returns-clause-moments
@@ -62,11 +62,11 @@ returns-clause-moments g c =
     while_cut r n.ensures.shape x (omega (arith, c.requires.fits, (g.met.M.Medium.coherent c.args.medium.now).sized x was)) m n.newest
     (at_image (λ x. IsPointer r.size (newest_pointer r x) → n.newest ≡ newest_pointer r x) was n.ensures.newest) h
     (at_image (λ x. head_bytes h ≡ take 12 (turned n.newest (string_of r x))) (n.ensures.reads.same refl ∙ was) c.in_ok-head.ensures.head)
-    len c.day_len-len.ensures.same (omega (arith, c.if-len-lt14.false)) n.ensures.pointer c.spot.result c.spot.ensures.place c.spot.ensures.pointer k
+    len c.day_len-len.ensures.same (omega (arith, c.if-len-lt-DAY_LEAST.false)) n.ensures.pointer c.spot.result c.spot.ensures.place c.spot.ensures.pointer k
     (at_image (λ x. (d : Day) → IsAt r x n.newest d → (len - 12) / 2 ≡ length d.words → h.date ≡ d.date → k ≡ length (cut m d).words) (both.same refl ∙ was) c.in_ok-kept.ensures.kept) d part))
 
-pub returns-then-len-lt14-clause-settled : goal.returns-then-len-lt14-clause-settled
-returns-then-len-lt14-clause-settled g c =
+pub returns-then-len-lt-DAY_LEAST-clause-settled : goal.returns-then-len-lt-DAY_LEAST-clause-settled
+returns-then-len-lt-DAY_LEAST-clause-settled g c =
     let r = c.args.self.now in
     let n = c.in_ok-newest in
     let h = c.in_ok-head.head in
@@ -76,11 +76,11 @@ returns-then-len-lt14-clause-settled g c =
           none_where_short r n.ensures.shape x (omega (arith, c.requires.fits, (g.met.M.Medium.coherent c.args.medium.now).sized x was)) c.args.minute n.newest
           (at_image (λ x. IsPointer r.size (newest_pointer r x) → n.newest ≡ newest_pointer r x) was n.ensures.newest) h
           (at_image (λ x. head_bytes h ≡ take 12 (turned n.newest (string_of r x))) (n.ensures.reads.same refl ∙ was) c.in_ok-head.ensures.head)
-          c.day_len-len.result c.day_len-len.ensures.same c.if-len-lt14.true),
+          c.day_len-len.result c.day_len-len.ensures.same c.if-len-lt-DAY_LEAST.true),
     )
 
-pub returns-then-len-lt14-clause-empty : goal.returns-then-len-lt14-clause-empty
-returns-then-len-lt14-clause-empty g c = if_told (g.M.Medium.state c.args.medium.now).image _ (λ x was h. reads_then c.in_ok-newest.ensures.reads c.in_ok-head.ensures.reads)
+pub returns-then-len-lt-DAY_LEAST-clause-empty : goal.returns-then-len-lt-DAY_LEAST-clause-empty
+returns-then-len-lt-DAY_LEAST-clause-empty g c = if_told (g.M.Medium.state c.args.medium.now).image _ (λ x was h. reads_then c.in_ok-newest.ensures.reads c.in_ok-head.ensures.reads)
 
 pub returns-clause-settled : goal.returns-clause-settled
 returns-clause-settled g c = on_ok_weaker c.put_two.result (λ settled. inl settled) c.put_two.ensures.settled
@@ -92,7 +92,7 @@ returns-clause-empty g c =
     let h = c.in_ok-head.head in
     if_told (g.M.Medium.state c.args.medium.now).image _ (λ x was empty. absurd (omega (
       arith,
-      c.if-len-lt14.false,
+      c.if-len-lt-DAY_LEAST.false,
       none_there r n.ensures.shape x (omega (arith, c.requires.fits, (g.met.M.Medium.coherent c.args.medium.now).sized x was)) c.args.minute n.newest
           (at_image (λ x. IsPointer r.size (newest_pointer r x) → n.newest ≡ newest_pointer r x) was n.ensures.newest) h
           (at_image (λ x. head_bytes h ≡ take 12 (turned n.newest (string_of r x))) (n.ensures.reads.same refl ∙ was) c.in_ok-head.ensures.head)

@@ -31,7 +31,7 @@ returns-then-entry-eq0-clause-part g c =
     subst (λ (u : Session). DoesPart old new (is_err r) (IsPartDone u t (BeginsDay e) (with_day u.application.activity e)) (IsPartMoment u (BeginsDay e) (IsBeforeDay u.application.activity e))) c.self.view_is
     (begin_with s t c.self.invariant (days_else i.application i.days i.vehicles i.newest i.vehicle i.registration i.minute i.odometer s refl c.begin_day.new.self)
     old new (is_err r) (subst (λ (p : Application). MayKeep p old) (ap (λ (u : Session). u.application) (sym c.self.view_is)) c.requires.card) (g.met.M.Medium.coherent c.args.port.now) e
-    (c.entry_word-word.result ∷ []) (words_alone e c.entry_word-word.result c.entry_word-word.ensures c.if-entry-eq0.true) c.date_of.result c.date_of.ensures
+    (c.entry_word-word.result ∷ []) (words_alone e c.entry_word-word.result c.entry_word-word.ensures.word c.if-entry-eq0.true) c.date_of.result c.date_of.ensures
     d.shape (λ fine. ok_gives r d.alters.done fine) (λ fine. (ok_gives r d.began fine).knows) d.alters.moments d.alters.cause)
 
 pub returns-else-entry-eq0-clause-part : goal.returns-else-entry-eq0-clause-part
@@ -47,5 +47,5 @@ returns-else-entry-eq0-clause-part g c =
     subst (λ (u : Session). DoesPart old new (is_err r) (IsPartDone u t (BeginsDay e) (with_day u.application.activity e)) (IsPartMoment u (BeginsDay e) (IsBeforeDay u.application.activity e))) c.self.view_is
     (begin_with s t c.self.invariant (days_else i.application i.days i.vehicles i.newest i.vehicle i.registration i.minute i.odometer s refl c.begin_day-else-entry-eq0.new.self)
     old new (is_err r) (subst (λ (p : Application). MayKeep p old) (ap (λ (u : Session). u.application) (sym c.self.view_is)) c.requires.card) (g.met.M.Medium.coherent c.args.port.now) e
-    (c.bare_word.result ∷ c.entry_word-word.result ∷ []) (words_behind e c.bare_word.result c.entry_word-word.result c.bare_word.ensures c.entry_word-word.ensures c.if-entry-eq0.false) c.date_of.result c.date_of.ensures
+    (c.bare_word.result ∷ c.entry_word-word.result ∷ []) (words_behind e c.bare_word.result c.entry_word-word.result c.bare_word.ensures c.entry_word-word.ensures.word c.if-entry-eq0.false) c.date_of.result c.date_of.ensures
     d.shape (λ fine. ok_gives r d.alters.done fine) (λ fine. (ok_gives r d.began fine).knows) d.alters.moments d.alters.cause)

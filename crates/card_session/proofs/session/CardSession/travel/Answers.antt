@@ -32,4 +32,4 @@ returns-clause-part g c =
     (subst (λ (u : Session). DoesPart old new (is_err r) (IsPartDone u t HasDay (λ b. let n : Book = record { days = with_newest (with_km km) b.days; vehicles = b.vehicles } in n)) (IsPartMoment u HasDay (λ b ds v. ((ds ≡ b.days) ⊎ (ds ≡ with_newest (with_km km) b.days)) × (v ≡ b.vehicles)))) c.self.view_is
     (distance_part s t c.self.invariant (days_else i.application i.days i.vehicles i.newest i.vehicle i.registration i.minute i.odometer s refl c.set_distance.new.self)
     old new (is_err r) (subst (λ (p : Application). MayKeep p old) (ap (λ (u : Session). u.application) (sym c.self.view_is)) c.requires.card) (g.met.M.Medium.coherent c.args.port.now) km
-    e.shape (λ fine. ok_gives r e.measured fine) (λ fine. ok_gives r e.knows fine) e.moments e.cause))
+    e.shape (λ fine. ok_gives r e.alters.done fine) (λ fine. ok_gives r e.knows fine) e.alters.moments e.alters.cause))

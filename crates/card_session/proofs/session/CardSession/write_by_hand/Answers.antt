@@ -1,4 +1,5 @@
-use Rattle.std.proofs.Common.{◌≡◌, ℕ, List, refl, sym, ◌∙◌, ap, subst}
+use Rattle.std.proofs.lemmas.Grind.{common_steps}
+use Rattle.std.proofs.Common.{◌≡◌, ℕ, List, refl, sym, ◌∙◌, ap, subst, rules, arith}
 use Rattle.std.proofs.lemmas.Result.{on_ok_weaker}
 use Rattle.card_days.specs.card_model.Days.{Day}
 use Rattle.card_days.specs.card_model.Changes.{date_of}
@@ -33,10 +34,16 @@ returns-else-is_newest_day-clause-ends g c =
     let e = c.args.entry.now in
     on_ok_weaker c.begin_by_hand.result (λ ends. ends_by_hand c.begin_by_hand.new.self e.minute (date_of e.minute) (manual_word e) refl (absent_is e) ends) c.begin_by_hand.ensures.ends
 
-pub returns-then-is_newest_day-clause-few : goal.returns-then-is_newest_day-clause-few
-returns-then-is_newest_day-clause-few g c = λ ends. c.append_by_hand.ensures.most
+pub returns-then-is_newest_day-clause-writes : goal.returns-then-is_newest_day-clause-writes
+returns-then-is_newest_day-clause-writes g c = record {
+  most = first_of (search rules, grind (arith, common_steps));
+  few = λ ends. c.append_by_hand.ensures.most;
+}
 
-pub returns-else-is_newest_day-clause-few : goal.returns-else-is_newest_day-clause-few
-returns-else-is_newest_day-clause-few g c = λ ends.
-    let told : c.tail-tail.result ≡ tail_of c.args.self.now.days = c.tail-tail.ensures.tail ∙ ap (λ (t : Session). tail_of t.days) c.self.view_is in
-    absurd (elsewhere c.args.self.now c.args.entry.now.minute c.tail-tail.result ends told (sym c.is_newest_day.ensures ∙ c.if-is_newest_day.false))
+pub returns-else-is_newest_day-clause-writes : goal.returns-else-is_newest_day-clause-writes
+returns-else-is_newest_day-clause-writes g c = record {
+  most = first_of (search rules, grind (arith, common_steps));
+  few = λ ends.
+      let told : c.tail-tail.result ≡ tail_of c.args.self.now.days = c.tail-tail.ensures.tail ∙ ap (λ (t : Session). tail_of t.days) c.self.view_is in
+      absurd (elsewhere c.args.self.now c.args.entry.now.minute c.tail-tail.result ends told (sym c.is_newest_day.ensures ∙ c.if-is_newest_day.false));
+}

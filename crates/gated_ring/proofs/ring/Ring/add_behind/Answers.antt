@@ -21,9 +21,6 @@ module _ (g : Over) (c : In_ok-gate g) where
   abbrev old : State
   old = g.M.Medium.state c.args.medium.now
 
-  abbrev mid : State
-  mid = g.M.Medium.state c.gate.new.medium
-
   abbrev r : Shape
   r = c.args.self.now
 
