@@ -27,13 +27,14 @@ use Rattle.tach_media.specs.Medium.{HasCause, IsSettled, LeavesOnly, State, last
 use Rattle.tach_media.specs.declared.fault.Failed.{Failed}
 use Rattle.tacho_types.specs.CardNumber.{card_number_bytes}
 use Rattle.trace_model.specs.declared.Card.{Card}
+pub use Rattle.unit_minutes.specs.Calls.{MinuteMayBeKept, UnitIsReady}
 use Rattle.unit_minutes.specs.Image.{Agrees, IsKeeping as IsKeepingImage}
 use Rattle.unit_minutes.specs.Kept.{kept_minute}
 use Rattle.unit_minutes.specs.Mends.{IsMending as IsMendingImage, notes_mended}
 use Rattle.unit_minutes.specs.declared.kept.KeptMinute.{KeptMinute}
 use Rattle.unit_minutes.specs.declared.notes.Notes.{Notes}
 use Rattle.unit_minutes.specs.unit_model.Image.{IsUnit}
-use Rattle.unit_minutes.specs.unit_model.declared.layout.TheConstants.{HIGHEST_ODOMETER, LAST_MINUTE}
+use Rattle.unit_minutes.specs.unit_model.declared.layout.TheConstants.{OWED_ROWS}
 use Rattle.unit_minutes.specs.unit_owed.Rows.{IsPutting as IsPuttingRow, IsRowAt, IsRowBeginning, IsRowBegun, IsRowFor}
 use Rattle.unit_rule.specs.Marks.{UnitFollowsBook}
 use Rattle.unit_rule.specs.Odometer.{HasTravelled, odometer_after, odometer_by}
@@ -193,7 +194,7 @@ pub record LeavesMended (old : Notes) (U V : State) : Type 0 where
 -- WHICH ROW of the unit is to be the card's, while the row of the number that is spared is another's
 pub record IsRowTold (result : Result Entered NotEntered) (spared : Option (List ℕ)) (U : State) : Type 0 where
   pub own : IfOk result (λ e. IfSome U.image (IsRowFor e.row (card_number_bytes e.look.number) spared))
-  pub low : IfOk result (λ e. e.row < 8)
+  pub low : IfOk result (λ e. e.row < OWED_ROWS)
 
 -- THE RULES behind a card that was put in: the unit follows its book, the other card stands as it did, and so does this
 -- one, whose row is not begun yet; where it is accepted it has entered so that it may be begun
@@ -259,18 +260,6 @@ pub record CardStandsKept (result : Result (Unit {0}) Failed) (app : Application
   pub port : IsPort app None chip Y
   pub settled : OnOk result (Y.clock < last_count → IsSettled Y)
   pub cause : HasCause X Y (is_err result)
-
--- THE UNIT IS READY for a call: it is a unit, and agrees with the journal
-pub record UnitIsReady (journal : Notes) (U : State) : Type 0 where
-  pub unit : IsUnit U
-  pub agrees : IfSome U.image (Agrees journal)
-
--- A MINUTE MAY BE KEPT by the unit: it is later than the last-kept one, and it and its odometer are within their bounds
-pub record MayBeCommitted (kept : KeptMinute) (journal : Notes) : Type 0 where
-  pub low : 1440 ≤ kept.minute
-  pub later : journal.kept < kept.minute
-  pub small : kept.minute ≤ LAST_MINUTE
-  pub odometer : kept.odometer.0 ≤ HIGHEST_ODOMETER
 
 -- A CARD MAY BE PUT IN at this second: its minute is later than the last-kept one, and it and the odometer are within
 -- their bounds
@@ -351,12 +340,12 @@ pub record ClosesOnCard (result : Result (Unit {0}) Failed) (session : Session) 
 
 -- THIS ROW OF THE UNIT is the number's
 pub record HasRowAt (index : ℕ) (number : List ℕ) (U : State) : Type 0 where
-  pub low : index < 8
+  pub low : index < OWED_ROWS
   pub row : IfSome U.image (IsRowAt index number)
 
 -- THIS ROW OF THE UNIT may be begun for the number, while the row of the number that is spared stays
 pub record MayBeginRow (index : ℕ) (number : List ℕ) (spared : Option (List ℕ)) (U : State) : Type 0 where
-  pub low : index < 8
+  pub low : index < OWED_ROWS
   pub row : IfSome U.image (IsRowFor index number spared)
 
 -- A DEVICE WAS REVIVED AND READ: it was not written, and its clock is as it was; it failed exactly where that was

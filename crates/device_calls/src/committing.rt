@@ -1,6 +1,6 @@
 //! The unit keeps a minute.
 ghost use Rattle.std.specs.Prelude.{is_err};
-ghost use Rattle.device_calls.specs.Calls.{LeavesCommitted, MayBeCommitted, RulesCommitted, UnitIsReady};
+ghost use Rattle.device_calls.specs.Calls.{LeavesCommitted, MinuteMayBeKept, RulesCommitted, UnitIsReady};
 ghost use Rattle.device_calls.specs.Calls.{UnitStandsCommitted, UnitAnswersWithin};
 
 use tach_media::{Chip, Failed, Medium};
@@ -19,7 +19,7 @@ pub fn commit<M: Medium, C: Chip, D: Chip>(
     kept: &KeptMinute,
 ) -> Result<(), Failed>
     requires ready { UnitIsReady journal.old (M.state unit.old) }
-    requires may { MayBeCommitted kept.now journal.old }
+    requires may { MinuteMayBeKept kept.now journal.old }
     ensures stands { UnitStandsCommitted kept.now result journal.old journal.new (M.state unit.old) (M.state unit.new) }
     ensures rules { RulesCommitted kept.now result (M.state unit.old) (M.state unit.new) (C.state first.now)
         (D.state second.now) }

@@ -5,11 +5,9 @@ ghost use Rattle.event_model.specs.Spans.{SpeedSecond, at_speed};
 ghost use Rattle.speed_model.specs.Blocks.{blocks_of, is_moving};
 ghost use Rattle.speed_store.specs.Feeding.{KeepsSpeedsOf, Follows, block_in};
 
+use activity_codec::MINUTE_SECONDS;
 use speed_model::Block;
 use std::marker::Model;
-
-/// How many seconds a minute has.
-const SECONDS: u32 = 60;
 
 /// The speeds of the minute that goes on, as far as they were fed: all of its seconds, or those from the span's first
 /// on.
@@ -56,11 +54,11 @@ impl SpeedMinute {
         ensures whole { IfSome result (λ b. length b.speeds ≡ 60) }
     {
         self.put(n, speed);
-        let behind = second % SECONDS + n;
-        if behind < SECONDS {
+        let behind = second % MINUTE_SECONDS + n;
+        if behind < MINUTE_SECONDS {
             return None;
         }
-        self.close(second - (SECONDS - n))
+        self.close(second - (MINUTE_SECONDS - n))
     }
 
     // So many seconds more.
@@ -79,7 +77,7 @@ impl SpeedMinute {
         ensures time { IfSome result (λ b. b.time ≡ time) }
         ensures none { self.new ≡ [] }
     {
-        let is_whole = self.count == 60;
+        let is_whole = self.count == MINUTE_SECONDS as usize;
         self.count = 0;
         if is_whole && moves(&self.speeds) {
             Some(Block {

@@ -7,12 +7,12 @@ ghost use Rattle.unit_memory.specs.Judging.{front_of, front_by, rings_of, pointe
 
 use crate::slots::{judge_slots, or_else};
 use crate::walk::{Density, Walk};
+use activity_codec::{DAY_MINUTES, DAY_SECONDS};
 use tach_media::{Failed, Medium, read_number};
 use unit_model::layout::{
-    CELL_WORD, CELLS, DAY_MINUTES, DAY_SECONDS, DAY_SLOTS, DAYS, HIGHEST_ODOMETER, INSERTION_SLOTS,
-    INSERTIONS, LAST_KEPT, LAST_MINUTE, MOST_OVERS, ODOMETER, OVER_COUNT, OWED_ROWS, PLACE_SLOTS,
-    PLACES, PLAIN_VERSION, RULE_BYTE, RULED_VERSION, SPEED_SLOTS, SPEEDS, VERSION, WORD_MINUTES,
-    cell_place,
+    CELL_WORD, CELLS, DAY_SLOTS, DAYS, HIGHEST_ODOMETER, INSERTION_SLOTS, INSERTIONS, LAST_KEPT,
+    LAST_MINUTE, MOST_OVERS, ODOMETER, OVER_COUNT, OWED_ROWS, PLACE_SLOTS, PLACES, PLAIN_VERSION,
+    RULE_BYTE, RULED_VERSION, SPEED_SLOTS, SPEEDS, VERSION, WORD_MINUTES, cell_place,
 };
 
 /// What judging an image tells: the place of the first field that fails, the last-kept minute, the pointer of the days,

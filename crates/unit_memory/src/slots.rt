@@ -12,10 +12,10 @@ ghost use Rattle.unit_memory.specs.Judging.{head_at, failed_of};
 
 use crate::walk::{Walk, next_walk};
 use crate::words::{Scan, scan_day, word_in};
+use activity_codec::{DAY_MINUTES, DAY_SECONDS};
 use tach_media::{Failed, Medium};
 use unit_model::layout::{
-    DAY_COUNT, DAY_DATE, DAY_MINUTES, DAY_ODOMETER, DAY_SECONDS, DAY_SLOT_SIZE, DAY_WORD_LIMIT,
-    DAYS, HIGHEST_ODOMETER,
+    DAY_COUNT, DAY_DATE, DAY_ODOMETER, DAY_SLOT_SIZE, DAY_WORD_LIMIT, DAYS, HIGHEST_ODOMETER,
 };
 
 /// What stands in front of a slot's words: its date, its odometer, and how many words it has.

@@ -2,7 +2,7 @@ ghost use Rattle.std.specs.Prelude.{◌≡◌, ◌≤◌, ◌<◌, ◌+◌};
 ghost use Rattle.unit_model.specs.declared.layout.TheConstants.{DAY_SLOTS};
 ghost use Rattle.unit_memory.specs.Walks.{after_day, after_gap, next_walk};
 
-use unit_model::layout::DAY_SECONDS;
+use activity_codec::DAY_SECONDS;
 
 /// How the day slots that are there stand so far, from the oldest place on.
 #[derive(Clone, Copy, Debug, PartialEq, Eq)]

@@ -5,8 +5,9 @@ ghost use Rattle.unit_model.specs.gated_ring.Ring.{number_at};
 ghost use Rattle.unit_model.specs.Image.{slot_place, slot_words, words_at};
 ghost use Rattle.unit_memory.specs.Scans.{next_scan, driver_next, codriver_next, start, scan_from, is_first_good};
 
+use activity_codec::DAY_MINUTES;
 use tach_media::{Failed, Medium};
-use unit_model::layout::{DAY_MINUTES, DAY_SLOT_SIZE, DAY_WORDS, DAYS, WORD_MINUTES, WORD_SLOT};
+use unit_model::layout::{DAY_SLOT_SIZE, DAY_WORDS, DAYS, WORD_MINUTES, WORD_SLOT};
 
 // How many words of a day are read at once.
 const BLOCK: u32 = 240;

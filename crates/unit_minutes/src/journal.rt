@@ -1,19 +1,18 @@
 ghost use Rattle.std.specs.Prelude.{IfErr, Some, None, ◌≡◌, ◌≤◌, ◌<◌, ◌+◌, ◌/◌, min, length, IfOk, OnOk};
 ghost use Rattle.std.specs.Prelude.{OnErr, IfSome, is_err, option_map, true};
+ghost use Rattle.activity_codec.specs.declared.day.TheConstants.{DAY_MINUTES};
 ghost use Rattle.unit_model.specs.declared.layout.TheConstants.{DAY_SLOTS, HIGHEST_ODOMETER, IMAGE_SIZE, LAST_MINUTE};
 ghost use Rattle.tach_media.specs.Medium.{LeavesOnly, Reads, HasCause};
 ghost use Rattle.unit_model.specs.Image.{day_ring, IsUnit};
 ghost use Rattle.unit_minutes.specs.Coming.{IsComing};
 ghost use Rattle.unit_minutes.specs.Image.{IsNotes, Agrees};
-ghost use Rattle.unit_minutes.specs.Keeping.{IsKeeping};
 ghost use Rattle.unit_minutes.specs.Minute.{notes_on, notes_begun, notes_after};
 ghost use Rattle.tach_media.specs.Plan.{PutsAll, PutsBy, more, none};
 ghost use Rattle.unit_minutes.specs.Plans.{going, turning, renewing, keeping, most_kept};
 ghost use Rattle.unit_minutes.specs.Mends.{IsMendable, IsMending, HasNothingLater, mended};
 ghost use Rattle.unit_minutes.specs.Mends.{mending};
-ghost use Rattle.unit_minutes.specs.Kept.{kept_minute, keeping_of, HasDaysBetween};
 ghost use Rattle.gated_ring.specs.Ring.{pointer, taken};
-ghost use Rattle.unit_minutes.specs.Calls.{UnitKept, UnitMended};
+ghost use Rattle.unit_minutes.specs.Calls.{KeepsMinute, MinuteMayBeKept, UnitIsReady, UnitMended};
 
 mod owing;
 mod reading;
@@ -26,6 +25,7 @@ use crate::notes::Notes;
 use crate::plan::{Writing, add_changes, add_count, add_further, add_new};
 use crate::today::{day_ring, index_of, later_day, read_today, recorded_days};
 use crate::words::new_head;
+use activity_codec::DAY_MINUTES;
 use gated_ring::Ring;
 pub use reading::UnitDay;
 use std::marker::Model;
@@ -136,7 +136,7 @@ impl Journal {
     fn go_on<M: Medium>(&mut self, unit: &mut M, coming: Coming) -> Result<(), Failed>
         requires unit { IsUnit (M.state unit.old) }
         requires coming { IsComing coming }
-        requires same { coming.minute / 1440 ≡ self.old.kept / 1440 }
+        requires same { coming.minute / DAY_MINUTES ≡ self.old.kept / DAY_MINUTES }
         requires later { self.old.kept < coming.minute }
         ensures notes { OnOk result (self.new ≡ notes_on self.old coming) }
         ensures same { OnErr result (self.new ≡ self.old) }
@@ -168,8 +168,8 @@ impl Journal {
         if notes.kept == 0 {
             return plan;
         }
-        let next = notes.kept % 1440 + 1;
-        if next == 1440 {
+        let next = notes.kept % DAY_MINUTES + 1;
+        if next == DAY_MINUTES {
             return plan;
         }
         let count = add_changes(&mut plan, notes.index, notes.count, next, notes.bits, BARE);
@@ -213,7 +213,7 @@ impl Journal {
         ensures puts { PutsBy (M.state unit.old) (M.state unit.new) (is_err result) 3
             (most_kept self.old.kept coming.minute) (keeping self.old coming) }
     {
-        if coming.minute / 1440 == self.notes.kept / 1440 {
+        if coming.minute / DAY_MINUTES == self.notes.kept / DAY_MINUTES {
             return self.go_on(unit, coming);
         }
         self.renew(unit, coming)
@@ -225,23 +225,15 @@ impl Journal {
     /// minute.
     ///
     /// A stop at a moment of the call leaves the days before, their oldest gone where a further day begins, or the days
-    /// with the minute: the last-kept minute tells which. After an error the journal is as it was. It begins at most
-    /// seven writes, or twelve where it begins a day.
+    /// with the minute: the last-kept minute tells which. It begins at most seven writes, or twelve where it begins a day.
+    ///
+    /// # Errors
+    ///
+    /// `Failed` where the medium failed: then the minute may be there or not, and the journal is as it was.
     pub fn keep<M: Medium>(&mut self, unit: &mut M, kept: &KeptMinute) -> Result<(), Failed>
-        requires unit { IsUnit (M.state unit.old) }
-        requires agrees { IfSome (M.state unit.old).image (Agrees self.old) }
-        requires low { 1440 ≤ kept.now.minute }
-        requires later { self.old.kept < kept.now.minute }
-        requires small { kept.now.minute ≤ LAST_MINUTE }
-        requires odometer { kept.now.odometer.0 ≤ HIGHEST_ODOMETER }
-        ensures kept { OnOk result (UnitKept kept.now self.new (M.state unit.old) (M.state unit.new)) }
-        ensures same { OnErr result (self.new ≡ self.old) }
-        ensures puts { PutsBy (M.state unit.old) (M.state unit.new) (is_err result) 3
-            (most_kept self.old.kept kept.now.minute) (keeping_of self.old kept.now) }
-        ensures moments { LeavesOnly (M.state unit.old) (M.state unit.new)
-            (IsKeeping (kept_minute kept.now) kept.now.odometer.0) }
-        ensures words { LeavesOnly (M.state unit.old) (M.state unit.new) (HasDaysBetween kept.now) }
-        ensures cause { HasCause (M.state unit.old) (M.state unit.new) (is_err result) }
+        requires ready { UnitIsReady self.old (M.state unit.old) }
+        requires may { MinuteMayBeKept kept.now self.old }
+        ensures { KeepsMinute kept.now result self.old self.new (M.state unit.old) (M.state unit.new) }
     {
         self.write_minute(unit, coming_of(kept))
     }

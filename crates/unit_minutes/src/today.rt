@@ -11,12 +11,12 @@ ghost use Rattle.unit_minutes.specs.Image.{IsToday};
 ghost use Rattle.unit_minutes.specs.Today.{today_of, recorded_days};
 
 use crate::bits::{BARE, SlotBits};
+use activity_codec::{DAY_MINUTES, DAY_SECONDS};
 use gated_ring::{Ring, RingFault};
 use tach_media::{Failed, Medium, read_number};
 use unit_memory::{Scan, UnitFault, scan_day};
 use unit_model::layout::{
-    DAY_COUNT, DAY_DATE, DAY_MINUTES, DAY_SECONDS, DAY_SLOT_SIZE, DAY_SLOTS, DAY_WORD_LIMIT, DAYS,
-    slot_place,
+    DAY_COUNT, DAY_DATE, DAY_SLOT_SIZE, DAY_SLOTS, DAY_WORD_LIMIT, DAYS, slot_place,
 };
 
 /// What is read of the last-kept minute's day: its stored count, how many of its words are not later, and the bits of

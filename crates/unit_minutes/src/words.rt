@@ -5,9 +5,8 @@ ghost use Rattle.unit_minutes.specs.Minute.{head_of, new_head};
 
 use crate::bits::{BARE, SlotBits};
 use crate::coming::Coming;
-use unit_model::layout::{
-    DAY_COUNT, DAY_DATE, DAY_MINUTES, DAY_ODOMETER, DAY_SECONDS, DAY_SPARE, WORD_MINUTES, WORD_SLOT,
-};
+use activity_codec::{DAY_MINUTES, DAY_SECONDS};
+use unit_model::layout::{DAY_COUNT, DAY_DATE, DAY_ODOMETER, DAY_SPARE, WORD_MINUTES, WORD_SLOT};
 
 /// The states at 00:00 of a new day, whose first kept minute has this number in it.
 pub fn first_bits(minute: u32, bits: SlotBits) -> SlotBits

@@ -4,23 +4,13 @@ use Rattle.std.specs.Prelude.{◌∷◌, slice_set, map, find, fold, if◌then�
 use Rattle.std.specs.List.{range_with_len}
 use Rattle.std.specs.Int.{to_be_bytes, w16, w32}
 use Rattle.activity_codec.specs.declared.entries.Entry.{Entry}
-use Rattle.activity_codec.specs.Words.{word_of}
+pub use Rattle.activity_codec.specs.Words.{entry_word}
 use Rattle.tach_media.specs.Medium.{SameOutside}
 use Rattle.tach_media.specs.Plan.{Piece, piece}
 use Rattle.unit_model.specs.declared.layout.TheConstants.{OWED, OWED_ROWS, ROW_NUMBER, CELL_WORD}
 use Rattle.unit_model.specs.Decoding.{Decodes}
 use Rattle.unit_owed.specs.Owed.{Cell, OwedRow, rows_in, row_begin, cell_begin, session_in, number_in, row_in}
 use Rattle.unit_owed.specs.Owed.{row_index, row_of}
-
--- the word of an entry: its slot, its crew and its activity, with a card, at its minute of the day
-abbrev pub entry_word : Entry → ℕ
-entry_word e = word_of (record {
-  slot = e.slot;
-  crew_or_known = e.crew;
-  absent = false;
-  act = e.act;
-  minute = e.minute % 1440;
-})
 
 -- an entry into a row's cell at its minute modulo 4: the minute to 0, the word, the minute
 abbrev pub cell_pieces : (row minute word : ℕ) → List Piece
@@ -98,7 +88,7 @@ IsPuttingCell e old new =
 pub record IsPutting (number : List ℕ) (e : Entry) (x c : List ℕ) : Type 0 where
   pub outside : SameOutside OWED.place OWED.size x c
   pub indices : (n : List ℕ) → row_index n (rows_in c) ≡ row_index n (rows_in x)
-  pub rows : (s : ℕ) → s < 8 → row_index number (rows_in x) ≢ Some s
+  pub rows : (s : ℕ) → s < OWED_ROWS → row_index number (rows_in x) ≢ Some s
       → (number_in (rows_in c) s ≡ number_in (rows_in x) s) × (row_in (rows_in c) s ≡ row_in (rows_in x) s)
   pub others : (n : List ℕ) → n ≢ number → row_of n c ≡ row_of n x
   pub own : (r : ℕ) → row_index number (rows_in x) ≡ Some r
@@ -137,7 +127,7 @@ pub record IsTaken (number : List ℕ) (session r : ℕ) (x y : List ℕ) : Type
 -- session 0, or is begun
 pub record IsRowBeginning (number : List ℕ) (session : ℕ) (spared : Option (List ℕ)) (x c : List ℕ) : Type 0 where
   pub outside : SameOutside OWED.place OWED.size x c
-  pub rows : (s : ℕ) → s < 8 → begun_index number spared (rows_in x) ≢ Some s
+  pub rows : (s : ℕ) → s < OWED_ROWS → begun_index number spared (rows_in x) ≢ Some s
       → (number_in (rows_in c) s ≡ number_in (rows_in x) s) × (row_in (rows_in c) s ≡ row_in (rows_in x) s)
   pub others : (n : List ℕ) → n ≢ number → row_index n (rows_in x) ≢ begun_index number spared (rows_in x)
       → row_of n c ≡ row_of n x

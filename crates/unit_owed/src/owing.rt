@@ -1,6 +1,6 @@
 ghost use Rattle.std.specs.Prelude.{◌≡◌, ◌≤◌, ◌<◌, ◌+◌, ◌%◌, ◌==◌, ◌&&◌, ◌↔◌, [], fold, is_some, length, nat_lt};
 ghost use Rattle.std.specs.Prelude.{nat_le, true, IfOk, IfSome, is_err, option_map};
-ghost use Rattle.unit_model.specs.declared.layout.TheConstants.{OWED};
+ghost use Rattle.unit_model.specs.declared.layout.TheConstants.{CELLS, OWED, OWED_ROWS};
 ghost use Rattle.std.specs.List.{prefix_len, range_with_len};
 ghost use Rattle.unit_model.specs.Ring.{number_at};
 ghost use Rattle.tach_media.specs.Medium.{Reads};
@@ -10,11 +10,9 @@ ghost use Rattle.unit_owed.specs.Rows.{HasRow, IsRowFor};
 ghost use Rattle.unit_owed.specs.Searching.{with_owed, IsSane};
 
 use crate::rows::{begun_row, number_at, read_rows, row_index, session_in};
-use activity_codec::{Entry, Owed, decode_change};
+use activity_codec::{DAY_MINUTES, Entry, Owed, decode_change};
 use tach_media::{Failed, Medium};
-use unit_model::layout::{
-    CELL_SIZE, CELL_WORD, CELLS, DAY_MINUTES, OWED_ROW_SIZE, ROW_CELLS, WORD_MINUTES,
-};
+use unit_model::layout::{CELL_SIZE, CELL_WORD, CELLS, OWED_ROW_SIZE, ROW_CELLS, WORD_MINUTES};
 
 /// What is asked as a card is put in: the entries that are owed to it, and the row that is begun for it.
 #[derive(Drop)]
@@ -72,7 +70,7 @@ fn entry_of(minute: u32, word: u32) -> Entry
 
 // Adds the entry of a cell, where it holds one that is owed.
 fn add_cell(owed: &mut Owed, cell: u32, minute: u32, word: u32, owing: Owing)
-    requires cell { cell < 4 }
+    requires cell { cell < CELLS }
     requires word { word < 65536 }
     requires room { length owed.old.items ≤ cell }
     ensures added { owed.new.items
@@ -105,7 +103,7 @@ fn word_in(rows: &[u8], place: u32) -> u32
 // What is owed of the cells of a row.
 fn owed_cells(rows: &[u8], row: u32, owing: Owing) -> Owed
     requires sized { length rows.now ≡ OWED.size }
-    requires row { row < 8 }
+    requires row { row < OWED_ROWS }
     ensures items { result.items
         ≡ fold (λ es i. with_owed owing.session owing.after owing.kept es i (cell_in rows.now row i)) []
         (range_with_len 0 4) }
@@ -124,7 +122,7 @@ fn owed_cells(rows: &[u8], row: u32, owing: Owing) -> Owed
 // What is owed of a row.
 fn owed_in(rows: &[u8], row: Option<u32>, owing: Owing) -> Owed
     requires sized { length rows.now ≡ OWED.size }
-    requires row { IfSome row (λ r. r < 8) }
+    requires row { IfSome row (λ r. r < OWED_ROWS) }
     ensures items { result.items ≡ owed_of owing.session owing.after owing.kept (option_map (row_in rows.now) row) }
     ensures sane { IsSane owing.after owing.kept result.items }
 {
@@ -181,7 +179,7 @@ pub fn ask<M: Medium>(
         after)) }
     ensures row { IfOk result (λ a. IfSome (M.state unit.old).image (IsRowFor a.row number.now
         (option_map (λ s. s.now) spared.entry))) }
-    ensures low { IfOk result (λ a. a.row < 8) }
+    ensures low { IfOk result (λ a. a.row < OWED_ROWS) }
     ensures reads { Reads (M.state unit.old) (M.state unit.new) (is_err result) }
 {
     let rows = read_rows(unit)?;

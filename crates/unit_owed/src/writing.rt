@@ -1,40 +1,24 @@
 ghost use Rattle.std.specs.Prelude.{◌≡◌, ◌≢◌, ◌≤◌, ◌<◌, ◌+◌, ℕ, Option, List, length, min, IfOk, OnOk, IfSome, is_err};
 ghost use Rattle.std.specs.Prelude.{option_map};
-ghost use Rattle.unit_model.specs.declared.layout.TheConstants.{IMAGE_SIZE};
+ghost use Rattle.unit_model.specs.declared.layout.TheConstants.{IMAGE_SIZE, OWED_ROWS, ROW_NUMBER};
 ghost use Rattle.std.specs.Option.{ForSome};
 ghost use Rattle.tach_media.specs.Medium.{LeavesOnly, HasCause, StaysSettled, IsSettled, last_count};
 ghost use Rattle.tach_media.specs.Plan.{PutsAll, PutsBy, more, none};
 ghost use Rattle.unit_model.specs.Image.{IsUnit};
-ghost use Rattle.unit_model.specs.Days.{word_minute};
 ghost use Rattle.unit_owed.specs.Owed.{rows_in};
 ghost use Rattle.unit_owed.specs.Rows.{entry_word, cell_pieces, row_pieces, pieces_into, putting, pieces_at, beginning};
 ghost use Rattle.unit_owed.specs.Rows.{HasRow, IsRowAt, IsRowFor, OwedRowHas, IsPutting, IsRowBegun, IsRowBeginning};
 
 use crate::rows::{begun_index, read_rows, row_index};
-use activity_codec::{Change, Entry, encode_change};
+use activity_codec::{Entry, entry_word};
 use tach_media::{Failed, Medium, Plan, put_pieces};
 use unit_model::layout::{
-    CELL_SIZE, CELL_WORD, CELLS, DAY_MINUTES, IMAGE_SIZE, OWED, OWED_ROW_SIZE, ROW_CELLS,
-    ROW_NUMBER,
+    CELL_SIZE, CELL_WORD, CELLS, IMAGE_SIZE, OWED, OWED_ROW_SIZE, ROW_CELLS, ROW_NUMBER,
 };
-
-// The word of an entry.
-fn entry_word(entry: &Entry) -> u16
-    ensures word { result ≡ entry_word entry.now }
-    ensures minute { word_minute result < 1440 }
-{
-    encode_change(&Change {
-        slot: entry.slot,
-        crew_or_known: entry.crew,
-        absent: false,
-        act: entry.act,
-        minute: (entry.minute % DAY_MINUTES) as u16,
-    })
-}
 
 // The writes that put an entry into a row: the minute of its cell to 0, the word, the minute.
 fn putting(row: Option<u32>, minute: u32, word: u16) -> Plan<3, 4>
-    requires row { IfSome row (λ r. r < 8) }
+    requires row { IfSome row (λ r. r < OWED_ROWS) }
     ensures plan { result ≡ more (none 0 IMAGE_SIZE) (pieces_into minute word row) }
 {
     let mut plan = Plan::new(0, IMAGE_SIZE);
@@ -49,8 +33,8 @@ fn putting(row: Option<u32>, minute: u32, word: u16) -> Plan<3, 4>
 
 // The writes that begin a row: the session to 0, the minutes of the cells to 0, the number, the session.
 fn beginning(row: Option<u32>, number: &[u8], session: u32) -> Plan<7, 18>
-    requires row { IfSome row (λ r. r < 8) }
-    requires number { length number.now ≡ 18 }
+    requires row { IfSome row (λ r. r < OWED_ROWS) }
+    requires number { length number.now ≡ ROW_NUMBER.size }
     ensures plan { result ≡ more (none 0 IMAGE_SIZE) (pieces_at number.now session row) }
 {
     let mut plan = Plan::new(0, IMAGE_SIZE);
@@ -104,7 +88,7 @@ pub fn put_owed<M: Medium>(unit: &mut M, number: &[u8], entry: &Entry) -> Result
 // Writes an entry into a row.
 fn write_into<M: Medium>(unit: &mut M, row: u32, minute: u32, word: u16) -> Result<(), Failed>
     requires unit { IsUnit (M.state unit.old) }
-    requires row { row < 8 }
+    requires row { row < OWED_ROWS }
     ensures puts { PutsAll (M.state unit.old) (M.state unit.new) (is_err result) (cell_pieces row minute word) }
     ensures minute { minute < 4294967296 }
     ensures word { word < 65536 }
@@ -116,7 +100,7 @@ fn write_into<M: Medium>(unit: &mut M, row: u32, minute: u32, word: u16) -> Resu
 /// Puts an entry into the row at an index, in its cell. Nothing is read: whose row it is was found before (`ask`).
 pub fn put_owed_at<M: Medium>(unit: &mut M, row: u32, entry: &Entry) -> Result<(), Failed>
     requires unit { IsUnit (M.state unit.old) }
-    requires low { row < 8 }
+    requires low { row < OWED_ROWS }
     ensures puts { PutsAll (M.state unit.old) (M.state unit.new) (is_err result)
         (cell_pieces row entry.now.minute (entry_word entry.now)) }
     ensures put { (number : List ℕ) → IfSome (M.state unit.old).image (IsRowAt row number)
@@ -138,7 +122,7 @@ fn write_row<M: Medium>(
     spared: Option<&[u8]>,
 ) -> Result<(), Failed>
     requires unit { IsUnit (M.state unit.old) }
-    requires number { length number.now ≡ 18 }
+    requires number { length number.now ≡ ROW_NUMBER.size }
     ensures puts { PutsBy (M.state unit.old) (M.state unit.new) (is_err result) 7 7
         (λ x. beginning number.now session (option_map (λ s. s.now) spared.entry) (rows_in x)) }
     ensures session { session < 4294967296 }
@@ -157,7 +141,7 @@ pub fn begin_owed<M: Medium>(
     spared: Option<&[u8]>,
 ) -> Result<(), Failed>
     requires unit { IsUnit (M.state unit.old) }
-    requires number { length number.now ≡ 18 }
+    requires number { length number.now ≡ ROW_NUMBER.size }
     requires session { 0 < session }
     ensures puts { PutsBy (M.state unit.old) (M.state unit.new) (is_err result) 7 7
         (λ x. beginning number.now session (option_map (λ s. s.now) spared.entry) (rows_in x)) }
@@ -180,8 +164,8 @@ fn write_row_at<M: Medium>(
     session: u32,
 ) -> Result<(), Failed>
     requires unit { IsUnit (M.state unit.old) }
-    requires row { row < 8 }
-    requires number { length number.now ≡ 18 }
+    requires row { row < OWED_ROWS }
+    requires number { length number.now ≡ ROW_NUMBER.size }
     ensures puts { PutsAll (M.state unit.old) (M.state unit.new) (is_err result) (row_pieces row number.now session) }
     ensures session { session < 4294967296 }
 {
@@ -198,8 +182,8 @@ pub fn begin_owed_at<M: Medium>(
     session: u32,
 ) -> Result<(), Failed>
     requires unit { IsUnit (M.state unit.old) }
-    requires low { row < 8 }
-    requires number { length number.now ≡ 18 }
+    requires low { row < OWED_ROWS }
+    requires number { length number.now ≡ ROW_NUMBER.size }
     requires session { 0 < session }
     ensures puts { PutsAll (M.state unit.old) (M.state unit.new) (is_err result) (row_pieces row number.now session) }
     ensures begun { (spared : Option (List ℕ)) → IfSome (M.state unit.old).image (IsRowFor row number.now spared)

@@ -2,6 +2,7 @@ ghost use Rattle.std.specs.Prelude.{◌≡◌, ◌↔◌, ◌<◌, ℕ, Option, 
 ghost use Rattle.std.specs.Prelude.{option_map};
 ghost use Rattle.tach_media.specs.Medium.{Reads, LeavesOnly, HasCause, IsSettled, last_count};
 ghost use Rattle.tacho_types.specs.CardNumber.{card_number_bytes};
+ghost use Rattle.unit_model.specs.declared.layout.TheConstants.{OWED_ROWS};
 ghost use Rattle.unit_model.specs.Image.{IsUnit};
 ghost use Rattle.unit_minutes.specs.Image.{Agrees};
 ghost use Rattle.tach_media.specs.Plan.{PutsAll, PutsBy};
@@ -55,7 +56,7 @@ impl Journal {
         ensures sane { IfOk result (λ a. IsSane after self.now.kept a.owed.items) }
         ensures row { IfOk result (λ a. IfSome (M.state unit.old).image (IsRowFor a.row (card_number_bytes number.now)
             (option_map (λ s. card_number_bytes s.now) spared.entry))) }
-        ensures low { IfOk result (λ a. a.row < 8) }
+        ensures low { IfOk result (λ a. a.row < OWED_ROWS) }
         ensures reads { Reads (M.state unit.old) (M.state unit.new) (is_err result) }
     {
         let mut bytes = [0; 18];
@@ -159,7 +160,7 @@ impl Journal {
     ) -> Result<(), Failed>
         requires unit { IsUnit (M.state unit.old) }
         requires agrees { IfSome (M.state unit.old).image (Agrees self.old) }
-        requires low { row < 8 }
+        requires low { row < OWED_ROWS }
         requires own { (number : List ℕ) × IfSome (M.state unit.old).image (IsRowAt row number) }
         ensures same { self.new ≡ self.old }
         ensures agrees { OnOk result (IfSome (M.state unit.new).image (Agrees self.old)) }
@@ -188,7 +189,7 @@ impl Journal {
     ) -> Result<(), Failed>
         requires unit { IsUnit (M.state unit.old) }
         requires agrees { IfSome (M.state unit.old).image (Agrees self.old) }
-        requires low { row < 8 }
+        requires low { row < OWED_ROWS }
         requires own { (spared : Option (List ℕ))
             × IfSome (M.state unit.old).image (IsRowFor row (card_number_bytes number.now) spared) }
         requires session { 0 < session }

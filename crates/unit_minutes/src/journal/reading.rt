@@ -7,11 +7,11 @@ ghost use Rattle.gated_ring.specs.Ring.{number_at};
 ghost use Rattle.unit_model.specs.Image.{recorded, slot_place, slot_date, slot_odometer, slot_count};
 
 use crate::journal::Journal;
+use activity_codec::{DAY_MINUTES, DAY_SECONDS};
 use tach_media::{Failed, Medium, read_number};
 use tacho_types::{Odometer, TimeReal};
 use unit_model::layout::{
-    DAY_COUNT, DAY_MINUTES, DAY_ODOMETER, DAY_SECONDS, DAY_SLOTS, DAY_WORD_LIMIT, DAY_WORDS,
-    HIGHEST_ODOMETER, slot_place,
+    DAY_COUNT, DAY_ODOMETER, DAY_SLOTS, DAY_WORD_LIMIT, DAY_WORDS, HIGHEST_ODOMETER, slot_place,
 };
 
 /// A recorded day of the unit, as its slot has it (profile).
