@@ -154,7 +154,7 @@ fn enter_by<M: Medium, C: Medium>(
     }
 }
 
-// How many bytes a registration has, which is 15.
+// How many bytes a registration has, which is 15: called for the proof alone.
 fn length_of(registration: &Registration) -> usize
     ensures { length registration.now.0 ≡ 15 }
 {
@@ -165,6 +165,8 @@ fn length_of(registration: &Registration) -> usize
 /// Puts in a card of these sizes: it is judged, the entries that the unit owes to it are put on it, and a session is
 /// opened. The row of its number is told, while the row of the number that is spared is another's, and not begun yet:
 /// that comes behind the note of the insertion (`begin`).
+///
+/// No line here reads the other card, or which of them this is: `rules` speaks of them.
 ///
 /// # Errors
 ///
@@ -193,6 +195,7 @@ pub fn enter<M: Medium, C: Chip, D: Chip>(
     ensures stands { UnitStandsAsked journal.now result (M.state unit.new) }
     ensures card { CardStandsPutIn insertion.app insertion.time.0 (C.state card.old) (C.state card.new)
         (C.card card.new) }
+    // Of the argument, not of the call: a caller's proof knows by it that a registration has 15 bytes.
     ensures long { length insertion.registration.0 ≡ 15 }
     ensures most { (C.state card.new).clock ≤ (C.state card.old).clock + (DAYS_MOST + 84) }
 {

@@ -12,6 +12,7 @@ ghost use Rattle.unit_minutes.specs.Plans.{going, turning, renewing, keeping, mo
 ghost use Rattle.unit_minutes.specs.Mends.{IsMendable, IsMending, HasNothingLater, mended};
 ghost use Rattle.unit_minutes.specs.Mends.{mending};
 ghost use Rattle.gated_ring.specs.Ring.{pointer, taken};
+ghost use Rattle.unit_minutes.specs.Writes.{keep_most, mend_most};
 ghost use Rattle.unit_minutes.specs.Calls.{KeepsMinute, MinuteMayBeKept, UnitIsReady, UnitMended};
 
 mod owing;
@@ -161,6 +162,7 @@ impl Journal {
         ensures length { length result.pieces ≤ 4 }
         ensures shape { IsNotes self.now }
     {
+        // Read for the proof alone: so the notes have their ranges.
         let _days = &self.days;
         let notes = &self.notes;
         let mut plan = Writing::new(0, IMAGE_SIZE);
@@ -187,7 +189,7 @@ impl Journal {
         ensures kept { OnOk result ((self.new.kept ≡ coming.minute) × (self.new.odometer ≡ coming.odometer)) }
         ensures same { OnErr result (self.new ≡ self.old) }
         ensures shape { IsNotes self.old }
-        ensures puts { PutsBy (M.state unit.old) (M.state unit.new) (is_err result) 5 12 (renewing self.old coming) }
+        ensures puts { PutsBy (M.state unit.old) (M.state unit.new) (is_err result) 5 keep_most (renewing self.old coming) }
     {
         let head = new_head(coming);
         let room = self.days.room(unit)?;
@@ -253,10 +255,10 @@ impl Journal {
         ensures same { OnErr result (self.new ≡ self.old) }
         ensures written { OnOk result ((M.state unit.new).image ≡ option_map (mended self.old)
             (M.state unit.old).image) }
-        ensures puts { PutsBy (M.state unit.old) (M.state unit.new) (is_err result) 0 34 (mending self.old) }
+        ensures puts { PutsBy (M.state unit.old) (M.state unit.new) (is_err result) 0 mend_most (mending self.old) }
         ensures moments { LeavesOnly (M.state unit.old) (M.state unit.new) (IsMending self.old) }
         ensures cause { HasCause (M.state unit.old) (M.state unit.new) (is_err result) }
-        ensures most { (M.state unit.new).clock ≤ (M.state unit.old).clock + 34 }
+        ensures most { (M.state unit.new).clock ≤ (M.state unit.old).clock + mend_most }
     {
         self.write_mends(unit)?;
         self.notes.stray = None;
@@ -267,11 +269,12 @@ impl Journal {
     // Makes the writes of a `mend`: the cells, the gate, the count.
     fn write_mends<M: Medium>(&self, unit: &mut M) -> Result<(), Failed>
         requires unit { IsUnit (M.state unit.old) }
-        ensures puts { PutsBy (M.state unit.old) (M.state unit.new) (is_err result) 0 34 (mending self.now) }
+        ensures puts { PutsBy (M.state unit.old) (M.state unit.new) (is_err result) 0 mend_most (mending self.now) }
         ensures idle { OnOk result (IfSome (M.state unit.old).image
             (λ x. HasNothingLater self.now x → (M.state unit.new).clock ≡ (M.state unit.old).clock)) }
         ensures shape { IsNotes self.now }
     {
+        // Read for the proof alone: so the notes have their ranges.
         let _days = &self.days;
         let mut plan = late_cells(unit, self.notes.kept)?;
         add_shut(&mut plan, self.notes.stray);

@@ -13,7 +13,8 @@ ghost use Rattle.unit_notes.specs.Tables.{with_similar};
 ghost use Rattle.unit_notes.specs.Noting.{IsNotingEvent, IsEventNoted};
 
 use crate::tables::{
-    MOST_BYTES, base_of, count_of, held_in, held_table, similar_at, table_of, width_of,
+    EVENT_SIZE, FAULT_SIZE, MOST_BYTES, base_of, count_of, held_in, held_table, similar_at,
+    table_of, width_of,
 };
 use arrayvec::ArrayVec;
 use event_model::{CARD_FAULT, Held};
@@ -66,8 +67,8 @@ fn choose<M: Medium>(unit: &mut M, kind: u8, front: &[u8]) -> Result<Choice, Fai
 }
 
 // The entry of an event from its front.
-fn entry_of(kind: u8, front: &[u8], similar: u8) -> ArrayVec<u8, 83>
-    requires { length front.now ≤ 82 }
+fn entry_of(kind: u8, front: &[u8], similar: u8) -> ArrayVec<u8, EVENT_SIZE>
+    requires { length front.now ≤ FAULT_SIZE }
     ensures { result.items ≡ with_similar kind similar front.now }
 {
     let mut entry = ArrayVec::new();

@@ -102,6 +102,7 @@ impl Journal {
             (IsPutting (card_number_bytes number.now) entry.now) }
         ensures cause { HasCause (M.state unit.old) (M.state unit.new) (is_err result) }
     {
+        // Read for the proof alone: so the notes have their ranges.
         let _days = &self.days;
         let mut bytes = [0; 18];
         write_card_number(number, &mut bytes);
@@ -139,6 +140,7 @@ impl Journal {
         ensures settled { OnOk result ((M.state unit.new).clock < last_count → IsSettled (M.state unit.new)) }
         ensures cause { HasCause (M.state unit.old) (M.state unit.new) (is_err result) }
     {
+        // Read for the proof alone: so the notes have their ranges.
         let _days = &self.days;
         let mut bytes = [0; 18];
         write_card_number(number, &mut bytes);
@@ -174,6 +176,7 @@ impl Journal {
         ensures settled { OnOk result ((M.state unit.new).clock < last_count → IsSettled (M.state unit.new)) }
         ensures cause { HasCause (M.state unit.old) (M.state unit.new) (is_err result) }
     {
+        // Read for the proof alone: so the notes have their ranges.
         let _days = &self.days;
         put_owed_at(unit, row, entry)
     }
@@ -209,6 +212,7 @@ impl Journal {
         ensures settled { OnOk result ((M.state unit.new).clock < last_count → IsSettled (M.state unit.new)) }
         ensures cause { HasCause (M.state unit.old) (M.state unit.new) (is_err result) }
     {
+        // Read for the proof alone: so the notes have their ranges.
         let _days = &self.days;
         let mut bytes = [0; 18];
         write_card_number(number, &mut bytes);

@@ -267,7 +267,7 @@ impl Journal {
             (λ x. AreRight self.now x → IsWordOf x head.now index word)) }
         ensures reads { Reads (M.state unit.old) (M.state unit.new) (is_err result) }
     {
-        // so the notes have their ranges
+        // Read for the proof alone: so the notes have their ranges.
         let _days = &self.days;
         let mut bytes = [0; 2];
         unit.read_at(head.place + DAY_WORDS.place + 2 * index as u32, &mut bytes)?;
