@@ -77,10 +77,11 @@ shut (Some s) x = put (slot_place s) (replicate 4 0) x
 abbrev pub cut_to : (index stored count : ℕ) → List ℕ → List ℕ
 cut_to i stored count x = if stored == count then x else with_count i count x
 
--- the days after a `mend`, and the image
+-- an image after a `mend` of its days
 abbrev pub cut_back : Notes → List ℕ → List ℕ
 cut_back j x = if j.kept == 0 then shut j.stray x else cut_to j.index j.stored j.count (shut j.stray x)
 
+-- and after that of the owed rows and then of the days
 abbrev pub mended : Notes → List ℕ → List ℕ
 mended j x = cut_back j (cells_emptied j.kept 32 x)
 

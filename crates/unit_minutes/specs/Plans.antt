@@ -56,6 +56,7 @@ beginning i m = counted i 2 (further m) ++ mark m.minute
 abbrev pub renewing_at : Notes → Room → Coming → List Piece
 renewing_at j room m = turning j m.odometer ++ (placing_pieces day_ring room (new_head m) ++ beginning room.index m)
 
+-- so by an image, which tells where the new day's slot is
 abbrev pub renewing : Notes → Coming → (x : List ℕ) → List Piece
 renewing j m x = renewing_at j (room_in day_ring x) m
 

@@ -23,6 +23,7 @@ abbrev pub pieces_into : (minute word : ℕ) → Option ℕ → List Piece
 pieces_into m w None = []
 pieces_into m w (Some r) = cell_pieces r m w
 
+-- so by the number
 abbrev pub putting : (number : List ℕ) → (minute word : ℕ) → (rows : List ℕ) → List Piece
 putting number m w rows = pieces_into m w (row_index number rows)
 
@@ -35,16 +36,18 @@ row_pieces r number session =
     ∷ piece (OWED.place + cell_begin r 2) (to_be_bytes w32 0) ∷ piece (OWED.place + cell_begin r 3) (to_be_bytes w32 0)
     ∷ piece (p + ROW_NUMBER.place) number ∷ piece p (to_be_bytes w32 session) ∷ []
 
--- of rows other than one the first that has the least session time
+-- this row is the spared one
 abbrev pub is_this_row : Option ℕ → ℕ → Bool
 is_this_row None r = false
 is_this_row (Some s) r = s == r
 
+-- the best row before this one, or this one where it has a lesser session time; the spared one does not count
 abbrev pub lesser : (rows : List ℕ) → (spared : Option ℕ) → Option ℕ → ℕ → Option ℕ
 lesser rows spared None r = if is_this_row spared r then None else Some r
 lesser rows spared (Some b) r = if is_this_row spared r then Some b
     else (if nat_lt (session_in rows r) (session_in rows b) then Some r else Some b)
 
+-- of the rows but the spared one the first that has the least session time
 abbrev pub least : (rows : List ℕ) → (spared : Option ℕ) → Option ℕ
 least rows spared = fold (lesser rows spared) None (range_with_len 0 OWED_ROWS)
 
@@ -52,10 +55,12 @@ least rows spared = fold (lesser rows spared) None (range_with_len 0 OWED_ROWS)
 abbrev pub empty_index : (rows : List ℕ) → Option ℕ
 empty_index rows = find (λ r. session_in rows r == 0) (range_with_len 0 OWED_ROWS)
 
+-- the first of two, or the second where there is none
 abbrev pub or_else : Option ℕ → Option ℕ → Option ℕ
 or_else (Some r) other = Some r
 or_else None other = other
 
+-- the row of the number that is spared
 abbrev pub spared_index : Option (List ℕ) → (rows : List ℕ) → Option ℕ
 spared_index None rows = None
 spared_index (Some number) rows = row_index number rows
@@ -66,10 +71,12 @@ abbrev pub begun_index : (number : List ℕ) → (spared : Option (List ℕ)) �
 begun_index number spared rows = or_else (row_index number rows)
     (or_else (empty_index rows) (least rows (spared_index spared rows)))
 
+-- the writes that begin the row of an index
 abbrev pub pieces_at : (number : List ℕ) → (session : ℕ) → Option ℕ → List Piece
 pieces_at number session None = []
 pieces_at number session (Some r) = row_pieces r number session
 
+-- the writes that begin a row for a number, with a session time
 abbrev pub beginning : (number : List ℕ) → (session : ℕ) → (spared : Option (List ℕ)) → (rows : List ℕ) → List Piece
 beginning number session spared rows = pieces_at number session (begun_index number spared rows)
 
