@@ -15,9 +15,13 @@ use unit_minutes::Journal;
 /// row stays.
 #[derive(Clone, Copy)]
 pub struct NewRow {
+    /// The number of the card.
     pub number: FullCardNumber,
+    /// The second in which its session began, not 0.
     pub session: u32,
+    /// The index of the row, 0 to 7.
     pub index: u32,
+    /// The number of the other card, whose row stays.
     pub spared: Option<FullCardNumber>,
 }
 

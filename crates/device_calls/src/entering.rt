@@ -23,11 +23,15 @@ use unit_minutes::Journal;
 /// of these entries were put on it, which are the last ones, and which row of the unit is to be its.
 #[derive(Drop)]
 pub struct Entered {
+    /// What it told before anything was written.
     pub look: CardLook,
+    /// The entries that were owed to it.
     pub owed: Owed,
+    /// Its session.
     pub session: CardSession,
+    /// How many of the owed entries were put on it: the last ones.
     pub replayed: u8,
-    /// The row of the unit that is begun for it.
+    /// The row of the unit that is begun for it, 0 to 7.
     pub row: u32,
 }
 
@@ -35,10 +39,15 @@ pub struct Entered {
 /// unit stays: the other card's, where that has one.
 #[derive(Clone, Copy)]
 pub struct CardInsertion {
+    /// Its sizes.
     pub app: Application,
+    /// The second in which it is put in.
     pub time: TimeReal,
+    /// The vehicle.
     pub registration: Registration,
+    /// The vehicle's odometer then, in km.
     pub odometer: Odometer,
+    /// The number of the other card, whose row stays.
     pub spared: Option<FullCardNumber>,
 }
 

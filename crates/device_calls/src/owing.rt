@@ -14,8 +14,11 @@ use unit_minutes::Journal;
 /// An entry that a card is to be owed: of which number the card is, in which row of the unit, and the entry.
 #[derive(Clone, Copy)]
 pub struct OwedEntry {
+    /// The number of the card.
     pub number: FullCardNumber,
+    /// The index of its row, 0 to 7.
     pub row: u32,
+    /// The entry.
     pub entry: Entry,
 }
 

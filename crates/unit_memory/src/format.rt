@@ -1,3 +1,4 @@
+//! A new unit is made.
 ghost use Rattle.std.specs.Prelude.{◌≡◌, ◌≤◌, ◌<◌, ◌+◌, ◌-◌, ◌*◌, ◌/◌, length, IfOk, OnOk, IfSome, is_err, true};
 ghost use Rattle.std.specs.Prelude.{option_map};
 ghost use Rattle.unit_model.specs.declared.layout.TheConstants.{IMAGE_SIZE};
@@ -14,8 +15,11 @@ use unit_model::layout::{IDENTIFICATION, IMAGE_SIZE, REGISTRATION, SPEED_LIMIT, 
 /// What a unit is told of its vehicle: the identification number, the registration, and the speed limit in km/h.
 #[derive(Clone, Copy, Debug, PartialEq, Eq)]
 pub struct Identity {
+    /// The vehicle identification number.
     pub vin: [u8; 17],
+    /// The nation and the number of the registration.
     pub registration: Registration,
+    /// The authorised speed in km/h, 0 to 255.
     pub limit: u8,
 }
 

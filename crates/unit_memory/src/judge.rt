@@ -1,3 +1,4 @@
+//! An image is judged, field by field.
 ghost use Rattle.std.specs.Prelude.{◌≡◌, ◌≤◌, ◌<◌, ◌+◌, ◌==◌, ◌||◌, nat_lt, IfOk, IfSome, is_err, is_some, true};
 ghost use Rattle.unit_model.specs.declared.layout.TheConstants.{DAY_SLOTS, IMAGE_SIZE};
 ghost use Rattle.tach_media.specs.Medium.{Reads};
@@ -161,6 +162,10 @@ fn turn_at(pointer: u32) -> u32
 }
 
 /// Judges an image: each field is read once, and the first in order of places that fails is told. It writes nothing.
+///
+/// # Errors
+///
+/// `Failed` where the medium failed.
 pub fn judge_image<M: Medium>(unit: &mut M) -> Result<Judged, Failed>
     requires unit { (M.state unit.old).size ≡ IMAGE_SIZE }
     ensures judged { IfOk result (λ judged. IfSome (M.state unit.old).image (IsJudged judged)) }

@@ -1,3 +1,4 @@
+//! What the memory of a unit says of it.
 ghost use Rattle.std.specs.Prelude.{◌≡◌, IfOk, OnOk, IfSome, IfErr, Some, is_err, true};
 ghost use Rattle.unit_model.specs.declared.layout.TheConstants.{IMAGE_SIZE, RULE_BYTE};
 ghost use Rattle.tach_media.specs.Medium.{Reads};
@@ -19,10 +20,15 @@ use unit_model::layout::{PLAIN_VERSION, REGISTRATION, RULE_BYTE, SPEED_LIMIT, VE
 /// version 1.
 #[derive(Clone, Copy, Debug, PartialEq, Eq)]
 pub struct UnitFacts {
+    /// The vehicle identification number.
     pub vin: [u8; 17],
+    /// The nation and the number of the registration.
     pub registration: Registration,
+    /// The authorised speed in km/h, 0 to 255.
     pub limit: u8,
+    /// The version of the image, 1 or 2.
     pub version: u8,
+    /// Which rule of minutes holds, by version 2: 0 the original one, 1 the amended one; 0 by version 1.
     pub rule_byte: u8,
 }
 
@@ -69,6 +75,10 @@ impl UnitMemory {
 
     /// Reads a memory whose image is known to decode, as from the load of another part of the unit: it is not judged
     /// again. It writes nothing.
+    ///
+    /// # Errors
+    ///
+    /// `Failed` where the medium failed.
     pub fn read<M: Medium>(unit: &mut M) -> Result<UnitMemory, Failed>
         requires unit { (M.state unit.old).size ≡ IMAGE_SIZE }
         requires decodes { IfSome (M.state unit.old).image Decodes }

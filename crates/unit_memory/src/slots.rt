@@ -163,6 +163,10 @@ fn judge_slot<M: Medium>(
 }
 
 /// Goes on over the slots from one index to another: the walk with them, and the place of the first field that fails.
+///
+/// # Errors
+///
+/// `Failed` where the medium failed.
 pub fn judge_slots<M: Medium>(
     unit: &mut M,
     kept: u32,

@@ -1,3 +1,4 @@
+//! A unit of version 1 is made one of version 2.
 ghost use Rattle.std.specs.Prelude.{◌≡◌, ◌≤◌, ◌<◌, ◌+◌, Ok, IfOk, OnOk, IfSome, IfErr, Some, is_err, option_map, true};
 ghost use Rattle.std.specs.Prelude.{false};
 ghost use Rattle.tach_media.specs.Medium.{LeavesOnly, HasCause, IsSettled, last_count};

@@ -1,3 +1,4 @@
+//! The day slots of an image, one after another.
 ghost use Rattle.std.specs.Prelude.{◌≡◌, ◌≤◌, ◌<◌, ◌+◌};
 ghost use Rattle.unit_model.specs.declared.layout.TheConstants.{DAY_SLOTS};
 ghost use Rattle.unit_memory.specs.Walks.{after_day, after_gap, next_walk};

@@ -1,3 +1,4 @@
+//! The words of a day, one after another.
 ghost use Rattle.std.specs.Prelude.{◌≡◌, ◌≤◌, ◌<◌, ◌+◌, ◌*◌, ◌^◌, IfOk, IfSome, is_err, length, true};
 ghost use Rattle.unit_model.specs.declared.layout.TheConstants.{DAY_SLOTS, DAY_WORD_LIMIT, IMAGE_SIZE};
 ghost use Rattle.tach_media.specs.Medium.{Reads};
@@ -168,6 +169,10 @@ fn scan_block<M: Medium>(
 
 /// Judges the words of a day slot, and tells what those say that are not later than a minute of the day; or the place
 /// of the first word that may not stand there. It reads 240 words at once.
+///
+/// # Errors
+///
+/// `Failed` where the medium failed.
 pub fn scan_day<M: Medium>(
     unit: &mut M,
     index: u32,

@@ -1,3 +1,4 @@
+//! The state of a slot as the bits of its word.
 ghost use Rattle.std.specs.Prelude.{◌≡◌, ◌<◌};
 ghost use Rattle.activity_codec.specs.Words.{activity_number};
 ghost use Rattle.unit_minutes.specs.Kept.{bits_of, is_crew, slot_bits};

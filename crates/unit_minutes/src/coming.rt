@@ -1,3 +1,4 @@
+//! The minute that comes, as it is written.
 ghost use Rattle.std.specs.Prelude.{◌≡◌, ◌≤◌};
 ghost use Rattle.activity_codec.specs.declared.day.TheConstants.{DAY_MINUTES};
 ghost use Rattle.unit_model.specs.declared.layout.TheConstants.{HIGHEST_ODOMETER, LAST_MINUTE};

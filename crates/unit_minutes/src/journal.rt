@@ -1,3 +1,4 @@
+//! The journal of a unit: what it remembers of the image, and how it keeps a minute and mends the unit.
 ghost use Rattle.std.specs.Prelude.{IfErr, Some, None, ◌≡◌, ◌≤◌, ◌<◌, ◌+◌, ◌/◌, min, length, IfOk, OnOk};
 ghost use Rattle.std.specs.Prelude.{OnErr, IfSome, is_err, option_map, true};
 ghost use Rattle.activity_codec.specs.declared.day.TheConstants.{DAY_MINUTES};

@@ -1,3 +1,4 @@
+//! The writes that keep a minute.
 ghost use Rattle.std.specs.Prelude.{◌≡◌, ◌≤◌, ◌<◌, ◌+◌, ◌*◌, ◌/◌, ◌%◌, ◌∷◌, [], length};
 ghost use Rattle.unit_model.specs.declared.layout.TheConstants.{DAY_COUNT, DAY_SLOTS, DAY_WORD_LIMIT};
 ghost use Rattle.std.specs.Int.{to_be_bytes, w16};

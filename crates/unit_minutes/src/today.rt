@@ -1,3 +1,4 @@
+//! The day of the last-kept minute, as it is read.
 ghost use Rattle.std.specs.Prelude.{◌≡◌, ◌≤◌, ◌<◌, ◌+◌, ◌*◌, ◌-◌, ◌%◌, IfOk, IfErr, IfSome, is_err, true, None, []};
 ghost use Rattle.std.specs.Prelude.{min, unwrap_or};
 ghost use Rattle.unit_model.specs.declared.layout.TheConstants.{DAY_SLOTS, DAY_WORD_LIMIT, DAY_WORDS, IMAGE_SIZE};
@@ -29,6 +30,10 @@ pub struct Today {
 }
 
 /// The ring of the day slots, whose pointer is known to be an index.
+///
+/// # Errors
+///
+/// `Failed` where the medium failed; `BadUnit` never of a unit that tells its image.
 pub fn day_ring<M: Medium>(unit: &mut M) -> Result<Ring, UnitFault>
     requires unit { (M.state unit.old).size ≡ IMAGE_SIZE }
     requires known { IfSome (M.state unit.old).image (λ x. pointer day_ring x < DAY_SLOTS) }
@@ -95,6 +100,10 @@ pub fn later_day(kept: u32, pointer: u32, date: u32) -> Option<u32>
 }
 
 /// Reads the last-kept minute's day; there is none where that minute is 0.
+///
+/// # Errors
+///
+/// `Failed` where the medium failed.
 pub fn read_today<M: Medium>(unit: &mut M, kept: u32, index: u32) -> Result<Today, Failed>
     requires works { (M.state unit.old).works ≡ true }
     requires unit { (M.state unit.old).size ≡ IMAGE_SIZE }

@@ -1,3 +1,4 @@
+//! The head and the words of a new day.
 ghost use Rattle.std.specs.Prelude.{◌≡◌, ◌<◌, length};
 ghost use Rattle.unit_model.specs.Changes.{first_state};
 ghost use Rattle.unit_minutes.specs.Coming.{IsComing};

@@ -9,7 +9,9 @@ ghost use Rattle.unit_model.specs.Decoding.{cell_place};
 /// places that are counted from its own begin.
 #[derive(Clone, Copy, Debug, PartialEq, Eq)]
 pub struct Field {
+    /// Where its first byte stands, from 0.
     pub place: u32,
+    /// How many bytes it has.
     pub size: u32,
 }
 

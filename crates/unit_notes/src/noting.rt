@@ -121,6 +121,10 @@ fn count_similar<M: Medium>(unit: &mut M, kind: u8, place: u8, similar: u8) -> R
 }
 
 /// Notes the event of a type whose entry has this front.
+///
+/// # Errors
+///
+/// `Failed` where the unit failed; then the event may be there or not, or its place is empty.
 pub fn note<M: Medium>(unit: &mut M, kind: u8, front: &[u8]) -> Result<(), Failed>
     requires unit { IsUnit (M.state unit.old) }
     requires front { length front.now ≡ front_size kind }

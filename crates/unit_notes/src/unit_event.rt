@@ -14,12 +14,17 @@ pub struct UnitEvent {
     pub kind: u8,
     /// Why it is recorded, as EventFaultRecordPurpose numbers it.
     pub purpose: u8,
+    /// Its first second.
     pub begin: TimeReal,
+    /// Its last second.
     pub end: TimeReal,
-    /// The cards that were inserted at its begin and at its end; zeros where there was none.
+    /// The card in the driver slot at its begin; zeros where there was none.
     pub driver_begin: FullCardNumber,
+    /// The card in the co-driver slot at its begin; zeros where there was none.
     pub codriver_begin: FullCardNumber,
+    /// The card in the driver slot at its end; zeros where there was none.
     pub driver_end: FullCardNumber,
+    /// The card in the co-driver slot at its end; zeros where there was none.
     pub codriver_end: FullCardNumber,
     /// The number of similar events of its day. A call that notes an event counts them itself, and looks at no number
     /// that is handed in.

@@ -1,3 +1,4 @@
+//! What is owed to the card of a number, and which row is begun for it: read at once of all rows.
 ghost use Rattle.std.specs.Prelude.{◌≡◌, ◌≤◌, ◌<◌, ◌+◌, ◌%◌, ◌==◌, ◌&&◌, ◌↔◌, [], fold, is_some, length, nat_lt};
 ghost use Rattle.std.specs.Prelude.{nat_le, true, IfOk, IfSome, is_err, option_map};
 ghost use Rattle.unit_model.specs.declared.layout.TheConstants.{CELLS, OWED, OWED_ROWS};
@@ -17,7 +18,9 @@ use unit_model::layout::{CELL_SIZE, CELL_WORD, CELLS, OWED_ROW_SIZE, ROW_CELLS, 
 /// What is asked as a card is put in: the entries that are owed to it, and the row that is begun for it.
 #[derive(Drop)]
 pub struct Asked {
+    /// The entries that are owed to it, in order of minutes.
     pub owed: Owed,
+    /// The index of the row that is begun for it, 0 to 7.
     pub row: u32,
 }
 
@@ -140,6 +143,10 @@ fn owed_in(rows: &[u8], row: Option<u32>, owing: Owing) -> Owed
 
 /// The entries that are owed to the card of a number in a session, in order of minutes, of a unit whose last-kept
 /// minute is given.
+///
+/// # Errors
+///
+/// `Failed` where the unit failed.
 pub fn owed<M: Medium>(
     unit: &mut M,
     kept: u32,
@@ -164,6 +171,10 @@ pub fn owed<M: Medium>(
 }
 
 /// The same, and which row is begun for the number, while the row of another one is spared: in one read.
+///
+/// # Errors
+///
+/// `Failed` where the unit failed.
 pub fn ask<M: Medium>(
     unit: &mut M,
     kept: u32,
@@ -194,6 +205,10 @@ pub fn ask<M: Medium>(
 }
 
 /// Whether a number has a row.
+///
+/// # Errors
+///
+/// `Failed` where the unit failed.
 pub fn has_row<M: Medium>(unit: &mut M, number: &[u8]) -> Result<bool, Failed>
     requires unit { IsUnit (M.state unit.old) }
     ensures row { IfOk result (λ found. IfSome (M.state unit.old).image (λ x. (found ≡ true) ↔ HasRow number.now x)) }

@@ -1,3 +1,4 @@
+//! The writes that put an entry into a row, and that begin a row.
 ghost use Rattle.std.specs.Prelude.{◌≡◌, ◌≢◌, ◌≤◌, ◌<◌, ◌+◌, ℕ, Option, List, length, min, IfOk, OnOk, IfSome, is_err};
 ghost use Rattle.std.specs.Prelude.{option_map};
 ghost use Rattle.unit_model.specs.declared.layout.TheConstants.{IMAGE_SIZE, OWED_ROWS, ROW_NUMBER};
@@ -69,6 +70,10 @@ fn write_entry<M: Medium>(unit: &mut M, number: &[u8], minute: u32, word: u16) -
 
 /// Puts an entry into the row of a number, in its cell; a unit that doesn't tell its image may have no such row, and is
 /// left alone then.
+///
+/// # Errors
+///
+/// `Failed` where the unit failed; then the cell may hold the entry, what it held before, or nothing.
 pub fn put_owed<M: Medium>(unit: &mut M, number: &[u8], entry: &Entry) -> Result<(), Failed>
     requires unit { IsUnit (M.state unit.old) }
     requires row { IfSome (M.state unit.old).image (HasRow number.now) }
@@ -98,6 +103,10 @@ fn write_into<M: Medium>(unit: &mut M, row: u32, minute: u32, word: u16) -> Resu
 }
 
 /// Puts an entry into the row at an index, in its cell. Nothing is read: whose row it is was found before (`ask`).
+///
+/// # Errors
+///
+/// `Failed` where the unit failed; then the cell may hold the entry, what it held before, or nothing.
 pub fn put_owed_at<M: Medium>(unit: &mut M, row: u32, entry: &Entry) -> Result<(), Failed>
     requires unit { IsUnit (M.state unit.old) }
     requires low { row < OWED_ROWS }
@@ -134,6 +143,10 @@ fn write_row<M: Medium>(
 
 /// Begins a row for a number, with a session time and without an entry: its own row, else the lowest empty one, else
 /// the one with the least session time, but not the row of the number that is spared.
+///
+/// # Errors
+///
+/// `Failed` where the unit failed; then the row may be begun or not, or have no session.
 pub fn begin_owed<M: Medium>(
     unit: &mut M,
     number: &[u8],
@@ -175,6 +188,10 @@ fn write_row_at<M: Medium>(
 
 /// Begins the row at an index for a number, with a session time and without an entry. Nothing is read: that it is the
 /// row which is begun for this number, while another one is spared, was found before (`ask`).
+///
+/// # Errors
+///
+/// `Failed` where the unit failed; then the row may be begun or not, or have no session.
 pub fn begin_owed_at<M: Medium>(
     unit: &mut M,
     row: u32,

@@ -1,3 +1,4 @@
+//! What the unit owes to cards, by the journal.
 ghost use Rattle.std.specs.Prelude.{◌≡◌, ◌↔◌, ◌<◌, ℕ, Option, List, true, IfOk, OnOk, IfSome, is_err};
 ghost use Rattle.std.specs.Prelude.{option_map};
 ghost use Rattle.tach_media.specs.Medium.{Reads, LeavesOnly, HasCause, IsSettled, last_count};
@@ -21,6 +22,10 @@ use unit_owed::{
 
 impl Journal {
     /// The entries that are owed to the card of a number in a session, later than a minute, in order of minutes.
+    ///
+    /// # Errors
+    ///
+    /// `Failed` where the medium failed.
     pub fn owed<M: Medium>(
         &self,
         unit: &mut M,
@@ -41,6 +46,10 @@ impl Journal {
     }
 
     /// The same, and which row is begun for the number, while the row of another one is spared: in one read.
+    ///
+    /// # Errors
+    ///
+    /// `Failed` where the medium failed.
     pub fn ask<M: Medium>(
         &self,
         unit: &mut M,
@@ -71,6 +80,10 @@ impl Journal {
     }
 
     /// Whether the card of a number has a row.
+    ///
+    /// # Errors
+    ///
+    /// `Failed` where the medium failed.
     pub fn has_row<M: Medium>(&self, unit: &mut M, number: &FullCardNumber) -> Result<bool, Failed>
         requires unit { IsUnit (M.state unit.old) }
         ensures row { IfOk result (λ found. IfSome (M.state unit.old).image (λ x. (found ≡ true) ↔ HasRow
@@ -84,6 +97,10 @@ impl Journal {
 
     /// Puts an entry among those that are owed to the card of a number, which has a row (`has_row` tells). It has it
     /// still.
+    ///
+    /// # Errors
+    ///
+    /// `Failed` where the medium failed; then the cell may hold the entry, what it held before, or nothing.
     pub fn put_owed<M: Medium>(
         &mut self,
         unit: &mut M,
@@ -114,6 +131,10 @@ impl Journal {
     ///
     /// At each moment of the call every other row is as it was, and the row that is begun is as it was, or has no
     /// session, or is begun. After it the number has a row.
+    ///
+    /// # Errors
+    ///
+    /// `Failed` where the medium failed; then the row may be begun or not, or have no session.
     pub fn begin_owed<M: Medium>(
         &mut self,
         unit: &mut M,
@@ -154,6 +175,10 @@ impl Journal {
     }
 
     /// Puts an entry into the row at an index, which is that of some number. Nothing is read.
+    ///
+    /// # Errors
+    ///
+    /// `Failed` where the medium failed; then the cell may hold the entry, what it held before, or nothing.
     pub fn put_owed_at<M: Medium>(
         &mut self,
         unit: &mut M,
@@ -183,6 +208,10 @@ impl Journal {
 
     /// Begins the row at an index for the card of a number, with a session time and without an entry: it is the one
     /// that `ask` told, and it is the number's after it. Nothing is read.
+    ///
+    /// # Errors
+    ///
+    /// `Failed` where the medium failed; then the row may be begun or not, or have no session.
     pub fn begin_owed_at<M: Medium>(
         &mut self,
         unit: &mut M,

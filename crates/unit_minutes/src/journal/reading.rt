@@ -1,3 +1,4 @@
+//! The recorded days of a unit and their words, by the journal.
 ghost use Rattle.std.specs.Prelude.{◌≡◌, ◌≢◌, ℕ, List, length, ◌+◌, ◌-◌, ◌*◌, ◌/◌, ◌<◌, ◌≤◌, min, IfOk, IfSome, Some};
 ghost use Rattle.std.specs.Prelude.{is_err};
 ghost use Rattle.unit_model.specs.declared.layout.TheConstants.{DAY_SLOTS, DAY_WORD_LIMIT, DAY_WORDS, HIGHEST_ODOMETER};
