@@ -26,6 +26,7 @@ pub struct Identity {
 /// How many zeros one write takes.
 const CHUNK: u32 = 4096;
 
+// The zeros of one write.
 fn chunk() -> [u8; 4096]
     ensures { result ≡ zeros 4096 }
 {

@@ -50,6 +50,7 @@ fn bad_front<M: Medium>(unit: &mut M, kept: u32, has_today: bool) -> Result<Opti
     Ok(front_place(version, rule, kept, has_today, odometer, overs))
 }
 
+// The place of the first field in front that fails.
 fn front_place(
     version: u32,
     rule: u32,
@@ -96,6 +97,7 @@ fn bad_cell<M: Medium>(unit: &mut M) -> Result<Option<u32>, Failed>
     Ok(found)
 }
 
+// Whether a cell with this minute and this word passes.
 fn cell_passes(minute: u32, word: u32) -> bool
     ensures { result ≡ (minute == 0 || nat_lt (word_minute word) 1440) }
 {
@@ -115,6 +117,7 @@ fn bad_ring<M: Medium>(unit: &mut M) -> Result<Option<u32>, Failed>
     Ok(ring_place(insertion, place, speed))
 }
 
+// The place of the first pointer of insertions, places and detailed speed that fails.
 fn ring_place(insertion: u32, place: u32, speed: u32) -> Option<u32>
     ensures { result ≡ first_failing (rings_of insertion place speed) }
 {

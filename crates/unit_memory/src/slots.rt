@@ -99,6 +99,7 @@ fn bad_day<M: Medium>(
     }
 }
 
+// The place of the first field in front of a day's words that fails.
 fn day_place(place: u32, passes: bool, odometer: u32, count: u32) -> Option<u32>
     requires { place + 8 < 2 ^ 32 }
     ensures found { result ≡ first_failing (day_front place passes odometer count) }
@@ -116,6 +117,7 @@ fn day_place(place: u32, passes: bool, odometer: u32, count: u32) -> Option<u32>
     None
 }
 
+// The place at which a scan failed, if it did.
 fn failed_of(scan: Result<Scan, u32>) -> Option<u32>
     ensures { result ≡ failed_of scan }
 {

@@ -48,6 +48,7 @@ fn is_first_good(place: u32, word: u32) -> bool
     place > 1 || (word / WORD_SLOT % 2 == place && word % WORD_MINUTES == 0)
 }
 
+// What the words say with a driver's word more; nothing where it may not stand there.
 fn driver_next(kept: u32, scan: Scan, word: u32) -> Option<Scan>
     requires few { scan.count < DAY_WORD_LIMIT }
     ensures next { result ≡ driver_next kept scan word }
@@ -77,6 +78,7 @@ fn driver_next(kept: u32, scan: Scan, word: u32) -> Option<Scan>
     })
 }
 
+// The same with a co-driver's word.
 fn codriver_next(kept: u32, scan: Scan, word: u32) -> Option<Scan>
     requires few { scan.count < DAY_WORD_LIMIT }
     ensures next { result ≡ codriver_next kept scan word }

@@ -50,6 +50,7 @@ fn bits_of(state: State, crew: bool) -> u32
     crew_bit + absent_bit + activity_bits(state.act)
 }
 
+// The bits of an activity.
 fn activity_bits(act: Activity) -> u32
     ensures bits { result ≡ activity_number act }
     ensures short { result < 4 }

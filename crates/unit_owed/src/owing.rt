@@ -85,6 +85,7 @@ fn add_cell(owed: &mut Owed, cell: u32, minute: u32, word: u32, owing: Owing)
     }
 }
 
+// Whether the entry of a cell with this minute is owed.
 fn is_owed(cell: u32, minute: u32, owing: Owing) -> bool
     ensures { result ≡ (minute % 4 == cell && nat_le 1440 minute)
         && counts owing.session owing.after owing.kept minute }

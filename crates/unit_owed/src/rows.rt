@@ -124,6 +124,7 @@ fn lesser(rows: &[u8], spared: Option<u32>, best: Option<u32>, row: u32) -> Opti
     }
 }
 
+// Whether a row is the spared one.
 fn is_this_row(spared: Option<u32>, row: u32) -> bool
     ensures { result ≡ is_this_row spared row }
 {
