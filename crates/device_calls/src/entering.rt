@@ -64,7 +64,7 @@ pub enum NotEntered {
     TimeOverlap { stored: u32, now: u32 },
 }
 
-// Why a card is not accepted, as the insertion of a session tells it.
+/// Why a card is not accepted, as the insertion of a session tells it.
 fn refused_by(fault: InsertFault) -> NotEntered
     ensures { result ≡ of_card fault }
 {
@@ -75,7 +75,7 @@ fn refused_by(fault: InsertFault) -> NotEntered
     }
 }
 
-// A card that told this gets the entries that it is owed, and a session.
+/// A card that told this gets the entries that it is owed, and a session.
 fn insert_by<C: Medium>(
     card: &mut C,
     insertion: CardInsertion,
@@ -110,7 +110,7 @@ fn insert_by<C: Medium>(
     }
 }
 
-// The same, once the unit tells which entries these are.
+/// The same, once the unit tells which entries these are.
 fn enter_as<M: Medium, C: Medium>(
     unit: &mut M,
     journal: &Journal,
@@ -141,7 +141,7 @@ fn enter_as<M: Medium, C: Medium>(
     }
 }
 
-// The same, of a card behind a port, once it is judged.
+/// The same, of a card behind a port, once it is judged.
 fn enter_by<M: Medium, C: Medium>(
     unit: &mut M,
     journal: &Journal,
@@ -163,7 +163,7 @@ fn enter_by<M: Medium, C: Medium>(
     }
 }
 
-// How many bytes a registration has, which is 15: called for the proof alone.
+/// How many bytes a registration has, which is 15: called for the proof alone.
 fn length_of(registration: &Registration) -> usize
     ensures { length registration.now.0 ≡ 15 }
 {

@@ -77,7 +77,7 @@ impl NoCardRun {
         self.end()
     }
 
-    // The run goes on, with so many seconds more.
+    /// The run goes on, with so many seconds more.
     fn grow(&mut self, second: u32, n: u32)
         requires fits { second + n ≤ 2 ^ 32 }
         requires next { IsNext self.old second }
@@ -88,7 +88,7 @@ impl NoCardRun {
         self.seconds += n as u64;
     }
 
-    // The run's first second where this one follows its own.
+    /// The run's first second where this one follows its own.
     fn first(&self, second: u32) -> u32
         requires next { IsNext self.now second }
         ensures value { result ≡ (if self.now.seconds == 0 then second else self.now.begin) }
@@ -100,7 +100,7 @@ impl NoCardRun {
         self.begin
     }
 
-    // The run ends.
+    /// The run ends.
     fn end(&mut self) -> Option<Span>
         ensures value { result ≡ span_in self.old }
         ensures kept { self.new ≡ no_run }
@@ -112,7 +112,7 @@ impl NoCardRun {
     }
 }
 
-// The run of so many seconds, if there is one.
+/// The run of so many seconds, if there is one.
 fn run_of(begin: u32, seconds: u64) -> Option<Span>
     requires { begin + seconds ≤ 2 ^ 32 }
     ensures { result ≡ span_in (record { begin = begin; seconds = seconds }) }

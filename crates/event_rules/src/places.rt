@@ -58,7 +58,7 @@ pub fn day_place(kind: u8, held: &[Held], event: &Held) -> Option<u8>
     }
 }
 
-// The place of the event that began on a day.
+/// The place of the event that began on a day.
 fn place_on(held: &[Held], day: u32) -> Option<usize>
     ensures place { result ≡ position (is_of_day day) held.now }
     ensures there { IfSome result (λ place. place < length held.now) }
@@ -76,7 +76,7 @@ pub fn similar_after(held: Option<u8>) -> u8
     }
 }
 
-// The place of the earliest begin, where the event begins later.
+/// The place of the earliest begin, where the event begins later.
 fn recent(held: &[Held], event: &Held) -> Option<u8>
     requires { length held.now ≤ 255 }
     ensures { result ≡ recent_place held.now event.now }
@@ -87,7 +87,7 @@ fn recent(held: &[Held], event: &Held) -> Option<u8>
     }
 }
 
-// The place of the earliest begin; an empty place is the earliest.
+/// The place of the earliest begin; an empty place is the earliest.
 fn earliest_place(held: &[Held]) -> Option<usize>
     ensures place { result ≡ earliest (λ h. h.begin) held.now }
     ensures there { IfSome result (λ place. place < length held.now) }
@@ -95,7 +95,7 @@ fn earliest_place(held: &[Held]) -> Option<usize>
     held.iter().position(|h| is_earliest(h, held))
 }
 
-// This place, where the event there begins earlier.
+/// This place, where the event there begins earlier.
 fn later_place(place: usize, held: &[Held], event: &Held) -> Option<u8>
     requires place { place < length held.now }
     requires most { length held.now ≤ 255 }
@@ -108,21 +108,21 @@ fn later_place(place: usize, held: &[Held], event: &Held) -> Option<u8>
     }
 }
 
-// Whether no held event begins earlier.
+/// Whether no held event begins earlier.
 fn is_earliest(one: &Held, held: &[Held]) -> bool
     ensures { result ≡ list_all (λ h. nat_le one.now.begin h.begin) held.now }
 {
     held.iter().all(|h| one.begin <= h.begin)
 }
 
-// Whether an event stands there that began on this day.
+/// Whether an event stands there that began on this day.
 fn began_on(held: &Held, day: u32) -> bool
     ensures { result ≡ is_of_day day held.now }
 {
     held.begin != 0 && held.begin / DAY_SECONDS == day
 }
 
-// By what the events of a day are measured.
+/// By what the events of a day are measured.
 fn measured(purpose: Purpose, event: &Held) -> u32
     ensures { result ≡ measure purpose event.now }
 {
@@ -133,7 +133,7 @@ fn measured(purpose: Purpose, event: &Held) -> u32
     }
 }
 
-// Whether one event a day is kept.
+/// Whether one event a day is kept.
 fn keeps_by_day(purpose: Purpose) -> bool
     ensures { result ≡ is_by_day purpose }
 {

@@ -21,7 +21,7 @@ pub struct Fast {
 }
 
 impl Fast {
-    // With so many seconds more at one speed, which follow its own.
+    /// With so many seconds more at one speed, which follow its own.
     #[tactic(auto, using(crate::proofs::Sums::sum_fits))]
     fn grown(self, second: u32, n: u32, speed: u8) -> Self
         requires next { IsNext self second }
@@ -39,7 +39,7 @@ impl Fast {
         }
     }
 
-    // Its first second where this one follows its own.
+    /// Its first second where this one follows its own.
     fn first(self, second: u32) -> u32
         requires next { IsNext self second }
         ensures value { result ≡ (if self.seconds == 0 then second else self.begin) }
@@ -51,7 +51,7 @@ impl Fast {
         self.begin
     }
 
-    // The over speeding that it is where it ends now.
+    /// The over speeding that it is where it ends now.
     fn over(self) -> Option<Over>
         requires end { self.begin + self.seconds ≤ 2 ^ 32 }
         requires sum { self.sum ≤ 255 * self.seconds }
@@ -69,7 +69,7 @@ impl Fast {
     }
 }
 
-// The average of so many speeds with this sum, rounded down.
+/// The average of so many speeds with this sum, rounded down.
 #[tactic(auto, using(crate::proofs::Sums::average_fits))]
 fn average(sum: u64, seconds: u64) -> u8
     requires some { 0 < seconds }
@@ -150,14 +150,14 @@ impl Overspeed {
         self.end()
     }
 
-    // Whether a speed is above the limit.
+    /// Whether a speed is above the limit.
     fn is_above(&self, speed: u8) -> bool
         ensures { result ≡ nat_lt self.now.limit speed }
     {
         speed > self.limit
     }
 
-    // The run goes on, with so many seconds more.
+    /// The run goes on, with so many seconds more.
     fn grow(&mut self, second: u32, n: u32, speed: u8)
         requires fits { second + n ≤ 2 ^ 32 }
         requires next { IsNext self.old.run second }
@@ -167,7 +167,7 @@ impl Overspeed {
         self.run = self.run.grown(second, n, speed);
     }
 
-    // The run ends.
+    /// The run ends.
     fn end(&mut self) -> Option<Over>
         ensures value { result ≡ over_in self.old.run }
         ensures kept { self.new ≡ record { limit = self.old.limit; run = no_run } }

@@ -112,7 +112,7 @@ pub fn close_all<L: Ledger>(minutes: &mut [Counted], act: Activity, steps: &mut 
     }
 }
 
-// Whether one is so and the other is not.
+/// Whether one is so and the other is not.
 fn flags_differ(one: bool, other: bool) -> bool
     ensures { OnFalse result (one ≡ other) }
 {
@@ -196,7 +196,7 @@ pub fn driver_class(rule: Rule, before: Counted, this: Counted, after: Counted) 
     }
 }
 
-// Whether it is DRIVING.
+/// Whether it is DRIVING.
 fn drives(act: Activity) -> bool
     ensures { result ≡ is_driving act }
 {

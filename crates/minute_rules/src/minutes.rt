@@ -164,7 +164,7 @@ impl Minutes {
         self.feed_once::<Brand>(speed, Blank::new(1))
     }
 
-    // `feed`, by steps that nobody counts.
+    /// `feed`, by steps that nobody counts.
     fn feed_once<L: Ledger>(&mut self, speed: u8, blank: Blank) -> Decided
         requires name { blank.name ≡ L.name }
         requires parts { blank.parts ≡ L.parts }
@@ -222,7 +222,7 @@ impl Minutes {
         self.feed_alike(more, speed, steps)
     }
 
-    // Seconds of one minute.
+    /// Seconds of one minute.
     fn feed_within<L: Ledger>(&mut self, n: u32, speed: u8, steps: &mut Steps<L>) -> Alike
         requires some { 0 < n }
         requires fits { self.old.next + n ≤ 2 ^ 32 - 1 }
@@ -244,7 +244,7 @@ impl Minutes {
         }
     }
 
-    // A whole minute, and so many more where they go on alike.
+    /// A whole minute, and so many more where they go on alike.
     fn feed_alike<L: Ledger>(&mut self, more: u32, speed: u8, steps: &mut Steps<L>) -> Alike
         requires whole { self.old.next % 60 ≡ 0 }
         requires fits { self.old.next + 60 + 60 * more ≤ 2 ^ 32 - 1 }
@@ -275,7 +275,7 @@ impl Minutes {
         }
     }
 
-    // The same, so many minutes later at this speed.
+    /// The same, so many minutes later at this speed.
     fn later(&self, minutes: u32, speed: u8) -> Minutes
         requires { self.now.next + 60 * minutes ≤ 2 ^ 32 - 1 }
         ensures { result ≡ later minutes speed self.now }
@@ -297,7 +297,7 @@ impl Minutes {
         }
     }
 
-    // Whether they are the same, with all minutes that are kept of a long span.
+    /// Whether they are the same, with all minutes that are kept of a long span.
     fn is_as(&self, other: &Minutes) -> bool
         ensures { OnTrue result ((self.now ≡ other.now) × (length self.now.past ≡ PAST)) }
     {
@@ -317,7 +317,7 @@ impl Minutes {
         true
     }
 
-    // All but the minutes before that of the next second.
+    /// All but the minutes before that of the next second.
     fn moment(&self) -> Moment
         ensures { result ≡ moment_of self.now }
     {
@@ -343,7 +343,7 @@ impl Minutes {
         decided
     }
 
-    // The minutes before the next second's minute that were not given yet.
+    /// The minutes before the next second's minute that were not given yet.
     fn owed(&self) -> Decided
         ensures { result.items ≡ owed self.now }
     {
@@ -354,7 +354,7 @@ impl Minutes {
         decided
     }
 
-    // So many seconds of one minute.
+    /// So many seconds of one minute.
     fn run<L: Ledger>(&mut self, n: u32, speed: u8, steps: &mut Steps<L>)
         requires { self.old.next + n ≤ 2 ^ 32 - 1 }
         ensures kept { self.new ≡ run n speed self.old }
@@ -368,7 +368,7 @@ impl Minutes {
         }
     }
 
-    // The driver's open seconds get this activity.
+    /// The driver's open seconds get this activity.
     fn close<L: Ledger>(&mut self, act: Activity, steps: &mut Steps<L>)
         ensures kept { self.new ≡ kept_closed act self.old }
         ensures cost { steps.new ≤ steps.old + 5 }
@@ -377,7 +377,7 @@ impl Minutes {
         self.here.close(act);
     }
 
-    // The first rest or availability within 120 seconds of the stop counts from the stop on.
+    /// The first rest or availability within 120 seconds of the stop counts from the stop on.
     fn end_early<L: Ledger>(&mut self, steps: &mut Steps<L>)
         ensures kept { self.new ≡ ended self.old.driver.waiting self.old.driver.early self.old }
         ensures cost { steps.new ≤ steps.old + 5 }
@@ -388,8 +388,8 @@ impl Minutes {
         }
     }
 
-    // What was selected for a second at speed 0: the first rest or availability within 120 seconds of the stop counts
-    // from the stop on.
+    /// What was selected for a second at speed 0: the first rest or availability within 120 seconds of the stop counts
+    /// from the stop on.
     fn hear<L: Ledger>(&mut self, steps: &mut Steps<L>)
         ensures kept { self.new ≡ heard self.old }
         ensures cost { steps.new ≤ steps.old + 5 }
@@ -399,8 +399,8 @@ impl Minutes {
         self.codriver.hear();
     }
 
-    // Seconds at speed 0, for which nothing is selected any more: the driver waits till the 120th second after the
-    // stop.
+    /// Seconds at speed 0, for which nothing is selected any more: the driver waits till the 120th second after the
+    /// stop.
     fn pass<L: Ledger>(&mut self, n: u32, steps: &mut Steps<L>)
         requires { self.old.next + n ≤ 2 ^ 32 - 1 }
         ensures kept { self.new ≡ passed n self.old }
@@ -414,7 +414,7 @@ impl Minutes {
         self.next += n;
     }
 
-    // Moving seconds: what was selected for them does not count, and a stop may follow.
+    /// Moving seconds: what was selected for them does not count, and a stop may follow.
     fn drive<L: Ledger>(&mut self, n: u32, speed: u8, steps: &mut Steps<L>)
         requires { self.old.next + n ≤ 2 ^ 32 - 1 }
         ensures kept { self.new ≡ driven n speed self.old }
@@ -435,7 +435,7 @@ impl Minutes {
         self.next += n;
     }
 
-    // The minute that the last second decides, if it ended its minute.
+    /// The minute that the last second decides, if it ended its minute.
     fn end_minute(&mut self) -> Decided
         ensures given { result.items ≡ decided_now self.old }
         ensures kept { self.new ≡ minute_ended self.old }
@@ -453,7 +453,7 @@ impl Minutes {
         decided
     }
 
-    // Another minute begins.
+    /// Another minute begins.
     fn turn(&mut self)
         ensures { self.new ≡ turned self.old }
     {
@@ -467,7 +467,7 @@ impl Minutes {
         };
     }
 
-    // The class of the minute so many before that of the next second, by what is known now.
+    /// The class of the minute so many before that of the next second, by what is known now.
     fn class(&self, back: u32) -> Minute
         requires { 0 < back × back ≤ 4 }
         ensures { result ≡ class_kept self.now back }
@@ -486,7 +486,7 @@ impl Minutes {
         }
     }
 
-    // What is counted of the minute so many before that of the next second; nothing where it is not kept.
+    /// What is counted of the minute so many before that of the next second; nothing where it is not kept.
     fn minute_back(&self, back: u32) -> Counted
         ensures { result ≡ minute_back self.now back }
     {
@@ -502,7 +502,7 @@ impl Minutes {
     }
 }
 
-// Whether something else is kept, but for the minutes before that of the next second.
+/// Whether something else is kept, but for the minutes before that of the next second.
 fn moments_differ(one: Moment, other: Moment) -> bool
     ensures { OnFalse result (one ≡ other) }
 {
@@ -520,7 +520,7 @@ fn moments_differ(one: Moment, other: Moment) -> bool
     false
 }
 
-// How many whole minutes after a minute may bear on it.
+/// How many whole minutes after a minute may bear on it.
 fn ahead(rule: Rule) -> u32
     ensures value { result ≡ minutes_ahead rule }
     ensures most { result ≤ 3 }

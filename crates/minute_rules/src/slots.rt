@@ -71,7 +71,7 @@ impl CodriverSlot {
     }
 }
 
-// Whether they are two selections.
+/// Whether they are two selections.
 fn picks_differ(one: Pick, other: Pick) -> bool
     ensures { OnFalse result (one ≡ other) }
 {
@@ -83,7 +83,7 @@ fn picks_differ(one: Pick, other: Pick) -> bool
     false
 }
 
-// Whether something else is selected.
+/// Whether something else is selected.
 fn selections_differ(one: Option<Pick>, other: Option<Pick>) -> bool
     ensures { OnFalse result (one ≡ other) }
 {
@@ -99,7 +99,7 @@ fn selections_differ(one: Option<Pick>, other: Option<Pick>) -> bool
     }
 }
 
-// Whether the waits are two.
+/// Whether the waits are two.
 fn waits_differ(one: Option<u32>, other: Option<u32>) -> bool
     ensures { OnFalse result (one ≡ other) }
 {

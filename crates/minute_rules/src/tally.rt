@@ -83,7 +83,7 @@ impl Tally {
     }
 }
 
-// Whether they are the same.
+/// Whether they are the same.
 fn is_same(one: Activity, other: Activity) -> bool
     ensures { result ≡ same_activity one other }
 {

@@ -42,7 +42,7 @@ pub(crate) fn index_of<M: Medium>(unit: &mut M, nth: u16) -> Result<u32, Failed>
     Ok(found.index)
 }
 
-// The index of the oldest place: the one after the pointer, round the end.
+/// The index of the oldest place: the one after the pointer, round the end.
 fn oldest<M: Medium>(unit: &mut M) -> Result<u32, Failed>
     requires unit { (M.state unit.old).size ≡ IMAGE_SIZE }
     ensures index { IfOk result (λ first. IfSome (M.state unit.old).image (λ x. first ≡ after (pointer speed_ring x))) }
@@ -53,7 +53,7 @@ fn oldest<M: Medium>(unit: &mut M) -> Result<u32, Failed>
     Ok(after(pointer))
 }
 
-// The index after the pointer, round the end.
+/// The index after the pointer, round the end.
 fn after(pointer: u32) -> u32
     ensures next { result ≡ after pointer }
     ensures below { result < BLOCK_SLOTS }
@@ -65,7 +65,7 @@ fn after(pointer: u32) -> u32
     }
 }
 
-// The index so many steps behind another, round the end.
+/// The index so many steps behind another, round the end.
 fn turned(first: u32, step: u32) -> u32
     requires first { first < BLOCK_SLOTS }
     requires step { step < BLOCK_SLOTS }
@@ -80,7 +80,7 @@ fn turned(first: u32, step: u32) -> u32
     }
 }
 
-// One place more, with a block there or without.
+/// One place more, with a block there or without.
 fn pick(found: Found, there: bool, index: u32) -> Found
     ensures { result ≡ picked found there index }
 {
@@ -107,7 +107,7 @@ pub(crate) fn block_at<M: Medium>(unit: &mut M, index: u32) -> Result<Block, Fai
     Ok(Block { time, speeds })
 }
 
-// The speeds that stand at a place.
+/// The speeds that stand at a place.
 fn read_speeds<M: Medium>(unit: &mut M, place: u32) -> Result<[u8; 60], Failed>
     requires { place + 60 ≤ (M.state unit.old).size }
     ensures value { IfOk result (λ speeds. IfSome (M.state unit.old).image (λ x. speeds ≡ bytes_at x place 60)) }

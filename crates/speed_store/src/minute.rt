@@ -61,7 +61,7 @@ impl SpeedMinute {
         self.close(second - (MINUTE_SECONDS - n))
     }
 
-    // So many seconds more.
+    /// So many seconds more.
     fn put(&mut self, n: u32, speed: u8)
         requires { length self.old + n ≤ 60 }
         ensures { self.new ≡ self.old ++ replicate n speed }
@@ -71,7 +71,7 @@ impl SpeedMinute {
         self.count = end;
     }
 
-    // The minute is over, which began at this second.
+    /// The minute is over, which began at this second.
     fn close(&mut self, time: u32) -> Option<Block>
         ensures block { result ≡ block_in time self.old }
         ensures time { IfSome result (λ b. b.time ≡ time) }
@@ -90,7 +90,7 @@ impl SpeedMinute {
     }
 }
 
-// Whether a speed above 0 is among these.
+/// Whether a speed above 0 is among these.
 fn moves(speeds: &[u8]) -> bool
     ensures { result ≡ is_moving speeds.now }
 {

@@ -26,7 +26,7 @@ pub struct Identity {
 /// How many zeros one write takes.
 const CHUNK: u32 = 4096;
 
-// The zeros of one write.
+/// The zeros of one write.
 fn chunk() -> [u8; 4096]
     ensures { result ≡ zeros 4096 }
 {
@@ -57,7 +57,7 @@ pub fn format_unit<M: Medium>(unit: &mut M, identity: &Identity) -> Result<(), F
     Ok(())
 }
 
-// Writes the identification number, the registration and the speed limit.
+/// Writes the identification number, the registration and the speed limit.
 fn identify<M: Medium>(unit: &mut M, identity: &Identity) -> Result<(), Failed>
     requires works { (M.state unit.old).works ≡ true }
     requires unit { IsUnit (M.state unit.old) }
@@ -75,7 +75,7 @@ fn identify<M: Medium>(unit: &mut M, identity: &Identity) -> Result<(), Failed>
     Ok(())
 }
 
-// Writes zeros from one place to another.
+/// Writes zeros from one place to another.
 fn clear<M: Medium>(unit: &mut M, from: u32, to: u32) -> Result<(), Failed>
     requires works { (M.state unit.old).works ≡ true }
     requires unit { IsUnit (M.state unit.old) }

@@ -26,7 +26,7 @@ pub struct Judged {
     pub walk: Walk,
 }
 
-// The first of the failing places, where a field at this place comes after the others.
+/// The first of the failing places, where a field at this place comes after the others.
 fn or_failing(found: Option<u32>, place: u32, passes: bool) -> Option<u32>
     ensures { result ≡ or_failing found place passes }
 {
@@ -36,7 +36,7 @@ fn or_failing(found: Option<u32>, place: u32, passes: bool) -> Option<u32>
     }
 }
 
-// The version, the rule byte, the last-kept minute, the odometer, the number of over speedings.
+/// The version, the rule byte, the last-kept minute, the odometer, the number of over speedings.
 fn bad_front<M: Medium>(unit: &mut M, kept: u32, has_today: bool) -> Result<Option<u32>, Failed>
     requires unit { (M.state unit.old).size ≡ IMAGE_SIZE }
     ensures found { IfOk result (λ found. IfSome (M.state unit.old).image (λ x. found ≡ first_failing
@@ -50,7 +50,7 @@ fn bad_front<M: Medium>(unit: &mut M, kept: u32, has_today: bool) -> Result<Opti
     Ok(front_place(version, rule, kept, has_today, odometer, overs))
 }
 
-// The place of the first field in front that fails.
+/// The place of the first field in front that fails.
 fn front_place(
     version: u32,
     rule: u32,
@@ -79,7 +79,7 @@ fn front_place(
     None
 }
 
-// The cells of the owed rows.
+/// The cells of the owed rows.
 fn bad_cell<M: Medium>(unit: &mut M) -> Result<Option<u32>, Failed>
     requires works { (M.state unit.old).works ≡ true }
     requires unit { (M.state unit.old).size ≡ IMAGE_SIZE }
@@ -97,14 +97,14 @@ fn bad_cell<M: Medium>(unit: &mut M) -> Result<Option<u32>, Failed>
     Ok(found)
 }
 
-// Whether a cell with this minute and this word passes.
+/// Whether a cell with this minute and this word passes.
 fn cell_passes(minute: u32, word: u32) -> bool
     ensures { result ≡ (minute == 0 || nat_lt (word_minute word) 1440) }
 {
     minute == 0 || word % WORD_MINUTES < DAY_MINUTES
 }
 
-// The pointers of insertions, places and detailed speed.
+/// The pointers of insertions, places and detailed speed.
 fn bad_ring<M: Medium>(unit: &mut M) -> Result<Option<u32>, Failed>
     requires unit { (M.state unit.old).size ≡ IMAGE_SIZE }
     ensures found { IfOk result (λ found. IfSome (M.state unit.old).image (λ x. found ≡ first_failing
@@ -117,7 +117,7 @@ fn bad_ring<M: Medium>(unit: &mut M) -> Result<Option<u32>, Failed>
     Ok(ring_place(insertion, place, speed))
 }
 
-// The place of the first pointer of insertions, places and detailed speed that fails.
+/// The place of the first pointer of insertions, places and detailed speed that fails.
 fn ring_place(insertion: u32, place: u32, speed: u32) -> Option<u32>
     ensures { result ≡ first_failing (rings_of insertion place speed) }
 {
@@ -133,7 +133,7 @@ fn ring_place(insertion: u32, place: u32, speed: u32) -> Option<u32>
     None
 }
 
-// Whether the pointer of the days is an index, their slots are dense, and a later day stands at it.
+/// Whether the pointer of the days is an index, their slots are dense, and a later day stands at it.
 fn pointer_passes(kept: u32, pointer: u32, walk: Walk) -> bool
     ensures { result ≡ pointer_passes kept pointer walk }
 {
@@ -142,7 +142,7 @@ fn pointer_passes(kept: u32, pointer: u32, walk: Walk) -> bool
         && (walk.last_date / DAY_SECONDS <= kept / DAY_MINUTES || walk.last_index == pointer)
 }
 
-// Whether the last-kept minute's day is there.
+/// Whether the last-kept minute's day is there.
 fn has_today(today: Option<u32>) -> bool
     ensures { result ≡ is_some today }
 {
@@ -152,7 +152,7 @@ fn has_today(today: Option<u32>) -> bool
     }
 }
 
-// The index behind the pointer, where the oldest place is; the end where the pointer is no index.
+/// The index behind the pointer, where the oldest place is; the end where the pointer is no index.
 fn turn_at(pointer: u32) -> u32
     ensures turn { result ≡ turn_at pointer }
     ensures below { result ≤ DAY_SLOTS }

@@ -131,7 +131,7 @@ impl UnitMemory {
     }
 }
 
-// What is said of a unit, together.
+/// What is said of a unit, together.
 fn facts_of(identity: Identity, version: u8, rule_byte: u8) -> UnitFacts
     ensures { result ≡ record {
       vin = identity.vin;
@@ -151,7 +151,7 @@ fn facts_of(identity: Identity, version: u8, rule_byte: u8) -> UnitFacts
     }
 }
 
-// Reads what the unit was told of its vehicle.
+/// Reads what the unit was told of its vehicle.
 fn read_identity<M: Medium>(unit: &mut M) -> Result<Identity, Failed>
     requires unit { (M.state unit.old).size ≡ IMAGE_SIZE }
     ensures identity { IfOk result (λ identity. IfSome (M.state unit.old).image (IsIdentity identity)) }
@@ -170,7 +170,7 @@ fn read_identity<M: Medium>(unit: &mut M) -> Result<Identity, Failed>
     })
 }
 
-// Reads the version of an image that decodes.
+/// Reads the version of an image that decodes.
 fn read_version<M: Medium>(unit: &mut M) -> Result<u8, Failed>
     requires works { (M.state unit.old).works ≡ true }
     requires unit { (M.state unit.old).size ≡ IMAGE_SIZE }
@@ -182,14 +182,14 @@ fn read_version<M: Medium>(unit: &mut M) -> Result<u8, Failed>
     Ok(version_known(version))
 }
 
-// The version of an image that decodes, by its number.
+/// The version of an image that decodes, by its number.
 fn version_known(version: u32) -> u8
     ensures { result ≡ version_known version }
 {
     if version == PLAIN_VERSION { 1 } else { 2 }
 }
 
-// Reads the rule byte of an image of this version.
+/// Reads the rule byte of an image of this version.
 fn read_rule_byte<M: Medium>(unit: &mut M, version: u8) -> Result<u8, Failed>
     requires works { (M.state unit.old).works ≡ true }
     requires unit { (M.state unit.old).size ≡ IMAGE_SIZE }

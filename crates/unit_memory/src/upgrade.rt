@@ -44,7 +44,7 @@ impl UnitMemory {
     }
 }
 
-// The amended rule in an image of version 1, and then the version 2.
+/// The amended rule in an image of version 1, and then the version 2.
 fn write_amended<M: Medium>(unit: &mut M) -> Result<(), Failed>
     requires works { (M.state unit.old).works ≡ true }
     requires unit { IsUnit (M.state unit.old) }

@@ -44,7 +44,7 @@ impl Walk {
 }
 
 impl Density {
-    // With one slot more that is there.
+    /// With one slot more that is there.
     fn after_day(self) -> Density
         ensures { result ≡ after_day self }
     {
@@ -56,7 +56,7 @@ impl Density {
         }
     }
 
-    // With one empty slot more.
+    /// With one empty slot more.
     fn after_gap(self) -> Density
         ensures { result ≡ after_gap self }
     {

@@ -25,7 +25,7 @@ pub struct Scan {
     pub next_codriver: u32,
 }
 
-// After one word more, where it may stand at this place of the day; words later than a minute count for nothing.
+/// After one word more, where it may stand at this place of the day; words later than a minute count for nothing.
 fn next_scan(kept: u32, scan: Scan, place: u32, word: u32) -> Option<Scan>
     requires few { scan.count < DAY_WORD_LIMIT }
     ensures next { result ≡ next_scan kept scan place word }
@@ -41,14 +41,14 @@ fn next_scan(kept: u32, scan: Scan, place: u32, word: u32) -> Option<Scan>
     codriver_next(kept, scan, word)
 }
 
-// The first two words are the driver's and the co-driver's at minute 0.
+/// The first two words are the driver's and the co-driver's at minute 0.
 fn is_first_good(place: u32, word: u32) -> bool
     ensures { result ≡ is_first_good place word }
 {
     place > 1 || (word / WORD_SLOT % 2 == place && word % WORD_MINUTES == 0)
 }
 
-// What the words say with a driver's word more; nothing where it may not stand there.
+/// What the words say with a driver's word more; nothing where it may not stand there.
 fn driver_next(kept: u32, scan: Scan, word: u32) -> Option<Scan>
     requires few { scan.count < DAY_WORD_LIMIT }
     ensures next { result ≡ driver_next kept scan word }
@@ -78,7 +78,7 @@ fn driver_next(kept: u32, scan: Scan, word: u32) -> Option<Scan>
     })
 }
 
-// The same with a co-driver's word.
+/// The same with a co-driver's word.
 fn codriver_next(kept: u32, scan: Scan, word: u32) -> Option<Scan>
     requires few { scan.count < DAY_WORD_LIMIT }
     ensures next { result ≡ codriver_next kept scan word }
@@ -117,8 +117,8 @@ pub fn word_in(bytes: &[u8], place: u32) -> u32
     u32::from(u16::from_be_bytes([bytes[from], bytes[from + 1]]))
 }
 
-// Goes on over so many words in these bytes, behind so many words of a day whose first word stands at this place of the
-// image.
+/// Goes on over so many words in these bytes, behind so many words of a day whose first word stands at this place of the
+/// image.
 fn scan_words(
     kept: u32,
     base: u32,
@@ -145,7 +145,7 @@ fn scan_words(
     Ok(scan)
 }
 
-// Reads a block of a day's words at once, and goes on over so many of them.
+/// Reads a block of a day's words at once, and goes on over so many of them.
 fn scan_block<M: Medium>(
     unit: &mut M,
     kept: u32,

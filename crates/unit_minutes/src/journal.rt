@@ -85,7 +85,7 @@ impl Journal {
         }
     }
 
-    // Reads the journal of a unit that was judged.
+    /// Reads the journal of a unit that was judged.
     fn read<M: Medium>(unit: &mut M, judged: Judged) -> Result<Journal, UnitFault>
         requires works { (M.state unit.old).works ≡ true }
         requires unit { (M.state unit.old).size ≡ IMAGE_SIZE }
@@ -134,7 +134,7 @@ impl Journal {
         Odometer(self.notes.odometer)
     }
 
-    // The writes of a minute on the day of the last-kept one.
+    /// The writes of a minute on the day of the last-kept one.
     fn go_on<M: Medium>(&mut self, unit: &mut M, coming: Coming) -> Result<(), Failed>
         requires unit { IsUnit (M.state unit.old) }
         requires coming { IsComing coming }
@@ -155,8 +155,8 @@ impl Journal {
         Ok(())
     }
 
-    // The writes before a new day: the odometer, and what closes the day of the last-kept minute where it isn't at its
-    // end.
+    /// The writes before a new day: the odometer, and what closes the day of the last-kept minute where it isn't at its
+    /// end.
     fn turning(&self, odometer: u32) -> Writing
         requires { odometer ≤ HIGHEST_ODOMETER }
         ensures plan { result ≡ more (none 0 IMAGE_SIZE) (turning self.now odometer) }
@@ -180,7 +180,7 @@ impl Journal {
         plan
     }
 
-    // Makes the writes of a minute on a later day.
+    /// Makes the writes of a minute on a later day.
     fn renew<M: Medium>(&mut self, unit: &mut M, coming: Coming) -> Result<(), Failed>
         requires unit { IsUnit (M.state unit.old) }
         requires known { IfSome (M.state unit.old).image (λ x. pointer day_ring x < DAY_SLOTS) }
@@ -203,7 +203,7 @@ impl Journal {
         Ok(())
     }
 
-    // Makes the writes of a minute.
+    /// Makes the writes of a minute.
     fn write_minute<M: Medium>(&mut self, unit: &mut M, coming: Coming) -> Result<(), Failed>
         requires unit { IsUnit (M.state unit.old) }
         requires known { IfSome (M.state unit.old).image (λ x. pointer day_ring x < DAY_SLOTS) }
@@ -267,7 +267,7 @@ impl Journal {
         Ok(())
     }
 
-    // Makes the writes of a `mend`: the cells, the gate, the count.
+    /// Makes the writes of a `mend`: the cells, the gate, the count.
     fn write_mends<M: Medium>(&self, unit: &mut M) -> Result<(), Failed>
         requires unit { IsUnit (M.state unit.old) }
         ensures puts { PutsBy (M.state unit.old) (M.state unit.new) (is_err result) 0 mend_most (mending self.now) }

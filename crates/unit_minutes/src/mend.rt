@@ -18,7 +18,7 @@ use unit_model::layout::{
 /// day.
 pub type Mending = Plan<34, 4>;
 
-// Adds the emptying of a cell, where it is later than the last-kept minute.
+/// Adds the emptying of a cell, where it is later than the last-kept minute.
 fn add_emptied(plan: &mut Mending, place: u32, kept: u32, minute: u32)
     requires room { HasRoom 1 34 plan.old }
     requires inside { place + 4 ≤ IMAGE_SIZE }

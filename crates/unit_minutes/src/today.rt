@@ -129,7 +129,7 @@ pub fn read_today<M: Medium>(unit: &mut M, kept: u32, index: u32) -> Result<Toda
     Ok(today_of(kept % DAY_MINUTES, stored, scan))
 }
 
-// What a scan says, within its ranges.
+/// What a scan says, within its ranges.
 fn today_of(last: u32, stored: u32, scan: Result<Scan, u32>) -> Today
     requires { last < 1440 }
     ensures today { result ≡ today_of last stored scan }

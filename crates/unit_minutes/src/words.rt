@@ -21,8 +21,8 @@ pub fn first_bits(minute: u32, bits: SlotBits) -> SlotBits
     if minute == 0 { bits } else { BARE }
 }
 
-// Writes the beginning of a new day's slot: its date, the odometer, the count of two words, six spare bytes, and these
-// words.
+/// Writes the beginning of a new day's slot: its date, the odometer, the count of two words, six spare bytes, and these
+/// words.
 fn write_head(date: u32, odometer: u32, first: SlotBits, out: &mut [u8])
     requires size { length out.old ≡ 20 }
     requires driver { first.driver < 16 }

@@ -60,7 +60,7 @@ pub fn write_insertion(v: &Insertion, out: &mut [u8])
     write_use(v, behind);
 }
 
-// Writes what an insertion tells of the card's holder.
+/// Writes what an insertion tells of the card's holder.
 fn write_holder(v: &Insertion, out: &mut [u8])
     requires size { length out.old ≡ HOLDER }
     ensures bytes { out.new ≡ joined (holder_fields v.now) }
@@ -74,7 +74,7 @@ fn write_holder(v: &Insertion, out: &mut [u8])
     write_time(v.expiry, expiry);
 }
 
-// Writes what an insertion tells behind its holder: times, odometer values, the slot and the previous vehicle.
+/// Writes what an insertion tells behind its holder: times, odometer values, the slot and the previous vehicle.
 fn write_use(v: &Insertion, out: &mut [u8])
     requires size { HOLDER + length out.old ≡ Insertion.SIZE }
     requires odometer { v.now.odometer.0 < 2 ^ 24 }

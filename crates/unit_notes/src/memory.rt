@@ -36,32 +36,32 @@ use unit_memory::UnitMemory;
 /// new one. Version and vehicle, last-kept minute, odometer, owed rows and days stay, at each moment, and a unit that
 /// decoded still does.
 pub trait UnitNotes {
-    // The ring of insertions, for reading.
+    /// The ring of insertions, for reading.
     fn insertions(&self) -> Ring
         ensures { result ≡ insertion_ring };
 
-    // The ring of places, for reading.
+    /// The ring of places, for reading.
     fn places(&self) -> Ring
         ensures { result ≡ unit_place_ring };
 
-    // The places of all events but over speedings, for reading: ten of each of the types 01, 03, 04, 05, 06 and 08,
-    // one type after the other.
+    /// The places of all events but over speedings, for reading: ten of each of the types 01, 03, 04, 05, 06 and 08,
+    /// one type after the other.
     fn events(&self) -> Ring
         ensures { result ≡ all_events };
 
-    // The ten places of over speedings, for reading.
+    /// The ten places of over speedings, for reading.
     fn overs(&self) -> Ring
         ensures { result ≡ table_of OVER_SPEEDING };
 
-    // The 24 places of faults, for reading.
+    /// The 24 places of faults, for reading.
     fn faults(&self) -> Ring
         ensures { result ≡ table_of CARD_FAULT };
 
-    // Notes an insertion, the newest of its ring, and answers its index. The insertion's time is not 0.
-    //
-    // # Errors
-    //
-    // `Failed` where the medium failed.
+    /// Notes an insertion, the newest of its ring, and answers its index. The insertion's time is not 0.
+    ///
+    /// # Errors
+    ///
+    /// `Failed` where the medium failed.
     fn note_insertion<M: Medium>(&self, unit: &mut M, entry: &Insertion) -> Result<u32, Failed>
         requires unit { IsUnit (M.state unit.old) }
         requires time { entry.now.time.0 ≢ 0 }
@@ -77,13 +77,13 @@ pub trait UnitNotes {
             (λ x. PointsInside insertion_ring x
             → (M.state unit.new).clock ≤ (M.state unit.old).clock + adding_writes insertion_ring x) };
 
-    // Notes the withdrawal of the card of an insertion, by the index that
-    // [`note_insertion`](UnitNotes::note_insertion) answered: the time, and then the odometer. A stop leaves each of
-    // them written or not, the odometer only behind the time.
-    //
-    // # Errors
-    //
-    // `Failed` where the medium failed.
+    /// Notes the withdrawal of the card of an insertion, by the index that
+    /// [`note_insertion`](UnitNotes::note_insertion) answered: the time, and then the odometer. A stop leaves each of
+    /// them written or not, the odometer only behind the time.
+    ///
+    /// # Errors
+    ///
+    /// `Failed` where the medium failed.
     fn note_withdrawal<M: Medium>(
         &self,
         unit: &mut M,
@@ -103,11 +103,11 @@ pub trait UnitNotes {
         ensures cause { HasCause (M.state unit.old) (M.state unit.new) (is_err result) }
         ensures most { (M.state unit.new).clock ≤ (M.state unit.old).clock + 2 };
 
-    // Notes a place that the holder of a card entered, the newest of its ring. The entry's time is not 0.
-    //
-    // # Errors
-    //
-    // `Failed` where the medium failed.
+    /// Notes a place that the holder of a card entered, the newest of its ring. The entry's time is not 0.
+    ///
+    /// # Errors
+    ///
+    /// `Failed` where the medium failed.
     fn note_place<M: Medium>(
         &self,
         unit: &mut M,
@@ -126,13 +126,13 @@ pub trait UnitNotes {
             (λ x. PointsInside unit_place_ring x
             → (M.state unit.new).clock ≤ (M.state unit.old).clock + adding_writes unit_place_ring x) };
 
-    // Notes an event of the types 01, 03, 04, 05, 06 or 08, with its purpose (Annex IB, section III.12): at the place
-    // of the event of its day where that measures less, else in an empty place, else in that of the earliest begin,
-    // where it begins later. Where it is not kept, the event of its day counts it as similar.
-    //
-    // # Errors
-    //
-    // `Failed` where the medium failed.
+    /// Notes an event of the types 01, 03, 04, 05, 06 or 08, with its purpose (Annex IB, section III.12): at the place
+    /// of the event of its day where that measures less, else in an empty place, else in that of the earliest begin,
+    /// where it begins later. Where it is not kept, the event of its day counts it as similar.
+    ///
+    /// # Errors
+    ///
+    /// `Failed` where the medium failed.
     fn note_event<M: Medium>(&self, unit: &mut M, event: &UnitEvent) -> Result<(), Failed>
         requires unit { IsUnit (M.state unit.old) }
         requires kind { IsTrue (is_event event.now.kind && not (event.now.kind == OVER_SPEEDING)) }
@@ -147,13 +147,13 @@ pub trait UnitNotes {
         ensures cause { HasCause (M.state unit.old) (M.state unit.new) (is_err result) }
         ensures most { (M.state unit.new).clock ≤ (M.state unit.old).clock + 4 };
 
-    // Notes an over speeding with the driver's card number at its begin, zeros without a card (Annex IB, section
-    // III.12): its entry as an event of one of the last ten days, of the highest average speed; then its begin as that
-    // of the first one, where none is held; then the number of over speedings, one more, at most 255 (profile).
-    //
-    // # Errors
-    //
-    // `Failed` where the medium failed.
+    /// Notes an over speeding with the driver's card number at its begin, zeros without a card (Annex IB, section
+    /// III.12): its entry as an event of one of the last ten days, of the highest average speed; then its begin as that
+    /// of the first one, where none is held; then the number of over speedings, one more, at most 255 (profile).
+    ///
+    /// # Errors
+    ///
+    /// `Failed` where the medium failed.
     fn note_over<M: Medium>(
         &self,
         unit: &mut M,
@@ -171,12 +171,12 @@ pub trait UnitNotes {
         ensures cause { HasCause (M.state unit.old) (M.state unit.new) (is_err result) }
         ensures most { (M.state unit.new).clock ≤ (M.state unit.old).clock + 6 };
 
-    // Notes a fault of type 40, with its purpose: in an empty place, else in that of the earliest begin, where it
-    // begins later.
-    //
-    // # Errors
-    //
-    // `Failed` where the medium failed.
+    /// Notes a fault of type 40, with its purpose: in an empty place, else in that of the earliest begin, where it
+    /// begins later.
+    ///
+    /// # Errors
+    ///
+    /// `Failed` where the medium failed.
     fn note_fault<M: Medium>(&self, unit: &mut M, event: &UnitEvent) -> Result<(), Failed>
         requires unit { IsUnit (M.state unit.old) }
         requires kind { event.now.kind ≡ CARD_FAULT }

@@ -65,7 +65,7 @@ pub fn count_of(kind: u8) -> usize
     }
 }
 
-// Which of the types with events of 83 bytes it is.
+/// Which of the types with events of 83 bytes it is.
 fn order_of(kind: u8) -> u32
     ensures order { result ≡ side.order_of kind }
     ensures most { result ≤ 5 }
@@ -93,7 +93,7 @@ pub fn base_of(kind: u8) -> u32
     }
 }
 
-// So many places of a width, without a pointer: an entry is there where its begin is not 0.
+/// So many places of a width, without a pointer: an entry is there where its begin is not 0.
 fn places_at(base: u32, width: usize, count: usize) -> Ring
     requires width { BEGIN + 4 ≤ width }
     requires some { 0 < count }

@@ -52,7 +52,7 @@ pub fn write_fault(v: &UnitEvent, out: &mut [u8])
     write_cards(v, cards);
 }
 
-// Writes the card numbers of an event.
+/// Writes the card numbers of an event.
 fn write_cards(v: &UnitEvent, out: &mut [u8])
     requires size { length out.old ≡ 72 }
     ensures bytes { out.new ≡ joined (card_number_bytes v.now.driver_begin ∷ card_number_bytes v.now.codriver_begin

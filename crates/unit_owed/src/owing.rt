@@ -33,7 +33,7 @@ pub struct Owing {
     pub kept: u32,
 }
 
-// How many entries from the front on are earlier than a minute.
+/// How many entries from the front on are earlier than a minute.
 fn place_for(entries: &[Entry], minute: u32) -> usize
     ensures place { result ≡ prefix_len (λ e. nat_lt e.minute minute) entries.now }
     ensures below { result ≤ length entries.now }
@@ -45,7 +45,7 @@ fn place_for(entries: &[Entry], minute: u32) -> usize
     at
 }
 
-// Puts an entry behind those that are earlier.
+/// Puts an entry behind those that are earlier.
 fn place(owed: &mut Owed, entry: Entry)
     requires room { length owed.old.items < 4 }
     ensures placed { owed.new.items ≡ placed owed.old.items entry }
@@ -55,7 +55,7 @@ fn place(owed: &mut Owed, entry: Entry)
     owed.insert(at, entry);
 }
 
-// The entry of a cell.
+/// The entry of a cell.
 fn entry_of(minute: u32, word: u32) -> Entry
     requires { word < 65536 }
     ensures { result ≡ entry_of (record { minute = minute; word = word }) }
@@ -71,7 +71,7 @@ fn entry_of(minute: u32, word: u32) -> Entry
     }
 }
 
-// Adds the entry of a cell, where it holds one that is owed.
+/// Adds the entry of a cell, where it holds one that is owed.
 fn add_cell(owed: &mut Owed, cell: u32, minute: u32, word: u32, owing: Owing)
     requires cell { cell < CELLS }
     requires word { word < 65536 }
@@ -85,7 +85,7 @@ fn add_cell(owed: &mut Owed, cell: u32, minute: u32, word: u32, owing: Owing)
     }
 }
 
-// Whether the entry of a cell with this minute is owed.
+/// Whether the entry of a cell with this minute is owed.
 fn is_owed(cell: u32, minute: u32, owing: Owing) -> bool
     ensures { result ≡ (minute % 4 == cell && nat_le 1440 minute)
         && counts owing.session owing.after owing.kept minute }
@@ -94,7 +94,7 @@ fn is_owed(cell: u32, minute: u32, owing: Owing) -> bool
         && (owing.session / 60 <= minute && (owing.after < minute && minute <= owing.kept))
 }
 
-// The number in two bytes of the rows.
+/// The number in two bytes of the rows.
 fn word_in(rows: &[u8], place: u32) -> u32
     requires inside { place + 2 ≤ length rows.now }
     ensures value { result ≡ number_at rows.now place 2 }
@@ -104,7 +104,7 @@ fn word_in(rows: &[u8], place: u32) -> u32
     u32::from(u16::from_be_bytes([rows[from], rows[from + 1]]))
 }
 
-// What is owed of the cells of a row.
+/// What is owed of the cells of a row.
 fn owed_cells(rows: &[u8], row: u32, owing: Owing) -> Owed
     requires sized { length rows.now ≡ OWED.size }
     requires row { row < OWED_ROWS }
@@ -123,7 +123,7 @@ fn owed_cells(rows: &[u8], row: u32, owing: Owing) -> Owed
     owed
 }
 
-// What is owed of a row.
+/// What is owed of a row.
 fn owed_in(rows: &[u8], row: Option<u32>, owing: Owing) -> Owed
     requires sized { length rows.now ≡ OWED.size }
     requires row { IfSome row (λ r. r < OWED_ROWS) }

@@ -52,7 +52,7 @@ pub fn session_in(rows: &[u8], row: u32) -> u32
     number_at(rows, row * OWED_ROW_SIZE, 4)
 }
 
-// Whether a row is that of a number.
+/// Whether a row is that of a number.
 fn is_row_of(rows: &[u8], row: u32, number: &[u8]) -> bool
     requires sized { length rows.now ≡ OWED.size }
     requires row { row < OWED_ROWS }
@@ -62,7 +62,7 @@ fn is_row_of(rows: &[u8], row: u32, number: &[u8]) -> bool
     session_in(rows, row) != 0 && &rows[from..from + ROW_NUMBER.size as usize] == number
 }
 
-// The row that was found before, else this one where it is one.
+/// The row that was found before, else this one where it is one.
 fn or_this(found: Option<u32>, row: u32, is: bool) -> Option<u32>
     requires row { row < OWED_ROWS }
     requires found { IfSome found (λ r. r < OWED_ROWS) }
@@ -88,7 +88,7 @@ pub fn row_index(rows: &[u8], number: &[u8]) -> Option<u32>
     found
 }
 
-// The lowest empty row.
+/// The lowest empty row.
 fn empty_index(rows: &[u8]) -> Option<u32>
     requires sized { length rows.now ≡ OWED.size }
     ensures row { result ≡ empty_index rows.now }
@@ -101,7 +101,7 @@ fn empty_index(rows: &[u8]) -> Option<u32>
     found
 }
 
-// Of a row and the best one before it the one with the lesser session time; the spared one doesn't count.
+/// Of a row and the best one before it the one with the lesser session time; the spared one doesn't count.
 fn lesser(rows: &[u8], spared: Option<u32>, best: Option<u32>, row: u32) -> Option<u32>
     requires sized { length rows.now ≡ OWED.size }
     requires row { row < OWED_ROWS }
@@ -124,7 +124,7 @@ fn lesser(rows: &[u8], spared: Option<u32>, best: Option<u32>, row: u32) -> Opti
     }
 }
 
-// Whether a row is the spared one.
+/// Whether a row is the spared one.
 fn is_this_row(spared: Option<u32>, row: u32) -> bool
     ensures { result ≡ is_this_row spared row }
 {
@@ -134,7 +134,7 @@ fn is_this_row(spared: Option<u32>, row: u32) -> bool
     }
 }
 
-// Of the rows but the spared one the first that has the least session time.
+/// Of the rows but the spared one the first that has the least session time.
 fn least(rows: &[u8], spared: Option<u32>) -> Option<u32>
     requires sized { length rows.now ≡ OWED.size }
     ensures row { result ≡ least rows.now spared }
@@ -147,7 +147,7 @@ fn least(rows: &[u8], spared: Option<u32>) -> Option<u32>
     best
 }
 
-// The row of a number that is spared.
+/// The row of a number that is spared.
 fn spared_index(rows: &[u8], spared: Option<&[u8]>) -> Option<u32>
     requires sized { length rows.now ≡ OWED.size }
     ensures row { result ≡ spared_index (option_map (λ s. s.now) spared.entry) rows.now }

@@ -17,7 +17,7 @@ use unit_model::layout::{
     CELL_SIZE, CELL_WORD, CELLS, IMAGE_SIZE, OWED, OWED_ROW_SIZE, ROW_CELLS, ROW_NUMBER,
 };
 
-// The writes that put an entry into a row: the minute of its cell to 0, the word, the minute.
+/// The writes that put an entry into a row: the minute of its cell to 0, the word, the minute.
 fn putting(row: Option<u32>, minute: u32, word: u16) -> Plan<3, 4>
     requires row { IfSome row (λ r. r < OWED_ROWS) }
     ensures plan { result ≡ more (none 0 IMAGE_SIZE) (pieces_into minute word row) }
@@ -32,7 +32,7 @@ fn putting(row: Option<u32>, minute: u32, word: u16) -> Plan<3, 4>
     plan
 }
 
-// The writes that begin a row: the session to 0, the minutes of the cells to 0, the number, the session.
+/// The writes that begin a row: the session to 0, the minutes of the cells to 0, the number, the session.
 fn beginning(row: Option<u32>, number: &[u8], session: u32) -> Plan<7, 18>
     requires row { IfSome row (λ r. r < OWED_ROWS) }
     requires number { length number.now ≡ ROW_NUMBER.size }
@@ -53,7 +53,7 @@ fn beginning(row: Option<u32>, number: &[u8], session: u32) -> Plan<7, 18>
     plan
 }
 
-// Reads the rows, and writes an entry into that of a number.
+/// Reads the rows, and writes an entry into that of a number.
 fn write_entry<M: Medium>(unit: &mut M, number: &[u8], minute: u32, word: u16) -> Result<(), Failed>
     requires unit { IsUnit (M.state unit.old) }
     ensures puts { PutsBy (M.state unit.old) (M.state unit.new) (is_err result) 0 3
@@ -90,7 +90,7 @@ pub fn put_owed<M: Medium>(unit: &mut M, number: &[u8], entry: &Entry) -> Result
     write_entry(unit, number, entry.minute, entry_word(entry))
 }
 
-// Writes an entry into a row.
+/// Writes an entry into a row.
 fn write_into<M: Medium>(unit: &mut M, row: u32, minute: u32, word: u16) -> Result<(), Failed>
     requires unit { IsUnit (M.state unit.old) }
     requires row { row < OWED_ROWS }
@@ -123,7 +123,7 @@ pub fn put_owed_at<M: Medium>(unit: &mut M, row: u32, entry: &Entry) -> Result<(
     write_into(unit, row, entry.minute, entry_word(entry))
 }
 
-// Reads the rows, and begins one for a number.
+/// Reads the rows, and begins one for a number.
 fn write_row<M: Medium>(
     unit: &mut M,
     number: &[u8],
@@ -169,7 +169,7 @@ pub fn begin_owed<M: Medium>(
     write_row(unit, number, session, spared)
 }
 
-// Begins a row for a number.
+/// Begins a row for a number.
 fn write_row_at<M: Medium>(
     unit: &mut M,
     row: u32,
