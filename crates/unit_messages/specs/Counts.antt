@@ -4,7 +4,8 @@ use Rattle.std.specs.List.{AllByRecursion}
 use Rattle.gated_ring.specs.Ring.{ring_list}
 use Rattle.message_model.specs.Records.{insertion_ring, unit_place_ring}
 use Rattle.message_model.specs.Sending.{touches_day, place_in_day}
-use Rattle.unit_model.specs.declared.layout.TheConstants.{DAY_SECONDS, INSERTION_SLOTS, PLACE_SLOTS}
+use Rattle.activity_codec.specs.declared.day.TheConstants.{DAY_SECONDS}
+use Rattle.unit_model.specs.declared.layout.TheConstants.{INSERTION_SLOTS, PLACE_SLOTS}
 use Rattle.unit_messages.specs.declared.entries.Entries.{Entries}
 use Rattle.unit_messages.specs.declared.outline.counts.TheConstants.{DATES}
 use Rattle.unit_messages.specs.declared.outline.counts.Counts.{Counts}

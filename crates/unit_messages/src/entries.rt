@@ -14,8 +14,8 @@ ghost use Rattle.unit_messages.specs.Chosen.{chosen, room_of, chosen_at, shape_o
 
 use crate::parts::{cut, four_in};
 use crate::window::Window;
+use activity_codec::DAY_SECONDS;
 use tach_media::{Failed, Medium};
-use unit_model::layout::DAY_SECONDS;
 
 /// Which entries of a ring are meant.
 #[derive(Clone, Copy, Debug, PartialEq, Eq)]

@@ -1,5 +1,6 @@
 //! How many insertions and places lie on each of many dates, counted in one look at their rings.
-ghost use Rattle.unit_model.specs.declared.layout.TheConstants.{DAY_SECONDS, IMAGE_SIZE, INSERTION_SLOTS};
+ghost use Rattle.activity_codec.specs.declared.day.TheConstants.{DAY_SECONDS};
+ghost use Rattle.unit_model.specs.declared.layout.TheConstants.{IMAGE_SIZE, INSERTION_SLOTS};
 ghost use Rattle.std.specs.Prelude.{◌≡◌, ◌==◌, ◌||◌, true, not, ◌≤◌, ◌<◌, ◌+◌, ◌-◌, ◌*◌, ℕ, List, IfOk, OnOk, IfSome};
 ghost use Rattle.std.specs.Prelude.{IfNone, length, is_err, slice_index_or, if◌then◌else◌};
 ghost use Rattle.std.specs.List.{range_with_len};
@@ -15,8 +16,8 @@ use crate::entries::{
     BLOCK, Entries, INSERTION_TIME, PLACE_TIME, WITHDRAWAL_TIME, at_once, date_of,
 };
 use crate::outline::rows::{insertions_on, places_on};
+use activity_codec::DAY_SECONDS;
 use tach_media::{Failed, Medium};
-use unit_model::layout::DAY_SECONDS;
 
 /// How many dates are counted at once: as many as a unit's memory has days.
 pub const DATES: usize = 366;

@@ -1,5 +1,6 @@
 //! What a message is made of, found in the unit's image.
-ghost use Rattle.unit_model.specs.declared.layout.TheConstants.{DAY_SECONDS, DAY_WORD_LIMIT, HIGHEST_ODOMETER};
+ghost use Rattle.activity_codec.specs.declared.day.TheConstants.{DAY_SECONDS};
+ghost use Rattle.unit_model.specs.declared.layout.TheConstants.{DAY_WORD_LIMIT, HIGHEST_ODOMETER};
 ghost use Rattle.unit_model.specs.declared.layout.TheConstants.{IMAGE_SIZE};
 ghost use Rattle.std.specs.Prelude.{◌≡◌, ◌<◌, ◌≤◌, ◌+◌, ◌*◌, ℕ, List, Some, IfOk, IfSome, is_err, filter, length};
 ghost use Rattle.gated_ring.specs.Ring.{ring_list, PointsInside};
