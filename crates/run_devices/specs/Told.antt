@@ -196,10 +196,11 @@ with_acceptance c now newest kept w = record
 abbrev pub card_marks : Card → (clock : ℕ) → List Entry → List Mark
 card_marks c clock es = map (λ e. record { device = device_of c; minute = e.minute; clock = clock }) es
 
--- a keep with these entries by hand was broken off, or acknowledged with this mark
+-- a keep with these entries by hand was broken off
 abbrev pub with_given : Card → List Manual → RunLedger → RunLedger
 with_given c hands w = record w { hands = for_card c (and_given hands (w.hands c)) w.hands }
 
+-- a keep with these entries by hand was acknowledged with this mark
 abbrev pub with_first : Card → Mark → List Manual → RunLedger → RunLedger
 with_first c m hands w = record w {
   hands = for_card c (and_sure hands (w.hands c)) w.hands;
