@@ -1,6 +1,5 @@
 -- What the notes of a span's events leave of a unit (profile).
-use Rattle.std.specs.Prelude.{◌≡◌, ◌⊎◌, ℕ, ◌+◌, Bool, false, Option, Some, None, IfSome, option_to_list, List, ◌++◌}
-use Rattle.tach_media.specs.Medium.{State, LeavesOnly}
+use Rattle.std.specs.Prelude.{◌≡◌, ◌⊎◌, ℕ, ◌+◌, Option, Some, None, option_to_list, List, ◌++◌}
 use Rattle.event_model.specs.declared.kinds.TheConstants.{DRIVING_WITHOUT_CARD}
 use Rattle.unit_notes.specs.Entries.{fault_bytes, over_bytes}
 use Rattle.unit_notes.specs.Noting.{IsNotingEvent, IsEventNoted, IsNotingOver, IsOverNoted}
@@ -61,11 +60,3 @@ pub record IsFed (old new : Watch) (first n speed : ℕ) (crew : Crew) (ended : 
   pub stands : (seconds : List CrewSecond) → WatchesSpan old seconds
       → WatchesSpan new (seconds ++ seconds_with first n speed crew)
   pub limit : new.over.limit ≡ old.over.limit
-
--- and that was noted on the unit
-pub record IsWatched (failed : Bool) (old new : Watch) (first n speed : ℕ) (crew : Crew) (prior unit : State) : Type
-    0 where
-  pub ended : Ended
-  pub fed : IsFed old new first n speed crew ended
-  pub noted : failed ≡ false → IfSome prior.image (λ x. IfSome unit.image (AreNoted ended x))
-  pub moments : LeavesOnly prior unit (AreBeingNoted ended)

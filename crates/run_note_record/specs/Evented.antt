@@ -12,7 +12,7 @@ use Rattle.run_devices.specs.log_model.Log.{RunLog, Phase, Keeping, is_accepting
 use Rattle.run_devices.specs.log_model.Causes.{RoseBy, device_of}
 use Rattle.run_devices.specs.log_model.Course.{ToldSecond, Visit, went}
 use Rattle.run_devices.specs.log_model.Spans.{AreInOrder}
-use Rattle.run_devices.specs.event_model.Events.{Event, Tearing, AreTorn, seen_of, seen_spans, events_of}
+use Rattle.run_devices.specs.event_model.Events.{Event, Tearing, AreTorn, seen_of, seen_spans}
 use Rattle.run_devices.specs.note_model.Events.{AreSessions}
 use Rattle.run_devices.specs.unit_model.declared.layout.TheConstants.{SPEED_LIMIT, OVER_COUNT}
 use Rattle.run_devices.specs.unit_model.Image.{number_of}

@@ -9,7 +9,6 @@ use Rattle.run_devices.specs.log_model.declared.lines.Refused.{Refused}
 use Rattle.run_devices.specs.log_model.Causes.{refusals_at, refusal_told}
 use Rattle.run_devices.specs.log_model.Course.{ToldSecond, without_power}
 use Rattle.run_devices.specs.history_model.Book.{not_begun}
-use Rattle.run_devices.specs.device_rule.Rules.{Out}
 use Rattle.run_devices.specs.run_unit_course.Followed.{UnitPower, Lit, Due, Lost, IsDark}
 use Rattle.run_devices.specs.run_unit_course.Legs.{not_travelled}
 use Rattle.run_devices.specs.run_unit_course.Lines.{cut_at}
