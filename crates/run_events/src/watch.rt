@@ -16,6 +16,7 @@ ghost use Rattle.run_events.specs.Watching.{WatchesSpan, Watches, WatchesEvents,
 ghost use Rattle.run_events.specs.Watching.{AreOfOneMinute, WatchStands};
 ghost use Rattle.run_events.specs.Noting.{IsBareNoted, IsNotingBare, IsFastNoted, IsNotingFast, AreNoted};
 ghost use Rattle.run_events.specs.Noting.{AreBeingNoted, IsFed};
+ghost use Rattle.run_events.specs.Writes.{watch_most, ended_most, block_most, bare_most, fast_most};
 
 use crate::entries::{card_bare, number_or_zeros};
 use event_model::{Over, Span};
@@ -115,7 +116,7 @@ impl Watch {
         ensures journal { LeavesOnly (M.state unit.old) (M.state unit.new) LeavesJournal }
         ensures unit { IsUnit (M.state unit.new) }
         ensures cause { HasCause (M.state unit.old) (M.state unit.new) (is_err result) }
-        ensures most { (M.state unit.new).clock ≤ (M.state unit.old).clock + 15 }
+        ensures most { (M.state unit.new).clock ≤ (M.state unit.old).clock + watch_most }
     {
         let block = self.speeds.feed(seconds.first, seconds.count, seconds.speed);
         let ended = self.feed(seconds.first, seconds.count, seconds.speed, crew);
@@ -189,7 +190,7 @@ fn put_block<M: Medium>(
     ensures journal { LeavesOnly (M.state unit.old) (M.state unit.new) LeavesJournal }
     ensures unit { IsUnit (M.state unit.new) }
     ensures cause { HasCause (M.state unit.old) (M.state unit.new) (is_err result) }
-    ensures most { (M.state unit.new).clock ≤ (M.state unit.old).clock + 5 }
+    ensures most { (M.state unit.new).clock ≤ (M.state unit.old).clock + block_most }
 {
     match block {
         None => Ok(newest),
@@ -211,7 +212,7 @@ fn put_some<M: Medium>(
         (λ x. IfSome (M.state unit.new).image (IsAdded speed_ring (block_bytes block.now) x))) }
     ensures moments { LeavesOnly (M.state unit.old) (M.state unit.new) (IsAdding speed_ring (block_bytes block.now)) }
     ensures cause { HasCause (M.state unit.old) (M.state unit.new) (is_err result) }
-    ensures most { (M.state unit.new).clock ≤ (M.state unit.old).clock + 5 }
+    ensures most { (M.state unit.new).clock ≤ (M.state unit.old).clock + block_most }
 {
     let index = add_next(block, newest, unit)?;
     Ok(Some(index))
@@ -228,7 +229,7 @@ fn add_next<M: Medium>(block: &Block, newest: Option<u32>, unit: &mut M) -> Resu
         (λ x. IfSome (M.state unit.new).image (IsAdded speed_ring (block_bytes block.now) x))) }
     ensures moments { LeavesOnly (M.state unit.old) (M.state unit.new) (IsAdding speed_ring (block_bytes block.now)) }
     ensures cause { HasCause (M.state unit.old) (M.state unit.new) (is_err result) }
-    ensures most { (M.state unit.new).clock ≤ (M.state unit.old).clock + 5 }
+    ensures most { (M.state unit.new).clock ≤ (M.state unit.old).clock + block_most }
 {
     match newest {
         Some(last) => add_block_behind(unit, last, block),
@@ -248,7 +249,7 @@ fn note_ended<M: Medium>(memory: &UnitMemory, ended: &Ended, unit: &mut M) -> Re
     ensures journal { LeavesOnly (M.state unit.old) (M.state unit.new) LeavesJournal }
     ensures unit { IsUnit (M.state unit.new) }
     ensures cause { HasCause (M.state unit.old) (M.state unit.new) (is_err result) }
-    ensures most { (M.state unit.new).clock ≤ (M.state unit.old).clock + 10 }
+    ensures most { (M.state unit.new).clock ≤ (M.state unit.old).clock + ended_most }
 {
     note_bare(memory, ended, unit)?;
     note_fast(memory, ended, unit)
@@ -265,7 +266,7 @@ fn note_bare<M: Medium>(memory: &UnitMemory, ended: &Ended, unit: &mut M) -> Res
     ensures journal { LeavesOnly (M.state unit.old) (M.state unit.new) LeavesJournal }
     ensures unit { IsUnit (M.state unit.new) }
     ensures cause { HasCause (M.state unit.old) (M.state unit.new) (is_err result) }
-    ensures most { (M.state unit.new).clock ≤ (M.state unit.old).clock + 4 }
+    ensures most { (M.state unit.new).clock ≤ (M.state unit.old).clock + bare_most }
 {
     match ended.bare {
         None => Ok(()),
@@ -284,7 +285,7 @@ fn note_fast<M: Medium>(memory: &UnitMemory, ended: &Ended, unit: &mut M) -> Res
     ensures journal { LeavesOnly (M.state unit.old) (M.state unit.new) LeavesJournal }
     ensures unit { IsUnit (M.state unit.new) }
     ensures cause { HasCause (M.state unit.old) (M.state unit.new) (is_err result) }
-    ensures most { (M.state unit.new).clock ≤ (M.state unit.old).clock + 6 }
+    ensures most { (M.state unit.new).clock ≤ (M.state unit.old).clock + fast_most }
 {
     match ended.over {
         None => Ok(()),
