@@ -84,7 +84,9 @@ pub enum Break {
 #[derive(Clone, Copy, Debug, PartialEq, Eq)]
 pub enum Verdict {
     /// The card is accepted, and so many owed entries were put on it, 0 to 4.
-    Accepted { replayed: u8 },
+    Accepted {
+        replayed: u8,
+    },
     /// The card is not valid: the first file that fails, and the place in it.
     NotValid {
         fid: Fid,

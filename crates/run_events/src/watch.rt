@@ -118,7 +118,9 @@ impl Watch {
         ensures cause { HasCause (M.state unit.old) (M.state unit.new) (is_err result) }
         ensures most { (M.state unit.new).clock ≤ (M.state unit.old).clock + watch_most }
     {
-        let block = self.speeds.feed(seconds.first, seconds.count, seconds.speed);
+        let block = self
+            .speeds
+            .feed(seconds.first, seconds.count, seconds.speed);
         let ended = self.feed(seconds.first, seconds.count, seconds.speed, crew);
         let newest = put_block(&block, self.newest, unit)?;
         self.newest = newest;

@@ -44,9 +44,9 @@ returns-clause-works g c = record {
 pub returns-in_err-opened-clause-begins : goal.returns-in_err-opened-clause-begins
 returns-in_err-opened-clause-begins g c = λ r begins.
     let finds : IfOk c.from_residual.result (DevicesAreFound c.args.start (g.M.Medium.state c.judge_unit.new.unit) (g.C.Chip.state c.args.card_a.now) (g.D.Chip.state c.args.card_b.now) (g.C.Chip.card c.args.card_a.now) (g.D.Chip.card c.args.card_b.now)) =
-        first_of (search rules, grind (arith, common_steps)) in
+    first_of (search rules, grind (arith, common_steps)) in
     let why : IfErr c.from_residual.result (IsRefused c.args.start (devices (g.M.Medium.state c.args.unit.now) (g.C.Chip.state c.args.card_a.now) (g.D.Chip.state c.args.card_b.now)) (devices (g.M.Medium.state c.judge_unit.new.unit) (g.C.Chip.state c.args.card_a.now) (g.D.Chip.state c.args.card_b.now))) =
-        first_of (search rules, grind (arith, common_steps)) in
+    first_of (search rules, grind (arith, common_steps)) in
     begun r c.args.start (g.M.Medium.state c.args.unit.now) (g.M.Medium.state c.judge_unit.new.unit) (g.C.Chip.state c.args.card_a.now) (g.C.Chip.state c.args.card_a.now) (g.D.Chip.state c.args.card_b.now) (g.D.Chip.state c.args.card_b.now)
     (g.met.M.Medium.coherent c.args.unit.now) (g.met.M.Medium.coherent c.judge_unit.new.unit) (g.met.C.Chip.coherent c.args.card_a.now) (g.met.C.Chip.coherent c.args.card_a.now) (g.met.D.Chip.coherent c.args.card_b.now) (g.met.D.Chip.coherent c.args.card_b.now)
     c.judge_unit.ensures.same (as-it-is (g.C.Chip.state c.args.card_a.now)) (as-it-is (g.D.Chip.state c.args.card_b.now)) begins (g.C.Chip.card c.args.card_a.now) (g.D.Chip.card c.args.card_b.now) c.from_residual.result finds why
@@ -54,9 +54,9 @@ returns-in_err-opened-clause-begins g c = λ r begins.
 pub returns-in_err-judge_numbers-clause-begins : goal.returns-in_err-judge_numbers-clause-begins
 returns-in_err-judge_numbers-clause-begins g c = λ r begins.
     let finds : IfOk c.from_residual-in_err-judge_numbers.result (DevicesAreFound c.args.start (g.M.Medium.state c.judge_unit.new.unit) (g.C.Chip.state c.judge_card.new.card) (g.D.Chip.state c.judge_card-2.new.card) (g.C.Chip.card c.judge_card.new.card) (g.D.Chip.card c.judge_card-2.new.card)) =
-        first_of (search rules, grind (arith, common_steps)) in
+    first_of (search rules, grind (arith, common_steps)) in
     let why : IfErr c.from_residual-in_err-judge_numbers.result (IsRefused c.args.start (devices (g.M.Medium.state c.args.unit.now) (g.C.Chip.state c.args.card_a.now) (g.D.Chip.state c.args.card_b.now)) (devices (g.M.Medium.state c.judge_unit.new.unit) (g.C.Chip.state c.judge_card.new.card) (g.D.Chip.state c.judge_card-2.new.card))) =
-        first_of (search rules, grind (arith, common_steps)) in
+    first_of (search rules, grind (arith, common_steps)) in
     begun r c.args.start (g.M.Medium.state c.args.unit.now) (g.M.Medium.state c.judge_unit.new.unit) (g.C.Chip.state c.args.card_a.now) (g.C.Chip.state c.judge_card.new.card) (g.D.Chip.state c.args.card_b.now) (g.D.Chip.state c.judge_card-2.new.card)
     (g.met.M.Medium.coherent c.args.unit.now) (g.met.M.Medium.coherent c.judge_unit.new.unit) (g.met.C.Chip.coherent c.args.card_a.now) (g.met.C.Chip.coherent c.judge_card.new.card) (g.met.D.Chip.coherent c.args.card_b.now) (g.met.D.Chip.coherent c.judge_card-2.new.card)
     c.judge_unit.ensures.same c.judge_card.ensures.same c.judge_card-2.ensures.same begins (g.C.Chip.card c.judge_card.new.card) (g.D.Chip.card c.judge_card-2.new.card) c.from_residual-in_err-judge_numbers.result finds why
