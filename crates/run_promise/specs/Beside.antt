@@ -32,7 +32,7 @@ pub record CardsTold : Type 0 where
   pub entered : List Visit
   pub found : List (Visit × Verdict)
 
--- what a second tells of cards, of all that it tells
+-- of all that a second tells what it tells of cards
 abbrev pub cards_of : ToldSecond → CardsTold
 cards_of t = record { number = t.second.number; entered = t.course.entered; found = t.course.found }
 

@@ -154,7 +154,7 @@ pub record RecordUnpowered (o : Origin) (done : List TraceSecond) (v : Values) (
   pub driver : is_accepted (slots_of v done).driver ≡ false
   pub codriver : is_accepted (slots_of v done).codriver ≡ false
 
--- the record by the power: of a span that goes on, which has a second, or without power
+-- the record by the power: while there is power that of the span so far, else that without power
 abbrev pub IsHeldBy : Origin → List TraceSecond → UnitPower → Values → RunLedger → Devices → Type 0
 IsHeldBy o done (Lit span) v w d = RecordPowered o done span v w d
 IsHeldBy o done Due v w d = RecordUnpowered o done v w d

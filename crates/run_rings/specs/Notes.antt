@@ -92,7 +92,7 @@ abbrev pub sits_accepted : (second : ℕ) → Slot → Option Sitting → List V
 sits_accepted u slot None verdicts = []
 sits_accepted u slot (Some x) verdicts = accepts_by u slot x.card verdicts
 
--- an action behind these notes this, one note after another
+-- one action more, behind these, makes these notes
 abbrev pub NotesMore : RunLog → Before → TraceSecond → (front : List Action) → Action → List Note → Type 0
 NotesMore log before s front a more = notes_to log before s (front ++ a ∷ []) ≡ notes_to log before s front ++ more
 
