@@ -21,7 +21,7 @@ use Rattle.run_minutes.specs.Faults.{NotesFaults}
 use Rattle.run_minutes.specs.Later.{AreAfter, AreCalm, RestBy}
 use Rattle.run_minutes.specs.Writes.{WroteAtMost}
 
--- HOW A RECORDER STANDS: keeper, lines, devices, and by which state each card answers
+-- HOW A KEEPER STANDS, with its lines and its devices, and by which state each card answers
 pub record Stand : Type 1 where
   pub keeper : Keeper
   pub marks : Listed Mark

@@ -55,12 +55,13 @@ fn kept_of(minute: &Minute, present: Present, stored: u32) -> KeptMinute
 #[derive(Clone, Copy)]
 pub struct MinutesDecided<D> {
     pub decided: D,
+    /// The moment in which the last of them was decided, as a tear tells it.
     pub at: Moment,
 }
 
 impl Keeper {
-    /// Keeps decided minutes, in their order, up to the first that fails: as `Recorder::keep_all` does, for callers
-    /// that have the devices apart.
+    /// Keeps decided minutes, in their order, up to the first that fails: each on the unit, and on the cards that were
+    /// present in it.
     ///
     /// # Errors
     ///
