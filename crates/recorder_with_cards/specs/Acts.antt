@@ -65,17 +65,18 @@ pub record AcceptsIn (slot : Slot) (card : Card) (at : Moment) (speed : ℕ) (ol
   pub beside : seat_in new.keeper.cabin.slots.seats (other_slot slot)
       ≡ seat_in old.keeper.cabin.slots.seats (other_slot slot)
 
--- WHAT A RUN PROMISES goes on with it, where there is room for what the card is owed
+-- THERE IS ROOM for the marks of what so many cards are owed
+abbrev pub HasRoomForOwed : (cards : ℕ) → Outcome → Type 0
+HasRoomForOwed cards o = length o.marks.items + MOST_OWED * cards ≤ o.marks.room
+
+-- WHAT A RUN PROMISES goes on as the card is judged: its record, the events of the unit, its rings, the events of the
+-- cards
 pub record PromisesAccepting (slot : Slot) (card : Card) (at : Moment) (speed : ℕ) (failed : Bool) (old new : Run)
     (before after : Outcome) (d e : Devices) : Type 0 where
-  pub recorded : length before.marks.items + MOST_OWED ≤ before.marks.room
-      → JudgesSo slot card at failed old new before after d e
-  pub evented : length before.marks.items + MOST_OWED ≤ before.marks.room
-      → EventsJudged slot card at speed failed old new before after d e
-  pub ringed : length before.marks.items + MOST_OWED ≤ before.marks.room
-      → RingsJudged slot card at failed old new before after d e
-  pub cards : length before.marks.items + MOST_OWED ≤ before.marks.room
-      → CardsJudged slot card at speed failed old before after d e
+  pub recorded : JudgesSo slot card at failed old new before after d e
+  pub evented : EventsJudged slot card at speed failed old new before after d e
+  pub ringed : RingsJudged slot card at failed old new before after d e
+  pub cards : CardsJudged slot card at speed failed old before after d e
 
 -- WHAT THAT LEAVES ON THE DEVICES: entries in the rings of the unit, and what is noted
 pub record LeavesAccepted (slot : Slot) (card : Card) (at : Moment) (speed : ℕ) (failed : Bool) (old new : Run)
@@ -98,23 +99,19 @@ pub record AcceptsAnew (slot : Slot) (at : Moment) (speed : ℕ) (old new : Run)
   pub beside : seat_in new.keeper.cabin.slots.seats (other_slot slot)
       ≡ seat_in old.keeper.cabin.slots.seats (other_slot slot)
 
--- what a run promises goes on with it
+-- WHAT A RUN PROMISES goes on as the card of a slot, if there is one, is judged anew: its record, the events of the
+-- unit, its rings, the events of the cards
 pub record PromisesAnew (slot : Slot) (at : Moment) (speed : ℕ) (failed : Bool) (old new : Run) (before after : Outcome)
     (d e : Devices) : Type 0 where
-  pub recorded : length before.marks.items + MOST_OWED * bare_count (seat_in old.keeper.cabin.slots.seats slot)
-      ≤ before.marks.room → JudgesAnew (card_in (seat_in old.keeper.cabin.slots.seats slot)) slot at failed old new
-      before after d e
-  pub evented : length before.marks.items + MOST_OWED * bare_count (seat_in old.keeper.cabin.slots.seats slot)
-      ≤ before.marks.room → EventsAnew (card_in (seat_in old.keeper.cabin.slots.seats slot)) slot at speed failed old
-      new before after d e
-  pub ringed : length before.marks.items + MOST_OWED * bare_count (seat_in old.keeper.cabin.slots.seats slot)
-      ≤ before.marks.room → RingsJudgedAnew (card_in (seat_in old.keeper.cabin.slots.seats slot)) slot at failed old new
-      before after d e
-  pub cards : length before.marks.items + MOST_OWED * bare_count (seat_in old.keeper.cabin.slots.seats slot)
-      ≤ before.marks.room → CardsAnew (card_in (seat_in old.keeper.cabin.slots.seats slot)) slot at speed failed old
-      before after d e
+  pub recorded : JudgesAnew (card_in (seat_in old.keeper.cabin.slots.seats slot)) slot at failed old new before after d
+      e
+  pub evented : EventsAnew (card_in (seat_in old.keeper.cabin.slots.seats slot)) slot at speed failed old new before
+      after d e
+  pub ringed : RingsJudgedAnew (card_in (seat_in old.keeper.cabin.slots.seats slot)) slot at failed old new before after
+      d e
+  pub cards : CardsAnew (card_in (seat_in old.keeper.cabin.slots.seats slot)) slot at speed failed old before after d e
 
--- and this is left
+-- WHAT JUDGING IT ANEW LEAVES ON THE DEVICES: entries in the rings of the unit, and what is noted
 pub record LeavesAnew (slot : Slot) (at : Moment) (speed : ℕ) (failed : Bool) (old new : Run) (before after : Outcome)
     (d e : Devices) : Type 0 where
   pub rings : RingsAnew (card_in (seat_in old.keeper.cabin.slots.seats slot)) slot at speed failed old new before after
@@ -129,21 +126,21 @@ pub record Inserts (slot : Slot) (card : Card) (at : Moment) (speed : ℕ) (fail
   pub run : new ≡ record old { minutes = new.minutes; keeper = new.keeper; noted = new.noted }
   pub refused : after.refused ≡ before.refused
 
--- what a run promises goes on with it
+-- THERE IS ROOM for the marks of the minutes that wait, and of what a card that is put in is owed
+abbrev pub HasRoomToInsert : Run → Outcome → Type 0
+HasRoomToInsert run o = length o.marks.items + 3 * run.minutes.owing + MOST_OWED ≤ o.marks.room
+
+-- WHAT A RUN PROMISES goes on as a card is put in: its record, the events of the unit, its rings, the events of the
+-- cards, and what stood on the cards
 pub record PromisesInsertion (slot : Slot) (card : Card) (at : Moment) (speed : ℕ) (failed : Bool) (old new : Run)
     (before after : Outcome) (d e : Devices) : Type 0 where
-  pub recorded : at.late ≡ false → length before.marks.items + 3 * old.minutes.owing + MOST_OWED ≤ before.marks.room
-      → RecordsAction (Insert slot card) at.begun speed failed old new before after d e
-  pub evented : at.late ≡ false → length before.marks.items + 3 * old.minutes.owing + MOST_OWED ≤ before.marks.room
-      → EventsAction (Insert slot card) at.begun speed failed old new before after d e
-  pub ringed : at.late ≡ false → length before.marks.items + 3 * old.minutes.owing + MOST_OWED ≤ before.marks.room
-      → RingsAction (Insert slot card) at.begun speed failed old new before after d e
-  pub cards : at.late ≡ false → length before.marks.items + 3 * old.minutes.owing + MOST_OWED ≤ before.marks.room
-      → CardsAction (Insert slot card) at.begun speed failed old before after d e
-  pub stands : at.late ≡ false → length before.marks.items + 3 * old.minutes.owing + MOST_OWED ≤ before.marks.room
-      → StandsAction (Insert slot card) at.begun speed old before d e
+  pub recorded : RecordsAction (Insert slot card) at.begun speed failed old new before after d e
+  pub evented : EventsAction (Insert slot card) at.begun speed failed old new before after d e
+  pub ringed : RingsAction (Insert slot card) at.begun speed failed old new before after d e
+  pub cards : CardsAction (Insert slot card) at.begun speed failed old before after d e
+  pub stands : StandsAction (Insert slot card) at.begun speed old before d e
 
--- and this is left
+-- WHAT AN INSERTION LEAVES ON THE DEVICES: entries in the rings of a unit that tells its image, and what is noted
 pub record LeavesInserted (slot : Slot) (card : Card) (at : Moment) (speed : ℕ) (failed : Bool) (old new : Run)
     (before after : Outcome) (d e : Devices) : Type 0 where
   pub rings : is_some d.unit.image ≡ true → RingsInserting slot card at speed failed old new before after d.unit e.unit
@@ -158,7 +155,8 @@ pub record CarriesOut (action : Action) (at : Moment) (speed : ℕ) (failed : Bo
   pub stays : StaysIn old new
   pub refused : after.refused ≡ before.refused
 
--- what a run promises goes on with it
+-- WHAT A RUN PROMISES goes on with an action: its record, the events of the unit, its rings, the events of the cards,
+-- and what stood on the cards
 pub record PromisesAction (action : Action) (begun speed : ℕ) (failed : Bool) (old new : Run) (before after : Outcome)
     (d e : Devices) : Type 0 where
   pub recorded : RecordsAction action begun speed failed old new before after d e
@@ -167,7 +165,7 @@ pub record PromisesAction (action : Action) (begun speed : ℕ) (failed : Bool) 
   pub cards : CardsAction action begun speed failed old before after d e
   pub stands : StandsAction action begun speed old before d e
 
--- and this is left
+-- WHAT AN ACTION LEAVES ON THE DEVICES: what is noted, and entries in the rings of a unit that tells its image
 pub record LeavesDone (action : Action) (at : Moment) (speed : ℕ) (failed : Bool) (old new : Run)
     (before after : Outcome) (d e : Devices) : Type 0 where
   pub events : NotesDone action at speed failed old new before after d e
@@ -225,19 +223,15 @@ pub record Resumes (result : Result (Unit {0}) Failed) (old new : Run) (before a
   pub refused : after.refused ≡ before.refused
   pub uncut : failed_cuts after.breaks.items ≡ failed_cuts before.breaks.items
 
--- WHAT A RUN PROMISES goes on with it, where there is room for what the cards are owed
+-- WHAT A RUN PROMISES goes on as the unit is mended and the cards are judged anew: its record, the events of the unit,
+-- its rings, the events of the cards, and what stood on the cards
 pub record PromisesResuming (kept speed : ℕ) (failed : Bool) (old new : Run) (before after : Outcome)
     (d e : Devices) : Type 0 where
-  pub recorded : length before.marks.items + MOST_OWED * bare_seats old.keeper.cabin.slots.seats ≤ before.marks.room
-      → ResumesSo kept failed old new before after d e
-  pub evented : length before.marks.items + MOST_OWED * bare_seats old.keeper.cabin.slots.seats ≤ before.marks.room
-      → EventsResuming kept speed failed old new before after d e
-  pub ringed : length before.marks.items + MOST_OWED * bare_seats old.keeper.cabin.slots.seats ≤ before.marks.room
-      → RingsResuming kept failed old new before after d e
-  pub cards : length before.marks.items + MOST_OWED * bare_seats old.keeper.cabin.slots.seats ≤ before.marks.room
-      → CardsResuming kept speed failed old new before after d e
-  pub stands : length before.marks.items + MOST_OWED * bare_seats old.keeper.cabin.slots.seats ≤ before.marks.room
-      → StandsResuming kept speed failed old new before after d e
+  pub recorded : ResumesSo kept failed old new before after d e
+  pub evented : EventsResuming kept speed failed old new before after d e
+  pub ringed : RingsResuming kept failed old new before after d e
+  pub cards : CardsResuming kept speed failed old new before after d e
+  pub stands : StandsResuming kept speed failed old new before after d e
 
 -- POWER IS BACK, or the unit is refused: it is the same second, and the run is awake
 pub record IsWoken (result : Result (Unit {0}) RunFault) (old new : Run) (before after : Outcome) : Type 0 where
@@ -247,17 +241,14 @@ pub record IsWoken (result : Result (Unit {0}) RunFault) (old new : Run) (before
   pub unfound : OnOk result (new.unfound ≤ length after.breaks.items)
   pub refused : after.refused ≡ before.refused
 
--- what a run promises goes on with it
+-- WHAT A RUN PROMISES goes on as power comes back: its record, the events of the unit, its rings, the events of the
+-- cards
 pub record PromisesWaking (result : Result (Unit {0}) RunFault) (speed : ℕ) (old new : Run) (before after : Outcome)
     (d e : Devices) : Type 0 where
-  pub recorded : length before.marks.items + MOST_OWED * bare_seats old.keeper.cabin.slots.seats ≤ before.marks.room
-      → WakesSo result speed old new before after d e
-  pub evented : length before.marks.items + MOST_OWED * bare_seats old.keeper.cabin.slots.seats ≤ before.marks.room
-      → EventsWaking result speed old new before after d e
-  pub ringed : length before.marks.items + MOST_OWED * bare_seats old.keeper.cabin.slots.seats ≤ before.marks.room
-      → RingsWaking result speed old new before after d e
-  pub cards : length before.marks.items + MOST_OWED * bare_seats old.keeper.cabin.slots.seats ≤ before.marks.room
-      → CardsPowering result speed old new before after d e
+  pub recorded : WakesSo result speed old new before after d e
+  pub evented : EventsWaking result speed old new before after d e
+  pub ringed : RingsWaking result speed old new before after d e
+  pub cards : CardsPowering result speed old new before after d e
 
 -- ALL GOES ON: no clock and no count of a device falls, the unit broke down where the power is lost and nowhere else,
 -- and no card without the line of a tear; and so many writes at most were begun
@@ -275,7 +266,8 @@ pub record BeginsSecond (result : Result Bool RunFault) (old new : Run) (before 
   pub unfound : OnOk result (new.unfound ≤ length after.breaks.items)
   pub refused : after.refused ≡ before.refused
 
--- what a run promises goes on with it, and what is noted where power is back
+-- WHAT A RUN PROMISES goes on as a second begins: its record with the rings, the events of the cards, and what is noted
+-- where power is back
 pub record PromisesSecond (result : Result Bool RunFault) (speed : ℕ) (old new : Run) (before after : Outcome)
     (d e : Devices) : Type 0 where
   pub ringed : BeginsRinged result speed old new before after d e
@@ -306,19 +298,18 @@ pub record AcceptsHere (entering : Enters) (old new : Run) (before after : Outco
   pub beside : seat_in new.keeper.cabin.slots.seats (other_slot entering.slot)
       ≡ seat_in old.keeper.cabin.slots.seats (other_slot entering.slot)
 
--- what a run promises goes on with it
+-- WHAT A RUN PROMISES goes on as the card that enters is judged: its record, where it enters with the odometer of now,
+-- the events of the unit, its rings, the events of the cards
 pub record PromisesHere (entering : Enters) (failed : Bool) (old new : Run) (before after : Outcome)
     (d e : Devices) : Type 0 where
-  pub recorded : length before.marks.items + MOST_OWED ≤ before.marks.room → IsOdometerNow old entering.odometer.0
+  pub recorded : IsOdometerNow old entering.odometer.0
       → JudgesSo entering.slot entering.which entering.at failed old new before after d e
-  pub evented : length before.marks.items + MOST_OWED ≤ before.marks.room
-      → EventsJudged entering.slot entering.which entering.at entering.speed failed old new before after d e
-  pub ringed : length before.marks.items + MOST_OWED ≤ before.marks.room
-      → RingsEntering entering.slot entering.which entering.at entering.odometer.0 failed old new before after d e
-  pub cards : length before.marks.items + MOST_OWED ≤ before.marks.room
-      → CardsJudged entering.slot entering.which entering.at entering.speed failed old before after d e
+  pub evented : EventsJudged entering.slot entering.which entering.at entering.speed failed old new before after d e
+  pub ringed : RingsEntering entering.slot entering.which entering.at entering.odometer.0 failed old new before after d
+      e
+  pub cards : CardsJudged entering.slot entering.which entering.at entering.speed failed old before after d e
 
--- and this is left
+-- WHAT JUDGING IT LEAVES ON THE DEVICES: entries in the rings of the unit, and what is noted
 pub record LeavesHere (entering : Enters) (failed : Bool) (old new : Run) (before after : Outcome) (U V : State)
     (d e : Devices) : Type 0 where
   pub rings : IsJudgedRinging entering failed old new before after U V

@@ -4,13 +4,14 @@ ghost use Rattle.std.specs.Prelude.{length, is_err};
 ghost use Rattle.unit_minutes.specs.unit_model.Image.{IsUnit};
 ghost use Rattle.run_acts.specs.Power.{is_lit, minute_over};
 ghost use Rattle.run_acts.specs.Going.{IsBetweenSeconds, IsInsideSecond};
-ghost use Rattle.run_acts.specs.Room.{HasRoom, HasRoomWithin};
+ghost use Rattle.run_acts.specs.Room.{HasRoom, HasRoomWithin, bare_seats};
 ghost use Rattle.recorder_with_cards.specs.Waking.{TakesUp, TakesAwake};
 ghost use Rattle.recorder_with_cards.specs.Noting.{NotesWaking, NotesFound, NotesPowerOn};
 ghost use Rattle.run_minutes.specs.run_promise.Between.{devices};
 ghost use Rattle.run_acts.specs.Acts.{AllGoOn, RunStandsBehind};
 ghost use Rattle.recorder_with_cards.specs.Acts.{BeginsSecond, BreaksGo, IsWoken, PromisesResuming, PromisesSecond};
-ghost use Rattle.recorder_with_cards.specs.Acts.{PromisesWaking, Resumes, HasRoomFor, IsToldBy, MayWake};
+ghost use Rattle.recorder_with_cards.specs.Acts.{PromisesWaking, Resumes, HasRoomFor, HasRoomForOwed, IsToldBy};
+ghost use Rattle.recorder_with_cards.specs.Acts.{MayWake};
 ghost use Rattle.recorder_with_cards.specs.Writes.{resume_unit_most, resume_card_most};
 
 use crate::accepting::{SlotAnew, accept_anew};
@@ -89,8 +90,9 @@ fn power_on<M: Medium, C: Chip, D: Chip>(
         (C.state card_a.new) (D.state card_b.new)) }
     ensures takes { TakesAwake run.old run.new outcome.old outcome.new }
     ensures unit { IsUnit (M.state unit.new) }
-    // What a run promises goes on with it.
-    ensures promises { PromisesWaking result speed run.old run.new outcome.old outcome.new
+    // What a run promises goes on with it, where there is room for the marks of what the cards are owed.
+    ensures promises { HasRoomForOwed (bare_seats run.old.keeper.cabin.slots.seats) outcome.old
+        → PromisesWaking result speed run.old run.new outcome.old outcome.new
         (devices (M.state unit.old) (C.state card_a.old) (D.state card_b.old))
         (devices (M.state unit.new) (C.state card_a.new) (D.state card_b.new)) }
     ensures noted { OnOk result (NotesPowerOn speed run.old run.new outcome.old outcome.new
@@ -145,8 +147,9 @@ fn found<M: Medium, C: Chip, D: Chip>(
         (C.state card_a.new) (D.state card_b.new)) }
     ensures takes { TakesAwake run.old run.new outcome.old outcome.new }
     ensures unit { IsUnit (M.state unit.new) }
-    // What a run promises goes on with it.
-    ensures promises { PromisesWaking result waking.speed run.old run.new outcome.old outcome.new
+    // What a run promises goes on with it, where there is room for the marks of what the cards are owed.
+    ensures promises { HasRoomForOwed (bare_seats run.old.keeper.cabin.slots.seats) outcome.old
+        → PromisesWaking result waking.speed run.old run.new outcome.old outcome.new
         (devices (M.state unit.old) (C.state card_a.old) (D.state card_b.old))
         (devices (M.state unit.new) (C.state card_a.new) (D.state card_b.new)) }
     ensures noted { OnOk result (NotesFound waking.journal.kept waking.speed run.old run.new outcome.old outcome.new
@@ -187,9 +190,9 @@ fn resume<M: Medium, C: Chip, D: Chip>(
         (devices (M.state unit.new) (C.state card_a.new) (D.state card_b.new))
         (C.card card_a.new) (D.card card_b.new) }
     ensures takes { TakesUp run.old run.new outcome.old outcome.new }
-    // What a run promises goes on with it.
-    ensures promises { PromisesResuming waking.journal.kept waking.speed
-        (is_err result) run.old run.new outcome.old outcome.new
+    // What a run promises goes on with it, where there is room for the marks of what the cards are owed.
+    ensures promises { HasRoomForOwed (bare_seats run.old.keeper.cabin.slots.seats) outcome.old
+        → PromisesResuming waking.journal.kept waking.speed (is_err result) run.old run.new outcome.old outcome.new
         (devices (M.state unit.old) (C.state card_a.old) (D.state card_b.old))
         (devices (M.state unit.new) (C.state card_a.new) (D.state card_b.new)) }
     ensures noted { NotesWaking waking.journal.kept waking.speed (is_err result) run.old run.new outcome.old outcome.new

@@ -31,7 +31,7 @@ use Rattle.run_devices.specs.Told.{GoesOwing, AreFoundCards, AllGo, owes_nothing
 use Rattle.run_devices.specs.Told.{DevicesUnpowered}
 use Rattle.run_devices.specs.Measured.{reading_at}
 use Rattle.run_minutes.specs.Keeping.{Fate, is_this, marks_by, session_at, held_in}
-use Rattle.run_minutes.specs.Minutes.{KeepingState, unit_mark}
+use Rattle.run_minutes.specs.Minutes.{unit_mark}
 use Rattle.run_minutes.specs.Deeds.{KeepsOn, AllKeep, kept_for}
 use Rattle.run_minutes.specs.Books.{MayBook, IsLeftOff, StaysOn, AreTimedOn, history_minute, standing_by}
 use Rattle.run_minutes.specs.Books.{hands_by, firsts_by}
@@ -96,11 +96,12 @@ IsOwedOrCut false f start w i g leg cards d = IsLitOwing f (carried_kept i d.uni
 IsOwedOrCut true f start w i g leg cards d = IsLeftOff f start w i g leg d
 
 -- THE UNIT WAS TO KEEP A MINUTE (`commit`)
-abbrev pub BooksOwed : Present → KeptMinute → (failed : Bool) → (t u : KeepingState) → (d e : Devices) → Type 0
-BooksOwed present m failed t u d e = (f : Found) (w : RunLedger) (start : ℕ) (g : Travel) (leg : ℕ)
-    → MayBook f w present m t d → HasTravelled start w.book g d.unit
+abbrev pub BooksOwed : Present → KeptMinute → (failed : Bool) → (cards after : Cards) → List Mark → (d e : Devices)
+    → Type 0
+BooksOwed present m failed cards after marks d e = (f : Found) (w : RunLedger) (start : ℕ) (g : Travel) (leg : ℕ)
+    → MayBook f w present m cards marks d → HasTravelled start w.book g d.unit
     → m.odometer.0 ≡ odometer_by (odometer_after start g.before) leg → e.unit.clock < last_count
-    → IsOwedOrCut failed f start w (history_minute present m) g leg u.keeper.cabin.cards e
+    → IsOwedOrCut failed f start w (history_minute present m) g leg after e
 
 -- behind an entry: nothing is owed any more to the card that was present; or the unit failed
 abbrev pub IsBroughtOrCut : (failed : Bool) → Found → RunLedger → (owes : Card → List Entry) → Cards → Devices → Type 0

@@ -1,5 +1,5 @@
 //! A minute is kept by the unit, and then on the cards that were present in it.
-ghost use Rattle.std.specs.Prelude.{◌≡◌, IfSome, [], is_err};
+ghost use Rattle.std.specs.Prelude.{◌≡◌, IfSome, is_err};
 ghost use Rattle.run_minutes.specs.Keeping.{UnitMayBeCalled, DevicesMayBeCalled, HasItsRow, HaveRows, kept_in};
 ghost use Rattle.run_minutes.specs.Keeping.{TellsPresent};
 ghost use Rattle.run_minutes.specs.Owing.{BooksPut, BooksOwed, TravelsOn};
@@ -105,8 +105,7 @@ impl Keeper {
         ensures stands { UnitStands (is_err result) self.old self.new (M.state unit.old) (M.state unit.new) }
         ensures goes { UnitGoesWithin 18 (is_err result) (M.state unit.old) (M.state unit.new) }
         ensures booked { TellsPresent said.minute said.present → BooksOwed said.present said.minute (is_err result)
-            (record { keeper = self.old; marks = marks.old; breaks = record { items = []; room = 0 } })
-            (record { keeper = self.new; marks = marks.new; breaks = record { items = []; room = 0 } })
+            self.old.cabin.cards self.new.cabin.cards marks.old.items
             (devices (M.state unit.old) (C.state card_a.now) (D.state card_b.now))
             (devices (M.state unit.new) (C.state card_a.now) (D.state card_b.now)) }
     {

@@ -272,11 +272,11 @@ returns-in-Insert-clause-done g c = record {
 
 pub returns-in-Insert-clause-promises : goal.returns-in-Insert-clause-promises
 returns-in-Insert-clause-promises g c = record {
-  recorded = by-insert g c (λ a m. RecordsAction a m.begun c.args.deed.speed (is_err c.insert.result) c.args.run.now c.insert.new.run c.args.outcome.now c.insert.new.outcome (before-insert g c) (behind-insert g c)) (c.insert.ensures.promises.recorded (late-insert g c) (room-insert g c));
-  evented = by-insert g c (λ a m. EventsAction a m.begun c.args.deed.speed (is_err c.insert.result) c.args.run.now c.insert.new.run c.args.outcome.now c.insert.new.outcome (before-insert g c) (behind-insert g c)) (c.insert.ensures.promises.evented (late-insert g c) (room-insert g c));
-  ringed = by-insert g c (λ a m. RingsAction a m.begun c.args.deed.speed (is_err c.insert.result) c.args.run.now c.insert.new.run c.args.outcome.now c.insert.new.outcome (before-insert g c) (behind-insert g c)) (c.insert.ensures.promises.ringed (late-insert g c) (room-insert g c));
-  cards = by-insert g c (λ a m. CardsAction a m.begun c.args.deed.speed (is_err c.insert.result) c.args.run.now c.args.outcome.now c.insert.new.outcome (before-insert g c) (behind-insert g c)) (c.insert.ensures.promises.cards (late-insert g c) (room-insert g c));
-  stands = by-insert g c (λ a m. StandsAction a m.begun c.args.deed.speed c.args.run.now c.args.outcome.now (before-insert g c) (behind-insert g c)) (c.insert.ensures.promises.stands (late-insert g c) (room-insert g c));
+  recorded = by-insert g c (λ a m. RecordsAction a m.begun c.args.deed.speed (is_err c.insert.result) c.args.run.now c.insert.new.run c.args.outcome.now c.insert.new.outcome (before-insert g c) (behind-insert g c)) (c.insert.ensures.promises (late-insert g c) (room-insert g c)).recorded;
+  evented = by-insert g c (λ a m. EventsAction a m.begun c.args.deed.speed (is_err c.insert.result) c.args.run.now c.insert.new.run c.args.outcome.now c.insert.new.outcome (before-insert g c) (behind-insert g c)) (c.insert.ensures.promises (late-insert g c) (room-insert g c)).evented;
+  ringed = by-insert g c (λ a m. RingsAction a m.begun c.args.deed.speed (is_err c.insert.result) c.args.run.now c.insert.new.run c.args.outcome.now c.insert.new.outcome (before-insert g c) (behind-insert g c)) (c.insert.ensures.promises (late-insert g c) (room-insert g c)).ringed;
+  cards = by-insert g c (λ a m. CardsAction a m.begun c.args.deed.speed (is_err c.insert.result) c.args.run.now c.args.outcome.now c.insert.new.outcome (before-insert g c) (behind-insert g c)) (c.insert.ensures.promises (late-insert g c) (room-insert g c)).cards;
+  stands = by-insert g c (λ a m. StandsAction a m.begun c.args.deed.speed c.args.run.now c.args.outcome.now (before-insert g c) (behind-insert g c)) (c.insert.ensures.promises (late-insert g c) (room-insert g c)).stands;
 }
 
 pub returns-in-Insert-clause-leaves : goal.returns-in-Insert-clause-leaves

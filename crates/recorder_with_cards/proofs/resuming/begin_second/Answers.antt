@@ -189,13 +189,13 @@ returns-in_err-power_on-clause-promises g c = record {
       let run = c.args.run.now in
       let dark : is_lit run.power ≡ false = sym c.is_lit.ensures ∙ c.if-is_lit.false in
       let has : has_power run.power run.next ≡ true = sym c.has_power.ensures ∙ c.if-not-has_power.false in
-      absurd (c.in_err-power_on.ensures.promises.ringed (marks-due run c.args.outcome.now dark has c.requires.room.room) o done s now rec has time);
+      absurd ((c.in_err-power_on.ensures.promises (marks-due run c.args.outcome.now dark has c.requires.room.room)).ringed o done s now rec has time);
   cards =
       λ o done s now rec time.
       let run = c.args.run.now in
       let dark : is_lit run.power ≡ false = sym c.is_lit.ensures ∙ c.if-is_lit.false in
       let has : has_power run.power run.next ≡ true = sym c.has_power.ensures ∙ c.if-not-has_power.false in
-      absurd (c.in_err-power_on.ensures.promises.cards (marks-due run c.args.outcome.now dark has c.requires.room.room) o done s now rec has time);
+      absurd ((c.in_err-power_on.ensures.promises (marks-due run c.args.outcome.now dark has c.requires.room.room)).cards o done s now rec has time);
   noted = first_of (search rules, grind (arith, common_steps));
 }
 
@@ -223,13 +223,13 @@ returns-clause-promises g c = record {
       let run = c.args.run.now in
       let dark : is_lit run.power ≡ false = sym c.is_lit.ensures ∙ c.if-is_lit.false in
       let has : has_power run.power run.next ≡ true = sym c.has_power.ensures ∙ c.if-not-has_power.false in
-      c.in_ok-power_on.ensures.promises.ringed (marks-due run c.args.outcome.now dark has c.requires.room.room) o done s now rec has time;
+      (c.in_ok-power_on.ensures.promises (marks-due run c.args.outcome.now dark has c.requires.room.room)).ringed o done s now rec has time;
   cards =
       λ o done s now rec time.
       let run = c.args.run.now in
       let dark : is_lit run.power ≡ false = sym c.is_lit.ensures ∙ c.if-is_lit.false in
       let has : has_power run.power run.next ≡ true = sym c.has_power.ensures ∙ c.if-not-has_power.false in
-      c.in_ok-power_on.ensures.promises.cards (marks-due run c.args.outcome.now dark has c.requires.room.room) o done s now rec has time;
+      (c.in_ok-power_on.ensures.promises (marks-due run c.args.outcome.now dark has c.requires.room.room)).cards o done s now rec has time;
   noted = λ dark has. c.in_ok-power_on.ensures.noted;
 }
 
