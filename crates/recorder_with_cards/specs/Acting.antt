@@ -94,15 +94,17 @@ IsDone (Place slot ending country region) at speed failed old new before after =
 IsDone (Manual slot pick minute) at speed failed old new before after = (failed ≡ false)
     × (new ≡ entered_run slot pick minute old) × (after ≡ before)
 
--- the run and the outcome behind an action: where the unit failed in it, power was lost in its second
+-- the run behind an action: where the unit failed in it, power was lost in its second
 abbrev pub cut_where : (failed : Bool) → Run → Run
 cut_where false run = run
 cut_where true run = cut_run run.next run
 
+-- and the line of that cut
 abbrev pub cut_breaks : (failed : Bool) → (second begun : ℕ) → Outcome → Outcome
 cut_breaks false second begun o = o
 cut_breaks true second begun o = record o { breaks = with_lines (cut_at second true begun ∷ []) o.breaks }
 
+-- AN ACTION IS CARRIED OUT: it did what it does; where the unit failed in it power is lost, and told so.
 pub record IsCarriedOut (action : Action) (begun speed : ℕ) (old new : Run) (before after : Outcome) : Type 0 where
   pub failed : Bool
   pub between : Run

@@ -282,7 +282,7 @@ pub record ActsAll (has_power : Bool) (speed : ℕ) (items : List Item) (old new
   pub next : new.next ≡ old.next
   pub unfound : new.unfound ≡ old.unfound
 
--- What a run promises goes on with them, in a second with power whose items are all actions
+-- WHAT A RUN PROMISES goes on over the actions of a second with power whose items are all actions
 pub record PromisesAll (has_power : Bool) (speed count : ℕ) (items : List Item) (old new : Run) (before after : Outcome)
     (d e : Devices) : Type 0 where
   pub ringed : has_power ≡ true → length (actions_in items) ≡ count → count ≤ largest_number

@@ -91,7 +91,8 @@ pub record LeavesWithdrawn (slot : Slot) (at : Moment) (failed : Bool) (old new 
   pub shut : (card : Card) → card_in (seat_in old.keeper.cabin.slots.seats slot) ≡ Some card
       → WithdrawsShut card slot at failed old new before after d e
 
--- WHAT A RUN PROMISES goes on with it: its record, the events of the unit, the rings, the events of the cards
+-- WHAT A RUN PROMISES goes on as a card is withdrawn: its record, the events of the unit, its rings, the events of the
+-- cards, and what stood on them
 pub record PromisesWithdrawal (slot : Slot) (at : Moment) (failed : Bool) (old new : Run) (before after : Outcome)
     (d e : Devices) : Type 0 where
   pub recorded : at.late ≡ false → (speed : ℕ)
@@ -157,7 +158,8 @@ pub record LeavesPlaced (slot : Slot) (entry : PlaceEntry) (at : Moment) (failed
       → WritesPlace (number_of_seat old.keeper.cabin.cards (seat_in old.keeper.cabin.slots.seats slot)) entry failed
       d.unit e.unit
 
--- WHAT A RUN PROMISES goes on with it
+-- WHAT A RUN PROMISES goes on as a place is noted: its record, the events of the unit, its rings, the events of the
+-- cards, and what stood on them
 pub record PromisesPlace (slot : Slot) (entry : PlaceEntry) (at : Moment) (failed : Bool) (old new : Run)
     (before after : Listed Break) (d e : Devices) : Type 0 where
   pub recorded : IsPlaceRecorded slot at failed old new before after d e
@@ -186,12 +188,13 @@ pub record LeavesGap (kept : ℕ) (failed : Bool) (old new : Run) (before after 
   pub rings : LeavesRings d.unit e.unit
   pub beside : NoteLeaves failed old before after d e
 
--- WHAT A RUN PROMISES goes on with it
+-- WHAT A RUN PROMISES goes on as the interruption is noted: its record, and the rings
 pub record PromisesGap (failed : Bool) (old new : Run) (before after : Listed Break) (d e : Devices) : Type 0 where
   pub recorded : IsNoteRecorded (In 0) failed old new before after d e
   pub ringed : RingsGap failed old new before after d e
 
--- so it was to be noted on the card of a slot
+-- THE INTERRUPTION WAS TO BE NOTED ON THE CARD OF A SLOT: whether that fell, and nothing else has changed; a tear more
+-- is a card less
 pub record NotesIn (slot : Slot) (failed : Bool) (old new : Run) (before after : Listed Break) : Type 0 where
   pub fell : (fell : Bool) × IsNotedIn (card_in (seat_in old.keeper.cabin.slots.seats slot)) slot (now_moment old) old
       new before after fell × (failed ≡ true → fell ≡ true)
@@ -199,7 +202,8 @@ pub record NotesIn (slot : Slot) (failed : Bool) (old new : Run) (before after :
   pub room : (after.room ≡ before.room)
       × (length after.items + falls_of new.keeper.cabin ≤ length before.items + falls_of old.keeper.cabin)
 
--- and this is left
+-- WHAT THAT LEAVES ON THE DEVICES: its event on that card, and no place; the fault of a card that fell on the unit, and
+-- its rings as they were
 pub record LeavesIn (slot : Slot) (event : UnitEvent) (failed : Bool) (old new : Run) (before after : Listed Break)
     (d e : Devices) : Type 0 where
   pub card_events : NotesOnCards false old.keeper.cabin.cards new.keeper.cabin.cards
@@ -226,7 +230,8 @@ pub record LeavesTurned (n speed begun : ℕ) (old new : Run) (before after : Ou
       → (between : Run) × NotesTurn n speed begun old between before after d.unit e.unit
       × (new ≡ passed n begun between)
 
--- WHAT A RUN PROMISES goes on with them: its record, the rings, the events of the cards, the detailed speed
+-- WHAT A RUN PROMISES goes on over these seconds: its record, the rings, the events of the cards, the detailed speed, and
+-- what stood on the cards
 pub record PromisesTurn (n speed begun : ℕ) (old new : Run) (before after : Outcome) (d e : Devices) : Type 0 where
   pub recorded : RecordsTurn n speed begun old new before after d e
   pub ringed : RingsTurn n speed begun old new before after d e
@@ -243,7 +248,7 @@ pub record TurnGoes (on_unit on_card : ℕ) (before after : List Break) (d e : D
   pub broke : BreaksDown before after d.unit e.unit
   pub most : WroteAtMost on_unit on_card d e
 
--- so it is with power
+-- SECONDS OF ONE MINUTE WITH POWER are to be over: how they went, before the number of the next second goes on by them
 pub record LitTurns (n speed begun : ℕ) (old new : Run) (before after : Outcome) : Type 0 where
   pub seconds : IsLitTurn n speed begun old new before after
   pub next : new.next ≡ old.next
@@ -251,7 +256,8 @@ pub record LitTurns (n speed begun : ℕ) (old new : Run) (before after : Outcom
   pub refused : after.refused ≡ before.refused
   pub finds : after.finds ≡ before.finds
 
--- and this is left
+-- WHAT THEY LEAVE ON THE DEVICES: the book behind them, what is noted, the events that are recorded so, and a block of
+-- detailed speed, if they end one
 pub record LeavesLit (n speed begun : ℕ) (old new : Run) (before after : Outcome) (d e : Devices) : Type 0 where
   pub booked : IsBookedTurn n speed begun old new before after d e
   pub noted : NotesTurn n speed begun old new before after d.unit e.unit
@@ -333,7 +339,8 @@ pub record NotesGapOn (which : Card) (slot : Slot) (event : UnitEvent) (result :
   pub clock_card : x.clock ≤ y.clock
   pub most : (V.clock ≤ U.clock + 4) × (y.clock ≤ x.clock + 4)
 
--- so it is of the note of a place
+-- THE NOTE OF A PLACE ON A CARD: whether it fell, what is left of unit and card, and how they stand; and so many writes
+-- at most were begun
 pub record NotesPlaceOn (which : Card) (slot : Slot) (entry : PlaceEntry) (at : Moment)
     (result : Result (Unit {0}) Failed) (old new : Run) (before after : Listed Break) (U V x y : State)
     (chip : CardState) : Type 0 where

@@ -40,17 +40,19 @@ use Rattle.run_minutes.specs.Books.{hands_by, firsts_by}
 abbrev pub and_put : Option Card → Entry → (Card → List Entry) → Card → List Entry
 and_put present entry puts c = if is_this present c then entry ∷ [] else puts c
 
--- AN ENTRY WAS TO BE PUT for the minute that comes (`owe_to`), for a card that is valid and present: it is, or the unit
--- failed.
+-- AN ENTRY MAY BE PUT for the minute that comes (`owe_to`): the card for which it is, if there is one, is valid and
+-- present, the minute may come, and none is put for it yet.
 abbrev pub MayPut : Found → Option Card → Entry → RunLedger → (puts : Card → List Entry) → Type 0
 MayPut f None entry w puts = Unit {0}
 MayPut f (Some c) entry w puts = IsOwnValid (found_of f c).image × (puts c ≡ []) × (w.due ≤ entry.minute)
     × (1440 ≤ entry.minute) × IsPresent (found_of f c).start (w.standing c) entry.minute
 
+-- these entries are put; or the unit failed, and all that is carried without power stands
 abbrev pub IsPutOrCut : (failed : Bool) → Found → RunLedger → (puts : Card → List Entry) → Devices → Type 0
 IsPutOrCut false f w puts d = IsLitWith f w puts owes_nothing d
 IsPutOrCut true f w puts d = DevicesUnpowered f w d
 
+-- SO IT IS, WHOEVER IS PRESENT: where an entry may be put it is, or the unit failed.
 abbrev pub BooksPut : Option Card → Entry → (failed : Bool) → Cards → (d e : Devices) → Type 0
 BooksPut present entry failed cards d e = (f : Found) (w : RunLedger) (puts : Card → List Entry) → AreFoundCards f cards
     → MayPut f present entry w puts → IsLitWith f w puts owes_nothing d → AllGo f w owes_nothing cards d
@@ -156,4 +158,5 @@ BooksBrought present said failed fate cards cards_after d e = (f : Found) (w : R
     → IsBroughtOrCut failed f
     (carried_brought fate (held_in (session_at cards present)) present said.entry.minute w) (but_to present owes)
     cards_after e
-    × AreTimedOn f (reading_at said.entry.minute said.odometer.0 ∷ []) d e × AllKeep f (kept_for present said) cards cards_after d e
+    × AreTimedOn f (reading_at said.entry.minute said.odometer.0 ∷ []) d e
+    × AllKeep f (kept_for present said) cards cards_after d e

@@ -3,14 +3,15 @@ use Rattle.std.specs.Prelude.{ℕ, ◌+◌, ◌≤◌}
 use Rattle.run_devices.specs.safety_model.Safe.{Devices}
 
 -- A KEEP of a minute begins so many on its card: 17, and 4 for each of the eight entries by hand that a session's first
--- one may have before it; and a minute those of two keeps, and on the unit 18 for what is owed and for itself, and 4
--- for each of two cards that are torn out.
+-- one may have before it.
 abbrev pub keep_most : ℕ
 keep_most = 49
 
+-- A MINUTE begins on a card those of two keeps,
 abbrev pub minute_most : ℕ
 minute_most = 98
 
+-- and on the unit 18 for what is owed and for itself, and 4 for each of two cards that are torn out.
 abbrev pub minute_unit_most : ℕ
 minute_unit_most = 26
 
