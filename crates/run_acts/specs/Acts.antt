@@ -230,8 +230,8 @@ pub record LeavesTurned (n speed begun : ℕ) (old new : Run) (before after : Ou
       → (between : Run) × NotesTurn n speed begun old between before after d.unit e.unit
       × (new ≡ passed n begun between)
 
--- WHAT A RUN PROMISES goes on over these seconds: its record, the rings, the events of the cards, the detailed speed, and
--- what stood on the cards
+-- WHAT A RUN PROMISES goes on over these seconds: its record, the rings, the events of the cards, the detailed speed,
+-- and what stood on the cards
 pub record PromisesTurn (n speed begun : ℕ) (old new : Run) (before after : Outcome) (d e : Devices) : Type 0 where
   pub recorded : RecordsTurn n speed begun old new before after d e
   pub ringed : RingsTurn n speed begun old new before after d e
