@@ -8,10 +8,10 @@ use Rattle.log_model.specs.Slots.{other_slot}
 use Rattle.log_model.specs.declared.lines.Break.{Break}
 use Rattle.run_acts.specs.ByHand.{stopped_in}
 use Rattle.run_acts.specs.Evented.{EventsAction}
-use Rattle.run_acts.specs.Going.{IsFoundLater, largest_number, end_of_seconds}
+use Rattle.run_acts.specs.Going.{IsFoundLater, IsInsideSecond, largest_number, end_of_seconds}
 use Rattle.run_acts.specs.Power.{has_power, is_lit}
 use Rattle.run_acts.specs.Recording.{RecordsAction, log_of}
-use Rattle.run_acts.specs.Room.{bare_count, bare_seats, HasRoom, falls_of}
+use Rattle.run_acts.specs.Room.{bare_count, bare_seats, HasRoom, HasRoomWithin, falls_of}
 use Rattle.run_acts.specs.RunCards.{CardsAction}
 use Rattle.run_acts.specs.Stood.{StandsAction}
 use Rattle.run_acts.specs.RunRinged.{RingsAction}
@@ -29,6 +29,7 @@ use Rattle.run_outcome.specs.declared.outcome.TheConstants.{MOST_OWED}
 use Rattle.run_acts.specs.run_speeds.Speeds.{LeavesSpeeds}
 use Rattle.device_calls.specs.safety_model.Safe.{Devices}
 use Rattle.tach_media.specs.Medium.{State}
+use Rattle.tach_media.specs.card_layout.declared.command.CardState.{CardState}
 use Rattle.tach_media.specs.declared.fault.Failed.{Failed}
 use Rattle.trace_model.specs.declared.Action.{Action}
 use Rattle.trace_model.specs.declared.Action.TheVariants.{Insert}
@@ -54,6 +55,7 @@ use Rattle.recorder_with_cards.specs.Writes.{WritesFor, WritesIn, WritesBetween,
 use Rattle.unit_minutes.specs.declared.notes.Notes.{Notes}
 use Rattle.minute_rules.specs.minute_model.declared.Rule.{Rule}
 use Rattle.run_opening.specs.Units.{IsLoaded}
+use Rattle.unit_minutes.specs.unit_model.Image.{IsUnit}
 use Rattle.unit_minutes.specs.unit_model.Versions.{rule_of}
 
 -- A CARD THAT SITS IN A SLOT WAS JUDGED: what became of it, and nothing else has changed
@@ -203,6 +205,7 @@ pub record ActsSo (has_power : Bool) (action : Action) (begun speed : ℕ) (old 
       (refusal_lines (refused_by has_power (is_lit old.power) old speed action) old.next begun) before.refused
   pub none : (refused_by has_power (is_lit old.power) old speed action ≡ None → ⊥) → new ≡ old
   pub lost : has_power ≡ true → is_lit old.power ≡ false → (new ≡ old) × (after ≡ before)
+  pub dark : is_lit old.power ≡ false → is_lit new.power ≡ false
   pub selected : is_lit old.power ≡ true → IsSelected action old new
   pub next : new.next ≡ old.next
   pub unfound : new.unfound ≡ old.unfound
@@ -211,6 +214,7 @@ pub record ActsSo (has_power : Bool) (action : Action) (begun speed : ℕ) (old 
 pub record ActsItem (item : Item) (has_power : Bool) (begun speed : ℕ) (old new : Run) (before after : Outcome) : Type
     0 where
   pub done : IsItemActed item has_power (is_lit old.power) begun speed old new before after
+  pub dark : has_power ≡ false → is_lit new.power ≡ false
   pub next : new.next ≡ old.next
   pub unfound : new.unfound ≡ old.unfound
 
@@ -283,12 +287,11 @@ pub record ActsAll (has_power : Bool) (speed : ℕ) (items : List Item) (old new
   pub unfound : new.unfound ≡ old.unfound
 
 -- WHAT A RUN PROMISES goes on over the actions of a second with power whose items are all actions
-pub record PromisesAll (has_power : Bool) (speed count : ℕ) (items : List Item) (old new : Run) (before after : Outcome)
-    (d e : Devices) : Type 0 where
-  pub ringed : has_power ≡ true → length (actions_in items) ≡ count → count ≤ largest_number
-      → RingsActions (actions_in items) count speed old new before after d e
-  pub cards : has_power ≡ true → length (actions_in items) ≡ count → count ≤ largest_number
-      → CardsActions (actions_in items) count speed old new before after d e
+abbrev pub PromisesAll : (has_power : Bool) → (speed count : ℕ) → List Item → (old new : Run) → (before after : Outcome)
+    → (d e : Devices) → Type 0
+PromisesAll has_power speed count items old new before after d e = has_power ≡ true
+    → length (actions_in items) ≡ count → count ≤ largest_number
+    → PromisesActions (actions_in items) count speed old new before after d e
 
 -- A CARD THAT SITS IN A SLOT WAS JUDGED as it enters: what became of it, and nothing else has changed
 pub record AcceptsHere (entering : Enters) (old new : Run) (before after : Outcome) : Type 0 where
@@ -333,11 +336,11 @@ pub record ItemGoes (result : Result (Unit {0}) RunFault) (turns actions off_lin
   pub broke : BreaksDown before.breaks.items after.breaks.items d.unit e.unit
   pub most : WritesBetween turns actions (powered old before) (off_lines + powered_by result new after) d e
 
--- What a run promises goes on with these actions, in a second with power
-pub record PromisesWithPower (has_power : Bool) (actions : List Action) (begun speed : ℕ) (old new : Run)
-    (before after : Outcome) (d e : Devices) : Type 0 where
-  pub ringed : has_power ≡ true → RingsActions actions begun speed old new before after d e
-  pub cards : has_power ≡ true → CardsActions actions begun speed old new before after d e
+-- WHAT A RUN PROMISES goes on with these actions in a second with power
+abbrev pub PromisesWithPower : (has_power : Bool) → List Action → (begun speed : ℕ) → (old new : Run)
+    → (before after : Outcome) → (d e : Devices) → Type 0
+PromisesWithPower has_power actions begun speed old new before after d e = has_power ≡ true
+    → PromisesActions actions begun speed old new before after d e
 
 -- What a run promises goes on over so many seconds more without actions, behind one at their speed
 pub record PromisesMore (result : Result (Unit {0}) RunFault) (seconds speed : ℕ) (old new : Run)
@@ -413,6 +416,39 @@ pub record MayGoOn (seconds offs insertions actions : ℕ) (run : Run) (o : Outc
   pub small : run.next + seconds ≤ end_of_seconds
   pub room : HasRoom run o seconds offs insertions actions
   pub unfound : run.unfound ≤ length o.breaks.items
+
+-- ACTIONS MAY BE DONE in a second, so many of which put a card in: the run is inside it, it has no power where the
+-- second has none at its beginning, and there is room for them
+pub record MayAct (has_power : Bool) (insertions actions : ℕ) (run : Run) (o : Outcome) (unit : State)
+    (chip_a chip_b : CardState) (a b : State) : Type 0 where
+  pub going : IsInsideSecond run unit chip_a chip_b a b
+  pub dark : has_power ≡ false → is_lit run.power ≡ false
+  pub room : HasRoomWithin run o 1 0 insertions actions
+
+-- AN ACTION MAY BE DONE WITH POWER, which puts in so many cards: the run has it inside the second, and there is room
+pub record MayActLit (insertions : ℕ) (run : Run) (o : Outcome) (unit : State) (chip_a chip_b : CardState)
+    (a b : State) : Type 0 where
+  pub lit : run.power ≡ Lit
+  pub going : IsInsideSecond run unit chip_a chip_b a b
+  pub room : HasRoomWithin run o 1 0 insertions 1
+
+-- HOW A RUN STANDS BEHIND ACTIONS of a second, so many of which put a card in: it is inside it still; and where there
+-- was room for these and some more, there is for those
+pub record StandsActed (insertions actions : ℕ) (old new : Run) (before after : Outcome) (unit : State)
+    (chip_a chip_b : CardState) (a b : State) : Type 0 where
+  pub going : IsInsideSecond new unit chip_a chip_b a b
+  pub room : (left offs puts others : ℕ)
+      → HasRoomWithin old before (1 + left) offs (insertions + puts) (actions + others)
+      → HasRoomWithin new after (1 + left) offs puts others
+
+-- HOW A RUN STANDS AS A SECOND HAS BEGUN: the unit is a unit still; the run is inside the second, unless a fault is
+-- answered; and where there was room for it and some more, there is
+pub record StandsBegun (result : Result Bool RunFault) (old new : Run) (before after : Outcome) (unit : State)
+    (chip_a chip_b : CardState) (a b : State) : Type 0 where
+  pub is_unit : IsUnit unit
+  pub going : OnOk result (IsInsideSecond new unit chip_a chip_b a b)
+  pub room : (left offs insertions actions : ℕ) → HasRoom old before (1 + left) offs insertions actions
+      → OnOk result (HasRoomWithin new after (1 + left) offs insertions actions)
 
 -- THESE ARE AMONG THE ITEMS, from one index to another
 pub record AreAmong (items : List Item) (from to : ℕ) : Type 0 where

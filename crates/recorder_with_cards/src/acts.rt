@@ -1,5 +1,5 @@
 //! The actions of a second.
-ghost use Rattle.std.specs.Prelude.{◌≡◌, ℕ, ◌+◌, ◌-◌, ◌∷◌, [], true, false, None, min};
+ghost use Rattle.std.specs.Prelude.{◌≡◌, ◌-◌, ◌∷◌, [], true, false, None, min};
 ghost use Rattle.std.specs.Prelude.{is_err};
 ghost use Rattle.std.specs.Result.{result_err};
 ghost use Rattle.activity_codec.specs.declared.values.Pick.{Pick};
@@ -21,7 +21,7 @@ ghost use Rattle.run_outcome.specs.Room.{insertion_count};
 ghost use Rattle.run_acts.specs.Acts.{AllGoOn, RunStandsBehind};
 ghost use Rattle.recorder_with_cards.specs.Acts.{ActGoes, ActsAll, ActsItem, ActsLit, ActsSo, CarriesOut, LeavesDone};
 ghost use Rattle.recorder_with_cards.specs.Acts.{PromisesAction, PromisesActions, PromisesAll, PromisesWithPower};
-ghost use Rattle.recorder_with_cards.specs.Acts.{AreAmong};
+ghost use Rattle.recorder_with_cards.specs.Acts.{AreAmong, MayAct, MayActLit, StandsActed};
 ghost use Rattle.recorder_with_cards.specs.Writes.{action_unit_most, action_card_most};
 
 use crate::accepting::SlotCard;
@@ -80,11 +80,9 @@ pub(crate) fn act_all<M: Medium, C: Chip, D: Chip>(
     outcome: &mut Outcome,
 )
     requires among { AreAmong due.items.now due.from due.to }
-    requires going { IsInsideSecond run.old (M.state unit.old) (C.card card_a.old) (D.card card_b.old)
-        (C.state card_a.old) (D.state card_b.old) }
-    requires dark { due.has_power ≡ false → is_lit run.old.power ≡ false }
-    requires room { HasRoomWithin run.old outcome.old 1 0 (insertions_in due.from due.to due.items.now)
-        (due.to - due.from) }
+    requires may { MayAct due.has_power (insertions_in due.from due.to due.items.now) (due.to - due.from) run.old
+        outcome.old (M.state unit.old) (C.card card_a.old) (D.card card_b.old) (C.state card_a.old)
+        (D.state card_b.old) }
     ensures acted { ActsAll due.entry.has_power due.entry.speed
         (between due.entry.from due.entry.to due.entry.items.now) run.old run.new outcome.old outcome.new }
     // What a run promises goes on with them.
@@ -99,13 +97,9 @@ pub(crate) fn act_all<M: Medium, C: Chip, D: Chip>(
     ensures goes { ActGoes (due.entry.to - due.entry.from) outcome.old.breaks.items outcome.new.breaks.items
         (devices (M.state unit.old) (C.state card_a.old) (D.state card_b.old))
         (devices (M.state unit.new) (C.state card_a.new) (D.state card_b.new)) }
-    ensures going { IsInsideSecond run.new (M.state unit.new) (C.card card_a.new) (D.card card_b.new)
-        (C.state card_a.new) (D.state card_b.new) }
-    ensures room { (left offs insertions actions : ℕ)
-        → HasRoomWithin run.old outcome.old (1 + left) offs
-        (insertions_in due.entry.from due.entry.to due.entry.items.now + insertions)
-        (due.entry.to - due.entry.from + actions) → HasRoomWithin run.new outcome.new
-        (1 + left) offs insertions actions }
+    ensures behind { StandsActed (insertions_in due.entry.from due.entry.to due.entry.items.now)
+        (due.entry.to - due.entry.from) run.old run.new outcome.old outcome.new
+        (M.state unit.new) (C.card card_a.new) (D.card card_b.new) (C.state card_a.new) (D.state card_b.new) }
 {
     let from = due.from;
     for i in from..due.to {
@@ -134,10 +128,8 @@ fn act_item<M: Medium, C: Chip, D: Chip>(
     card_b: &mut D,
     outcome: &mut Outcome,
 )
-    requires going { IsInsideSecond run.old (M.state unit.old) (C.card card_a.old) (D.card card_b.old)
-        (C.state card_a.old) (D.state card_b.old) }
-    requires dark { due.has_power ≡ false → is_lit run.old.power ≡ false }
-    requires room { HasRoomWithin run.old outcome.old 1 0 (insertion_count due.item) 1 }
+    requires may { MayAct due.has_power (insertion_count due.item) 1 run.old outcome.old (M.state unit.old)
+        (C.card card_a.old) (D.card card_b.old) (C.state card_a.old) (D.state card_b.old) }
     ensures acted { ActsItem due.item due.has_power due.begun due.speed run.old run.new outcome.old outcome.new }
     // What a run promises goes on with it.
     ensures promises { PromisesWithPower due.has_power (action_of due.item) due.begun due.speed run.old run.new
@@ -150,12 +142,8 @@ fn act_item<M: Medium, C: Chip, D: Chip>(
     ensures goes { ActGoes 1 outcome.old.breaks.items outcome.new.breaks.items
         (devices (M.state unit.old) (C.state card_a.old) (D.state card_b.old))
         (devices (M.state unit.new) (C.state card_a.new) (D.state card_b.new)) }
-    ensures going { IsInsideSecond run.new (M.state unit.new) (C.card card_a.new) (D.card card_b.new)
-        (C.state card_a.new) (D.state card_b.new) }
-    ensures dark { due.has_power ≡ false → is_lit run.new.power ≡ false }
-    ensures room { (left offs insertions actions : ℕ)
-        → HasRoomWithin run.old outcome.old (1 + left) offs (insertion_count due.item + insertions) (1 + actions)
-        → HasRoomWithin run.new outcome.new (1 + left) offs insertions actions }
+    ensures behind { StandsActed (insertion_count due.item) 1 run.old run.new outcome.old outcome.new
+        (M.state unit.new) (C.card card_a.new) (D.card card_b.new) (C.state card_a.new) (D.state card_b.new) }
 {
     match due.item {
         Item::Act(action) => {
@@ -181,10 +169,8 @@ fn act<M: Medium, C: Chip, D: Chip>(
     card_b: &mut D,
     outcome: &mut Outcome,
 )
-    requires going { IsInsideSecond run.old (M.state unit.old) (C.card card_a.old) (D.card card_b.old)
-        (C.state card_a.old) (D.state card_b.old) }
-    requires dark { deed.has_power ≡ false → is_lit run.old.power ≡ false }
-    requires room { HasRoomWithin run.old outcome.old 1 0 (put_count deed.action) 1 }
+    requires may { MayAct deed.has_power (put_count deed.action) 1 run.old outcome.old (M.state unit.old)
+        (C.card card_a.old) (D.card card_b.old) (C.state card_a.old) (D.state card_b.old) }
     ensures acted { ActsSo deed.has_power deed.action deed.begun deed.speed run.old run.new outcome.old outcome.new }
     // What a run promises goes on with it.
     ensures promises { PromisesWithPower deed.has_power (deed.action ∷ []) deed.begun deed.speed run.old run.new
@@ -197,12 +183,8 @@ fn act<M: Medium, C: Chip, D: Chip>(
     ensures goes { ActGoes 1 outcome.old.breaks.items outcome.new.breaks.items
         (devices (M.state unit.old) (C.state card_a.old) (D.state card_b.old))
         (devices (M.state unit.new) (C.state card_a.new) (D.state card_b.new)) }
-    ensures going { IsInsideSecond run.new (M.state unit.new) (C.card card_a.new) (D.card card_b.new)
-        (C.state card_a.new) (D.state card_b.new) }
-    ensures dark { is_lit run.old.power ≡ false → is_lit run.new.power ≡ false }
-    ensures room { (left offs insertions actions : ℕ)
-        → HasRoomWithin run.old outcome.old (1 + left) offs (put_count deed.action + insertions) (1 + actions)
-        → HasRoomWithin run.new outcome.new (1 + left) offs insertions actions }
+    ensures behind { StandsActed (put_count deed.action) 1 run.old run.new outcome.old outcome.new
+        (M.state unit.new) (C.card card_a.new) (D.card card_b.new) (C.state card_a.new) (D.state card_b.new) }
 {
     let has_power = deed.has_power;
     if !has_power {
@@ -224,10 +206,8 @@ fn act_lit<M: Medium, C: Chip, D: Chip>(
     card_b: &mut D,
     outcome: &mut Outcome,
 )
-    requires lit { run.old.power ≡ Lit }
-    requires going { IsInsideSecond run.old (M.state unit.old) (C.card card_a.old) (D.card card_b.old)
-        (C.state card_a.old) (D.state card_b.old) }
-    requires room { HasRoomWithin run.old outcome.old 1 0 (put_count deed.action) 1 }
+    requires may { MayActLit (put_count deed.action) run.old outcome.old (M.state unit.old) (C.card card_a.old)
+        (D.card card_b.old) (C.state card_a.old) (D.state card_b.old) }
     ensures acted { ActsLit deed.action deed.begun deed.speed run.old run.new outcome.old outcome.new }
     ensures promises { PromisesActions (deed.action ∷ []) deed.begun deed.speed run.old run.new outcome.old outcome.new
         (devices (M.state unit.old) (C.state card_a.old) (D.state card_b.old))
@@ -237,11 +217,8 @@ fn act_lit<M: Medium, C: Chip, D: Chip>(
     ensures goes { ActGoes 1 outcome.old.breaks.items outcome.new.breaks.items
         (devices (M.state unit.old) (C.state card_a.old) (D.state card_b.old))
         (devices (M.state unit.new) (C.state card_a.new) (D.state card_b.new)) }
-    ensures going { IsInsideSecond run.new (M.state unit.new) (C.card card_a.new) (D.card card_b.new)
-        (C.state card_a.new) (D.state card_b.new) }
-    ensures room { (left offs insertions actions : ℕ)
-        → HasRoomWithin run.old outcome.old (1 + left) offs (put_count deed.action + insertions) (1 + actions)
-        → HasRoomWithin run.new outcome.new (1 + left) offs insertions actions }
+    ensures behind { StandsActed (put_count deed.action) 1 run.old run.new outcome.old outcome.new
+        (M.state unit.new) (C.card card_a.new) (D.card card_b.new) (C.state card_a.new) (D.state card_b.new) }
 {
     if let Err(fault) = may(run, deed.action, deed.speed) {
         run.refuse(deed.begun, fault, &mut outcome.refused);

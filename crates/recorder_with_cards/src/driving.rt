@@ -81,7 +81,7 @@ pub(crate) fn drive<M: Medium, C: Chip, D: Chip>(
     act_all(run, first, unit, card_a, card_b, outcome);
     let begun = number_of(due.to - due.from);
     let stretch = Stretch {
-        n: 1,
+        seconds: 1,
         speed: due.speed,
         begun,
     };
@@ -161,7 +161,7 @@ fn step<M: Medium, C: Chip, D: Chip>(
 {
     begin_second(run, more.speed, unit, card_a, card_b, outcome)?;
     let stretch = Stretch {
-        n: more.seconds,
+        seconds: more.seconds,
         speed: more.speed,
         begun: 0,
     };

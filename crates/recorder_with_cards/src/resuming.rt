@@ -1,17 +1,17 @@
 //! Power is back.
-ghost use Rattle.std.specs.Prelude.{◌≡◌, ℕ, ◌+◌, ◌/◌, ◌<◌, ◌≤◌, true, false, IfOk, IsOk, OnOk};
+ghost use Rattle.std.specs.Prelude.{◌≡◌, ◌/◌, ◌<◌, ◌≤◌, true, false, IfOk, IsOk, OnOk};
 ghost use Rattle.std.specs.Prelude.{length, is_err};
 ghost use Rattle.unit_minutes.specs.unit_model.Image.{IsUnit};
 ghost use Rattle.run_acts.specs.Power.{is_lit, minute_over};
 ghost use Rattle.run_acts.specs.Going.{IsBetweenSeconds, IsInsideSecond};
-ghost use Rattle.run_acts.specs.Room.{HasRoom, HasRoomWithin, bare_seats};
+ghost use Rattle.run_acts.specs.Room.{bare_seats};
 ghost use Rattle.recorder_with_cards.specs.Waking.{TakesUp, TakesAwake};
 ghost use Rattle.recorder_with_cards.specs.Noting.{NotesWaking, NotesFound, NotesPowerOn};
 ghost use Rattle.run_minutes.specs.run_promise.Between.{devices};
 ghost use Rattle.run_acts.specs.Acts.{AllGoOn, RunStandsBehind};
 ghost use Rattle.recorder_with_cards.specs.Acts.{BeginsSecond, BreaksGo, IsWoken, PromisesResuming, PromisesSecond};
 ghost use Rattle.recorder_with_cards.specs.Acts.{PromisesWaking, Resumes, HasRoomFor, HasRoomForOwed, IsToldBy};
-ghost use Rattle.recorder_with_cards.specs.Acts.{MayWake};
+ghost use Rattle.recorder_with_cards.specs.Acts.{MayWake, StandsBegun};
 ghost use Rattle.recorder_with_cards.specs.Writes.{resume_unit_most, resume_card_most};
 
 use crate::accepting::{SlotAnew, accept_anew};
@@ -48,11 +48,8 @@ pub(crate) fn begin_second<M: Medium, C: Chip, D: Chip>(
     ensures lit { is_lit run.old.power ≡ true
         → IsOk result × (run.new ≡ minute_over run.old) × (outcome.new ≡ outcome.old) × (unit.new ≡ unit.old)
         × (card_a.new ≡ card_a.old) × (card_b.new ≡ card_b.old) }
-    ensures going { OnOk result (IsInsideSecond run.new (M.state unit.new) (C.card card_a.new) (D.card card_b.new)
-        (C.state card_a.new) (D.state card_b.new)) }
-    ensures room { (left offs insertions actions : ℕ) → HasRoom run.old outcome.old (1 + left) offs insertions actions
-        → OnOk result (HasRoomWithin run.new outcome.new (1 + left) offs insertions actions) }
-    ensures unit { IsUnit (M.state unit.new) }
+    ensures behind { StandsBegun result run.old run.new outcome.old outcome.new (M.state unit.new)
+        (C.card card_a.new) (D.card card_b.new) (C.state card_a.new) (D.state card_b.new) }
     // What a run promises goes on with it.
     ensures promises { PromisesSecond result speed run.old run.new outcome.old outcome.new
         (devices (M.state unit.old) (C.state card_a.old) (D.state card_b.old))

@@ -44,16 +44,16 @@ use Rattle.run_acts.specs.Behind.{BooksWithdrawn}
 use Rattle.run_acts.specs.Booked.{IsBookedTurn}
 use Rattle.run_acts.specs.CardNotes.{LeavePlaces, LeavesPlaces, NotesOn, NotesOnCards, gap_on, on_seat}
 use Rattle.run_acts.specs.CardWrites.{MayTakePlace, PlaceOn, ShutsSo, WithdrawsShut}
-use Rattle.run_acts.specs.Evented.{EventsLitTurn}
+use Rattle.run_acts.specs.Evented.{EventsTurn, EventsLitTurn}
 use Rattle.run_acts.specs.Faults.{NotesTurn}
-use Rattle.run_acts.specs.Going.{CanBeCut, RunHasPower, RunHasPowerAllSeated}
+use Rattle.run_acts.specs.Going.{CanBeCut, IsBetweenSeconds, RunHasPower, RunHasPowerAllSeated}
 use Rattle.run_acts.specs.NotedEvents.{NotesEvents}
 use Rattle.run_acts.specs.Noting.{AreGapEvents, GapReach, IsGapNoted, IsNoteRecorded, IsPlaceRecorded, NotesClosing}
 use Rattle.run_acts.specs.Noting.{NotesFall, NotesPlace, NotesWithdrawing}
 use Rattle.run_acts.specs.Power.{is_lit, passed}
 use Rattle.run_acts.specs.Recording.{RecordsAction, RecordsTurn}
 use Rattle.run_acts.specs.Ringing.{ClosesSo, WithdrawsSo, WritesPlace}
-use Rattle.run_acts.specs.Room.{falls_of, TakesNone}
+use Rattle.run_acts.specs.Room.{falls_of, HasRoom, HasRoomWithin, TakesNone}
 use Rattle.run_acts.specs.RunCards.{CardsPlace, CardsTurn, CardsWithdrawal}
 use Rattle.run_acts.specs.RunRinged.{RingsGap, RingsPlace, RingsTurn, RingsWithdrawal}
 use Rattle.run_acts.specs.Speeds.{BringsBlock, SpeedsTurn}
@@ -230,14 +230,23 @@ pub record LeavesTurned (n speed begun : ℕ) (old new : Run) (before after : Ou
       → (between : Run) × NotesTurn n speed begun old between before after d.unit e.unit
       × (new ≡ passed n begun between)
 
--- WHAT A RUN PROMISES goes on over these seconds: its record, the rings, the events of the cards, the detailed speed,
--- and what stood on the cards
+-- WHAT A RUN PROMISES goes on over these seconds: its record, the events of the unit, its rings, the events of the
+-- cards, the detailed speed, and what stood on the cards
 pub record PromisesTurn (n speed begun : ℕ) (old new : Run) (before after : Outcome) (d e : Devices) : Type 0 where
   pub recorded : RecordsTurn n speed begun old new before after d e
+  pub evented : EventsTurn n speed begun old new before after d e
   pub ringed : RingsTurn n speed begun old new before after d e
   pub cards : CardsTurn n speed begun old new before after d e
   pub speeds : SpeedsTurn n speed begun old new before after d e
   pub stands : StandsTurn n speed begun old before after d e
+
+-- HOW A RUN STANDS BEHIND SO MANY SECONDS: it is between two of them; and where there was room for these and some more,
+-- there is for those
+pub record StandsTurned (n : ℕ) (old new : Run) (before after : Outcome) (unit : State) (chip_a chip_b : CardState)
+    (a b : State) : Type 0 where
+  pub going : IsBetweenSeconds new unit chip_a chip_b a b
+  pub room : (left offs insertions actions : ℕ) → HasRoomWithin old before (n + left) offs insertions actions
+      → HasRoom new after left offs insertions actions
 
 -- ALL GOES ON over them, and the unit broke down where the power is lost, and nowhere else; and so many writes at most
 -- were begun
