@@ -80,7 +80,7 @@ pub(crate) fn accept_here<M: Medium, C: Chip, D: Chip>(
     let beside = Beside { entering, others };
     let answer = accept(&mut run.keeper, &mut noted, beside, unit, card, outcome);
     run.noted = noted;
-    // So many insertions were noted at most: a find was told of each.
+    // For the proof alone: no more insertions were noted than finds are told, which are counted in a `usize`.
     let _most = outcome.finds.len();
     answer
 }

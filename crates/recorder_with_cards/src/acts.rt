@@ -43,7 +43,7 @@ pub(crate) fn number_of(actions: usize) -> u32
 /// A second, by the items of its actions, from one index to another: whether it has power at its beginning, and at
 /// which speed in km/h.
 #[derive(Clone, Copy)]
-pub(crate) struct SecondDue<I> {
+pub(crate) struct ActsOfSecond<I> {
     pub items: I,
     pub from: usize,
     pub to: usize,
@@ -51,19 +51,19 @@ pub(crate) struct SecondDue<I> {
     pub speed: u8,
 }
 
-// An item of the trace that is due in a second: as its action of this number, whether the second has power at its
-// beginning, and at which speed in km/h.
+/// An item of the trace that is due in a second: as its action of this number, whether the second has power at its
+/// beginning, and at which speed in km/h.
 #[derive(Clone, Copy)]
-struct ItemDue {
+struct DueItem {
     item: Item,
     begun: u32,
     has_power: bool,
     speed: u8,
 }
 
-// An action that is due, in the same way.
+/// An action that is due, in the same way.
 #[derive(Clone, Copy)]
-struct Deed {
+struct DueAction {
     action: Action,
     begun: u32,
     has_power: bool,
@@ -73,7 +73,7 @@ struct Deed {
 /// The actions of one second in their order, which are the items from one index to another.
 pub(crate) fn act_all<M: Medium, C: Chip, D: Chip>(
     run: &mut Run,
-    due: SecondDue<&Items>,
+    due: ActsOfSecond<&Items>,
     unit: &mut M,
     card_a: &mut C,
     card_b: &mut D,
@@ -105,7 +105,7 @@ pub(crate) fn act_all<M: Medium, C: Chip, D: Chip>(
     for i in from..due.to {
         act_item(
             run,
-            ItemDue {
+            DueItem {
                 item: *due.items.get(i),
                 begun: number_of(i - from + 1),
                 has_power: due.has_power,
@@ -119,10 +119,10 @@ pub(crate) fn act_all<M: Medium, C: Chip, D: Chip>(
     }
 }
 
-// An action among the items.
+/// An action among the items.
 fn act_item<M: Medium, C: Chip, D: Chip>(
     run: &mut Run,
-    due: ItemDue,
+    due: DueItem,
     unit: &mut M,
     card_a: &mut C,
     card_b: &mut D,
@@ -147,7 +147,7 @@ fn act_item<M: Medium, C: Chip, D: Chip>(
 {
     match due.item {
         Item::Act(action) => {
-            let deed = Deed {
+            let deed = DueAction {
                 action,
                 begun: due.begun,
                 has_power: due.has_power,
@@ -160,10 +160,11 @@ fn act_item<M: Medium, C: Chip, D: Chip>(
     }
 }
 
-// One action: in a second without power it is refused, and one that comes after a cut in its second is not carried out.
+/// One action: in a second without power it is refused, and one that comes after a cut in its second is not carried
+/// out.
 fn act<M: Medium, C: Chip, D: Chip>(
     run: &mut Run,
-    deed: Deed,
+    deed: DueAction,
     unit: &mut M,
     card_a: &mut C,
     card_b: &mut D,
@@ -197,10 +198,10 @@ fn act<M: Medium, C: Chip, D: Chip>(
     act_lit(run, deed, unit, card_a, card_b, outcome);
 }
 
-// One action with power.
+/// One action with power.
 fn act_lit<M: Medium, C: Chip, D: Chip>(
     run: &mut Run,
-    deed: Deed,
+    deed: DueAction,
     unit: &mut M,
     card_a: &mut C,
     card_b: &mut D,
@@ -229,8 +230,8 @@ fn act_lit<M: Medium, C: Chip, D: Chip>(
     }
 }
 
-// Whether the slots and the speed, and of an entry by hand the session of the slot's card, let an action be carried
-// out.
+/// Whether the slots and the speed, and of an entry by hand the session of the slot's card, let an action be carried
+/// out.
 fn may(run: &Run, action: Action, speed: u8) -> Result<(), SlotFault>
     ensures { result_err result ≡ stopped_in run.now speed action }
 {
@@ -244,7 +245,7 @@ fn may(run: &Run, action: Action, speed: u8) -> Result<(), SlotFault>
     }
 }
 
-// Whether the slots and the speed, and then the session of the slot's card, let an entry by hand be done.
+/// Whether the slots and the speed, and then the session of the slot's card, let an entry by hand be done.
 fn may_hold(run: &Run, slot: Slot, minute: u16, speed: u8) -> Result<(), SlotFault>
     ensures answer { (pick : Pick) → result_err result ≡ stopped_in run.now speed (Manual slot pick minute) }
 {
@@ -252,10 +253,10 @@ fn may_hold(run: &Run, slot: Slot, minute: u16, speed: u8) -> Result<(), SlotFau
     may_enter(run, slot, minute)
 }
 
-// An action that is not refused.
+/// An action that is not refused.
 fn carry_out<M: Medium, C: Chip, D: Chip>(
     run: &mut Run,
-    deed: Deed,
+    deed: DueAction,
     unit: &mut M,
     card_a: &mut C,
     card_b: &mut D,

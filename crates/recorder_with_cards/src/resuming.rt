@@ -69,7 +69,7 @@ pub(crate) fn begin_second<M: Medium, C: Chip, D: Chip>(
     Ok(true)
 }
 
-// Power is back: the unit is revived and judged.
+/// Power is back: the unit is revived and judged.
 fn power_on<M: Medium, C: Chip, D: Chip>(
     run: &mut Run,
     speed: u8,
@@ -117,7 +117,7 @@ fn power_on<M: Medium, C: Chip, D: Chip>(
     }
 }
 
-// What a unit tells where power is back, and the speed in km/h at which it is.
+/// What a unit tells where power is back, and the speed in km/h at which it is.
 #[derive(Drop)]
 struct Waking {
     journal: Journal,
@@ -125,7 +125,7 @@ struct Waking {
     speed: u8,
 }
 
-// The unit has this journal: the cuts since the last one tell what it says, and a new span begins.
+/// The unit has this journal: the cuts since the last one tell what it says, and a new span begins.
 fn found<M: Medium, C: Chip, D: Chip>(
     run: &mut Run,
     waking: Waking,
@@ -166,8 +166,8 @@ fn found<M: Medium, C: Chip, D: Chip>(
     Ok(())
 }
 
-// The unit is mended, a span begins, the cards in the slots are judged anew, and the interruption that ends now is
-// noted, if a power-on came before this one.
+/// The unit is mended, a span begins, the cards in the slots are judged anew, and the interruption that ends now is
+/// noted, if a power-on came before this one.
 fn resume<M: Medium, C: Chip, D: Chip>(
     run: &mut Run,
     waking: Waking,

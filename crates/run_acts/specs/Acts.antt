@@ -20,7 +20,7 @@ use Rattle.run_minutes.specs.Keeping.{CardMayBeCalled, HasItsRow, UnitMayBeCalle
 use Rattle.run_minutes.specs.Later.{AreAfter, AreCalm, AreLater, IsCalm, IsLater}
 use Rattle.run_minutes.specs.Minutes.{IsReach, KeepingState, Reach}
 use Rattle.run_minutes.specs.Stand.{KeepingGoes, Stand}
-use Rattle.run_minutes.specs.Writes.{WroteAtMost}
+use Rattle.run_minutes.specs.Writes.{WroteAtMost, tear_unit_most}
 use Rattle.run_minutes.specs.declared.keeper.Moment.{Moment}
 use Rattle.run_outcome.specs.Broken.{BreaksDown}
 use Rattle.run_outcome.specs.Lines.{Listed}
@@ -60,6 +60,8 @@ use Rattle.run_acts.specs.Speeds.{BringsBlock, SpeedsTurn}
 use Rattle.run_acts.specs.Stays.{ClosesOnCard}
 use Rattle.run_acts.specs.Stood.{StandsPlace, StandsTurn, StandsWithdrawal}
 use Rattle.run_acts.specs.Turning.{IsLitTurn, IsTurnOf}
+use Rattle.run_acts.specs.Writes.{close_unit_most, close_card_most, place_card_most, slot_gap_unit_most}
+use Rattle.run_acts.specs.Writes.{slot_gap_card_most}
 use Rattle.run_acts.specs.declared.run.Run.{Run}
 use Rattle.unit_notes.specs.event_model.declared.kinds.TheConstants.{POWER_INTERRUPTION}
 use Rattle.run_events.specs.message_model.Records.{insertion_ring}
@@ -346,7 +348,7 @@ pub record NotesGapOn (which : Card) (slot : Slot) (event : UnitEvent) (result :
   pub stands : (from : ℕ) (leaving : Option Card) → CabinIsSound from leaving old.keeper.cabin
       → CabinIsSound from leaving new.keeper.cabin
   pub clock_card : x.clock ≤ y.clock
-  pub most : (V.clock ≤ U.clock + 4) × (y.clock ≤ x.clock + 4)
+  pub most : (V.clock ≤ U.clock + slot_gap_unit_most) × (y.clock ≤ x.clock + slot_gap_card_most)
 
 -- THE NOTE OF A PLACE ON A CARD: whether it fell, what is left of unit and card, and how they stand; and so many writes
 -- at most were begun
@@ -362,7 +364,7 @@ pub record NotesPlaceOn (which : Card) (slot : Slot) (entry : PlaceEntry) (at : 
   pub stands : (from : ℕ) (leaving : Option Card) → CabinIsSound from leaving old.keeper.cabin
       → CabinIsSound from leaving new.keeper.cabin
   pub clock_card : x.clock ≤ y.clock
-  pub most : (V.clock ≤ U.clock + 4) × (y.clock ≤ x.clock + 5)
+  pub most : (V.clock ≤ U.clock + tear_unit_most) × (y.clock ≤ x.clock + place_card_most)
 
 -- THE CLOSING OF A SESSION: how it was closed, what is left of unit and card, and how they stand; and so many writes at
 -- most were begun
@@ -375,7 +377,7 @@ pub record ClosesSession (which : Card) (slot : Slot) (at : Moment) (result : Re
   pub writes : UnitWrites U V
   pub behind : StandsBehind which result old new U V x y chip
   pub stands : (from : ℕ) → CabinIsSound from (Some which) old.keeper.cabin → CabinIsSound from None new.keeper.cabin
-  pub most : (V.clock ≤ U.clock + 4) × (y.clock ≤ x.clock + 8)
+  pub most : (V.clock ≤ U.clock + close_unit_most) × (y.clock ≤ x.clock + close_card_most)
   pub goes : CardGoesOn before.items after.items x y
 
 -- THE KEEPING GOES ON as a second settles: all goes on over what is kept, the detailed speed stays, and so many writes

@@ -59,7 +59,8 @@ impl Run {
         self.begun = 0;
     }
 
-    /// Whether the next second has power, where the trace gives it power.
+    /// Whether the next second has power, where the trace gives it power: the unit has it now (`is_lit`), or power
+    /// comes back with that second.
     pub fn has_power(&self) -> bool
         ensures { result ≡ has_power self.now.power self.now.next }
     {

@@ -70,7 +70,7 @@ pub fn turn<M: Medium, C: Chip, D: Chip>(
     run.pass(stretch.seconds, stretch.begun);
 }
 
-// The same with power. Where the keeping fails, or a note, the power is lost in the last of the seconds.
+/// The same with power. Where the keeping fails, or a note, the power is lost in the last of the seconds.
 fn lit_turn<M: Medium, C: Chip, D: Chip>(
     run: &mut Run,
     stretch: Stretch,
@@ -112,7 +112,7 @@ fn lit_turn<M: Medium, C: Chip, D: Chip>(
     }
 }
 
-// Minutes that a stretch of seconds has decided, and the moment of their keeping.
+/// Minutes that a stretch of seconds has decided, and the moment of their keeping.
 #[derive(Clone, Copy)]
 struct StretchDecided<D> {
     decided: D,
@@ -120,8 +120,8 @@ struct StretchDecided<D> {
     at: Moment,
 }
 
-// Keeps the minutes that so many seconds have decided, and then notes what has ended with the second before them:
-// nothing has unless they are one.
+/// Keeps the minutes that so many seconds have decided, and then notes what has ended with the second before them:
+/// nothing has unless they are one.
 fn keep_turn<M: Medium, C: Chip, D: Chip>(
     run: &mut Run,
     turned: StretchDecided<&[Minute]>,

@@ -28,7 +28,7 @@ pub fn odometer_after(stored: u32, travelled: u64) -> Odometer
     Odometer((stored + more).min(HIGHEST_ODOMETER))
 }
 
-// A slot in a minute.
+/// A slot in a minute.
 fn state(act: Activity, present: Option<Card>) -> State
     ensures { result ≡ record { act = act; present = is_some present } }
 {
@@ -38,7 +38,7 @@ fn state(act: Activity, present: Option<Card>) -> State
     }
 }
 
-// A decided minute as it is kept, with the cards that were present in it.
+/// A decided minute as it is kept, with the cards that were present in it.
 fn kept_of(minute: &Minute, present: Present, stored: u32) -> KeptMinute
     requires { stored ≤ HIGHEST_ODOMETER }
     ensures { result ≡ kept_of stored minute.now present }
