@@ -133,13 +133,6 @@ module _ (e : Manual) where
   some-session B A cards = refl
   some-session B B cards = some_or cards.b.accepted
 
-  -- what is known of a card, but for what its session holds
-  pub sizes-held : (card c : Card) (cards : Cards) → (known_of (cards_holding e card cards) c).sizes ≡ (known_of cards c).sizes
-  sizes-held A A cards = refl
-  sizes-held A B cards = refl
-  sizes-held B A cards = refl
-  sizes-held B B cards = refl
-
   known_held : (known : Known) → IsKnown known → IsKnown (record known { accepted = option_map (holding e) known.accepted })
   known_held known h = by known.accepted h.sized h.numbered
     where
