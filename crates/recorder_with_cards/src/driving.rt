@@ -38,6 +38,10 @@ struct MoreSeconds {
 
 /// So many seconds at one speed, from 1 on, with the actions among the items from one index to another at their
 /// beginning.
+///
+/// # Errors
+///
+/// `BadUnit` or `ClockBack`, of a unit that is read anew at a power-on.
 pub(crate) fn drive<M: Medium, C: Chip, D: Chip>(
     run: &mut Run,
     due: DrivenSeconds<&Items>,
