@@ -7,10 +7,9 @@ ghost use Rattle.trace_model.specs.declared.Action.TheVariants.{Manual};
 ghost use Rattle.log_model.specs.Slots.{refusal};
 ghost use Rattle.run_minutes.specs.card_slots.Calls.{logged};
 ghost use Rattle.run_minutes.specs.run_promise.Between.{devices};
-ghost use Rattle.run_acts.specs.declared.run.Power.TheVariants.{Lit};
 ghost use Rattle.run_acts.specs.ByHand.{stopped_in};
 ghost use Rattle.run_acts.specs.Power.{is_lit};
-ghost use Rattle.run_acts.specs.Going.{largest_number, IsInsideSecond};
+ghost use Rattle.run_acts.specs.Going.{largest_number, IsActing};
 ghost use Rattle.run_acts.specs.Room.{HasRoomWithin, Takes};
 ghost use Rattle.recorder_with_cards.specs.Acting.{put_count};
 ghost use Rattle.recorder_with_cards.specs.Acting.{moment_of};
@@ -262,9 +261,8 @@ fn carry_out<M: Medium, C: Chip, D: Chip>(
     card_b: &mut D,
     outcome: &mut Outcome,
 ) -> Result<(), Failed>
-    requires lit { run.old.power ≡ Lit }
-    requires going { IsInsideSecond run.old (M.state unit.old) (C.card card_a.old) (D.card card_b.old)
-        (C.state card_a.old) (D.state card_b.old) }
+    requires acting { IsActing run.old (M.state unit.old) (C.card card_a.old) (D.card card_b.old) (C.state card_a.old)
+        (D.state card_b.old) }
     requires allowed { stopped_in run.old deed.speed deed.action ≡ None }
     requires room { HasRoomWithin run.old outcome.old 1 0 (put_count deed.action) 0 }
     ensures done { CarriesOut deed.action (moment_of deed.begun run.old) deed.speed

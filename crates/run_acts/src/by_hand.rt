@@ -7,6 +7,7 @@ ghost use Rattle.run_crew.specs.Cards.{session_of};
 ghost use Rattle.run_crew.specs.Cabin.{CabinIsSound};
 ghost use Rattle.run_acts.specs.ByHand.{stop_in, stop_of, cards_holding, entered_run};
 ghost use Rattle.run_record.specs.Within.{stop_told};
+ghost use Rattle.hand_model.specs.declared.held.TheConstants.{MOST};
 
 use crate::run::Run;
 use activity_codec::{DAY_MINUTES, Manual, Pick, Slot};
@@ -68,7 +69,7 @@ pub fn enter(run: &mut Run, slot: Slot, pick: Pick, minute: u16)
 
 /// The session of a card, if it has one, holds one entry by hand more.
 fn hold(cards: &mut Cards, card: Card, entry: &Manual)
-    requires room { IfSome (session_of cards.old card) (λ a. length a.held.entries < 8) }
+    requires room { IfSome (session_of cards.old card) (λ a. length a.held.entries < MOST) }
     ensures { cards.new ≡ cards_holding entry.now card cards.old }
 {
     let Some(mut accepted) = cards.take(card) else {

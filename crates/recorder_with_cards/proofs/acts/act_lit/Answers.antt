@@ -189,11 +189,14 @@ module _ (g : Over) (c : After-carry_out g) where
 
 -- ---- what is asked as it is carried out
 
-pub carry_out-requires-clause-lit : goal.carry_out-requires-clause-lit
-carry_out-requires-clause-lit g c = c.requires.may.lit
-
-pub carry_out-requires-clause-going : goal.carry_out-requires-clause-going
-carry_out-requires-clause-going g c = c.requires.may.going
+pub carry_out-requires-clause-acting : goal.carry_out-requires-clause-acting
+carry_out-requires-clause-acting g c = record {
+  lit = c.requires.may.lit;
+  low = c.requires.may.going.low;
+  small = c.requires.may.going.small;
+  held = c.requires.may.going.held;
+  going = c.requires.may.going.lit (ap is_lit c.requires.may.lit);
+}
 
 pub carry_out-requires-clause-room : goal.carry_out-requires-clause-room
 carry_out-requires-clause-room g c =
