@@ -16,18 +16,14 @@ use Rattle.run_crew.specs.declared.cards.Accepted.{Accepted}
 use Rattle.run_crew.specs.declared.cards.Cards.{Cards}
 use Rattle.run_crew.specs.declared.cabin.Cabin.{Cabin}
 use Rattle.run_crew.specs.Cards.{session_of, with_session}
+use Rattle.run_minutes.specs.Keeping.{session_at}
 use Rattle.run_acts.specs.declared.run.Run.{Run}
 use Rattle.run_acts.specs.Power.{with_cabin}
 use Rattle.run_record.specs.Within.{stop_told}
 
 -- the session of the card in a slot, if it has one
-abbrev pub session_at : Option Card → Cards → Option Accepted
-session_at None cards = None
-session_at (Some card) cards = session_of cards card
-
--- so it is of a slot of the cabin
 abbrev pub session_in : Slot → Cabin → Option Accepted
-session_in slot cabin = session_at (card_in (seat_in cabin.slots.seats slot)) cabin.cards
+session_in slot cabin = session_at cabin.cards (card_in (seat_in cabin.slots.seats slot))
 
 -- WHY IT IS STOPPED, if it is: by what the session holds, the card's newest minute, and the minute from which on it is
 -- to count
