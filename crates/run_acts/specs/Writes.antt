@@ -9,7 +9,8 @@ settle_unit_most = 78
 abbrev pub settle_card_most : ℕ
 settle_card_most = 294
 
--- A TURN: those, and on the unit 15 for a block of detailed speed and the events that have ended
+-- A TURN: those, and on the unit 15 for a block of detailed speed and the events that have ended (run_events
+-- `watch_most`)
 abbrev pub turn_unit_most : ℕ
 turn_unit_most = 93
 

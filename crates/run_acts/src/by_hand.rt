@@ -10,14 +10,11 @@ ghost use Rattle.run_record.specs.Within.{stop_told};
 ghost use Rattle.hand_model.specs.declared.held.TheConstants.{MOST};
 
 use crate::run::Run;
-use activity_codec::{DAY_MINUTES, Manual, Pick, Slot};
+use activity_codec::{DAY_MINUTES, DAY_SECONDS, Manual, Pick, Slot};
 use hand_model::EnterFault;
 use log_model::SlotFault;
 use run_crew::Cards;
 use trace_model::Card;
-
-/// The seconds of a day.
-const DAY_SECONDS: u32 = 86400;
 
 /// Whether the session of the slot's card takes an entry by hand from this minute of the day on (0 to 1439). A slot
 /// without a card, and a card without a session, stop none.
@@ -83,7 +80,7 @@ fn hold(cards: &mut Cards, card: Card, entry: &Manual)
 fn minute_of(run: &Run, minute: u16) -> u32
     ensures { result ≡ minute_on run.now.next minute }
 {
-    run.next / DAY_SECONDS * u32::from(DAY_MINUTES) + u32::from(minute)
+    run.next / DAY_SECONDS * DAY_MINUTES + u32::from(minute)
 }
 
 fn stop(fault: EnterFault) -> SlotFault

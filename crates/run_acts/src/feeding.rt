@@ -4,7 +4,7 @@ ghost use Rattle.unit_model.specs.minute_model.Span.{Span, decided_in, fed_many}
 ghost use Rattle.minute_rules.specs.Kept.{CountsSpan};
 ghost use Rattle.run_acts.specs.Going.{largest_number};
 
-use activity_codec::Steps;
+use activity_codec::{MINUTE_SECONDS, Steps};
 use minute_rules::{Decided, Minutes};
 use std::marker::Brand;
 use std::sync::ledger::{Blank, Ledger};
@@ -18,10 +18,10 @@ pub fn turn_length(next: u32, left: u32) -> u32
     // Behind it, where seconds are left, a minute begins, or its first second is over.
     ensures opens { result < left → (next + result) % 60 ≤ 1 }
 {
-    if next % 60 == 0 {
+    if next % MINUTE_SECONDS == 0 {
         return 1;
     }
-    left.min(60 - next % 60)
+    left.min(MINUTE_SECONDS - next % MINUTE_SECONDS)
 }
 
 /// So many seconds of one minute, in steps that nobody counts.

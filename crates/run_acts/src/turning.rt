@@ -1,6 +1,7 @@
 //! Seconds of one minute at one speed.
 ghost use Rattle.std.specs.Prelude.{◌≡◌, ◌+◌, ◌*◌, false, length, is_err};
 ghost use Rattle.run_minutes.specs.Writes.{WroteAtMost, minute_most, minute_unit_most};
+ghost use Rattle.run_events.specs.Writes.{watch_most};
 ghost use Rattle.run_minutes.specs.Keeping.{DevicesMayBeCalled};
 ghost use Rattle.run_acts.specs.declared.run.Power.TheVariants.{Lit};
 ghost use Rattle.run_acts.specs.Power.{is_lit, passed};
@@ -150,7 +151,7 @@ fn keep_turn<M: Medium, C: Chip, D: Chip>(
         (D.card card_b.old))
         (acting run.new outcome.new (M.state unit.new) (C.state card_a.new) (D.state card_b.new) (C.card card_a.new)
         (D.card card_b.new)) }
-    ensures most { WroteAtMost (minute_unit_most * length turned.entry.decided.now + 15)
+    ensures most { WroteAtMost (minute_unit_most * length turned.entry.decided.now + watch_most)
         (minute_most * length turned.entry.decided.now)
         (devices (M.state unit.old) (C.state card_a.old) (D.state card_b.old))
         (devices (M.state unit.new) (C.state card_a.new) (D.state card_b.new)) }
@@ -165,7 +166,7 @@ fn keep_turn<M: Medium, C: Chip, D: Chip>(
     let first = run.next;
     let seconds = Seconds {
         first,
-        n: turned.stretch.seconds,
+        count: turned.stretch.seconds,
         speed: turned.stretch.speed,
     };
     run.watch.turn(&run.keeper.memory, seconds, crew, unit)

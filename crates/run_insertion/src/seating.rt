@@ -19,6 +19,7 @@ ghost use Rattle.run_minutes.specs.Calls.{MayTear};
 
 use crate::lines::{Entering, find, insertion_of, other_card, tell_replayed};
 use crate::noting::{note_driving, note_unclosed};
+use activity_codec::MINUTE_SECONDS;
 use card_layout::Application;
 use card_session::CardSession;
 use card_validity::CardLook;
@@ -85,7 +86,7 @@ fn seat<M: Medium, C: Chip, D: Chip>(
     let spared = keeper.cabin.cards.of(other_card(entering.which)).number;
     let accepted = Accepted {
         session: seating.session,
-        held: Held::new(begin_second / 60),
+        held: Held::new(begin_second / MINUTE_SECONDS),
         entry,
         noted: *noted,
     };
