@@ -1,11 +1,14 @@
-//! The calendar date of a day number.
+//! The calendar date of a day number, and times of day, as text.
 #![tactic(auto)]
+
+mod clock;
 
 ghost use Rattle.std.specs.Prelude.{◌≡◌, ◌<◌, pos, ◌≤ℤ◌};
 ghost use Rattle.jiff.specs.Words.{epoch_day};
 ghost use Rattle.calendar_days.specs.Calendar.{IsDateText};
 
 use arrayvec::ArrayVec;
+pub use clock::{clock_text, duration_text, seconds_text};
 use jiff::ToSpan;
 use jiff::civil::{Date, date};
 use tacho_types::DAYS;

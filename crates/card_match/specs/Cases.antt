@@ -47,6 +47,7 @@ abbrev pub first_seen : Option UnitShown → Option UnitShown → Option UnitSho
 first_seen None later = later
 first_seen (Some shown) later = Some shown
 
+-- the minutes of a line as a use
 abbrev pub line_use : Line UnitShown → Use
 line_use line = record { first = line.first; last = line.last }
 
@@ -57,6 +58,7 @@ with_line line c =
     then record { entry = c.entry; own = c.own; seen = first_seen c.seen (Some line.shown) }
     else c
 
+-- the minute of a case
 abbrev pub minute_of_case : Case → ℕ
 minute_of_case c = c.entry.minute
 
@@ -77,7 +79,7 @@ is_from (Some first) day = nat_le first day
 abbrev pub line_from : Line UnitShown → ℕ → Bool
 line_from line day = nat_le line.first line.last && nat_le (day_of_minute line.first) day
 
--- which of them an entry is
+-- an entry is of another vehicle, before the unit file, or tested; and then it stands, or does not
 abbrev pub IsSort : Against → Entry → Sort → Type 0
 IsSort a e Other = is_own a e ≡ false
 IsSort a e Before = is_before a e ≡ true
@@ -91,9 +93,11 @@ counted c Before = record { tested = c.tested; other = c.other; before = c.befor
 counted c Standing = record { tested = c.tested + 1; other = c.other; before = c.before }
 counted c Missed = record { tested = c.tested + 1; other = c.other; before = c.before }
 
+-- how many entries were counted
 abbrev pub total : Counts → ℕ
 total c = c.tested + (c.other + c.before)
 
+-- an entry is tested and does not stand
 abbrev pub is_missed : Sort → Bool
 is_missed Missed = true
 is_missed _ = false

@@ -42,6 +42,7 @@ difference_of a e = record {
 abbrev pub differences : Against → List Entry → List (Viewed Difference)
 differences a entries = map (difference_of a) (filter (differs a) entries)
 
+-- the unit file has the same in place of two entries
 abbrev pub same_instead : Instead → Instead → Bool
 same_instead NoMinute NoMinute = true
 same_instead NoCard NoCard = true
@@ -70,5 +71,6 @@ abbrev pub first_in : List (Line Difference) → Counts → Matched
 first_in [] c = Yes c.tested c.other c.before
 first_in (run ∷ runs) c = No run.first run.shown.slot
 
+-- the answer to a match by all that differs and the counts
 abbrev pub first_of : Differences → Matched
 first_of all = first_in all.runs.items all.counts

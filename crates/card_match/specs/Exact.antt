@@ -39,6 +39,7 @@ instead_exact (Doing a) (Doing b) is = ap Doing (activity_exact a b is)
 instead_exact (Crew a) (Crew b) is = ap Crew (bool_exact a b is)
 instead_exact _ _ is = absurd (cc)
 
+-- two entries differ in the same way alone where their differences are equal
 pub difference_exact : (one other : Difference) → same_difference one other ≡ true → one ≡ other
 difference_exact one other is =
     let parts = both (same_slot one.slot other.slot && same_activity one.act other.act)

@@ -18,13 +18,15 @@ use Rattle.card_match.specs.declared.verdict.Differences.{Differences}
 use Rattle.card_match.specs.declared.files.MatchFault.{MatchFault}
 use Rattle.card_match.specs.declared.files.MatchFault.TheVariants.{BadUnitFile, BadCardFile, Memory}
 
--- a vehicle entry is one of this registration, and the minutes of its use
+-- a vehicle entry is one of this registration
 abbrev pub is_of : List ℕ → Vehicle → Bool
 is_of registration v = bytes_eq v.registration.0 registration
 
+-- the minutes of a vehicle entry's use
 abbrev pub use_of : Vehicle → Use
 use_of v = record { first = v.first_use.0 / 60; last = v.last_use.0 / 60 }
 
+-- the uses of the vehicle of a registration
 abbrev pub uses_of : List ℕ → List Vehicle → List Use
 uses_of registration vehicles = map use_of (filter (is_of registration) vehicles)
 
@@ -45,10 +47,11 @@ pub record AnswersFiles {T : Type 0} (Answer : Against → List Entry → T → 
   pub shows : ShowsCard card entries vehicles
   pub answer : Answer (against registration vehicles (minutes_in messages)) entries told
 
--- whether they match, and all that differs
+-- the answer is whether they match
 abbrev pub MatchesFiles : (unit card : List ℕ) → Matched → Type 0
 MatchesFiles unit card matched = AnswersFiles IsMatch unit card matched
 
+-- the same of all that differs
 abbrev pub ComparesFiles : (unit card : List ℕ) → Differences → Type 0
 ComparesFiles unit card all = AnswersFiles AreDifferences unit card all
 
@@ -90,10 +93,11 @@ pub record AnswersSource {T : Type 0} (Answer : Against → List Entry → T →
   pub are : AreParts bytes unit card
   pub answers : AnswersFiles Answer unit card told
 
--- whether they match, and all that differs
+-- the answer is whether they match
 abbrev pub MatchesSource : (bytes : List ℕ) → Matched → Type 0
 MatchesSource bytes matched = AnswersSource IsMatch bytes matched
 
+-- the same of all that differs
 abbrev pub ComparesSource : (bytes : List ℕ) → Differences → Type 0
 ComparesSource bytes all = AnswersSource AreDifferences bytes all
 
@@ -106,5 +110,6 @@ pub record IsBadBehind (place : ℕ) (bytes : List ℕ) : Type 0 where
   pub bad : ((place ≡ length unit) × LacksOverview unit)
       ⊎ ((at : ℕ) × (place ≡ length unit + at) × HasOverview unit × IsBadCardFile at card)
 
+-- the source fails at this place: at a message in front, or behind the messages
 abbrev pub IsBadSource : ℕ → List ℕ → Type 0
 IsBadSource place bytes = IsBadFront place bytes ⊎ IsBadBehind place bytes

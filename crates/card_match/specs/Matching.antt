@@ -23,7 +23,7 @@ pub record Against : Type 0 where
 abbrev pub is_within : ℕ → Use → Bool
 is_within minute u = nat_le u.first minute && nat_le minute u.last
 
--- an entry is own where its minute lies in a use of the unit's vehicle; else it is other
+-- an entry is own where its minute lies in a use of the unit's vehicle
 abbrev pub is_own : Against → Entry → Bool
 is_own a e = list_any (is_within e.minute) a.uses
 
@@ -31,13 +31,15 @@ is_own a e = list_any (is_within e.minute) a.uses
 abbrev pub is_early : Against → Entry → Bool
 is_early a e = not (list_any (λ m. nat_le (day_of_minute m.minute) (day_of_minute e.minute)) a.minutes)
 
--- an own entry that is early is before the file; each other own entry is tested
+-- an entry in no such use
 abbrev pub is_other : Against → Entry → Bool
 is_other a e = not (is_own a e)
 
+-- an own entry that is early is before the file
 abbrev pub is_before : Against → Entry → Bool
 is_before a e = is_own a e && is_early a e
 
+-- each other own entry is tested
 abbrev pub is_tested : Against → Entry → Bool
 is_tested a e = is_own a e && not (is_early a e)
 
@@ -46,6 +48,7 @@ abbrev pub minute_at : List UnitMinute → ℕ → Option UnitMinute
 minute_at [] minute = None
 minute_at (m ∷ ms) minute = if m.minute == minute then Some m else minute_at ms minute
 
+-- what a minute of a unit knows of a slot
 abbrev pub state_in : Slot → UnitMinute → State
 state_in Driver m = m.driver
 state_in CoDriver m = m.codriver
@@ -54,6 +57,7 @@ state_in CoDriver m = m.codriver
 abbrev pub is_as : Entry → UnitMinute → Bool
 is_as e m = (state_in e.slot m).present && same_activity (state_in e.slot m).act e.act && same_bool m.crew e.crew
 
+-- the unit has the minute, and it is as the entry has it
 abbrev pub is_as_some : Entry → Option UnitMinute → Bool
 is_as_some e None = false
 is_as_some e (Some m) = is_as e m

@@ -5,9 +5,10 @@ use Rattle.activity_codec.specs.Names.{slot_name, activity_name}
 use Rattle.activity_codec.specs.declared.values.Activity.{Activity}
 use Rattle.activity_codec.specs.declared.values.Slot.{Slot}
 use Rattle.calendar_days.specs.Calendar.{IsDateText}
+use Rattle.calendar_days.specs.Clock.{clock_text}
 use Rattle.tacho_types.specs.declared.calendar.TheConstants.{DAYS}
 use Rattle.view_model.specs.Lines.{day_of_minute}
-use Rattle.view_text.specs.Text.{clock_text, crew_word, line_text}
+use Rattle.view_text.specs.Text.{crew_word, line_text}
 use Rattle.view_model.specs.declared.Line.{Line}
 use Rattle.card_match.specs.declared.verdict.Matched.{Matched}
 use Rattle.card_match.specs.declared.verdict.Matched.TheVariants.{Yes, No}
@@ -84,5 +85,6 @@ AreAllText (run ∷ runs) c text =
     × (text ≡ front ++ count_line (codes "tested") c.tested ++ count_line (codes "other") c.other
     ++ count_line (codes "before") c.before)
 
+-- THE TEXT of all that differs, and of the counts
 abbrev pub IsDifferencesText : Differences → List ℕ → Type 0
 IsDifferencesText all text = AreAllText all.runs.items all.counts text

@@ -126,6 +126,10 @@ fn instead_for(entry: Entry, seen: Option<UnitShown>) -> Instead
 }
 
 /// The entries of lines, of which nothing is known yet.
+///
+/// # Errors
+///
+/// `AllocError` where memory runs out.
 pub fn cases_of(alloc: Global, lines: &[Line<CardShown>]) -> Result<Vec<Case>, AllocError>
     ensures { IfOk result (λ cases. cases.items ≡ map fresh (map entry_told (minutes_on lines.now))) }
 {

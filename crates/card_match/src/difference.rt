@@ -1,14 +1,12 @@
 //! How an entry of a card file differs from the unit file.
 ghost use Rattle.std.specs.Prelude.{◌≡◌, ◌++◌, OnOk, Bool, true, List, ℕ};
-ghost use Rattle.activity_codec.specs.Activity.{same_slot, same_activity};
-ghost use Rattle.view_text.specs.Text.{crew_word};
-ghost use Rattle.card_match.specs.Differences.{instead_in, same_instead};
+ghost use Rattle.card_match.specs.Differences.{instead_in};
 ghost use Rattle.card_match.specs.Text.{crewed, card_has, unit_has};
 
-use activity_codec::{Activity, Slot};
+use activity_codec::{Activity, Slot, is_same_activity, is_same_slot};
 use std::alloc::AllocError;
 use view_model::State;
-use view_text::Shown;
+use view_text::{Shown, crew_name};
 
 /// What the unit file has in place of an entry.
 #[derive(Clone, Copy, Debug, PartialEq, Eq)]
@@ -35,54 +33,6 @@ impl Instead {
             return Instead::Crew(crew);
         }
         Instead::Doing(state.act)
-    }
-
-    /// Whether both are the same.
-    fn is_same(self, other: Instead) -> bool
-        ensures { result ≡ same_instead self other }
-    {
-        match self {
-            Instead::NoMinute => other.is_no_minute(),
-            Instead::NoCard => other.is_no_card(),
-            Instead::Doing(act) => other.is_doing(act),
-            Instead::Crew(crew) => other.is_crew(crew),
-        }
-    }
-
-    fn is_no_minute(self) -> bool
-        ensures { result ≡ same_instead Instead.NoMinute self }
-    {
-        match self {
-            Instead::NoMinute => true,
-            Instead::NoCard | Instead::Doing(_) | Instead::Crew(_) => false,
-        }
-    }
-
-    fn is_no_card(self) -> bool
-        ensures { result ≡ same_instead Instead.NoCard self }
-    {
-        match self {
-            Instead::NoCard => true,
-            Instead::NoMinute | Instead::Doing(_) | Instead::Crew(_) => false,
-        }
-    }
-
-    fn is_doing(self, act: Activity) -> bool
-        ensures { result ≡ same_instead (Instead.Doing act) self }
-    {
-        match self {
-            Instead::Doing(other) => is_same_activity(act, other),
-            Instead::NoMinute | Instead::NoCard | Instead::Crew(_) => false,
-        }
-    }
-
-    fn is_crew(self, crew: bool) -> bool
-        ensures { result ≡ same_instead (Instead.Crew crew) self }
-    {
-        match self {
-            Instead::Crew(other) => crew == other,
-            Instead::NoMinute | Instead::NoCard | Instead::Doing(_) => false,
-        }
     }
 }
 
@@ -111,7 +61,7 @@ impl Shown for Difference {
     fn is_same(self, other: Self) -> bool {
         is_same_slot(self.slot, other.slot)
             && is_same_activity(self.act, other.act)
-            && self.instead.is_same(other.instead)
+            && self.instead == other.instead
     }
 
     fn write(self, text: &mut Vec<u8>) -> Result<(), AllocError> {
@@ -122,18 +72,6 @@ impl Shown for Difference {
         write_unit(text, self.act, self.instead)?;
         Ok(())
     }
-}
-
-fn is_same_activity(one: Activity, other: Activity) -> bool
-    ensures { result ≡ same_activity one other }
-{
-    one == other
-}
-
-fn is_same_slot(one: Slot, other: Slot) -> bool
-    ensures { result ≡ same_slot one other }
-{
-    one == other
 }
 
 /// Writes what the card has.
@@ -168,12 +106,6 @@ fn write_crewed(text: &mut Vec<u8>, act: Activity, crew: bool) -> Result<(), All
     text.extend_from_slice(b",")?;
     text.extend_from_slice(crew_name(crew))?;
     Ok(())
-}
-
-fn crew_name(crew: bool) -> &'static [u8]
-    ensures { result.now ≡ crew_word crew }
-{
-    if crew { b"crew" } else { b"single" }
 }
 
 /// Writes bytes at the end.

@@ -14,6 +14,10 @@ use view_model::{CardShown, Line, UnitShown};
 /// Compares the entries of a card's lines with the minutes of a unit's lines, by the uses of the unit's vehicle that
 /// the card tells. It takes time by the lines, the uses and the minutes that both files tell, and memory by the
 /// entries.
+///
+/// # Errors
+///
+/// `AllocError` where memory runs out.
 pub fn compare_entries(
     alloc: Global,
     uses: &[Use],

@@ -26,7 +26,22 @@ pub enum MatchFault {
     Memory,
 }
 
+impl From<AllocError> for MatchFault {
+    ghost use Rattle.std.specs.Prelude.{◌≡◌};
+    ghost use Rattle.card_match.specs.declared.files.MatchFault.TheVariants.{Memory};
+
+    ghost from_gives = { λ _ fault. fault ≡ Memory };
+
+    fn from(_error: AllocError) -> MatchFault {
+        MatchFault::Memory
+    }
+}
+
 /// Matches the entries of a card file against the minutes of a unit file: the first that differs, or the counts.
+///
+/// # Errors
+///
+/// As `compare_files`.
 pub fn match_files(alloc: Global, unit: &[u8], card: &[u8]) -> Result<Matched, MatchFault>
     requires unit { length unit.now < 2 ^ 32 }
     requires card { length card.now < 2 ^ 32 }
@@ -34,13 +49,19 @@ pub fn match_files(alloc: Global, unit: &[u8], card: &[u8]) -> Result<Matched, M
     ensures dated { IfOk result IsDated }
     ensures bad { IfErr result (IsMatchFault unit.now card.now) }
 {
-    match compare_files(alloc, unit, card) {
-        Ok(all) => Ok(all.first()),
-        Err(fault) => Err(fault),
-    }
+    let all = compare_files(alloc, unit, card)?;
+    Ok(all.first())
 }
 
 /// Compares the entries of a card file with the minutes of a unit file: all that differ, and the counts.
+///
+/// # Errors
+///
+/// 1. `BadUnitFile` where the first bytes are no unit file, with the place of the first message that is not in its
+///    grammar, or one without an overview, with its length.
+/// 2. `BadCardFile` where the others are no card file, with the place of the first entry that is not in its grammar, or
+///    their length where a needed entry is missing.
+/// 3. `Memory`.
 pub fn compare_files(alloc: Global, unit: &[u8], card: &[u8]) -> Result<Differences, MatchFault>
     requires unit { length unit.now < 2 ^ 32 }
     requires card { length card.now < 2 ^ 32 }
@@ -62,19 +83,14 @@ pub fn compare_files(alloc: Global, unit: &[u8], card: &[u8]) -> Result<Differen
         Err(ViewFault::BadFile(place)) => return Err(MatchFault::BadCardFile(place)),
         Err(ViewFault::Memory) => return Err(MatchFault::Memory),
     };
-    let uses = match uses_of(alloc, read.vehicles.as_slice(), registration) {
-        Ok(uses) => uses,
-        Err(_) => return Err(MatchFault::Memory),
-    };
-    match compare_entries(
+    let uses = uses_of(alloc, read.vehicles.as_slice(), registration)?;
+    let all = compare_entries(
         alloc,
         uses.as_slice(),
         minutes.lines(),
         read.history.lines(),
-    ) {
-        Ok(all) => Ok(all),
-        Err(_) => Err(MatchFault::Memory),
-    }
+    )?;
+    Ok(all)
 }
 
 /// The registration that the first overview of a unit file tells.
@@ -84,10 +100,7 @@ fn registration_of(unit: &[u8]) -> Result<Registration, u32>
         × (registration_in messages ≡ Some r.0)) }
     ensures bad { IfErr result (λ place. IsBadUnit place unit.now) }
 {
-    let front = match read_front(unit) {
-        Ok(front) => front,
-        Err(place) => return Err(place),
-    };
+    let front = read_front(unit)?;
     if front.end < unit.len() {
         return Err(front.end as u32);
     }
@@ -141,19 +154,28 @@ pub enum SourceFault {
 }
 
 /// Matches a source: a unit file, whose messages go on as long as the next byte is 76, and behind it a card file.
+///
+/// # Errors
+///
+/// As `compare_source`.
 pub fn match_source(alloc: Global, b: &[u8]) -> Result<Matched, SourceFault>
     requires { length b.now < 2 ^ 32 }
     ensures matched { IfOk result (MatchesSource b.now) }
     ensures dated { IfOk result IsDated }
     ensures bad { IfErr result (λ fault. IfBadSource fault (λ place. IsBadSource place b.now)) }
 {
-    match compare_source(alloc, b) {
-        Ok(all) => Ok(all.first()),
-        Err(fault) => Err(fault),
-    }
+    let all = compare_source(alloc, b)?;
+    Ok(all.first())
 }
 
 /// Compares the two files of such a source.
+///
+/// # Errors
+///
+/// 1. `BadFile` where the source is no unit file with an overview, followed at once by a card file: with the place, in
+///    the source, of the first message or entry that is not in its grammar, or of the end of the file that lacks
+///    something.
+/// 2. `Memory`.
 pub fn compare_source(alloc: Global, b: &[u8]) -> Result<Differences, SourceFault>
     requires { length b.now < 2 ^ 32 }
     ensures compared { IfOk result (ComparesSource b.now) }

@@ -4,21 +4,25 @@ ghost use Rattle.std.specs.List.{AllByRecursion};
 ghost use Rattle.activity_codec.specs.Names.{slot_name};
 ghost use Rattle.calendar_days.specs.Calendar.{IsDateText};
 ghost use Rattle.view_model.specs.Lines.{day_of_minute};
-ghost use Rattle.view_text.specs.Text.{clock_text, line_text};
+ghost use Rattle.view_text.specs.Text.{line_text};
 ghost use Rattle.card_match.specs.Text.{IsDated, IsMatchText, count_line, place_words, AreDatedRuns, difference_words};
 ghost use Rattle.card_match.specs.Text.{AreRunsText, IsDifferencesText};
 
 use crate::difference::Difference;
 use crate::verdict::{Counts, Differences, Matched};
-use activity_codec::Slot;
+use activity_codec::{DAY_MINUTES, Slot};
 use calendar_days::day_text;
 use itoa::Buffer;
 use std::alloc::{AllocError, Global};
 use tacho_types::DAYS;
 use view_model::Line;
-use view_text::Shown;
+use view_text::{Shown, write_clock};
 
 /// The text of an answer: `match` and three counts, or the first minute that differs, with its slot.
+///
+/// # Errors
+///
+/// `AllocError` where memory runs out.
 pub fn match_text(alloc: Global, matched: Matched) -> Result<Vec<u8>, AllocError>
     requires { IsDated matched }
     ensures { IfOk result (λ text. IsMatchText matched text.items) }
@@ -54,13 +58,17 @@ fn differs_text(alloc: Global, minute: u32, slot: Slot) -> Result<Vec<u8>, Alloc
 {
     let mut text = Vec::new(alloc);
     text.extend_from_slice(b"differs ")?;
-    let date = day_text(minute / 1440);
+    let date = day_text(minute / DAY_MINUTES);
     text.extend_from_slice(date.as_slice())?;
     write_place(&mut text, minute, slot)?;
     Ok(text)
 }
 
 /// The text of all that differs: a line for each run, or `match` where there is none; and the counts.
+///
+/// # Errors
+///
+/// `AllocError` where memory runs out.
 pub fn differences_text(alloc: Global, all: &Differences) -> Result<Vec<u8>, AllocError>
     requires { AreDatedRuns all.now.runs.items }
     ensures { IfOk result (λ text. IsDifferencesText all.now text.items) }
@@ -109,7 +117,7 @@ fn write_run(text: &mut Vec<u8>, run: Line<Difference>) -> Result<(), AllocError
     ensures { OnOk result ((date : List ℕ) × IsDateText (day_of_minute run.first) date
         × (text.new.items ≡ text.old.items ++ codes "differs " ++ date ++ line_text difference_words run)) }
 {
-    let date = day_text(run.first / 1440);
+    let date = day_text(run.first / DAY_MINUTES);
     text.extend_from_slice(b"differs ")?;
     text.extend_from_slice(date.as_slice())?;
     text.extend_from_slice(b" ")?;
@@ -119,23 +127,6 @@ fn write_run(text: &mut Vec<u8>, run: Line<Difference>) -> Result<(), AllocError
     text.extend_from_slice(b" ")?;
     run.shown.write(text)?;
     text.extend_from_slice(b"\n")?;
-    Ok(())
-}
-
-/// Writes the time of day of a minute.
-fn write_clock(text: &mut Vec<u8>, minute: u32) -> Result<(), AllocError>
-    ensures { OnOk result (text.new.items ≡ text.old.items ++ clock_text minute) }
-{
-    let hour = minute % 1440 / 60;
-    let minute = minute % 60;
-    let clock = [
-        48 + (hour / 10) as u8,
-        48 + (hour % 10) as u8,
-        b':',
-        48 + (minute / 10) as u8,
-        48 + (minute % 10) as u8,
-    ];
-    text.extend_from_slice(&clock)?;
     Ok(())
 }
 
@@ -156,18 +147,9 @@ fn write_count(text: &mut Vec<u8>, name: &[u8], count: u32) -> Result<(), AllocE
 fn write_place(text: &mut Vec<u8>, minute: u32, slot: Slot) -> Result<(), AllocError>
     ensures { OnOk result (text.new.items ≡ text.old.items ++ place_words minute slot) }
 {
-    let hour = minute % 1440 / 60;
-    let minute = minute % 60;
-    let clock = [
-        b' ',
-        48 + (hour / 10) as u8,
-        48 + (hour % 10) as u8,
-        b':',
-        48 + (minute / 10) as u8,
-        48 + (minute % 10) as u8,
-        b' ',
-    ];
-    text.extend_from_slice(&clock)?;
+    text.extend_from_slice(b" ")?;
+    write_clock(text, minute)?;
+    text.extend_from_slice(b" ")?;
     text.extend_from_slice(slot.name())?;
     text.extend_from_slice(b"\n")?;
     Ok(())

@@ -12,13 +12,10 @@ ghost use Rattle.card_match.specs.Cases.{differing};
 
 use crate::cases::{Case, is_as};
 use crate::difference::Difference;
-use activity_codec::Slot;
+use activity_codec::{DAY_MINUTES, Slot};
 use std::alloc::{AllocError, Global};
 use view_model::{Line, UnitShown};
 use view_text::add_minute;
-
-/// How many minutes a day has.
-const DAY: u32 = 1440;
 
 /// Whether the entries of a card file stand in a unit file.
 #[derive(Clone, Copy, Debug, PartialEq, Eq)]
@@ -70,7 +67,7 @@ fn first_in(runs: &[Line<Difference>], counts: Counts) -> Matched
     }
 }
 
-/// Which of them an entry is.
+/// What a match finds an entry of a card file to be.
 #[derive(Clone, Copy)]
 pub enum Sort {
     /// Of another vehicle.
@@ -141,14 +138,14 @@ fn earlier_day(first: Option<u32>, line: Line<UnitShown>) -> Option<u32>
     if line.last < line.first {
         return first;
     }
-    let day = line.first / DAY;
+    let day = line.first / DAY_MINUTES;
     match first {
         Some(known) => Some(known.min(day)),
         None => Some(day),
     }
 }
 
-/// Which of them an entry is, by what was found out about it.
+/// What an entry is, by what was found out about it: by its use, the unit file's first day, and the unit's minute.
 fn sort_of(case: Case, first: Option<u32>) -> Sort
     ensures { (a : Against) (e : CardEntry) → case ≡ case_of a e
         → ((day : ℕ) → begins_by a.minutes day ≡ is_from first day) → IsSort a e result }
@@ -156,7 +153,7 @@ fn sort_of(case: Case, first: Option<u32>) -> Sort
     if !case.own {
         return Sort::Other;
     }
-    if !begins_by(first, case.entry.minute / DAY) {
+    if !begins_by(first, case.entry.minute / DAY_MINUTES) {
         return Sort::Before;
     }
     let Some(shown) = case.seen else {
@@ -179,6 +176,10 @@ fn begins_by(first: Option<u32>, day: u32) -> bool
 }
 
 /// All that differs, by what was found out about each entry.
+///
+/// # Errors
+///
+/// `AllocError` where memory runs out.
 pub fn find_differences(
     alloc: Global,
     cases: &[Case],

@@ -1,7 +1,7 @@
 -- The marks of a day, and one more.
 use Rattle.std.proofs.Common.{◌≡◌, ◌∙◌, ℕ, List, [], ◌∷◌, ◌++◌, ap, sym, append_assoc, append-nil}
-use Rattle.day_chart.specs.declared.mark.Sign.TheVariants.{Begin}
-use Rattle.day_chart.specs.declared.mark.Mark.{Mark}
+use Rattle.view_model.specs.declared.marks.Sign.TheVariants.{Begin}
+use Rattle.view_model.specs.declared.marks.Mark.{Mark}
 use Rattle.day_chart.specs.Marks.{day_mark_text, marks_text}
 
 -- what stands for a mark past the end

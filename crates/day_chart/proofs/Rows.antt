@@ -3,11 +3,12 @@
 use Rattle.std.proofs.Common.{◌≡◌, ℕ, ◌+◌, Bool, true, false, [], refl}
 use Rattle.std.specs.Prelude.{codes}
 use Rattle.std.specs.Fmt.{digits}
+use Rattle.hex.specs.Hex.{encode_with}
 use Rattle.activity_codec.specs.declared.values.Activity.{Activity}
 use Rattle.activity_codec.specs.declared.values.Activity.TheVariants.{Rest, Work, Driving}
 use Rattle.view_model.specs.declared.Line.{Line}
 use Rattle.slot_bars.specs.declared.seen.Seen.{Seen}
-use Rattle.day_chart.specs.declared.mark.Sign.TheVariants.{Begin, Event, ByHand}
+use Rattle.view_model.specs.declared.marks.Sign.TheVariants.{Begin, Event, ByHand}
 use Rattle.day_chart.specs.Bars.{bar_text}
 use Rattle.day_chart.specs.Marks.{mark_text, day_mark_text}
 
@@ -39,7 +40,7 @@ entered = refl
 
 happened : day_mark_text (codes "2010-03-01") 14669 (record { sign = Event; code = 0x12; second = 1267428000 })
     ≡ codes "<use xlink:href=\"#mark-event\" x=\"280\"><title>2010-03-01 07:20 event 12</title></use>\n"
-unfolding digits
+unfolding digits encode_with
 happened = refl
 
 -- at 05:10

@@ -1,11 +1,13 @@
 -- The bars of the picture (profile).
 use Rattle.std.specs.Prelude.{ℕ, ◌+◌, ◌-◌, ◌/◌, ◌%◌, ◌==◌, if◌then◌else◌, List, [], ◌∷◌, ◌++◌, codes, decimal}
+use Rattle.activity_codec.specs.declared.day.TheConstants.{DAY_MINUTES}
 use Rattle.activity_codec.specs.declared.values.Activity.{Activity}
 use Rattle.activity_codec.specs.declared.values.Activity.TheVariants.{Rest, Available, Work, Driving}
+use Rattle.calendar_days.specs.Clock.{clock_text}
 use Rattle.view_model.specs.declared.Line.{Line}
 use Rattle.slot_bars.specs.declared.seen.Seen.{Seen}
 use Rattle.slot_bars.specs.Seeing.{seen_words}
-use Rattle.day_totals.specs.Text.{duration_text}
+use Rattle.day_chart.specs.declared.frame.TheConstants.{DAY_BEGIN}
 
 -- without a card: no fill, grey dashes, as high as the activity
 abbrev pub pale : Activity → List ℕ
@@ -32,19 +34,20 @@ look seen = if seen.known then (if seen.present then bold seen.act else pale see
 abbrev pub point_five : ℕ → List ℕ
 point_five n = if n % 2 == 1 then codes ".5" else []
 
+-- such a half as a decimal number
 abbrev pub half_text : ℕ → List ℕ
 half_text n = decimal (n / 2) ++ point_five n
 
 -- what a bar says: `2010-03-01 07:15-11:44 driver drive, crew`
 abbrev pub title_text : (date name : List ℕ) → Line Seen → List ℕ
 title_text date name bar =
-    date ++ codes " " ++ duration_text (bar.first % 1440) ++ codes "-" ++ duration_text (bar.last % 1440) ++ codes " "
+    date ++ codes " " ++ clock_text bar.first ++ codes "-" ++ clock_text bar.last ++ codes " "
     ++ name ++ codes " " ++ seen_words bar.shown
 
--- A BAR: two minutes are one unit wide, and the day begins at 60
+-- A BAR: two minutes are one unit wide
 abbrev pub bar_text : (date name : List ℕ) → Line Seen → List ℕ
 bar_text date name bar =
-    codes "<rect x=\"" ++ half_text (120 + bar.first % 1440) ++ codes "\" width=\""
+    codes "<rect x=\"" ++ half_text (DAY_BEGIN + bar.first % DAY_MINUTES) ++ codes "\" width=\""
     ++ half_text (bar.last + 1 - bar.first) ++ codes "\"" ++ look bar.shown
     ++ codes "><title>" ++ title_text date name bar ++ codes "</title></rect>\n"
 

@@ -1,17 +1,18 @@
 -- The picture of days (profile).
 use Rattle.std.specs.Prelude.{◌≡◌, ℕ, ◌+◌, ◌*◌, List, ◌++◌, length, map, codes, decimal}
 use Rattle.activity_codec.specs.declared.values.Slot.TheVariants.{Driver, CoDriver}
+use Rattle.calendar_days.specs.Clock.{duration_text}
 use Rattle.view_model.specs.declared.UnitShown.{UnitShown}
 use Rattle.view_model.specs.declared.CardShown.{CardShown}
 use Rattle.view_model.specs.declared.Viewed.{Viewed}
-use Rattle.slot_bars.specs.declared.seen.Gap.{Gap}
+use Rattle.view_model.specs.declared.marks.Gap.{Gap}
 use Rattle.slot_bars.specs.declared.seen.Seen.{Seen}
 use Rattle.slot_bars.specs.Seeing.{slot_seen, card_seen, bars_of}
 use Rattle.slot_bars.specs.DaysOf.{day_of, days_of, AreEach}
 use Rattle.day_totals.specs.declared.figures.Figure.TheVariants.{Drive, Work, Available, Rest}
 use Rattle.day_totals.specs.Figures.{total}
-use Rattle.day_totals.specs.Text.{duration_text}
-use Rattle.day_chart.specs.declared.mark.Mark.{Mark}
+use Rattle.view_model.specs.declared.marks.Mark.{Mark}
+use Rattle.day_chart.specs.declared.frame.TheConstants.{FRAME_HEIGHT, FIRST_BAND, UNIT_BAND, CARD_BAND}
 use Rattle.day_chart.specs.Bars.{bars_text}
 use Rattle.day_chart.specs.Marks.{marks_text}
 use Rattle.day_chart.specs.Frame.{frame_text}
@@ -40,7 +41,7 @@ band_head top date =
 -- the band of a day of a unit: two lanes, the marks of the day and the axis
 abbrev pub unit_band : List Gap → List Mark → (place : ℕ) → (date : List ℕ) → List (Viewed UnitShown) → List ℕ
 unit_band gaps marks place date minutes =
-    band_head (66 + 92 * place) date ++ lane_text date (codes "driver") (map (slot_seen gaps Driver) minutes)
+    band_head (FIRST_BAND + UNIT_BAND * place) date ++ lane_text date (codes "driver") (map (slot_seen gaps Driver) minutes)
     ++ codes "<g transform=\"translate(0 30)\">\n"
     ++ lane_text date (codes "codriver") (map (slot_seen gaps CoDriver) minutes)
     ++ marks_text date (day_of minutes) marks
@@ -49,20 +50,20 @@ unit_band gaps marks place date minutes =
 -- the band of a day of a card: one lane, the marks of the day and the axis
 abbrev pub card_band : List Mark → (place : ℕ) → (date : List ℕ) → List (Viewed CardShown) → List ℕ
 card_band marks place date minutes =
-    band_head (66 + 62 * place) date ++ lane_text date (codes "holder") (map card_seen minutes)
+    band_head (FIRST_BAND + CARD_BAND * place) date ++ lane_text date (codes "holder") (map card_seen minutes)
     ++ marks_text date (day_of minutes) marks
     ++ codes "<use xlink:href=\"#axis\"/></g>\n"
 
--- THE PICTURE of a unit's minutes, and of a card's: a band a day, in their order, with the marks of the day, and the
--- totals as its text
+-- THE PICTURE of a unit's minutes: a band a day, in their order, with the marks of the day, and the totals as its text
 pub record IsUnitChart (gaps : List Gap) (marks : List Mark) (totals : List ℕ) (minutes : List (Viewed UnitShown))
     (text : List ℕ) : Type 0 where
   pub bands : List ℕ
   pub each : AreEach (unit_band gaps marks) 0 (days_of minutes) bands
-  pub framed : text ≡ frame_text (80 + 92 * length (days_of minutes)) totals bands
+  pub framed : text ≡ frame_text (FRAME_HEIGHT + UNIT_BAND * length (days_of minutes)) totals bands
 
+-- THE PICTURE of a card's minutes: a band a day, in the same way
 pub record IsCardChart (marks : List Mark) (totals : List ℕ) (minutes : List (Viewed CardShown)) (text : List ℕ) :
     Type 0 where
   pub bands : List ℕ
   pub each : AreEach (card_band marks) 0 (days_of minutes) bands
-  pub framed : text ≡ frame_text (80 + 62 * length (days_of minutes)) totals bands
+  pub framed : text ≡ frame_text (FRAME_HEIGHT + CARD_BAND * length (days_of minutes)) totals bands

@@ -4,13 +4,13 @@ ghost use Rattle.slot_bars.specs.Seeing.{seen_words};
 ghost use Rattle.slot_bars.specs.Runs.{is_run};
 ghost use Rattle.day_chart.specs.Bars.{point_five, half_text, look, bold, pale, bar_text, title_text};
 
-use activity_codec::Activity;
-use day_totals::write_duration;
+use crate::frame::DAY_BEGIN;
+use activity_codec::{Activity, DAY_MINUTES};
 use itoa::Buffer;
 use slot_bars::Seen;
 use std::alloc::AllocError;
 use view_model::Line;
-use view_text::Shown;
+use view_text::{Shown, write_clock};
 
 /// How a bar looks: its height by the activity, its fill too; pale and dashed without a card, and grey where it is
 /// unknown.
@@ -95,9 +95,9 @@ fn write_title(
 {
     text.extend_from_slice(date)?;
     text.extend_from_slice(b" ")?;
-    write_duration(text, bar.first % 1440)?;
+    write_clock(text, bar.first)?;
     text.extend_from_slice(b"-")?;
-    write_duration(text, bar.last % 1440)?;
+    write_clock(text, bar.last)?;
     text.extend_from_slice(b" ")?;
     text.extend_from_slice(name)?;
     text.extend_from_slice(b" ")?;
@@ -122,7 +122,7 @@ pub(crate) fn write_bar(
     ensures { OnOk result (text.new.items ≡ text.old.items ++ bar_text date.now name.now bar) }
 {
     text.extend_from_slice(b"<rect x=\"")?;
-    write_half(text, 120 + (bar.first % 1440) as u64)?;
+    write_half(text, DAY_BEGIN + (bar.first % DAY_MINUTES) as u64)?;
     text.extend_from_slice(b"\" width=\"")?;
     write_half(text, width(bar))?;
     text.extend_from_slice(b"\"")?;

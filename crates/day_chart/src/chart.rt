@@ -8,15 +8,19 @@ ghost use Rattle.slot_bars.specs.DaysOf.{day_of, days_of};
 ghost use Rattle.day_chart.specs.Chart.{IsUnitChart, IsCardChart, unit_band, card_band};
 
 use crate::band::{write_band_head, write_lane};
-use crate::frame::frame_head;
-use crate::mark::{Mark, write_marks};
+use crate::frame::{CARD_BAND, FIRST_BAND, FRAME_HEIGHT, UNIT_BAND, frame_head};
+use crate::mark::write_marks;
 use activity_codec::Slot;
 use calendar_days::day_text;
-use slot_bars::{Gap, card_bars, day_number, first_day, unit_bars};
+use slot_bars::{card_bars, day_number, first_day, unit_bars};
 use std::alloc::{AllocError, Global};
-use view_model::{CardShown, Line, UnitShown};
+use view_model::{CardShown, Gap, Line, Mark, UnitShown};
 
 /// The picture of a unit, by the lines of its view, with these marks; its text are the totals.
+///
+/// # Errors
+///
+/// `AllocError` where memory runs out.
 pub fn unit_chart(
     alloc: Global,
     lines: &[Line<UnitShown>],
@@ -28,7 +32,7 @@ pub fn unit_chart(
     ensures { IfOk result (λ text. IsUnitChart gaps.now marks.now totals.now (minutes_on lines.now) text.items) }
 {
     let count = days_in(lines);
-    let mut text = frame_head(alloc, 80 + 92 * count as u128, totals)?;
+    let mut text = frame_head(alloc, FRAME_HEIGHT + UNIT_BAND * count as u128, totals)?;
     let mut place = 0u64;
     let mut rest = lines;
     'days: while rest.len() > 0 {
@@ -42,6 +46,10 @@ pub fn unit_chart(
 }
 
 /// The picture of a card, by the lines of its view, with these marks; its text are the totals.
+///
+/// # Errors
+///
+/// `AllocError` where memory runs out.
 pub fn card_chart(
     alloc: Global,
     lines: &[Line<CardShown>],
@@ -52,7 +60,7 @@ pub fn card_chart(
     ensures { IfOk result (λ text. IsCardChart marks.now totals.now (minutes_on lines.now) text.items) }
 {
     let count = days_in(lines);
-    let mut text = frame_head(alloc, 80 + 62 * count as u128, totals)?;
+    let mut text = frame_head(alloc, FRAME_HEIGHT + CARD_BAND * count as u128, totals)?;
     let mut place = 0u64;
     let mut rest = lines;
     'days: while rest.len() > 0 {
@@ -95,7 +103,11 @@ fn write_unit_band(
 {
     let day = day_number(lines);
     let date = day_text(day);
-    write_band_head(text, 66 + 92 * place as u128, date.as_slice())?;
+    write_band_head(
+        text,
+        FIRST_BAND + UNIT_BAND * place as u128,
+        date.as_slice(),
+    )?;
     let driver = unit_bars(alloc, lines, gaps, Slot::Driver)?;
     write_lane(text, date.as_slice(), b"driver", driver.as_slice())?;
     let codriver = unit_bars(alloc, lines, gaps, Slot::CoDriver)?;
@@ -120,7 +132,11 @@ fn write_card_band(
 {
     let day = day_number(lines);
     let date = day_text(day);
-    write_band_head(text, 66 + 62 * place as u128, date.as_slice())?;
+    write_band_head(
+        text,
+        FIRST_BAND + CARD_BAND * place as u128,
+        date.as_slice(),
+    )?;
     let bars = card_bars(alloc, lines)?;
     write_lane(text, date.as_slice(), b"holder", bars.as_slice())?;
     write_marks(text, date.as_slice(), day, marks)?;

@@ -6,6 +6,21 @@ ghost use Rattle.day_chart.specs.Frame.{lane_signs, mark_signs, axis, hours, leg
 use itoa::Buffer;
 use std::alloc::{AllocError, Global};
 
+/// How high a picture is without its bands: what stands above them, and the margin below.
+pub const FRAME_HEIGHT: u128 = 80;
+
+/// Where the first band begins, below the legend.
+pub const FIRST_BAND: u128 = 66;
+
+/// How high the band of a day of a unit is: two lanes, the marks and the axis.
+pub const UNIT_BAND: u128 = 92;
+
+/// How high the band of a day of a card is: one lane, the marks and the axis.
+pub const CARD_BAND: u128 = 62;
+
+/// Where 00:00 is drawn, in halves of a unit from the left: a minute is half a unit wide.
+pub const DAY_BEGIN: u64 = 120;
+
 /// What stands in front of the bands of a picture, so high, with the totals as its text.
 pub(crate) fn frame_head(alloc: Global, height: u128, totals: &[u8]) -> Result<Vec<u8>, AllocError>
     ensures { IfOk result (λ text. text.items ≡ frame_head height totals.now) }

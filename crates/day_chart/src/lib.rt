@@ -8,4 +8,3 @@ mod frame;
 mod mark;
 
 pub use chart::{card_chart, unit_chart};
-pub use mark::{Mark, Sign};

@@ -1,36 +1,15 @@
 //! A mark of the picture: a place that was entered, an event, a fault or an entry by hand.
 ghost use Rattle.std.specs.Prelude.{◌≡◌, ◌++◌, ◌<◌, OnOk};
-ghost use Rattle.day_chart.specs.Marks.{sign_name, mark_words, hex_digit, two_hex, code_text, mark_title, mark_text};
+ghost use Rattle.day_chart.specs.Marks.{sign_name, mark_words, code_text, mark_title, mark_text};
 ghost use Rattle.day_chart.specs.Marks.{day_mark_text, marks_text};
 
 use crate::bar::write_half;
-use crate::frame::write_number;
-use activity_codec::Activity;
-use day_totals::write_duration;
+use crate::frame::{DAY_BEGIN, write_number};
+use activity_codec::{DAY_MINUTES, DAY_SECONDS, MINUTE_SECONDS};
 use std::alloc::AllocError;
-
-/// What a mark tells of.
-#[derive(Clone, Copy, Debug, PartialEq, Eq)]
-pub enum Sign {
-    /// A daily work period begins.
-    Begin,
-    /// A daily work period ends.
-    End,
-    Event,
-    Fault,
-    /// A driver has entered by hand what he did without his card.
-    ByHand(Activity),
-}
-
-/// A mark.
-#[derive(Clone, Copy, Debug, PartialEq, Eq)]
-pub struct Mark {
-    pub sign: Sign,
-    /// Of a place its country, of an event or a fault its type, of an entry by hand 0.
-    pub code: u8,
-    /// When the place was entered, or the event or what was entered by hand began.
-    pub second: u32,
-}
+use text_fields::byte_digits;
+use view_model::{Mark, Sign};
+use view_text::write_clock;
 
 /// The sign's name in the picture.
 fn sign_name(sign: Sign) -> &'static [u8]
@@ -58,23 +37,6 @@ fn mark_words(sign: Sign) -> &'static [u8]
     }
 }
 
-/// A hexadecimal digit.
-fn hex_digit(n: u8) -> u8
-    requires { n < 16 }
-    ensures { result ≡ hex_digit n }
-{
-    if n < 10 { b'0' + n } else { 87 + n }
-}
-
-/// Adds a byte as two hexadecimal digits.
-fn write_two_hex(text: &mut Vec<u8>, byte: u8) -> Result<(), AllocError>
-    ensures { OnOk result (text.new.items ≡ text.old.items ++ two_hex byte) }
-{
-    text.push(hex_digit(byte / 16))?;
-    text.push(hex_digit(byte % 16))?;
-    Ok(())
-}
-
 /// Adds the code of a mark: of a place as a number, of an event or a fault as the regulation writes it, in two
 /// hexadecimal digits; of an entry by hand the activity.
 fn write_code(text: &mut Vec<u8>, sign: Sign, code: u8) -> Result<(), AllocError>
@@ -83,8 +45,8 @@ fn write_code(text: &mut Vec<u8>, sign: Sign, code: u8) -> Result<(), AllocError
     match sign {
         Sign::Begin => write_number(text, code as u128),
         Sign::End => write_number(text, code as u128),
-        Sign::Event => write_two_hex(text, code),
-        Sign::Fault => write_two_hex(text, code),
+        Sign::Event => text.extend_from_slice(&byte_digits(code)),
+        Sign::Fault => text.extend_from_slice(&byte_digits(code)),
         Sign::ByHand(act) => text.extend_from_slice(act.name()),
     }
 }
@@ -95,7 +57,7 @@ fn write_mark_title(text: &mut Vec<u8>, date: &[u8], mark: Mark) -> Result<(), A
 {
     text.extend_from_slice(date)?;
     text.extend_from_slice(b" ")?;
-    write_duration(text, mark.second / 60 % 1440)?;
+    write_clock(text, mark.second / MINUTE_SECONDS)?;
     text.extend_from_slice(mark_words(mark.sign))?;
     write_code(text, mark.sign, mark.code)?;
     Ok(())
@@ -108,7 +70,10 @@ fn write_mark(text: &mut Vec<u8>, date: &[u8], mark: Mark) -> Result<(), AllocEr
     text.extend_from_slice(b"<use xlink:href=\"#mark-")?;
     text.extend_from_slice(sign_name(mark.sign))?;
     text.extend_from_slice(b"\" x=\"")?;
-    write_half(text, 120 + (mark.second / 60 % 1440) as u64)?;
+    write_half(
+        text,
+        DAY_BEGIN + (mark.second / MINUTE_SECONDS % DAY_MINUTES) as u64,
+    )?;
     text.extend_from_slice(b"\"><title>")?;
     write_mark_title(text, date, mark)?;
     text.extend_from_slice(b"</title></use>\n")?;
@@ -119,7 +84,7 @@ fn write_mark(text: &mut Vec<u8>, date: &[u8], mark: Mark) -> Result<(), AllocEr
 fn write_day_mark(text: &mut Vec<u8>, date: &[u8], day: u32, mark: Mark) -> Result<(), AllocError>
     ensures { OnOk result (text.new.items ≡ text.old.items ++ day_mark_text date.now day mark) }
 {
-    if mark.second / 86400 == day {
+    if mark.second / DAY_SECONDS == day {
         write_mark(text, date, mark)?;
     }
     Ok(())

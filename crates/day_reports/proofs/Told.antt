@@ -3,7 +3,7 @@ use Rattle.std.proofs.Common.{◌≡◌, ℕ, ◌+◌, List, [], ◌∷◌, map,
 use Rattle.card_days.specs.Heads.{heads_from}
 use Rattle.card_model.specs.Days.{Day, len_of}
 use Rattle.card_model.specs.Image.{StringShape}
-use Rattle.day_totals.specs.declared.figures.Distance.{Distance}
+use Rattle.view_model.specs.declared.marks.Distance.{Distance}
 use Rattle.day_reports.specs.Heads.{distance_by}
 use Rattle.day_reports.specs.Printing.{distance_of}
 

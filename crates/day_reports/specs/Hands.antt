@@ -1,9 +1,9 @@
 -- The entries by hand of a card file as marks of its picture (profile).
 use Rattle.std.specs.Prelude.{ℕ, ◌*◌, nat_le, if◌then◌else◌, List, [], ◌∷◌, ◌++◌}
+use Rattle.activity_codec.specs.declared.day.TheConstants.{LAST_MINUTE}
 use Rattle.activity_codec.specs.declared.entries.Manual.{Manual}
-use Rattle.day_chart.specs.declared.mark.Sign.TheVariants.{ByHand}
-use Rattle.day_chart.specs.declared.mark.Mark.{Mark}
-use Rattle.day_reports.specs.declared.hands.TheConstants.{LAST_MINUTE}
+use Rattle.view_model.specs.declared.marks.Sign.TheVariants.{ByHand}
+use Rattle.view_model.specs.declared.marks.Mark.{Mark}
 
 -- the mark of an entry by hand: its activity, at the minute in which it began
 abbrev pub hand_mark : Manual → Mark

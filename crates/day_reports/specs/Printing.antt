@@ -12,10 +12,10 @@ use Rattle.file_view.specs.ByHand.{ShowsByHand}
 use Rattle.file_view.specs.Histories.{minute_shown}
 use Rattle.file_view.specs.Showing.{ShowsCardFile}
 use Rattle.file_view.specs.UnitShowing.{ShowsUnitFile}
-use Rattle.slot_bars.specs.declared.seen.Gap.{Gap}
-use Rattle.day_totals.specs.declared.figures.Distance.{Distance}
+use Rattle.view_model.specs.declared.marks.Gap.{Gap}
+use Rattle.view_model.specs.declared.marks.Distance.{Distance}
 use Rattle.day_totals.specs.Text.{IsUnitTotals, IsCardTotals}
-use Rattle.day_chart.specs.declared.mark.Mark.{Mark}
+use Rattle.view_model.specs.declared.marks.Mark.{Mark}
 use Rattle.day_chart.specs.Chart.{IsUnitChart, IsCardChart}
 use Rattle.unit_marks.specs.Marks.{TellsMarks}
 use Rattle.unit_marks.specs.Entries.{TellsEntries}
@@ -52,8 +52,8 @@ pub record PrintsCardTotals (last : Option ℕ) (bytes out : List ℕ) : Type 0 
   pub tells : TellsDistances bytes distances
   pub totals : IsCardTotals distances (map entry_shown entries) out
 
--- THE PICTURE of a unit file, and of a card file: of the same minutes, with the totals as its text, and with the marks
--- of its places, events and faults, and of the entries by hand of a card
+-- THE PICTURE of a unit file: of the same minutes, with the totals as its text, and with the marks of its places,
+-- events and faults
 pub record PrintsUnitChart (last : Option ℕ) (bytes out : List ℕ) : Type 0 where
   pub minutes : List UnitMinute
   pub gaps : List Gap
@@ -66,6 +66,8 @@ pub record PrintsUnitChart (last : Option ℕ) (bytes out : List ℕ) : Type 0 w
   pub totals : IsUnitTotals gaps distances (map minute_shown minutes) text
   pub chart : IsUnitChart gaps marks text (map minute_shown minutes) out
 
+-- THE PICTURE of a card file: of the same entries, with the totals as its text, and with the marks of its places,
+-- events and faults, and of its entries by hand
 pub record PrintsCardChart (last : Option ℕ) (bytes out : List ℕ) : Type 0 where
   pub entries : List Entry
   pub distances : List Distance

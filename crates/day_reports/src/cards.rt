@@ -7,7 +7,7 @@ ghost use Rattle.day_reports.specs.Printing.{PrintsCardTotals, PrintsCardChart, 
 
 use crate::distances::card_distances;
 use crate::hands::add_hands;
-use file_view::{CardHistory, ViewFault, by_hand, last_days, read_card_file};
+use file_view::{ViewFault, by_hand, card_history};
 use std::alloc::Global;
 use unit_marks::card_marks;
 
@@ -21,14 +21,8 @@ pub fn card_totals(alloc: Global, b: &[u8], last: Option<u32>) -> Result<Vec<u8>
     ensures text { IfOk result (λ text. PrintsCardTotals last b.now text.items) }
     ensures bad { IfErr result (λ fault. IfBadFile fault (λ place. IsBadCardFile place b.now)) }
 {
-    let history = match card_history(alloc, b, last) {
-        Ok(history) => history,
-        Err(fault) => return Err(fault),
-    };
-    let distances = match card_distances(alloc, b) {
-        Ok(distances) => distances,
-        Err(fault) => return Err(fault),
-    };
+    let history = card_history(alloc, b, last)?;
+    let distances = card_distances(alloc, b)?;
     let text = day_totals::card_days_text(alloc, history.lines(), distances.as_slice())?;
     Ok(text)
 }
@@ -43,37 +37,13 @@ pub fn card_chart(alloc: Global, b: &[u8], last: Option<u32>) -> Result<Vec<u8>,
     ensures text { IfOk result (λ text. PrintsCardChart last b.now text.items) }
     ensures bad { IfErr result (λ fault. IfBadFile fault (λ place. IsBadCardFile place b.now)) }
 {
-    let history = match card_history(alloc, b, last) {
-        Ok(history) => history,
-        Err(fault) => return Err(fault),
-    };
-    let distances = match card_distances(alloc, b) {
-        Ok(distances) => distances,
-        Err(fault) => return Err(fault),
-    };
-    let mut marks = match card_marks(alloc, b) {
-        Ok(marks) => marks,
-        Err(fault) => return Err(fault),
-    };
-    let entries = match by_hand(alloc, b) {
-        Ok(entries) => entries,
-        Err(fault) => return Err(fault),
-    };
+    let history = card_history(alloc, b, last)?;
+    let distances = card_distances(alloc, b)?;
+    let mut marks = card_marks(alloc, b)?;
+    let entries = by_hand(alloc, b)?;
     add_hands(&mut marks, entries.as_slice())?;
     let lines = history.lines();
     let totals = day_totals::card_days_text(alloc, lines, distances.as_slice())?;
     let text = day_chart::card_chart(alloc, lines, marks.as_slice(), totals.as_slice())?;
     Ok(text)
-}
-
-/// The entries of a card file, of all days or of the newest so many.
-fn card_history(alloc: Global, b: &[u8], last: Option<u32>) -> Result<CardHistory, ViewFault>
-    requires { length b.now < 2 ^ 32 }
-    ensures entries { IfOk result (λ h. ShowsCardFile last b.now h) }
-    ensures bad { IfErr result (λ fault. IfBadFile fault (λ place. IsBadCardFile place b.now)) }
-{
-    match last {
-        Some(n) => last_days(alloc, b, n),
-        None => read_card_file(alloc, b),
-    }
 }

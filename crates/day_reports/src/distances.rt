@@ -5,21 +5,23 @@ ghost use Rattle.file_view.specs.CardFiles.{IsBadCardFile};
 ghost use Rattle.day_reports.specs.Printing.{TellsDistances};
 ghost use Rattle.day_reports.specs.Heads.{distance_by};
 
+use activity_codec::DAY_SECONDS;
 use card_days::DayHead;
-use day_totals::Distance;
 use file_view::{ViewFault, day_heads};
 use std::alloc::{AllocError, Global};
+use view_model::Distance;
 
 /// The distances that the days of a card file tell, oldest first.
+///
+/// # Errors
+///
+/// As those of `file_view::read_card_file`.
 pub fn card_distances(alloc: Global, b: &[u8]) -> Result<Vec<Distance>, ViewFault>
     requires { length b.now < 2 ^ 32 }
     ensures distances { IfOk result (λ distances. TellsDistances b.now distances.items) }
     ensures bad { IfErr result (λ fault. IfBadFile fault (λ place. IsBadCardFile place b.now)) }
 {
-    let heads = match day_heads(alloc, b) {
-        Ok(heads) => heads,
-        Err(fault) => return Err(fault),
-    };
+    let heads = day_heads(alloc, b)?;
     let distances = distances_by(alloc, heads.as_slice())?;
     Ok(distances)
 }
@@ -36,7 +38,7 @@ fn distance_by(head: DayHead) -> Distance
     ensures { result ≡ distance_by head }
 {
     Distance {
-        day: head.date.0 / 86400,
+        day: head.date.0 / DAY_SECONDS,
         km: u32::from(head.km.0),
     }
 }

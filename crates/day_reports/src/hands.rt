@@ -2,12 +2,9 @@
 ghost use Rattle.std.specs.Prelude.{◌≡◌, ◌++◌, OnOk};
 ghost use Rattle.day_reports.specs.Hands.{if_in_time, hand_marks};
 
-use activity_codec::Manual;
-use day_chart::{Mark, Sign};
+use activity_codec::{LAST_MINUTE, Manual};
 use std::alloc::AllocError;
-
-/// The last minute, counted from 1970-01-01 00:00 GMT, whose seconds have a number (2106-02-07 06:28).
-pub const LAST_MINUTE: u32 = 71582788;
+use view_model::{Mark, Sign};
 
 /// Adds the marks of entries by hand, in their order.
 pub(crate) fn add_hands(marks: &mut Vec<Mark>, entries: &[Manual]) -> Result<(), AllocError>

@@ -7,7 +7,7 @@ ghost use Rattle.file_view.specs.UnitFiles.{IsBadUnitFile};
 ghost use Rattle.file_view.specs.UnitShowing.{ShowsUnitFile};
 ghost use Rattle.day_reports.specs.Printing.{PrintsUnitTotals, PrintsUnitChart};
 
-use file_view::{UnitHistory, ViewFault, last_messages, read_download};
+use file_view::{ViewFault, unit_history};
 use std::alloc::Global;
 use unit_marks::{entry_marks, marks_of};
 
@@ -21,14 +21,8 @@ pub fn unit_totals(alloc: Global, b: &[u8], last: Option<u32>) -> Result<Vec<u8>
     ensures text { IfOk result (λ text. PrintsUnitTotals last b.now text.items) }
     ensures bad { IfErr result (λ fault. IfBadFile fault (λ place. IsBadUnitFile place b.now)) }
 {
-    let history = match unit_history(alloc, b, last) {
-        Ok(history) => history,
-        Err(fault) => return Err(fault),
-    };
-    let marks = match marks_of(alloc, b) {
-        Ok(marks) => marks,
-        Err(fault) => return Err(fault),
-    };
+    let history = unit_history(alloc, b, last)?;
+    let marks = marks_of(alloc, b)?;
     let text = day_totals::unit_days_text(
         alloc,
         history.lines(),
@@ -48,33 +42,12 @@ pub fn unit_chart(alloc: Global, b: &[u8], last: Option<u32>) -> Result<Vec<u8>,
     ensures text { IfOk result (λ text. PrintsUnitChart last b.now text.items) }
     ensures bad { IfErr result (λ fault. IfBadFile fault (λ place. IsBadUnitFile place b.now)) }
 {
-    let history = match unit_history(alloc, b, last) {
-        Ok(history) => history,
-        Err(fault) => return Err(fault),
-    };
-    let marks = match marks_of(alloc, b) {
-        Ok(marks) => marks,
-        Err(fault) => return Err(fault),
-    };
-    let entries = match entry_marks(alloc, b) {
-        Ok(entries) => entries,
-        Err(fault) => return Err(fault),
-    };
+    let history = unit_history(alloc, b, last)?;
+    let marks = marks_of(alloc, b)?;
+    let entries = entry_marks(alloc, b)?;
     let gaps = marks.gaps.as_slice();
     let lines = history.lines();
     let totals = day_totals::unit_days_text(alloc, lines, gaps, marks.distances.as_slice())?;
     let text = day_chart::unit_chart(alloc, lines, gaps, entries.as_slice(), totals.as_slice())?;
     Ok(text)
-}
-
-/// The minutes of a unit file, of all days or of the last so many messages of days.
-fn unit_history(alloc: Global, b: &[u8], last: Option<u32>) -> Result<UnitHistory, ViewFault>
-    requires { length b.now < 2 ^ 32 }
-    ensures minutes { IfOk result (λ h. ShowsUnitFile last b.now h) }
-    ensures bad { IfErr result (λ fault. IfBadFile fault (λ place. IsBadUnitFile place b.now)) }
-{
-    match last {
-        Some(n) => last_messages(alloc, b, n),
-        None => read_download(alloc, b),
-    }
 }

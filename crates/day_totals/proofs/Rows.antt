@@ -7,11 +7,12 @@ use Rattle.activity_codec.specs.declared.values.Activity.TheVariants as activity
 use Rattle.activity_codec.specs.declared.values.Slot.TheVariants.{Driver, CoDriver}
 use Rattle.view_model.specs.declared.UnitShown.{UnitShown}
 use Rattle.view_model.specs.declared.Viewed.{Viewed}
-use Rattle.slot_bars.specs.declared.seen.Gap.{Gap}
+use Rattle.view_model.specs.declared.marks.Gap.{Gap}
 use Rattle.slot_bars.specs.Seeing.{slot_seen}
 use Rattle.day_totals.specs.declared.figures.Figure.TheVariants.{Drive, Work, Available, Rest, Unknown, In}
 use Rattle.day_totals.specs.Figures.{total, distance_on}
-use Rattle.day_totals.specs.Text.{duration_text, distance_text}
+use Rattle.calendar_days.specs.Clock.{duration_text}
+use Rattle.day_totals.specs.Text.{distance_text}
 
 morning : duration_text 455 ≡ codes "07:35"
 morning = refl

@@ -7,7 +7,7 @@ use Rattle.activity_codec.specs.Activity.{same_activity}
 use Rattle.view_model.specs.declared.Viewed.{Viewed}
 use Rattle.view_model.specs.declared.Line.{Line}
 use Rattle.slot_bars.specs.declared.seen.Seen.{Seen}
-use Rattle.day_totals.specs.declared.figures.Distance.{Distance}
+use Rattle.view_model.specs.declared.marks.Distance.{Distance}
 use Rattle.day_totals.specs.declared.figures.Figure.{Figure}
 use Rattle.day_totals.specs.declared.figures.Figure.TheVariants.{Drive, Work, Available, Rest, Unknown, In}
 
@@ -33,6 +33,7 @@ total figure minutes = count_by (λ m. counts figure m.shown) minutes
 abbrev pub line_total : Figure → Line Seen → ℕ
 line_total figure bar = if counts figure bar.shown then bar.last + 1 - bar.first else 0
 
+-- what a figure is called
 abbrev pub figure_name : Figure → List ℕ
 figure_name Drive = codes "drive"
 figure_name Work = codes "work"

@@ -7,15 +7,19 @@ ghost use Rattle.slot_bars.specs.DaysOf.{day_of};
 ghost use Rattle.calendar_days.specs.Calendar.{IsDateText};
 ghost use Rattle.day_totals.specs.Text.{IsUnitTotals, IsCardTotals, unit_day_text, card_day_text};
 
-use crate::figures::{Distance, distance_on};
+use crate::figures::distance_on;
 use crate::line::write_totals;
 use activity_codec::Slot;
 use calendar_days::day_text;
-use slot_bars::{Gap, card_bars, day_number, first_day, unit_bars};
+use slot_bars::{card_bars, day_number, first_day, unit_bars};
 use std::alloc::{AllocError, Global};
-use view_model::{CardShown, Line, UnitShown};
+use view_model::{CardShown, Distance, Gap, Line, UnitShown};
 
 /// The totals of a unit, by the lines of its view: two lines a day.
+///
+/// # Errors
+///
+/// `AllocError` where memory runs out.
 pub fn unit_days_text(
     alloc: Global,
     lines: &[Line<UnitShown>],
@@ -36,6 +40,10 @@ pub fn unit_days_text(
 }
 
 /// The totals of a card, by the lines of its view: a line a day.
+///
+/// # Errors
+///
+/// `AllocError` where memory runs out.
 pub fn card_days_text(
     alloc: Global,
     lines: &[Line<CardShown>],

@@ -5,26 +5,24 @@ ghost use Rattle.day_totals.specs.Figures.{counts, is_with_card, figure_name, to
 
 use activity_codec::Activity;
 use slot_bars::Seen;
-use view_model::Line;
+use view_model::{Distance, Line};
 
 /// What is counted: an activity with a card in the slot, minutes that were not recorded, or minutes with a card in the
 /// slot.
 #[derive(Clone, Copy, Debug, PartialEq, Eq)]
 pub enum Figure {
+    /// Driving, with a card in the slot.
     Drive,
+    /// Work, with a card in the slot.
     Work,
+    /// Availability, with a card in the slot.
     Available,
+    /// Rest, with a card in the slot.
     Rest,
+    /// What was not recorded.
     Unknown,
+    /// A card in the slot.
     In,
-}
-
-/// The distance of a day, in kilometres.
-#[derive(Clone, Copy, Debug, Default, PartialEq, Eq)]
-pub struct Distance {
-    /// The day's number since 1970-01-01.
-    pub day: u32,
-    pub km: u32,
 }
 
 impl Figure {

@@ -1,8 +1,9 @@
+//! What is proved of the figures of a day.
 ghost use Rattle.std.specs.Prelude.{◌≡◌, ◌+◌, List, map, length};
 ghost use Rattle.activity_codec.specs.declared.values.Slot.{Slot};
 ghost use Rattle.view_model.specs.declared.UnitShown.{UnitShown};
 ghost use Rattle.view_model.specs.declared.Viewed.{Viewed};
-ghost use Rattle.slot_bars.specs.declared.seen.Gap.{Gap};
+ghost use Rattle.view_model.specs.declared.marks.Gap.{Gap};
 ghost use Rattle.slot_bars.specs.declared.seen.Seen.{Seen};
 ghost use Rattle.slot_bars.specs.Seeing.{slot_seen};
 ghost use Rattle.day_totals.specs.declared.figures.Figure.TheVariants.{Drive, Work, Available, Rest, Unknown, In};

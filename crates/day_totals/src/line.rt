@@ -1,9 +1,11 @@
 //! The line of totals of a day.
 ghost use Rattle.std.specs.Prelude.{◌≡◌, ◌≤◌, ◌++◌, OnOk, length};
+ghost use Rattle.calendar_days.specs.Clock.{duration_text};
 ghost use Rattle.file_view.specs.Histories.{minutes_on};
-ghost use Rattle.day_totals.specs.Text.{duration_text, figure_text, distance_text, totals_text};
+ghost use Rattle.day_totals.specs.Text.{figure_text, distance_text, totals_text};
 
 use crate::figures::{Figure, minutes_in};
+use calendar_days::duration_text;
 use itoa::Buffer;
 use slot_bars::Seen;
 use std::alloc::AllocError;
@@ -47,21 +49,16 @@ fn write_figure(text: &mut Vec<u8>, bars: &[Line<Seen>], figure: Figure) -> Resu
     Ok(())
 }
 
-/// Adds so many minutes of a day as hours and minutes.
+/// Adds so many minutes of a day, at most 1440, as hours and minutes, `HH:MM`.
+///
+/// # Errors
+///
+/// `AllocError` where memory runs out.
 pub fn write_duration(text: &mut Vec<u8>, minutes: u32) -> Result<(), AllocError>
     requires { minutes ≤ 1440 }
     ensures { OnOk result (text.new.items ≡ text.old.items ++ duration_text minutes) }
 {
-    let hour = minutes / 60;
-    let minute = minutes % 60;
-    let clock = [
-        48 + (hour / 10) as u8,
-        48 + (hour % 10) as u8,
-        b':',
-        48 + (minute / 10) as u8,
-        48 + (minute % 10) as u8,
-    ];
-    text.extend_from_slice(&clock)?;
+    text.extend_from_slice(&duration_text(minutes))?;
     Ok(())
 }
 

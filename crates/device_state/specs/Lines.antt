@@ -18,6 +18,7 @@ use Rattle.device_state.specs.declared.devices.DevicesTold.{DevicesTold}
 use Rattle.device_state.specs.declared.unit.UnitTold.{UnitTold}
 use Rattle.device_state.specs.Values.{minute_value, second_value, day_value, start_value, use_value, vehicle_value}
 
+-- a line of a device: its name, and the value
 abbrev pub line : Device → Name → Value → Line
 line device name value = record { device = device; name = name; value = value }
 
@@ -69,12 +70,13 @@ card_lines device look =
     ∷ line device name.Newest (minute_value look.newest_minute)
     ∷ []
 
--- and what is said of one that tells nothing: it is bad, or it was not read
+-- what is said of a unit, also of one that tells nothing: it is bad, or it was not read
 abbrev pub lines_of_unit : Result UnitTold UnitFault → List Line
 lines_of_unit (Ok told) = unit_lines told
 lines_of_unit (Err unit.Failed) = whole OfUnit value.Unread
 lines_of_unit (Err (unit.BadUnit place)) = whole OfUnit (value.BadAt place)
 
+-- the same of a card: a field of Application_Identification may be bad, or a file
 abbrev pub lines_of_card : Device → Result CardLook CardFault → List Line
 lines_of_card device (Ok look) = card_lines device look
 lines_of_card device (Err card.Failed) = whole device value.Unread

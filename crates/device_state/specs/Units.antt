@@ -39,13 +39,15 @@ date_at x n = option_map (slot_date x) (slice_get (recorded_indices x) n)
 abbrev pub days_told : List ℕ → DaysTold
 days_told x = record { count = length (recorded x); first = date_at x 0; last = date_at x (length (recorded x) - 1) }
 
--- where a row of what is owed begins, its session time, and the card's number
+-- where a row of what is owed begins
 abbrev pub row_place : ℕ → ℕ
 row_place r = OWED.place + r * OWED_ROW_SIZE
 
+-- the session time of a row
 abbrev pub row_session : List ℕ → ℕ → ℕ
 row_session x r = number_at x (row_place r) ROW_SESSION.size
 
+-- the number of the card of a row
 abbrev pub row_number : List ℕ → ℕ → List ℕ
 row_number x r = bytes_at x (row_place r + ROW_NUMBER.place) ROW_NUMBER.size
 
@@ -61,6 +63,7 @@ asked_of None number other = other
 asked_of (Some card) number other = if pointwise nat_eq card.number number
     then record { session = card.session; after = card.newest } else other
 
+-- how a card of a number is asked, by the cards that were seen
 abbrev pub asked : CardsSeen → (number : List ℕ) → (session : ℕ) → Question
 asked seen number session = asked_of seen.a number (asked_of seen.b number (record { session = session; after = 0 }))
 

@@ -16,6 +16,10 @@ use std::alloc::{AllocError, Global};
 use unit_memory::UnitFault;
 
 /// The text of what the three devices tell.
+///
+/// # Errors
+///
+/// `AllocError` where memory runs out.
 pub fn state_text(alloc: Global, told: &DevicesTold) -> Result<Vec<u8>, AllocError>
     ensures { IfOk result (λ text. AreLinesText (spec.state_lines told.now) text.items) }
 {

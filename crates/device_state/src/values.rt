@@ -2,12 +2,13 @@
 ghost use Rattle.std.specs.Prelude.{◌≡◌};
 ghost use Rattle.device_state.specs.Values as spec;
 
+use activity_codec::DAY_SECONDS;
 use card_files::Vehicle;
 use state_text::{Value, day_of};
 use tacho_types::DAYS;
 
 /// The least second with which a trace may begin.
-const FIRST_START: u32 = 86400;
+const FIRST_START: u32 = DAY_SECONDS;
 
 /// The greatest one.
 const LAST_START: u32 = 4294880895;
@@ -49,7 +50,7 @@ pub(crate) fn day_value(date: Option<u32>) -> Value
 {
     match date {
         None => Value::Nothing,
-        Some(second) => dated(Value::Day(second / 86400)),
+        Some(second) => dated(Value::Day(second / DAY_SECONDS)),
     }
 }
 

@@ -1,10 +1,11 @@
 //! A line of what happened in a second.
-ghost use Rattle.std.specs.Prelude.{◌≡◌, ◌+◌, ◌<◌, ◌≤◌, ◌++◌, length};
+ghost use Rattle.std.specs.Prelude.{◌≡◌, ◌+◌, ◌≤◌, ◌++◌, length};
 ghost use Rattle.arrayvec.specs.ArrayVec.{array_vec_len};
-ghost use Rattle.failure_lines.specs.Timed.{IsTimedText, seconds_text, two_digits};
+ghost use Rattle.failure_lines.specs.Timed.{IsTimedText};
 
+use activity_codec::DAY_SECONDS;
 use arrayvec::ArrayVec;
-use calendar_days::day_text;
+use calendar_days::{day_text, seconds_text};
 
 /// The most bytes of a line.
 pub const MOST: usize = 80;
@@ -17,7 +18,7 @@ pub fn timed_text(who: &[u8], did: &[u8], second: u32, what: &[u8]) -> ArrayVec<
     ensures { IsTimedText who.now did.now second what.now result.items }
 {
     let mut text = ArrayVec::new();
-    let date = day_text(second / 86400);
+    let date = day_text(second / DAY_SECONDS);
     add(&mut text, who);
     add(&mut text, did);
     add(&mut text, date.as_slice());
@@ -27,24 +28,6 @@ pub fn timed_text(who: &[u8], did: &[u8], second: u32, what: &[u8]) -> ArrayVec<
     add(&mut text, what);
     add(&mut text, b"\n");
     text
-}
-
-/// The time of day of a second, `HH:MM:SS`.
-fn seconds_text(second: u32) -> [u8; 8]
-    ensures { result ≡ seconds_text second }
-{
-    let [h, i] = two_digits(second % 86400 / 3600);
-    let [m, n] = two_digits(second % 3600 / 60);
-    let [s, t] = two_digits(second % 60);
-    [h, i, b':', m, n, b':', s, t]
-}
-
-/// A number below 100 in two digits.
-fn two_digits(n: u32) -> [u8; 2]
-    requires { n < 100 }
-    ensures { result ≡ two_digits n }
-{
-    [b'0' + (n / 10) as u8, b'0' + (n % 10) as u8]
 }
 
 /// Adds bytes, for which there is room.

@@ -7,7 +7,7 @@ use Rattle.json.specs.Json.{Json, document}
 use Rattle.json.specs.Print.{print}
 use Rattle.json.specs.Tree.{json_tokens}
 use Rattle.json_fields.proofs.Taking.{text_in, members_in, first_in, value_in}
-use Rattle.unit_marks.specs.Files.{AreFiles}
+use Rattle.file_view.specs.Files.{AreFiles}
 use Rattle.file_json.specs.Units.{IsUnitJson, json_of_unit}
 use Rattle.file_json.specs.Cards.{IsCardJson, json_of_card}
 use Rattle.file_json.proofs.UnitTelling.{unit_is_json}

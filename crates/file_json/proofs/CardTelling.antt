@@ -37,7 +37,7 @@ use Rattle.file_json.specs.declared.card.Shape.TheVariants.{Record, Events, Faul
 use Rattle.file_json.specs.Parts.{changes_shown, width_of}
 use Rattle.file_json.specs.Days.{day_len, is_day, day_shown, days_shown, circle_from, far_between, items_behind, items_count, newest_items, string_shown}
 use Rattle.file_json.specs.Cards.{bytes_then, list_shown, lists_shown, told, fits, content_then, shape_of, file_name, kind_name, entry_shown, entries_shown, json_of_card, IsCardJson}
-use Rattle.unit_marks.specs.Files.{AreFiles}
+use Rattle.file_view.specs.Files.{AreFiles}
 use Rattle.file_json.proofs.Stringing.{day_is}
 use Rattle.file_json.proofs.UnitTelling.{kinds_are, front_number, behind-bytes, changes-numbers, changes-depth}
 

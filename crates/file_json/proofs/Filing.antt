@@ -10,8 +10,8 @@ use Rattle.card_layout.proofs.Numbers.{big_number-big_bytes}
 use Rattle.card_image.specs.CardFile.{FileEntry, IsFileEntry, entry_bytes}
 use Rattle.json.specs.Print.{print}
 use Rattle.json.specs.Tree.{json_tokens}
-use Rattle.unit_marks.specs.Files.{AreFiles}
-use Rattle.unit_marks.proofs.Filing.{head_of}
+use Rattle.file_view.specs.Files.{AreFiles}
+use Rattle.file_view.proofs.Filing.{head_of}
 use Rattle.file_json.specs.declared.pieces.Piece.{Piece}
 use Rattle.file_json.specs.declared.pieces.Piece.TheVariants.{File, End}
 use Rattle.file_json.specs.Pieces.{IsPiece, entry_in, item_pieces, pieces_text}

@@ -11,7 +11,7 @@ use Rattle.json_fields.specs.declared.kinds.Kind.TheVariants as kind
 use Rattle.json_fields.specs.declared.names.Name.{Name}
 use Rattle.json_fields.specs.declared.names.Name.TheVariants as name
 use Rattle.message_model.specs.Messages.{Message, Overview, DayMessage, EventMessage, SpeedMessage, TechnicalMessage, AnOverview, ADay, AnEventList, ASpeedList, ATechnical, AreEntries, counted, word_bytes, number_of, content_of, IsOverview, IsDayMessage, IsEventMessage, IsSpeedMessage, IsTechnicalMessage, IsMessage}
-use Rattle.unit_marks.proofs.Laid.{joined_length}
+use Rattle.file_view.proofs.Laid.{joined_length}
 use Rattle.file_json.specs.declared.parts.Part.{Part}
 use Rattle.file_json.specs.declared.parts.Part.TheVariants.{Fields, Record, List as ListOf, Changes}
 use Rattle.file_json.specs.declared.parts.TheConstants.{OVERVIEW, ACTIVITIES, EVENTS, SPEEDS, TECHNICAL}

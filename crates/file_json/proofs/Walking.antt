@@ -12,10 +12,10 @@ use Rattle.file_view.specs.Showing.{before_last}
 use Rattle.file_view.specs.UnitFiles.{days_told}
 use Rattle.message_model.specs.Messages.{Message as FileMessage, AnOverview, ADay, AnEventList, ASpeedList, ATechnical, message_bytes, IsMessage, IsUnitFile}
 use Rattle.unit_messages.specs.Reading.{request_of}
-use Rattle.unit_marks.specs.declared.places.MessageAt.{MessageAt}
-use Rattle.unit_marks.specs.Places.{ArePlaced}
-use Rattle.unit_marks.proofs.Empty.{no_message_at, no_told}
-use Rattle.unit_marks.proofs.Placing.{placed_at, placed_count}
+use Rattle.file_view.specs.declared.places.MessageAt.{MessageAt}
+use Rattle.file_view.specs.Places.{ArePlaced}
+use Rattle.file_view.proofs.Placing.{no_message_at, no_told}
+use Rattle.file_view.proofs.Placing.{placed_at, placed_count}
 use Rattle.json_fields.proofs.Cutting.{by_test}
 use Rattle.file_json.specs.declared.pieces.Piece.{Piece}
 use Rattle.file_json.specs.declared.pieces.Piece.TheVariants.{UnitBegin, Message, End}

@@ -43,10 +43,12 @@ lists_of (suc count) records kind value =
     item (records_shown records (fields_of kind) (take (records * width_of kind) value))
     (lists_of count records kind (drop (records * width_of kind) value))
 
+-- lists of as many records each, under their name
 abbrev pub sets_told : Sets → List ℕ → Json
 sets_told sets value = object (member (name_text sets.list)
     (array (lists_shown sets.count (length value / sets.count) sets.kind value)) no_members)
 
+-- so many bytes are lists of as many records each
 abbrev pub sets_fit : Sets → ℕ → Bool
 sets_fit sets len = len % (sets.count * width_of sets.kind) == 0
 
@@ -54,6 +56,7 @@ sets_fit sets len = len % (sets.count * width_of sets.kind) == 0
 abbrev pub AreSets : Sets → Type 0
 AreSets sets = (1 ≤ sets.count) × (sets.count ≤ 6)
 
+-- the specific conditions, under their name
 abbrev pub conditions_told : List ℕ → Json
 conditions_told value = object (member (name_text name.SpecificConditionRecords) (list_shown kind.Condition value)
     no_members)
@@ -64,6 +67,7 @@ ring_told ring value =
     object (member (name_text ring.pointer) (number (decimal (big_number ring.width value)))
     (member (name_text ring.list) (list_shown ring.kind (drop ring.width value)) no_members))
 
+-- so many bytes are a pointer and records
 abbrev pub ring_fits : Ring → ℕ → Bool
 ring_fits ring len = nat_le ring.width len && (len - ring.width) % width_of ring.kind == 0
 
@@ -115,6 +119,7 @@ content_then last shape value more =
 
 -- ---- the files of a card by their identifiers (Appendix 2, section 4)
 
+-- what a file holds, by its identifier
 abbrev pub shape_by : ℕ → Shape
 shape_by fid =
     if fid == 0x0002 then Record kind.Icc
@@ -133,6 +138,7 @@ shape_by fid =
 abbrev pub shape_of : (fid kind : ℕ) → Shape
 shape_of fid kind = if kind == 0 then shape_by fid else Bytes
 
+-- what a file is called
 abbrev pub file_name : ℕ → List ℕ
 file_name fid =
     if fid == 0x0002 then codes "icc"
@@ -147,6 +153,7 @@ file_name fid =
     else (if fid == 0x0522 then codes "specificConditions" else (if fid == 0xC100 then codes "cardCertificate"
     else (if fid == 0xC108 then codes "caCertificate" else codes "other")))))))))))))))
 
+-- whether an entry is a file's value or its signature
 abbrev pub kind_name : ℕ → List ℕ
 kind_name kind = if kind == 0 then codes "value" else codes "signature"
 
@@ -160,6 +167,7 @@ entry_shown last place e =
     (member (codes "length") (number (decimal (length e.value)))
     (content_then last (shape_of e.fid e.kind) e.value no_members))))))
 
+-- files, one after the other
 abbrev pub entries_shown : (last : Option ℕ) → (place : ℕ) → List FileEntry → Items
 entries_shown last place [] = no_items
 entries_shown last place (e ∷ es) = item (entry_shown last place e)

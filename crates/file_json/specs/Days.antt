@@ -14,10 +14,11 @@ use Rattle.file_view.specs.Showing.{before_last}
 use Rattle.file_json.specs.declared.days.DaysAt.{DaysAt}
 use Rattle.file_json.specs.Parts.{changes_shown}
 
--- the length that a record tells, and whether a record stands at the front: its head, a change, and all of its bytes
+-- the length that a record tells
 abbrev pub day_len : List ℕ → ℕ
 day_len bytes = big_number 2 (drop 2 bytes)
 
+-- a record stands at the front: its head, a change, and all of its bytes
 abbrev pub is_day : List ℕ → Bool
 is_day bytes = nat_le 14 (length bytes) && (nat_le 14 (day_len bytes) && nat_le (day_len bytes) (length bytes))
 
@@ -46,11 +47,12 @@ circle_from place string = drop place string ++ take place string
 abbrev pub far_between : (oldest newest size : ℕ) → ℕ
 far_between oldest newest size = if nat_lt newest oldest then newest + size - oldest else newest - oldest
 
--- how many items there are, and items without the first so many
+-- how many items there are
 abbrev pub items_count : Items → ℕ
 items_count no_items = 0
 items_count (item j js) = suc (items_count js)
 
+-- items without the first so many
 abbrev pub items_behind : ℕ → Items → Items
 items_behind zero js = js
 items_behind (suc n) no_items = no_items
@@ -65,6 +67,7 @@ abbrev pub records_of : (oldest newest : ℕ) → List ℕ → Items
 records_of oldest newest string = days_shown (length string) (far_between oldest newest (length string))
     (circle_from oldest string)
 
+-- those records as a list
 abbrev pub string_shown : (last : Option ℕ) → (oldest newest : ℕ) → List ℕ → Json
 string_shown last oldest newest string = array (newest_items last (records_of oldest newest string))
 

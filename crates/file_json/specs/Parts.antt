@@ -28,14 +28,14 @@ width_of kind = width_of_record (fields_of kind)
 abbrev pub part_len : Part → List ℕ → ℕ
 part_len (Fields kind) bytes = width_of kind
 part_len (Record name kind) bytes = width_of kind
-part_len (ListOf name count kind) bytes = count + width_of kind * big_number count bytes
+part_len (ListOf name width kind) bytes = width + width_of kind * big_number width bytes
 part_len Changes bytes = 2 + 2 * big_number 2 bytes
 
 -- its number is there, in one byte or two
 abbrev pub IsCounted : Part → List ℕ → Type 0
 IsCounted (Fields kind) bytes = Unit {0}
 IsCounted (Record name kind) bytes = Unit {0}
-IsCounted (ListOf name count kind) bytes = (1 ≤ count) × (count ≤ 2) × (count ≤ length bytes)
+IsCounted (ListOf name width kind) bytes = (1 ≤ width) × (width ≤ 2) × (width ≤ length bytes)
 IsCounted Changes bytes = 2 ≤ length bytes
 
 -- the part stands there whole
@@ -51,8 +51,8 @@ HasParts (p ∷ ps) bytes = IsThere p bytes × HasParts ps (drop (part_len p byt
 abbrev pub part_then : Part → List ℕ → Members → Members
 part_then (Fields kind) bytes more = members_then value_shown (fields_of kind) bytes more
 part_then (Record name kind) bytes more = member (name_text name) (record_shown (fields_of kind) bytes) more
-part_then (ListOf name count kind) bytes more = member (name_text name)
-    (records_shown (big_number count bytes) (fields_of kind) (drop count bytes)) more
+part_then (ListOf name width kind) bytes more = member (name_text name)
+    (records_shown (big_number width bytes) (fields_of kind) (drop width bytes)) more
 part_then Changes bytes more = member (name_text ActivityChangeInfos)
     (array (changes_shown false (big_number 2 bytes) (drop 2 bytes))) more
 
@@ -65,9 +65,10 @@ parts_then (p ∷ ps) bytes more = part_then p bytes (parts_then ps (drop (part_
 abbrev pub names_of_part : Part → List (List ℕ)
 names_of_part (Fields kind) = names_in (fields_of kind)
 names_of_part (Record name kind) = name_text name ∷ []
-names_of_part (ListOf name count kind) = name_text name ∷ []
+names_of_part (ListOf name width kind) = name_text name ∷ []
 names_of_part Changes = name_text ActivityChangeInfos ∷ []
 
+-- and those of several, in their order
 abbrev pub names_of_parts : List Part → List (List ℕ)
 names_of_parts [] = []
 names_of_parts (p ∷ ps) = names_of_part p ++ names_of_parts ps

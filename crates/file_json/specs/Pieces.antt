@@ -9,7 +9,7 @@ use Rattle.link_model.specs.declared.request.Request.TheVariants.{Overview as As
 use Rattle.link_model.specs.declared.request.Request.TheVariants.{Events as AskEvents, Speed as AskSpeed}
 use Rattle.link_model.specs.declared.request.Request.TheVariants.{Technical as AskTechnical}
 use Rattle.message_model.specs.Messages.{Message as FileMessage, IsMessage, message_bytes}
-use Rattle.unit_marks.specs.declared.places.MessageAt.{MessageAt}
+use Rattle.file_view.specs.declared.places.MessageAt.{MessageAt}
 use Rattle.json.specs.Print.{print}
 use Rattle.json.specs.Tree.{json_tokens}
 use Rattle.file_json.specs.declared.pieces.Piece.{Piece}
@@ -50,7 +50,7 @@ abbrev pub item_pieces : (after : Bool) → Piece → List Piece
 item_pieces true piece = Comma ∷ piece ∷ []
 item_pieces false piece = piece ∷ []
 
--- whether a message that answers this is one of a day, and how many of them there are
+-- a message that answers this is one of a day
 abbrev pub asks_day : Request → Bool
 asks_day AskOverview = false
 asks_day (AskDay day) = true
@@ -58,9 +58,11 @@ asks_day AskEvents = false
 asks_day AskSpeed = false
 asks_day AskTechnical = false
 
+-- one where a message that answers this is of a day
 abbrev pub day_in : Request → ℕ
 day_in request = if asks_day request then 1 else 0
 
+-- how many messages are of days
 abbrev pub days_asked : List MessageAt → ℕ
 days_asked [] = 0
 days_asked (at ∷ all) = day_in at.request + days_asked all

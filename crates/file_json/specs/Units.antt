@@ -12,11 +12,12 @@ use Rattle.file_json.specs.declared.parts.Part.{Part}
 use Rattle.file_json.specs.declared.parts.TheConstants.{OVERVIEW, ACTIVITIES, EVENTS, SPEEDS, TECHNICAL}
 use Rattle.file_json.specs.Parts.{parts_then}
 
--- the parts of a message by its number (TREP), and what it is called
+-- the parts of a message by its number (TREP)
 abbrev pub parts_of : ℕ → List Part
 parts_of trep = if trep == 1 then OVERVIEW
     else (if trep == 2 then ACTIVITIES else (if trep == 3 then EVENTS else (if trep == 4 then SPEEDS else TECHNICAL)))
 
+-- what a message is called, by its number
 abbrev pub message_name : ℕ → List ℕ
 message_name trep = if trep == 1 then codes "overview"
     else (if trep == 2 then codes "activities"
@@ -68,11 +69,12 @@ without_days skip [] = []
 without_days skip (s ∷ ss) = if is_left_out skip s.message then without_days (skip - 1) ss
     else s ∷ without_days skip ss
 
--- the messages among them, and those of no day
+-- the messages among them
 abbrev pub messages_in : List Standing → List Message
 messages_in [] = []
 messages_in (s ∷ ss) = s.message ∷ messages_in ss
 
+-- the messages of no day
 abbrev pub of_no_day : List Message → List Message
 of_no_day ms = filter (λ (m : Message). not (is_day_message m)) ms
 
@@ -90,6 +92,7 @@ abbrev pub messages_told : Option ℕ → List Message → Items
 messages_told None messages = messages_shown 0 messages
 messages_told (Some last) messages = standing_shown (of_last_days last messages)
 
+-- messages as the JSON of a unit file
 abbrev pub json_of_messages : Items → Json
 json_of_messages items = object (member (codes "file") (string (codes "unit"))
     (member (codes "messages") (array items) no_members))

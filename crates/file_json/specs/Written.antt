@@ -32,15 +32,17 @@ insertion_names = codes "fullCardNumber" ∷ codes "cardExpiryDate" ∷ codes "c
     ∷ codes "vehicleOdometerValueAtInsertion" ∷ codes "cardSlotNumber" ∷ codes "cardWithdrawalTime"
     ∷ codes "vehicleOdometerValueAtWithdrawal" ∷ codes "previousVehicleInfo" ∷ []
 
--- those of a fault of a unit; an event has the number of similar ones behind them
+-- the cards in the slots at the begin and at the end of an event or a fault of a unit
 abbrev pub card_names : List (List ℕ)
 card_names = codes "cardNumberDriverSlotBegin" ∷ codes "cardNumberCodriverSlotBegin"
     ∷ codes "cardNumberDriverSlotEnd" ∷ codes "cardNumberCodriverSlotEnd" ∷ []
 
+-- the fields of a fault of a unit
 abbrev pub fault_names : List (List ℕ)
 fault_names = codes "faultType" ∷ codes "faultRecordPurpose" ∷ codes "faultBeginTime" ∷ codes "faultEndTime"
     ∷ card_names
 
+-- those of an event, behind which stands the number of similar ones
 abbrev pub event_names : List (List ℕ)
 event_names = codes "eventType" ∷ codes "eventRecordPurpose" ∷ codes "eventBeginTime" ∷ codes "eventEndTime"
     ∷ card_names
@@ -51,11 +53,12 @@ over_names = codes "eventType" ∷ codes "eventRecordPurpose" ∷ codes "eventBe
     ∷ codes "maxSpeedValue" ∷ codes "averageSpeedValue" ∷ codes "cardNumberDriverSlotBegin"
     ∷ codes "similarEventsNumber" ∷ []
 
--- those of an event and of a vehicle of a card
+-- those of an event of a card
 abbrev pub card_event_names : List (List ℕ)
 card_event_names = codes "eventType" ∷ codes "eventBeginTime" ∷ codes "eventEndTime"
     ∷ codes "eventVehicleRegistration" ∷ []
 
+-- those of a vehicle of a card
 abbrev pub vehicle_names : List (List ℕ)
 vehicle_names = codes "vehicleOdometerBegin" ∷ codes "vehicleOdometerEnd" ∷ codes "vehicleFirstUse"
     ∷ codes "vehicleLastUse" ∷ codes "vehicleRegistration" ∷ codes "vuDataBlockCounter" ∷ []

@@ -14,9 +14,9 @@ ghost use Rattle.file_json.specs.Cards.{shape_of, told};
 
 use crate::days::{Pointers, write_string};
 use byteorder::{BigEndian, ByteOrder};
+use card_layout::{FILE_HEAD, Fid};
 use json_fields::{Kind, Name, TextWriter, write_digits, write_record, write_records};
 use std::alloc::{AllocError, Global};
-use unit_marks::FILE_HEAD;
 
 /// What a file of a card holds.
 #[derive(Clone, Copy)]
@@ -42,12 +42,17 @@ pub enum Shape {
 /// A pointer of one byte or two, and a list of records behind it.
 #[derive(Clone, Copy)]
 pub struct Ring {
+    /// What the pointer is called.
     pub pointer: Name,
+    /// How many bytes it has.
     pub width: usize,
+    /// What the list is called.
     pub list: Name,
+    /// What its records are.
     pub kind: Kind,
 }
 
+/// The vehicles used: a pointer of two bytes.
 pub const VEHICLES: Ring = Ring {
     pointer: Name::VehiclePointerNewestRecord,
     width: 2,
@@ -55,6 +60,7 @@ pub const VEHICLES: Ring = Ring {
     kind: Kind::Vehicle,
 };
 
+/// The places: a pointer of one byte.
 pub const PLACES: Ring = Ring {
     pointer: Name::PlacePointerNewestRecord,
     width: 1,
@@ -65,17 +71,22 @@ pub const PLACES: Ring = Ring {
 /// So many lists of as many records each.
 #[derive(Clone, Copy)]
 pub struct Sets {
+    /// How many lists there are.
     pub count: usize,
+    /// What they are called.
     pub list: Name,
+    /// What their records are.
     pub kind: Kind,
 }
 
+/// The events: six types.
 pub const EVENT_SETS: Sets = Sets {
     count: 6,
     list: Name::CardEventRecords,
     kind: Kind::CardEvent,
 };
 
+/// The faults: two types.
 pub const FAULT_SETS: Sets = Sets {
     count: 2,
     list: Name::CardFaultRecords,
@@ -369,23 +380,23 @@ fn write_all_bytes(alloc: Global, writer: &mut TextWriter, string: &[u8]) -> Res
 fn file_name(fid: u16) -> &'static str
     ensures { result.now ≡ file_name fid }
 {
-    match fid {
-        0x0002 => "icc",
-        0x0005 => "ic",
-        0x0501 => "applicationIdentification",
-        0x0502 => "eventsData",
-        0x0503 => "faultsData",
-        0x0504 => "driverActivityData",
-        0x0505 => "vehiclesUsed",
-        0x0506 => "places",
-        0x0507 => "currentUsage",
-        0x0508 => "controlActivityData",
-        0x050E => "cardDownload",
-        0x0520 => "identification",
-        0x0521 => "drivingLicenceInfo",
-        0x0522 => "specificConditions",
-        0xC100 => "cardCertificate",
-        0xC108 => "caCertificate",
+    match Fid(fid) {
+        Fid::ICC => "icc",
+        Fid::IC => "ic",
+        Fid::APPLICATION => "applicationIdentification",
+        Fid::EVENTS => "eventsData",
+        Fid::FAULTS => "faultsData",
+        Fid::ACTIVITY => "driverActivityData",
+        Fid::VEHICLES => "vehiclesUsed",
+        Fid::PLACES => "places",
+        Fid::CURRENT_USE => "currentUsage",
+        Fid::CONTROL => "controlActivityData",
+        Fid::DOWNLOAD => "cardDownload",
+        Fid::IDENTIFICATION => "identification",
+        Fid::LICENCE => "drivingLicenceInfo",
+        Fid::CONDITIONS => "specificConditions",
+        Fid::CARD_CERTIFICATE => "cardCertificate",
+        Fid::CA_CERTIFICATE => "caCertificate",
         _ => "other",
     }
 }
@@ -397,23 +408,23 @@ fn shape_of(fid: u16, kind: u8) -> Shape
     if kind != 0 {
         return Shape::Bytes;
     }
-    match fid {
-        0x0002 => Shape::Record(Kind::Icc),
-        0x0005 => Shape::Record(Kind::Ic),
-        0x0501 => Shape::Record(Kind::ApplicationIdentification),
-        0x0502 => Shape::Events,
-        0x0503 => Shape::Faults,
-        0x0504 => Shape::Days,
-        0x0505 => Shape::Vehicles,
-        0x0506 => Shape::Places,
-        0x0507 => Shape::Record(Kind::CurrentUse),
-        0x0508 => Shape::Record(Kind::CardControl),
-        0x050E => Shape::Record(Kind::CardDownload),
-        0x0520 => Shape::Record(Kind::Identification),
-        0x0521 => Shape::Record(Kind::Licence),
-        0x0522 => Shape::Conditions,
-        0xC100 => Shape::Record(Kind::CardCertificate),
-        0xC108 => Shape::Record(Kind::CardCertificate),
+    match Fid(fid) {
+        Fid::ICC => Shape::Record(Kind::Icc),
+        Fid::IC => Shape::Record(Kind::Ic),
+        Fid::APPLICATION => Shape::Record(Kind::ApplicationIdentification),
+        Fid::EVENTS => Shape::Events,
+        Fid::FAULTS => Shape::Faults,
+        Fid::ACTIVITY => Shape::Days,
+        Fid::VEHICLES => Shape::Vehicles,
+        Fid::PLACES => Shape::Places,
+        Fid::CURRENT_USE => Shape::Record(Kind::CurrentUse),
+        Fid::CONTROL => Shape::Record(Kind::CardControl),
+        Fid::DOWNLOAD => Shape::Record(Kind::CardDownload),
+        Fid::IDENTIFICATION => Shape::Record(Kind::Identification),
+        Fid::LICENCE => Shape::Record(Kind::Licence),
+        Fid::CONDITIONS => Shape::Conditions,
+        Fid::CARD_CERTIFICATE => Shape::Record(Kind::CardCertificate),
+        Fid::CA_CERTIFICATE => Shape::Record(Kind::CardCertificate),
         _ => Shape::Bytes,
     }
 }

@@ -9,14 +9,15 @@ ghost use Rattle.file_json.specs.Days.{is_day, items_behind, items_count, newest
 
 use crate::parts::write_changes;
 use byteorder::{BigEndian, ByteOrder};
+use card_model::lengths::{DAY_HEAD, DAY_LEAST};
 use json_fields::{Kind, Name, TextWriter, write_fields};
 use std::alloc::{AllocError, Global};
 
 /// The head of a record; its changes follow.
-const HEAD: usize = 12;
+const HEAD: usize = DAY_HEAD as usize;
 
 /// The least that a record has: its head and one change.
-const DAY_LEAST: usize = 14;
+const LEAST: usize = DAY_LEAST as usize;
 
 /// Where the oldest record of a string stands, and its newest.
 #[derive(Clone, Copy)]
@@ -228,11 +229,11 @@ fn far_after(far: usize, len: usize) -> usize
 fn is_day(bytes: &[u8]) -> bool
     ensures { result ≡ is_day bytes.now }
 {
-    if bytes.len() < DAY_LEAST {
+    if bytes.len() < LEAST {
         return false;
     }
     let len = day_len(bytes);
-    len >= DAY_LEAST && len <= bytes.len()
+    len >= LEAST && len <= bytes.len()
 }
 
 /// The length that a record tells.

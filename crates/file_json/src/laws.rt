@@ -1,3 +1,4 @@
+//! What is proved of a file's JSON: that it is the file's, and that each field is told under its name and in its form.
 ghost use Rattle.std.specs.Prelude.{◌≡◌, ◌+◌, ◌<◌, ◌≤◌, ◌^◌, ℕ, Option, Some, None, List, [], ◌∷◌, codes, drop, length};
 ghost use Rattle.byteorder.specs.Endian.{big_number};
 ghost use Rattle.card_files.specs.Events.{event_widths as card_event_widths};
@@ -23,7 +24,7 @@ ghost use Rattle.message_model.specs.Messages.{Message as FileMessage, IsUnitFil
 ghost use Rattle.message_model.specs.Records.{insertion_widths};
 ghost use Rattle.note_model.specs.Tables.{event_widths, fault_widths, over_widths};
 ghost use Rattle.tacho_types.specs.Places.{place_widths};
-ghost use Rattle.unit_marks.specs.Files.{AreFiles};
+ghost use Rattle.file_view.specs.Files.{AreFiles};
 ghost use Rattle.file_json.specs.declared.card.Shape.TheVariants.{Events, Faults};
 ghost use Rattle.file_json.specs.Cards.{IsCardJson, json_of_card, lists_of, told};
 ghost use Rattle.file_json.specs.Days.{ShowDays, items_count, newest_items, records_of, string_shown};

@@ -22,10 +22,10 @@ pub enum Part {
         name: Name,
         kind: Kind,
     },
-    /// A number of so many bytes, and as many records behind it.
+    /// A count of records, 1 byte or 2 wide, and as many records behind it.
     List {
         name: Name,
-        count: usize,
+        count_width: usize,
         kind: Kind,
     },
     /// A number of two bytes, and as many changes of activity.
@@ -38,12 +38,12 @@ pub const OVERVIEW: [Part; 5] = [
     Part::Fields(Kind::VehicleOfUnit),
     Part::List {
         name: Name::VuCompanyLocksRecords,
-        count: 1,
+        count_width: 1,
         kind: Kind::Lock,
     },
     Part::List {
         name: Name::VuControlActivityRecords,
-        count: 1,
+        count_width: 1,
         kind: Kind::Control,
     },
     Part::Fields(Kind::Signature),
@@ -54,18 +54,18 @@ pub const ACTIVITIES: [Part; 6] = [
     Part::Fields(Kind::Day),
     Part::List {
         name: Name::VuCardIWRecords,
-        count: 2,
+        count_width: 2,
         kind: Kind::Insertion,
     },
     Part::Changes,
     Part::List {
         name: Name::VuPlaceDailyWorkPeriodRecords,
-        count: 1,
+        count_width: 1,
         kind: Kind::UnitPlace,
     },
     Part::List {
         name: Name::SpecificConditionRecords,
-        count: 2,
+        count_width: 2,
         kind: Kind::Condition,
     },
     Part::Fields(Kind::Signature),
@@ -75,12 +75,12 @@ pub const ACTIVITIES: [Part; 6] = [
 pub const EVENTS: [Part; 6] = [
     Part::List {
         name: Name::VuFaultRecords,
-        count: 1,
+        count_width: 1,
         kind: Kind::UnitFault,
     },
     Part::List {
         name: Name::VuEventRecords,
-        count: 1,
+        count_width: 1,
         kind: Kind::UnitEvent,
     },
     Part::Record {
@@ -89,12 +89,12 @@ pub const EVENTS: [Part; 6] = [
     },
     Part::List {
         name: Name::VuOverSpeedingEventRecords,
-        count: 1,
+        count_width: 1,
         kind: Kind::Overspeed,
     },
     Part::List {
         name: Name::VuTimeAdjustmentRecords,
-        count: 1,
+        count_width: 1,
         kind: Kind::Adjustment,
     },
     Part::Fields(Kind::Signature),
@@ -104,7 +104,7 @@ pub const EVENTS: [Part; 6] = [
 pub const SPEEDS: [Part; 2] = [
     Part::List {
         name: Name::VuDetailedSpeedBlocks,
-        count: 2,
+        count_width: 2,
         kind: Kind::SpeedBlock,
     },
     Part::Fields(Kind::Signature),
@@ -122,7 +122,7 @@ pub const TECHNICAL: [Part; 4] = [
     },
     Part::List {
         name: Name::VuCalibrationRecords,
-        count: 1,
+        count_width: 1,
         kind: Kind::Calibration,
     },
     Part::Fields(Kind::Signature),
@@ -155,19 +155,23 @@ fn part_len(part: Part, bytes: &[u8]) -> usize
     match part {
         Part::Fields(kind) => kind.width(),
         Part::Record { kind, .. } => kind.width(),
-        Part::List { count, kind, .. } => count + kind.width() * number(bytes, count),
+        Part::List {
+            count_width,
+            kind,
+            ..
+        } => count_width + kind.width() * number(bytes, count_width),
         Part::Changes => 2 + 2 * number(bytes, 2),
     }
 }
 
 /// The number in the first one or two bytes.
-fn number(bytes: &[u8], count: usize) -> usize
-    requires some { 1 ≤ count }
-    requires few { count ≤ 2 }
-    requires there { count ≤ length bytes.now }
-    ensures { result ≡ big_number count bytes.now }
+fn number(bytes: &[u8], width: usize) -> usize
+    requires some { 1 ≤ width }
+    requires few { width ≤ 2 }
+    requires there { width ≤ length bytes.now }
+    ensures { result ≡ big_number width bytes.now }
 {
-    if count == 1 {
+    if width == 1 {
         bytes[0] as usize
     } else {
         BigEndian::read_u16(bytes) as usize
@@ -190,16 +194,20 @@ fn write_part(
             writer.key(name.text())?;
             write_record(alloc, writer, kind.fields(), bytes)
         }
-        Part::List { name, count, kind } => {
+        Part::List {
+            name,
+            count_width,
+            kind,
+        } => {
             writer.key(name.text())?;
-            let records = number(bytes, count);
+            let records = number(bytes, count_width);
             write_records(
                 alloc,
                 writer,
                 kind.fields(),
                 kind.width(),
                 records,
-                &bytes[count..],
+                &bytes[count_width..],
             )
         }
         Part::Changes => {

@@ -2,13 +2,12 @@
 ghost use Rattle.std.specs.Prelude.{◌≡◌, ◌≢◌, ◌+◌, ◌-◌, ◌≤◌, ◌<◌, ◌^◌, ◌++◌, ◌∷◌, [], ◌==◌, ◌&&◌, not, true};
 ghost use Rattle.std.specs.Prelude.{if◌then◌else◌, ℕ, List, All, IfOk, IfErr, OnOk, length};
 ghost use Rattle.card_image.specs.CardFile.{FileEntry};
-ghost use Rattle.card_layout.specs.Images.{bytes_at};
 ghost use Rattle.file_view.specs.CardFiles.{IsBadCardFile};
 ghost use Rattle.file_view.specs.Faults.{IfBadFile};
 ghost use Rattle.file_view.specs.UnitFiles.{IsBadUnitFile};
 ghost use Rattle.message_model.specs.Messages.{Message as FileMessage, IsUnitFile};
-ghost use Rattle.unit_marks.specs.Files.{AreFiles};
-ghost use Rattle.unit_marks.specs.Places.{ArePlaced};
+ghost use Rattle.file_view.specs.Files.{AreFiles};
+ghost use Rattle.file_view.specs.Places.{ArePlaced};
 ghost use Rattle.file_json.specs.Cards.{IsCardJson, json_of_card};
 ghost use Rattle.file_json.specs.Pieces.{IsPiece, asks_day, day_in, days_asked, item_pieces, piece_text, pieces_text};
 ghost use Rattle.file_json.specs.Units.{IsUnitJson};
@@ -18,9 +17,9 @@ ghost use Rattle.json.specs.Tree.{json_tokens};
 use crate::card::file_text;
 use crate::days::first_of;
 use crate::unit::message_text;
-use file_view::{ViewFault, read_card_file};
+use card_layout::FILE_HEAD;
+use file_view::{MessageAt, ViewFault, file_len, messages_at, part, read_card_file};
 use std::alloc::{AllocError, Global};
-use unit_marks::{FILE_HEAD, MessageAt, file_len, messages_at};
 use unit_messages::Request;
 
 /// A piece of the text of a file.
@@ -57,10 +56,7 @@ pub fn unit_pieces(alloc: Global, last: Option<u32>, b: &[u8]) -> Result<Vec<Pie
     ensures each { IfOk result (λ pieces. All (IsPiece b.now) pieces.items) }
     ensures bad { IfErr result (λ fault. IfBadFile fault (λ place. IsBadUnitFile place b.now)) }
 {
-    let all = match messages_at(alloc, b) {
-        Ok(all) => all,
-        Err(fault) => return Err(fault),
-    };
+    let all = messages_at(alloc, b)?;
     let pieces = pieces_of_messages(alloc, last, b, all.as_slice())?;
     Ok(pieces)
 }
@@ -160,13 +156,9 @@ pub fn card_pieces(alloc: Global, last: Option<u32>, b: &[u8]) -> Result<Vec<Pie
     ensures each { IfOk result (λ pieces. All (IsPiece b.now) pieces.items) }
     ensures bad { IfErr result (λ fault. IfBadFile fault (λ place. IsBadCardFile place b.now)) }
 {
-    match read_card_file(alloc, b) {
-        Ok(_history) => {
-            let pieces = pieces_of_files(alloc, last, b)?;
-            Ok(pieces)
-        }
-        Err(fault) => Err(fault),
-    }
+    let _history = read_card_file(alloc, b)?;
+    let pieces = pieces_of_files(alloc, last, b)?;
+    Ok(pieces)
 }
 
 /// Those of the files of a card, one after the other.
@@ -230,6 +222,10 @@ fn add_item(pieces: &mut Vec<Piece>, after: bool, piece: Piece) -> Result<(), Al
 }
 
 /// The text of a piece.
+///
+/// # Errors
+///
+/// `AllocError` where memory runs out.
 pub fn piece_text(alloc: Global, b: &[u8], piece: Piece) -> Result<Vec<u8>, AllocError>
     requires { IsPiece b.now piece }
     ensures { IfOk result (λ text. text.items ≡ piece_text b.now piece) }
@@ -251,12 +247,4 @@ fn bytes_of(alloc: Global, bytes: &[u8]) -> Result<Vec<u8>, AllocError>
     let mut text = Vec::new(alloc);
     text.extend_from_slice(bytes)?;
     Ok(text)
-}
-
-/// So many bytes from a place on.
-fn part(b: &[u8], place: usize, len: usize) -> &[u8]
-    requires { place + len ≤ length b.now }
-    ensures { result.now ≡ bytes_at b.now place len }
-{
-    &b[place..][..len]
 }

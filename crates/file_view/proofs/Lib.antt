@@ -18,3 +18,6 @@ pub mod UnitDays
 pub mod Rising
 pub mod Ringed
 pub mod Leading
+pub mod Laid
+pub mod Filing
+pub mod Placing

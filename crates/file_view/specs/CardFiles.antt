@@ -13,6 +13,7 @@ use Rattle.card_image.specs.CardFile.{FileEntry, entry_bytes, IsFileEntry, is_va
 use Rattle.card_image.specs.CardFile.{vehicles_alone, last_minute}
 use Rattle.gated_ring.specs.Ring.{pointer, indices}
 
+-- there is none
 abbrev pub is_empty : {X : Type 0} → List X → Bool
 is_empty [] = true
 is_empty (x ∷ xs) = false
@@ -26,12 +27,12 @@ abbrev pub sizes_told : List (List ℕ) → Option Application
 sizes_told [] = None
 sizes_told (value ∷ values) = Some (application_of value)
 
--- a value of Driver_Activity_Data, and one of Vehicles_Used, by the sizes that were told before it; without them
--- neither is one
+-- a value of Driver_Activity_Data by the sizes that were told before it; without them none is one
 abbrev pub are_days : Option Application → List ℕ → Bool
 are_days None value = false
 are_days (Some app) value = length value == 4 + app.activity && not (is_some (first_bad (string_alone app) value))
 
+-- a value of Vehicles_Used by such sizes: its length, and its pointer within its entries
 abbrev pub are_vehicles : Option Application → List ℕ → Bool
 are_vehicles None value = false
 are_vehicles (Some app) value = length value == 2 + 31 * app.vehicles

@@ -18,11 +18,12 @@ registration_in (AnEventList m ∷ ms) = registration_in ms
 registration_in (ASpeedList m ∷ ms) = registration_in ms
 registration_in (ATechnical m ∷ ms) = registration_in ms
 
--- a message may begin here: the next byte is 76
+-- the bytes begin with 76, as each message does
 abbrev pub begins_message : List ℕ → Bool
 begins_message [] = false
 begins_message (b ∷ bytes) = b == MESSAGE
 
+-- the bytes of a registration, if there is one
 abbrev pub registration_bytes : Option Registration → Option (List ℕ)
 registration_bytes r = option_map (λ x. x.0) r
 

@@ -10,13 +10,14 @@ use Rattle.view_model.specs.declared.Line.{Line}
 use Rattle.view_model.specs.Lines.{day_of_minute, lines_of}
 use Rattle.tacho_types.specs.declared.calendar.TheConstants.{DAYS}
 
--- what the view of a unit shows of a minute, and the minute that is shown so
+-- what the view of a unit shows of a minute
 abbrev pub minute_shown : UnitMinute → Viewed UnitShown
 minute_shown m = record {
   minute = m.minute;
   shown = record { driver = m.driver; codriver = m.codriver; crew = m.crew };
 }
 
+-- the minute of which a unit shows this
 abbrev pub minute_told : Viewed UnitShown → UnitMinute
 minute_told v = record { minute = v.minute; driver = v.shown.driver; codriver = v.shown.codriver; crew = v.shown.crew }
 
@@ -24,11 +25,12 @@ minute_told v = record { minute = v.minute; driver = v.shown.driver; codriver = 
 abbrev pub entry_told : Viewed CardShown → Entry
 entry_told v = record { minute = v.minute; slot = v.shown.slot; crew = v.shown.crew; act = v.shown.act }
 
--- the minutes of a line, and of lines
+-- the minutes of a line
 abbrev pub line_minutes : {X : Type 0} → Line X → List (Viewed X)
 line_minutes line = map (λ m. record { minute = m; shown = line.shown })
     (range_with_len line.first (line.last + 1 - line.first))
 
+-- the minutes of lines, one line behind the other
 abbrev pub minutes_on : {X : Type 0} → List (Line X) → List (Viewed X)
 minutes_on [] = []
 minutes_on (line ∷ lines) = line_minutes line ++ minutes_on lines

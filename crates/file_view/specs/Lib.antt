@@ -4,6 +4,8 @@ pub mod UnitFiles
 pub mod Histories
 pub mod Vehicles
 pub mod Fronts
+pub mod Files
+pub mod Places
 pub mod Deciding
 pub mod Reading
 pub mod Walking

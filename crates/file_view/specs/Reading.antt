@@ -9,10 +9,11 @@ use Rattle.file_view.specs.declared.parts.Found.{Found}
 use Rattle.file_view.specs.declared.parts.Parts.{Parts}
 use Rattle.file_view.specs.CardFiles.{are_sizes, are_days, are_vehicles}
 
--- the value of an entry, and the entry
+-- the value of an entry
 abbrev pub value_at : List ℕ → EntryAt → List ℕ
 value_at bytes at = bytes_at bytes at.place at.len
 
+-- the entry that stands there
 abbrev pub told_at : List ℕ → EntryAt → FileEntry
 told_at bytes at = record { fid = at.fid; kind = at.kind; value = value_at bytes at }
 
@@ -34,6 +35,7 @@ pub record AreSizes (app : Application) (entries : List FileEntry) : Type 0 wher
   pub split : entries ≡ before ++ behind
   pub first : (values_of 0x0501 before ≡ sizes ∷ []) × (values_of 0x0504 before ≡ []) × (values_of 0x0505 before ≡ [])
 
+-- the sizes were found among these entries, or none of them tells any
 abbrev pub SizesAre : Option Application → List FileEntry → Type 0
 SizesAre None entries = values_of 0x0501 entries ≡ []
 SizesAre (Some app) entries = AreSizes app entries
@@ -47,9 +49,11 @@ PartIs fid len good (Some app) (Some place) bytes entries =
     (values_of fid entries ≡ bytes_at bytes place (len app) ∷ [])
     × (good (Some app) (bytes_at bytes place (len app)) ≡ true) × (place + len app ≤ length bytes)
 
+-- how many bytes the string of days has, with its pointers
 abbrev pub days_size : Application → ℕ
 days_size app = 4 + app.activity
 
+-- how many bytes the vehicle entries have, with their pointer
 abbrev pub vehicles_size : Application → ℕ
 vehicles_size app = 2 + 31 * app.vehicles
 
@@ -63,10 +67,11 @@ pub record FoundInFile (bytes : List ℕ) (f : Found) (entries : List FileEntry)
 abbrev pub ArePartsOf : Found → Parts → Type 0
 ArePartsOf f parts = (f.app ≡ Some parts.app) × (f.days ≡ Some parts.days) × (f.vehicles ≡ Some parts.vehicles)
 
--- the string of days and the vehicle entries
+-- the string of days
 abbrev pub days_part : List ℕ → Parts → List ℕ
 days_part bytes parts = bytes_at bytes parts.days (days_size parts.app)
 
+-- the vehicle entries
 abbrev pub vehicles_part : List ℕ → Parts → List ℕ
 vehicles_part bytes parts = bytes_at bytes parts.vehicles (vehicles_size parts.app)
 

@@ -33,6 +33,7 @@ pub record IsStoredAt (bytes : List ℕ) (day : DayAt) (m : DayMessage) : Type 0
   pub words : m.words ≡ words_at bytes day.place day.words
   pub inside : day.place + 2 * day.words ≤ length bytes
 
+-- these messages of days stand there, one each
 abbrev pub AreStored : List ℕ → List DayAt → List DayMessage → Type 0
 AreStored bytes [] ms = ms ≡ []
 AreStored bytes (d ∷ ds) [] = ⊥
@@ -70,6 +71,7 @@ abbrev pub state_by : Option Change → State
 state_by None = record { act = Rest; present = false }
 state_by (Some c) = record { act = c.act; present = not c.absent }
 
+-- whether the change that decides tells a crew
 abbrev pub crew_by : Option Change → Bool
 crew_by None = false
 crew_by (Some c) = c.crew_or_known

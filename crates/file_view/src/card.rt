@@ -28,7 +28,7 @@ use crate::entry::part;
 use crate::parts::{Parts, days_len, load_days, vehicles_len};
 use crate::string::{heads, words_of};
 use crate::vehicles::vehicles_in;
-use activity_codec::Change;
+use activity_codec::{Change, DAY_MINUTES};
 use card_days::{DayHead, Days};
 use card_files::{Vehicle, read_vehicle};
 use card_layout::Application;
@@ -39,13 +39,11 @@ use tach_media::{Memory, SliceMedium};
 use view_model::{CardShown, Line, Viewed};
 use view_text::{add_minute, lines_text};
 
-/// The width of the pointer of Vehicles_Used, and the place of the first use in an entry.
+/// How many bytes the pointer of Vehicles_Used has (Appendix 1, CardVehiclesUsed).
 const VEHICLE_POINTER: usize = 2;
 
+/// Where an entry has the time of its first use (Appendix 1, CardVehicleRecord).
 const VEHICLE_FIRST_USE: u32 = 6;
-
-/// How many minutes a day has.
-const DAY: u32 = 1440;
 
 /// The entries that a card file shows, as the lines of their view.
 #[derive(Drop)]
@@ -90,7 +88,7 @@ pub fn read_card_file(alloc: Global, b: &[u8]) -> Result<CardHistory, ViewFault>
     ensures rise { IfOk result (λ h. Rise h) }
     ensures bad { IfErr result (λ fault. IfBadFile fault (λ place. IsBadCardFile place b.now)) }
 {
-    read_days(alloc, b, None)
+    card_history(alloc, b, None)
 }
 
 /// What a card file shows and tells.
@@ -102,7 +100,11 @@ pub struct CardRead {
     pub vehicles: Vec<Vehicle>,
 }
 
-/// The entries of a card file, and its vehicle entries. It refuses as `read_card_file` does.
+/// The entries of a card file, and its vehicle entries.
+///
+/// # Errors
+///
+/// As `read_card_file`.
 pub fn read_card(alloc: Global, b: &[u8]) -> Result<CardRead, ViewFault>
     requires { length b.now < 2 ^ 32 }
     ensures shown { IfOk result (λ card. ShowsCard b.now card.history card.vehicles.items) }
@@ -123,17 +125,25 @@ pub fn read_card(alloc: Global, b: &[u8]) -> Result<CardRead, ViewFault>
 }
 
 /// The entries of the newest `n` days of a card file's string, also of days behind the end mark and of days without an
-/// entry, which show none; of all days where there are fewer. It refuses as `read_card_file` does.
+/// entry, which show none; of all days where there are fewer.
+///
+/// # Errors
+///
+/// As `read_card_file`.
 pub fn last_days(alloc: Global, b: &[u8], n: u32) -> Result<CardHistory, ViewFault>
     requires { length b.now < 2 ^ 32 }
     ensures entries { IfOk result (λ h. ShowsCardFile (Some n) b.now h) }
     ensures rise { IfOk result (λ h. Rise h) }
     ensures bad { IfErr result (λ fault. IfBadFile fault (λ place. IsBadCardFile place b.now)) }
 {
-    read_days(alloc, b, Some(n))
+    card_history(alloc, b, Some(n))
 }
 
-/// The heads of the days of a card file's string, oldest first. It refuses as `read_card_file` does.
+/// The heads of the days of a card file's string, oldest first.
+///
+/// # Errors
+///
+/// As `read_card_file`.
 pub fn day_heads(alloc: Global, b: &[u8]) -> Result<Vec<DayHead>, ViewFault>
     requires { length b.now < 2 ^ 32 }
     ensures heads { IfOk result (λ heads. TellsHeads b.now heads.items) }
@@ -148,6 +158,10 @@ pub fn day_heads(alloc: Global, b: &[u8]) -> Result<Vec<DayHead>, ViewFault>
 }
 
 /// The view text of entries.
+///
+/// # Errors
+///
+/// `Memory` where it runs out.
 pub fn card_text(alloc: Global, h: &CardHistory) -> Result<Vec<u8>, Memory>
     ensures { IfOk result (λ text. IsCardView (map entry_shown h.now) text.items) }
 {
@@ -155,8 +169,12 @@ pub fn card_text(alloc: Global, h: &CardHistory) -> Result<Vec<u8>, Memory>
     Ok(text)
 }
 
-/// The entries of all days of a card file, or of the newest so many.
-fn read_days(alloc: Global, b: &[u8], last: Option<u32>) -> Result<CardHistory, ViewFault>
+/// The entries of all days of a card file, or of the newest so many of its string, as `last_days`.
+///
+/// # Errors
+///
+/// As `read_card_file`.
+pub fn card_history(alloc: Global, b: &[u8], last: Option<u32>) -> Result<CardHistory, ViewFault>
     requires { length b.now < 2 ^ 32 }
     ensures entries { IfOk result (λ h. ShowsCardFile last b.now h) }
     ensures rise { IfOk result (λ h. Rise h) }
@@ -266,7 +284,7 @@ fn add_day(
 {
     let words = words_of(string, file, head);
     let first = head.date.0 / 60;
-    for t in 0..DAY {
+    for t in 0..DAY_MINUTES {
         add_told(lines, mark, first + t, words.at(t as usize))?;
     }
     Ok(())

@@ -2,16 +2,16 @@
 ghost use Rattle.std.specs.Prelude.{◌≡◌, ◌⊎◌, ◌<◌, ◌≤◌, ℕ, List, [], ◌∷◌, None, Some, option_map, length};
 ghost use Rattle.std.specs.Prelude.{slice_index_or};
 
-use activity_codec::{Change, decode_change};
+use activity_codec::{Change, DAY_MINUTES, decode_change};
 
-/// How many minutes a day has.
-pub const DAY: usize = 1440;
+/// A place for each minute of a day.
+const PLACES: usize = DAY_MINUTES as usize;
 
 /// The changes that decide the minutes of a day, as they come from the last one to the first: a minute is decided by
 /// the last change, in the order of the day's words, that is not later.
 #[derive(Drop)]
 pub struct DayWords {
-    changes: [Option<Change>; 1440],
+    changes: [Option<Change>; PLACES],
     // the earliest minute that is decided
     from: usize,
     ghost inside: { from ≤ 1440 },
@@ -27,8 +27,8 @@ impl DayWords {
         ensures { Decides result [] }
     {
         DayWords {
-            changes: [None; DAY],
-            from: DAY,
+            changes: [None; PLACES],
+            from: PLACES,
         }
     }
 

@@ -5,9 +5,7 @@ ghost use Rattle.tach_media.specs.Medium.{bytes_at};
 ghost use Rattle.file_view.specs.Reading.{IsEntryAt, value_at};
 
 use byteorder::{BigEndian, ByteOrder};
-
-/// Identifier 2 bytes, kind 1, length 2.
-const HEAD: usize = 5;
+use card_layout::FILE_HEAD;
 
 /// An entry of a card file (Appendix 7, 3.4), and where its value stands.
 #[derive(Clone, Copy, Debug, PartialEq, Eq)]
@@ -31,23 +29,23 @@ impl EntryAt {
         ensures none { IfNone result (HasNoEntry (drop place b.now)) }
     {
         let rest = &b[place..];
-        if rest.len() < HEAD {
+        if rest.len() < FILE_HEAD {
             return None;
         }
         let fid = BigEndian::read_u16(&rest[..2]);
         let kind = rest[2];
-        let len = BigEndian::read_u16(&rest[3..HEAD]) as usize;
+        let len = BigEndian::read_u16(&rest[3..FILE_HEAD]) as usize;
         if kind > 1 {
             return None;
         }
-        let left = rest.len() - HEAD;
+        let left = rest.len() - FILE_HEAD;
         if left < len {
             return None;
         }
         Some(EntryAt {
             fid,
             kind,
-            place: place + HEAD,
+            place: place + FILE_HEAD,
             len,
         })
     }

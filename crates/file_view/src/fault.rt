@@ -1,3 +1,4 @@
+//! Why a file was not read.
 use std::alloc::AllocError;
 
 /// Why a file was not read.

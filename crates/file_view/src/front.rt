@@ -33,15 +33,9 @@ pub fn read_front(b: &[u8]) -> Result<FrontRead, u32>
         end: 0,
         registration: None,
     };
-    let mut front = match message_behind(b, nothing) {
-        Ok(front) => front,
-        Err(place) => return Err(place),
-    };
+    let mut front = message_behind(b, nothing)?;
     while goes_on(b, front.end) {
-        front = match message_behind(b, front) {
-            Ok(front) => front,
-            Err(place) => return Err(place),
-        };
+        front = message_behind(b, front)?;
     }
     Ok(front)
 }

@@ -1,3 +1,4 @@
+//! A file that is in its grammar fails at no place.
 ghost use Rattle.std.specs.Prelude.{ℕ, List};
 ghost use Rattle.card_layout.specs.declared.files.Application.{Application};
 ghost use Rattle.card_image.specs.CardFile.{FileEntry, IsCardFile};

@@ -35,6 +35,11 @@ pub struct Parts {
 
 impl Parts {
     /// The parts of a card file, or the place where the bytes are first outside its grammar.
+    ///
+    /// # Errors
+    ///
+    /// The place of the first entry that is not in the grammar, or the length of the bytes where a needed entry is
+    /// missing.
     pub fn read(b: &[u8]) -> Result<Parts, u32>
         requires { length b.now < 2 ^ 32 }
         ensures parts { IfOk result (AreParts b.now) }

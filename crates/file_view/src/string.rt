@@ -14,6 +14,10 @@ use std::alloc::{AllocError, Global};
 use tach_media::SliceMedium;
 
 /// The heads of the days, oldest first.
+///
+/// # Errors
+///
+/// `AllocError` where memory runs out.
 pub fn heads(alloc: Global, string: &Days, file: &[u8]) -> Result<Vec<DayHead>, AllocError>
     requires fits { 4 + string.now.shape.size ≤ length file.now }
     requires alone { string.now.shape.base ≡ 0 }

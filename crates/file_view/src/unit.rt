@@ -20,7 +20,7 @@ use crate::ViewFault;
 use crate::card::first_of;
 use crate::day_words::DayWords;
 use crate::entry::part;
-use activity_codec::{Activity, Change};
+use activity_codec::{Activity, Change, DAY_MINUTES, DAY_SECONDS};
 use byteorder::{BigEndian, ByteOrder};
 use std::alloc::{AllocError, Global};
 use std::marker::Model;
@@ -31,9 +31,6 @@ use view_text::{add_minute, lines_text};
 
 /// The least word of the co-driver slot: the slot is the highest bit of a word.
 const CODRIVER: u16 = 32768;
-
-/// How many minutes a day has.
-const DAY: u32 = 1440;
 
 /// The minutes that a unit file shows, as the lines of their view.
 #[derive(Drop)]
@@ -77,19 +74,27 @@ pub fn read_download(alloc: Global, b: &[u8]) -> Result<UnitHistory, ViewFault>
     ensures minutes { IfOk result (λ h. ShowsUnitFile None b.now h) }
     ensures bad { IfErr result (λ fault. IfBadFile fault (λ place. IsBadUnitFile place b.now)) }
 {
-    read_days(alloc, b, None)
+    unit_history(alloc, b, None)
 }
 
-/// The minutes of the last `n` messages of a day; of all where there are fewer. It refuses as `read_download` does.
+/// The minutes of the last `n` messages of a day; of all where there are fewer.
+///
+/// # Errors
+///
+/// As `read_download`.
 pub fn last_messages(alloc: Global, b: &[u8], n: u32) -> Result<UnitHistory, ViewFault>
     requires { length b.now < 2 ^ 32 }
     ensures minutes { IfOk result (λ h. ShowsUnitFile (Some n) b.now h) }
     ensures bad { IfErr result (λ fault. IfBadFile fault (λ place. IsBadUnitFile place b.now)) }
 {
-    read_days(alloc, b, Some(n))
+    unit_history(alloc, b, Some(n))
 }
 
 /// The view text of minutes.
+///
+/// # Errors
+///
+/// `Memory` where it runs out.
 pub fn unit_text(alloc: Global, h: &UnitHistory) -> Result<Vec<u8>, Memory>
     ensures { IfOk result (λ text. IsUnitView (map minute_shown h.now) text.items) }
 {
@@ -97,8 +102,12 @@ pub fn unit_text(alloc: Global, h: &UnitHistory) -> Result<Vec<u8>, Memory>
     Ok(text)
 }
 
-/// The minutes of all days of a unit file, or of the last so many.
-fn read_days(alloc: Global, b: &[u8], last: Option<u32>) -> Result<UnitHistory, ViewFault>
+/// The minutes of all messages of a day of a unit file, or of the last so many.
+///
+/// # Errors
+///
+/// As `read_download`.
+pub fn unit_history(alloc: Global, b: &[u8], last: Option<u32>) -> Result<UnitHistory, ViewFault>
     requires { length b.now < 2 ^ 32 }
     ensures minutes { IfOk result (λ h. ShowsUnitFile last b.now h) }
     ensures bad { IfErr result (λ fault. IfBadFile fault (λ place. IsBadUnitFile place b.now)) }
@@ -157,15 +166,9 @@ impl Told {
             time: None,
             days: Vec::new(alloc),
         };
-        let mut place = match told.take_at(b, 0) {
-            Ok(first) => first,
-            Err(fault) => return Err(fault),
-        };
+        let mut place = told.take_at(b, 0)?;
         while place < b.len() {
-            place = match told.take_at(b, place) {
-                Ok(end) => end,
-                Err(fault) => return Err(fault),
-            };
+            place = told.take_at(b, place)?;
         }
         Ok(told)
     }
@@ -272,12 +275,12 @@ fn count_of(date: u32, time: Option<u32>) -> u32
 {
     let kept = match time {
         Some(time) => time / 60,
-        None => return DAY,
+        None => return DAY_MINUTES,
     };
-    if date / 86400 == kept / DAY {
-        return kept % DAY + 1;
+    if date / DAY_SECONDS == kept / DAY_MINUTES {
+        return kept % DAY_MINUTES + 1;
     }
-    DAY
+    DAY_MINUTES
 }
 
 /// Which changes of each slot decide the minutes of a day.

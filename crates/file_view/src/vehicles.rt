@@ -16,6 +16,10 @@ use card_layout::Application;
 use std::alloc::{AllocError, Global};
 
 /// The vehicle entries that are there, oldest first.
+///
+/// # Errors
+///
+/// `AllocError` where memory runs out.
 pub fn vehicles_in(
     alloc: Global,
     app: Application,

@@ -10,7 +10,8 @@ use Rattle.jiff_core.proofs.SignedLemmas.{signed_arith}
 use Rattle.jiff_core.proofs.CalendarLemmas.{days_in_month_bounds, days_from_civil-day_count, day_count-epoch}
 use Rattle.card_layout.specs.Fields.{IsBytes}
 use Rattle.calendar_days.specs.Calendar.{IsDateText}
-use Rattle.json_fields.specs.Dates.{CivilDay, next_day, date_of, date_text, two_digits, clock_text, time_text}
+use Rattle.calendar_days.specs.Clock.{two_digits}
+use Rattle.json_fields.specs.Dates.{CivilDay, next_day, date_of, date_text, clock_of, time_text}
 use Rattle.json_fields.proofs.Cutting.{by_test}
 
 -- a day of the calendar with this number since 1970-01-01; the years of so many days are few
@@ -127,21 +128,27 @@ date_text-tells n m few less e =
     let same : epoch_day a ≡ epoch_day b = rw (ap (λ p. p.year) parts, ap (λ p. p.month) parts, ap (λ p. p.day) parts) refl in
     same_day n m (sym (at-number n few) ∙ same ∙ at-number m less)
 
+-- the minute of a day and the second of a minute tell the second of the day
+second_of_day : (a b : ℕ) → a / 60 % 1440 ≡ b / 60 % 1440 → a % 60 ≡ b % 60 → a % 86400 ≡ b % 86400
+second_of_day a b minute second = omega (arith, minute, second)
+
 -- two digits tell a number
 digits-tell : (n m : ℕ) → 48 + n / 10 ≡ 48 + m / 10 → 48 + n % 10 ≡ 48 + m % 10 → n ≡ m
 digits-tell n m tens ones = omega (arith, tens, ones)
 
-clock_text-tells : (a b : ℕ) → a < 86400 → b < 86400 → clock_text a ≡ clock_text b → a ≡ b
-clock_text-tells a b la lb e =
-    let hour : a / 3600 ≡ b / 3600 = digits-tell (a / 3600) (b / 3600) (ap (λ l. get_or l 1 0) e) (ap (λ l. get_or l 2 0) e) in
-    let minute : a / 60 % 60 ≡ b / 60 % 60 = digits-tell (a / 60 % 60) (b / 60 % 60) (ap (λ l. get_or l 4 0) e) (ap (λ l. get_or l 5 0) e) in
+-- a time of day tells the second of the day
+clock_of-tells : (a b : ℕ) → clock_of a ≡ clock_of b → a % 86400 ≡ b % 86400
+clock_of-tells a b e =
+    let hour : a / 60 % 1440 / 60 ≡ b / 60 % 1440 / 60 = digits-tell (a / 60 % 1440 / 60) (b / 60 % 1440 / 60) (ap (λ l. get_or l 1 0) e) (ap (λ l. get_or l 2 0) e) in
+    let minute : a / 60 % 1440 % 60 ≡ b / 60 % 1440 % 60 = digits-tell (a / 60 % 1440 % 60) (b / 60 % 1440 % 60) (ap (λ l. get_or l 4 0) e) (ap (λ l. get_or l 5 0) e) in
     let second : a % 60 ≡ b % 60 = digits-tell (a % 60) (b % 60) (ap (λ l. get_or l 7 0) e) (ap (λ l. get_or l 8 0) e) in
-    omega (arith, hour, minute, second)
+    let of_day : a / 60 % 1440 ≡ b / 60 % 1440 = omega (arith, hour, minute) in
+    second_of_day a b of_day second
 
 pub time_text-tells : (v w : ℕ) → v < 2 ^ 32 → w < 2 ^ 32 → time_text v ≡ time_text w → v ≡ w
 time_text-tells v w lv lw e =
     let day : v / 86400 ≡ w / 86400 = date_text-tells (v / 86400) (w / 86400) (omega (arith, lv)) (omega (arith, lw)) (ap (take 10) e) in
-    let clock : v % 86400 ≡ w % 86400 = clock_text-tells (v % 86400) (w % 86400) (omega arith) (omega arith) (ap (drop 10) e) in
+    let clock : v % 86400 ≡ w % 86400 = clock_of-tells v w (ap (drop 10) e) in
     omega (arith, day, clock)
 
 -- ---- its characters are bytes
@@ -156,15 +163,18 @@ two_more_bytes n bytes small fits = one_more_byte (48 + n / 10) ((48 + n % 10) �
 no_bytes : IsBytes []
 no_bytes i = omega arith
 
-clock_text-bytes : (clock : ℕ) → clock < 86400 → IsBytes (clock_text clock)
-clock_text-bytes clock few =
+clock-bytes : (h m s : ℕ) → h < 100 → m < 100 → s < 100 → IsBytes (84 ∷ two_digits h ++ 58 ∷ two_digits m ++ 58 ∷ two_digits s ++ 90 ∷ [])
+clock-bytes h m s few_h few_m few_s =
     let last = one_more_byte 90 [] (omega arith) no_bytes in
-    let second = two_more_bytes (clock % 60) (90 ∷ []) (omega arith) last in
-    let colon = one_more_byte 58 (two_digits (clock % 60) ++ 90 ∷ []) (omega arith) second in
-    let minute = two_more_bytes (clock / 60 % 60) (58 ∷ (two_digits (clock % 60) ++ 90 ∷ [])) (omega arith) colon in
-    let colon_before = one_more_byte 58 (two_digits (clock / 60 % 60) ++ 58 ∷ (two_digits (clock % 60) ++ 90 ∷ [])) (omega arith) minute in
-    let hour = two_more_bytes (clock / 3600) (58 ∷ (two_digits (clock / 60 % 60) ++ 58 ∷ (two_digits (clock % 60) ++ 90 ∷ []))) (omega (arith, few)) colon_before in
-    one_more_byte 84 (two_digits (clock / 3600) ++ 58 ∷ (two_digits (clock / 60 % 60) ++ 58 ∷ (two_digits (clock % 60) ++ 90 ∷ []))) (omega arith) hour
+    let second = two_more_bytes s (90 ∷ []) few_s last in
+    let colon = one_more_byte 58 (two_digits s ++ 90 ∷ []) (omega arith) second in
+    let minute = two_more_bytes m (58 ∷ (two_digits s ++ 90 ∷ [])) few_m colon in
+    let colon_before = one_more_byte 58 (two_digits m ++ 58 ∷ (two_digits s ++ 90 ∷ [])) (omega arith) minute in
+    let hour = two_more_bytes h (58 ∷ (two_digits m ++ 58 ∷ (two_digits s ++ 90 ∷ []))) few_h colon_before in
+    one_more_byte 84 (two_digits h ++ 58 ∷ (two_digits m ++ 58 ∷ (two_digits s ++ 90 ∷ []))) (omega arith) hour
+
+clock_of-bytes : (second : ℕ) → IsBytes (clock_of second)
+clock_of-bytes second = clock-bytes (second / 60 % 1440 / 60) (second / 60 % 1440 % 60) (second % 60) (omega arith) (omega arith) (omega arith)
 
 date_text-bytes : (d : CivilDay) (bytes : List ℕ) → d.year < 10000 → d.month < 100 → d.day < 100 → IsBytes bytes → IsBytes (date_text d ++ bytes)
 date_text-bytes d bytes year month day fits =
@@ -181,4 +191,4 @@ time_text-bytes v lv =
     let few : n < 65536 = omega (arith, lv) in
     let has = has_number n in
     let long = days_in_month_bounds (pos (date_of n).year) (date_of n).month in
-    date_text-bytes (date_of n) (clock_text (v % 86400)) (omega (arith, has.early, has.month.0, few)) (omega (arith, has.month.1)) (omega (arith, has.day.1, long.0)) (clock_text-bytes (v % 86400) (omega arith))
+    date_text-bytes (date_of n) (clock_of v) (omega (arith, has.early, has.month.0, few)) (omega (arith, has.month.1)) (omega (arith, has.day.1, long.0)) (clock_of-bytes v)

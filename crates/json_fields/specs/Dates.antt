@@ -1,6 +1,8 @@
 -- The calendar: the date of a day by its number, and a second as text.
 use Rattle.std.specs.Prelude.{ℕ, zero, suc, ◌+◌, ◌/◌, ◌%◌, nat_lt, if◌then◌else◌, pos, List, [], ◌∷◌, ◌++◌}
 use Rattle.jiff.specs.Words.{days_in_month}
+use Rattle.activity_codec.specs.declared.day.TheConstants.{DAY_SECONDS}
+use Rattle.calendar_days.specs.Clock.{two_digits, seconds_text}
 
 -- a day of the calendar: its year, its month from 1, and its day of the month from 1
 pub record CivilDay : Type 0 where
@@ -20,19 +22,15 @@ unfoldable pub date_of : ℕ → CivilDay
 date_of zero = record { year = 1970; month = 1; day = 1 }
 date_of (suc day) = next_day (date_of day)
 
-abbrev pub two_digits : ℕ → List ℕ
-two_digits n = (48 + n / 10) ∷ (48 + n % 10) ∷ []
-
 -- a date: `2010-03-01`
 abbrev pub date_text : CivilDay → List ℕ
 date_text d = two_digits (d.year / 100) ++ two_digits (d.year % 100) ++ 45 ∷ [] ++ two_digits d.month ++ 45 ∷ []
     ++ two_digits d.day
 
--- a second of a day: `T07:29:59Z`
-abbrev pub clock_text : ℕ → List ℕ
-clock_text clock = 84 ∷ two_digits (clock / 3600) ++ 58 ∷ two_digits (clock / 60 % 60) ++ 58 ∷ two_digits (clock % 60)
-    ++ 90 ∷ []
+-- what stands behind the date of a second: `T07:29:59Z`
+abbrev pub clock_of : ℕ → List ℕ
+clock_of second = 84 ∷ seconds_text second ++ 90 ∷ []
 
 -- A TIME in seconds since 1970-01-01: `2010-03-01T07:29:59Z`
 abbrev pub time_text : ℕ → List ℕ
-time_text second = date_text (date_of (second / 86400)) ++ clock_text (second % 86400)
+time_text second = date_text (date_of (second / DAY_SECONDS)) ++ clock_of second

@@ -3,6 +3,7 @@ use Rattle.std.specs.Prelude.{ℕ, List, codes}
 use Rattle.json_fields.specs.declared.names.Name.{Name}
 use Rattle.json_fields.specs.declared.names.Name.TheVariants as name
 
+-- the name of a field or a list, as Appendix 1 writes it
 abbrev pub name_text : Name → List ℕ
 name_text name.MemberStateCertificate = codes "memberStateCertificate"
 name_text name.VuCertificate = codes "vuCertificate"

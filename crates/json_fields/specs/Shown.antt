@@ -65,6 +65,7 @@ abbrev pub width_of_record : List Field → ℕ
 width_of_record [] = 0
 width_of_record (f ∷ fs) = f.width + width_of_record fs
 
+-- a form can show so many bytes, a group where they are those of its fields
 abbrev pub CanShow : Form → ℕ → Type 0
 CanShow (GroupOf group) width = width ≡ width_of_record (group_fields group)
 CanShow form width = CanShowPlain form width
@@ -74,14 +75,16 @@ abbrev pub AllCan : (Form → ℕ → Type 0) → List Field → Type 0
 AllCan can [] = Unit {0}
 AllCan can (f ∷ fs) = can f.form f.width × AllCan can fs
 
+-- each field of a table can be shown, as a record of its own too
 abbrev pub AreFields : List Field → Type 0
 AreFields fields = AllCan CanShow fields
 
--- a name among others, and names of which none stands twice
+-- a name stands among others
 abbrev pub is_among : List ℕ → List (List ℕ) → Bool
 is_among name [] = false
 is_among name (other ∷ names) = bytes_eq name other || is_among name names
 
+-- no name stands twice
 abbrev pub are_distinct : List (List ℕ) → Bool
 are_distinct [] = true
 are_distinct (name ∷ names) = not (is_among name names) && are_distinct names
@@ -95,10 +98,11 @@ names_in (f ∷ fs) = name_text f.name ∷ names_in fs
 abbrev pub AreNamed : List Field → Type 0
 AreNamed fields = are_distinct (names_in fields) ≡ true
 
--- and each is no record of others
+-- each field of a table can be shown, and is no record of others
 abbrev pub ArePlain : List Field → Type 0
 ArePlain fields = AllCan CanShowPlain fields
 
+-- the fields of a record as members, and none behind them
 abbrev pub members_shown : List Field → List ℕ → Members
 members_shown fields bytes = members_then value_shown fields bytes no_members
 
@@ -121,5 +125,6 @@ items_shown zero fields bytes = no_items
 items_shown (suc n) fields bytes = item (entry_shown fields (take (width_of_record fields) bytes))
     (items_shown n fields (drop (width_of_record fields) bytes))
 
+-- so many entries as a list
 abbrev pub records_shown : ℕ → List Field → List ℕ → Json
 records_shown n fields bytes = array (items_shown n fields bytes)

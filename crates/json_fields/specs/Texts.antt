@@ -19,11 +19,12 @@ are_zeros bytes = list_all (λ b. b == 0) bytes
 abbrev pub or_none : (List ℕ → Json) → List ℕ → Json
 or_none told bytes = if are_zeros bytes then null else told bytes
 
--- a byte in front of others, but no space in front of none; and bytes without the spaces at their end
+-- a byte in front of others, but no space in front of none
 abbrev pub in_front : ℕ → List ℕ → List ℕ
 in_front b [] = if b == 32 then [] else b ∷ []
 in_front b (c ∷ bytes) = b ∷ c ∷ bytes
 
+-- bytes without the spaces at their end
 abbrev pub cut : List ℕ → List ℕ
 cut [] = []
 cut (b ∷ bytes) = in_front b (cut bytes)
@@ -33,6 +34,7 @@ cut (b ∷ bytes) = in_front b (cut bytes)
 abbrev pub characters : List ℕ → List ℕ
 characters bytes = encode_utf8_all (cut bytes)
 
+-- characters as a JSON string
 abbrev pub text_of : List ℕ → Json
 text_of bytes = string (characters bytes)
 
@@ -78,11 +80,12 @@ abbrev pub numbers_shown : List ℕ → Items
 numbers_shown [] = no_items
 numbers_shown (b ∷ bytes) = item (number (decimal b)) (numbers_shown bytes)
 
--- a change of activity
+-- the activity of a number
 abbrev pub activity_word : ℕ → List ℕ
 activity_word n = if n == 0 then codes "rest"
     else (if n == 1 then codes "available" else (if n == 2 then codes "work" else codes "drive"))
 
+-- the slot that a word names, by its highest bit
 abbrev pub slot_word : ℕ → List ℕ
 slot_word w = if w / 32768 == 0 then codes "driver" else codes "codriver"
 
@@ -91,9 +94,12 @@ slot_word w = if w / 32768 == 0 then codes "driver" else codes "codriver"
 abbrev pub card_status : ℕ → List ℕ
 card_status w = if w / 8192 % 2 == 0 then codes "crew" else codes "byHand"
 
+-- what that bit is called: on a card, and of a unit
 abbrev pub status_word : (on_card : Bool) → ℕ → List ℕ
 status_word on_card w = if on_card then card_status w else codes "crew"
 
+-- a change of activity: its minute, its slot, whether there was a crew (or it was entered by hand), whether the card
+-- was present, and the activity
 abbrev pub change_value : (on_card : Bool) → ℕ → Json
 change_value on_card w =
     object (member (codes "minute") (number (decimal (w % 2048))) (member (codes "slot") (string (slot_word w))

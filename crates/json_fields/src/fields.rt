@@ -90,6 +90,10 @@ pub struct Field {
 }
 
 /// Writes a record as a JSON object, field by field.
+///
+/// # Errors
+///
+/// `AllocError` where memory runs out.
 pub fn write_record(
     alloc: Global,
     writer: &mut TextWriter,
@@ -107,6 +111,10 @@ pub fn write_record(
 }
 
 /// Writes the fields of a record as members of an object, one after the other.
+///
+/// # Errors
+///
+/// `AllocError` where memory runs out.
 pub fn write_fields(
     alloc: Global,
     writer: &mut TextWriter,
@@ -204,6 +212,10 @@ fn write_entry(
 }
 
 /// Writes so many records, one after the other, as a JSON array.
+///
+/// # Errors
+///
+/// `AllocError` where memory runs out.
 pub fn write_records(
     alloc: Global,
     writer: &mut TextWriter,

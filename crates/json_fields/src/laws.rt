@@ -1,3 +1,4 @@
+//! What is proved of the texts of records and lists: they are JSON, and nothing of their bytes is left out.
 ghost use Rattle.std.specs.Prelude.{◌≡◌, ◌*◌, ◌++◌, ◌<◌, ◌≤◌, ℕ, List, Some, length};
 ghost use Rattle.card_layout.specs.Fields.{IsBytes};
 ghost use Rattle.json.specs.Json.{document};

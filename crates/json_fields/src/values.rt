@@ -202,6 +202,10 @@ fn write_holder(alloc: Global, writer: &mut TextWriter, bytes: &[u8]) -> Result<
 }
 
 /// Writes a change of activity, of a unit or on a card.
+///
+/// # Errors
+///
+/// `AllocError` where memory runs out.
 pub fn write_change(writer: &mut TextWriter, on_card: bool, word: u16) -> Result<(), AllocError>
     ensures { OnOk result (writer.new ≡ writer.old ++ json_tokens (change_value on_card word)) }
 {
@@ -303,6 +307,10 @@ fn end_after(end: usize, i: usize, byte: u8) -> usize
 }
 
 /// Writes bytes as a string of digits.
+///
+/// # Errors
+///
+/// `AllocError` where memory runs out.
 pub fn write_digits(alloc: Global, writer: &mut TextWriter, bytes: &[u8]) -> Result<(), AllocError>
     ensures { OnOk result (writer.new ≡ writer.old ++ json_tokens (string (encode_lower bytes.now))) }
 {

@@ -45,54 +45,99 @@ impl TextWriter {
         writer.into_inner()
     }
 
+    /// Adds the begin of an object.
+    ///
+    /// # Errors
+    ///
+    /// `AllocError` where memory runs out.
     pub fn begin_object(&mut self) -> Result<(), AllocError>
         ensures { OnOk result (self.new ≡ self.old ++ begin_object ∷ []) }
     {
         self.writer.begin_object()
     }
 
+    /// Adds the end of an object.
+    ///
+    /// # Errors
+    ///
+    /// `AllocError` where memory runs out.
     pub fn end_object(&mut self) -> Result<(), AllocError>
         ensures { OnOk result (self.new ≡ self.old ++ end_object ∷ []) }
     {
         self.writer.end_object()
     }
 
+    /// Adds the begin of an array.
+    ///
+    /// # Errors
+    ///
+    /// `AllocError` where memory runs out.
     pub fn begin_array(&mut self) -> Result<(), AllocError>
         ensures { OnOk result (self.new ≡ self.old ++ begin_array ∷ []) }
     {
         self.writer.begin_array()
     }
 
+    /// Adds the end of an array.
+    ///
+    /// # Errors
+    ///
+    /// `AllocError` where memory runs out.
     pub fn end_array(&mut self) -> Result<(), AllocError>
         ensures { OnOk result (self.new ≡ self.old ++ end_array ∷ []) }
     {
         self.writer.end_array()
     }
 
+    /// Adds the name of a member of an object, in front of its value.
+    ///
+    /// # Errors
+    ///
+    /// `AllocError` where memory runs out.
     pub fn key(&mut self, name: &str) -> Result<(), AllocError>
         ensures { OnOk result (self.new ≡ self.old ++ key name.now ∷ []) }
     {
         self.writer.key(name)
     }
 
+    /// Adds a text.
+    ///
+    /// # Errors
+    ///
+    /// `AllocError` where memory runs out.
     pub fn string(&mut self, text: &str) -> Result<(), AllocError>
         ensures { OnOk result (self.new ≡ self.old ++ string text.now ∷ []) }
     {
         self.writer.string(text)
     }
 
+    /// Adds a number.
+    ///
+    /// # Errors
+    ///
+    /// `AllocError` where memory runs out.
     pub fn u64(&mut self, n: u64) -> Result<(), AllocError>
         ensures { OnOk result (self.new ≡ self.old ++ number (decimal n) ∷ []) }
     {
         self.writer.u64(n)
     }
 
+    /// Adds `true` or `false`.
+    ///
+    /// # Errors
+    ///
+    /// `AllocError` where memory runs out.
     pub fn boolean(&mut self, truth: bool) -> Result<(), AllocError>
         ensures { OnOk result (self.new ≡ self.old ++ boolean truth ∷ []) }
     {
         self.writer.boolean(truth)
     }
 
+    /// Adds `null`.
+    ///
+    /// # Errors
+    ///
+    /// `AllocError` where memory runs out.
     pub fn null(&mut self) -> Result<(), AllocError>
         ensures { OnOk result (self.new ≡ self.old ++ null ∷ []) }
     {

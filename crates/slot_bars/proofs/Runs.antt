@@ -20,7 +20,7 @@ use Rattle.view_text.specs.Exact.{both}
 use Rattle.view_text.specs.Growing.{follows, with_more}
 use Rattle.view_text.proofs.More.{lines_of-more}
 use Rattle.file_view.specs.Histories.{line_minutes, minutes_on}
-use Rattle.slot_bars.specs.declared.seen.Gap.{Gap}
+use Rattle.view_model.specs.declared.marks.Gap.{Gap}
 use Rattle.slot_bars.specs.declared.seen.Seen.{Seen}
 use Rattle.slot_bars.specs.Seeing.{is_in_gap, meets_gap, state_in, slot_seen, card_seen, same_seen, bars_of}
 use Rattle.slot_bars.specs.Exact.{seen_exact}

@@ -26,6 +26,7 @@ all_pass true true false k is = absurd (cc)
 all_pass true false c k is = absurd (cc)
 all_pass false p c k is = absurd (cc)
 
+-- the same is seen of two minutes alone where equal values are
 pub seen_exact : (one other : Seen) → same_seen one other ≡ true → one ≡ other
 unfolding as_shown seen_back
 seen_exact one other is =

@@ -6,7 +6,7 @@ use Rattle.view_model.specs.declared.UnitShown.{UnitShown}
 use Rattle.view_model.specs.declared.CardShown.{CardShown}
 use Rattle.view_model.specs.declared.Line.{Line}
 use Rattle.view_model.specs.Lines.{day_of_minute}
-use Rattle.slot_bars.specs.declared.seen.Gap.{Gap}
+use Rattle.view_model.specs.declared.marks.Gap.{Gap}
 use Rattle.slot_bars.specs.declared.seen.Seen.{Seen}
 use Rattle.slot_bars.specs.Seeing.{meets_gap, state_in, slot_seen}
 

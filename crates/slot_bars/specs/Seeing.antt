@@ -11,7 +11,7 @@ use Rattle.view_model.specs.declared.CardShown.{CardShown}
 use Rattle.view_model.specs.declared.Viewed.{Viewed}
 use Rattle.view_model.specs.declared.Line.{Line}
 use Rattle.view_model.specs.Lines.{same_bool, lines_of}
-use Rattle.slot_bars.specs.declared.seen.Gap.{Gap}
+use Rattle.view_model.specs.declared.marks.Gap.{Gap}
 use Rattle.slot_bars.specs.declared.seen.Seen.{Seen}
 
 -- a minute lies in one of these gaps

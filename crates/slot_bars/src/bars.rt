@@ -6,14 +6,18 @@ ghost use Rattle.slot_bars.specs.Seeing.{bars_of, slot_seen, card_seen, state_in
 ghost use Rattle.slot_bars.specs.Runs.{is_run, is_plain, seen_run, with_last, as_unit};
 ghost use Rattle.slot_bars.specs.declared.seen.Seen.{Seen as MinuteSeen};
 
-use crate::seen::{Gap, Seen, meets_gap, slot_seen, state_in};
-use activity_codec::{Activity, Slot};
+use crate::seen::{Seen, meets_gap, slot_seen, state_in};
+use activity_codec::{Activity, DAY_MINUTES, Slot};
 use std::alloc::{AllocError, Global};
-use view_model::{CardShown, Line, State, UnitShown, Viewed};
+use view_model::{CardShown, Gap, Line, State, UnitShown, Viewed};
 use view_text::add_minute;
 
 /// The bars of a slot of a unit, by the lines of its view. A line goes in at once, but for one without a card that
 /// meets a gap, which goes in minute by minute.
+///
+/// # Errors
+///
+/// `AllocError` where memory runs out.
 pub fn unit_bars(
     alloc: Global,
     lines: &[Line<UnitShown>],
@@ -30,6 +34,10 @@ pub fn unit_bars(
 }
 
 /// The bars of the card of a card file, by the lines of its view.
+///
+/// # Errors
+///
+/// `AllocError` where memory runs out.
 pub fn card_bars(alloc: Global, lines: &[Line<CardShown>]) -> Result<Vec<Line<Seen>>, AllocError>
     ensures { IfOk result (λ bars. bars.items ≡ bars_of (map card_seen (minutes_on lines.now))) }
 {
@@ -105,7 +113,7 @@ fn viewed_at(line: Line<UnitShown>, minute: u32) -> Viewed<UnitShown>
 fn is_run(first: u32, last: u32) -> bool
     ensures { result ≡ is_run first last }
 {
-    first <= last && first / 1440 == last / 1440
+    first <= last && first / DAY_MINUTES == last / DAY_MINUTES
 }
 
 /// Whether the same is seen of a slot in each minute of a line, which are some, and of one day.

@@ -5,6 +5,7 @@ ghost use Rattle.file_view.specs.Histories.{minutes_on};
 ghost use Rattle.slot_bars.specs.DaysOf.{day_of, days_of};
 ghost use Rattle.slot_bars.specs.DayLines.{AreDayLines, IsOneDay, is_behind, is_behind_at};
 
+use activity_codec::DAY_MINUTES;
 use view_model::Line;
 
 /// How many lines the first day of a view has.
@@ -44,12 +45,12 @@ pub fn day_number<T: Copy>(lines: &[Line<T>]) -> u32
     ensures day { result ≡ day_of (minutes_on lines.now) }
     ensures low { result < DAYS }
 {
-    lines[0].first / 1440
+    lines[0].first / DAY_MINUTES
 }
 
 /// Whether a line begins behind another, on the same day.
 fn is_behind<T: Copy>(line: Line<T>, next: Line<T>) -> bool
     ensures { result ≡ is_behind line next }
 {
-    line.last < next.first && line.last / 1440 == next.first / 1440
+    line.last < next.first && line.last / DAY_MINUTES == next.first / DAY_MINUTES
 }

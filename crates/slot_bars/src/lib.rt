@@ -8,7 +8,7 @@ mod seen;
 
 pub use bars::{card_bars, unit_bars};
 pub use days::{day_number, first_day};
-pub use seen::{Gap, Seen};
+pub use seen::Seen;
 
 #[cfg(test)]
 mod tests;

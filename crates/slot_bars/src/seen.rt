@@ -1,19 +1,11 @@
 //! What is seen of one slot in a minute.
 ghost use Rattle.std.specs.Prelude.{◌≡◌, ◌++◌, OnOk};
-ghost use Rattle.activity_codec.specs.Activity.{same_activity};
 ghost use Rattle.slot_bars.specs.Seeing.{is_in_gap, meets_gap, state_in, slot_seen, beside_words};
 
-use activity_codec::{Activity, Slot};
+use activity_codec::{Activity, Slot, is_same_activity};
 use std::alloc::AllocError;
-use view_model::{State, UnitShown, Viewed};
+use view_model::{Gap, State, UnitShown, Viewed};
 use view_text::Shown;
-
-/// Minutes in a row without power: the first, and the one behind the last.
-#[derive(Clone, Copy, Debug, Default, PartialEq, Eq)]
-pub struct Gap {
-    pub first: u32,
-    pub behind: u32,
-}
 
 /// What is seen of one slot in a minute.
 #[derive(Clone, Copy, Debug, Default, PartialEq, Eq)]
@@ -76,12 +68,6 @@ pub(crate) fn state_in(slot: Slot, shown: UnitShown) -> State
         Slot::Driver => shown.driver,
         Slot::CoDriver => shown.codriver,
     }
-}
-
-fn is_same_activity(one: Activity, other: Activity) -> bool
-    ensures { result ≡ same_activity one other }
-{
-    one == other
 }
 
 /// Whether a minute lies in a gap.

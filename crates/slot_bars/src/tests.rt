@@ -1,8 +1,8 @@
-use crate::{Gap, Seen, first_day, unit_bars};
+use crate::{Seen, first_day, unit_bars};
 use activity_codec::{Activity, Slot};
 use std::process::Abort;
 use std::test::Fail;
-use view_model::{Line, State, UnitShown};
+use view_model::{Gap, Line, State, UnitShown};
 
 /// A line of a unit with this activity of the driver, or with no card.
 fn line(first: u32, last: u32, act: Activity, present: bool) -> Line<UnitShown> {

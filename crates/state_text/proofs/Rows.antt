@@ -1,6 +1,7 @@
 -- Worked rows.
 use Rattle.std.proofs.Common.{◌≡◌, [], ◌∷◌, refl}
 use Rattle.std.specs.Prelude.{codes}
+use Rattle.hex.specs.Hex.{encode_with}
 use Rattle.run_model.specs.declared.Device.TheVariants.{Unit as OfUnit, CardA}
 use Rattle.state_text.specs.declared.line.Name.TheVariants as name
 use Rattle.state_text.specs.declared.line.Value.TheVariants as value
@@ -12,6 +13,7 @@ surname : shown (codes "van Doe    ") ≡ codes "van Doe"
 surname = refl
 
 foreign : shown (0xC4 ∷ 92 ∷ 10 ∷ 32 ∷ []) ≡ codes "\\xc4\\x5c\\x0a"
+unfolding encode_with
 foreign = refl
 
 none : shown (codes "    ") ≡ []
@@ -24,4 +26,5 @@ last_use : line_text (codes "2010-03-01") (record { device = CardA; name = name.
 last_use = refl
 
 file : four_hex 0x0504 ≡ codes "0504"
+unfolding encode_with
 file = refl

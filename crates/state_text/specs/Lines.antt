@@ -1,6 +1,7 @@
 -- The lines that are told of a device: what stands behind its name, and on which day its value lies (profile).
 use Rattle.std.specs.Prelude.{ℕ, ◌/◌, ◌<◌, List, [], codes}
 use Rattle.std.specs.List.{AllByRecursion}
+use Rattle.activity_codec.specs.declared.day.TheConstants.{DAY_MINUTES, DAY_SECONDS}
 use Rattle.minute_model.specs.declared.Rule.{Rule}
 use Rattle.minute_model.specs.declared.Rule.TheVariants.{Original, Amended}
 use Rattle.tacho_types.specs.declared.calendar.TheConstants.{DAYS}
@@ -41,8 +42,8 @@ rule_name Amended = codes "amended"
 -- the day on which a value lies, by its number since 1970-01-01; 0 where it lies on none
 abbrev pub day_of : Value → ℕ
 day_of (value.Day day) = day
-day_of (value.Minute minute) = minute / 1440
-day_of (value.Second second) = second / 86400
+day_of (value.Minute minute) = minute / DAY_MINUTES
+day_of (value.Second second) = second / DAY_SECONDS
 day_of _ = 0
 
 -- the days are such that a time of four bytes can name

@@ -1,7 +1,8 @@
 -- Bytes of a device as text that stands on a line (profile).
-use Rattle.std.specs.Prelude.{ℕ, ◌+◌, ◌/◌, ◌%◌, ◌==◌, ◌&&◌, not, nat_lt, nat_le, Bool, if◌then◌else◌, List, [], ◌∷◌}
+use Rattle.std.specs.Prelude.{ℕ, ◌/◌, ◌%◌, ◌==◌, ◌&&◌, not, nat_le, Bool, if◌then◌else◌, List, [], ◌∷◌}
 use Rattle.std.specs.Prelude.{◌++◌}
 use Rattle.std.specs.List.{flat_map}
+use Rattle.hex.specs.Hex.{encode_lower}
 
 -- a byte in front of others, but no space in front of none
 abbrev pub in_front : ℕ → List ℕ → List ℕ
@@ -17,13 +18,11 @@ cut (b ∷ bytes) = in_front b (cut bytes)
 abbrev pub is_plain : ℕ → Bool
 is_plain b = nat_le 0x20 b && nat_le b 0x7E && not (b == 92)
 
--- a hexadecimal digit, in lower case
-abbrev pub hex_digit : ℕ → ℕ
-hex_digit n = if nat_lt n 10 then 48 + n else 87 + n
-
+-- a byte by two hexadecimal digits, in lower case: `0a`
 abbrev pub two_hex : ℕ → List ℕ
-two_hex b = hex_digit (b / 16) ∷ hex_digit (b % 16) ∷ []
+two_hex b = encode_lower (b ∷ [])
 
+-- a number of two bytes by four: `0504`
 abbrev pub four_hex : ℕ → List ℕ
 four_hex n = two_hex (n / 256) ++ two_hex (n % 256)
 

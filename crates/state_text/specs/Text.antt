@@ -1,9 +1,9 @@
 -- The text of lines (profile).
-use Rattle.std.specs.Prelude.{◌≡◌, ℕ, ◌/◌, ◌%◌, List, [], ◌∷◌, ◌++◌, drop, slice_index, codes, decimal}
+use Rattle.std.specs.Prelude.{◌≡◌, ℕ, List, [], ◌∷◌, ◌++◌, drop, slice_index, codes, decimal}
 use Rattle.calendar_days.specs.Calendar.{IsDateText}
+use Rattle.calendar_days.specs.Clock.{clock_text, seconds_text}
 use Rattle.tacho_types.specs.declared.card_number.FullCardNumber.{FullCardNumber}
 use Rattle.tacho_types.specs.declared.texts.Registration.{Registration}
-use Rattle.view_text.specs.Text.{two_digits, clock_text}
 use Rattle.state_text.specs.declared.line.Line.{Line}
 use Rattle.state_text.specs.declared.line.OwedTo.{OwedTo}
 use Rattle.state_text.specs.declared.line.Value.{Value}
@@ -31,13 +31,13 @@ owed_text o = card_text o.card ++ codes " " ++ decimal o.minutes
 abbrev pub bad_file_text : (fid place : ℕ) → List ℕ
 bad_file_text fid place = codes "bad file " ++ four_hex fid ++ codes " at " ++ decimal place
 
--- a minute, and a second, of the day of a date: `2010-03-01T07:29Z`, `2010-03-01T07:29:59Z`
+-- a minute of the day of a date: `2010-03-01T07:29Z`
 abbrev pub minute_text : (date : List ℕ) → ℕ → List ℕ
 minute_text date minute = date ++ codes "T" ++ clock_text minute ++ codes "Z"
 
+-- a second of the day of a date: `2010-03-01T07:29:59Z`
 abbrev pub second_text : (date : List ℕ) → ℕ → List ℕ
-second_text date second = date ++ codes "T" ++ clock_text (second / 60) ++ codes ":" ++ two_digits (second % 60)
-    ++ codes "Z"
+second_text date second = date ++ codes "T" ++ seconds_text second ++ codes "Z"
 
 -- a value, which lies on the day of this date
 abbrev pub value_text : (date : List ℕ) → Value → List ℕ

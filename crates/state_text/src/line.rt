@@ -3,6 +3,7 @@ ghost use Rattle.std.specs.Prelude.{◌≡◌};
 ghost use Rattle.run_model.specs.Names.{device_name};
 ghost use Rattle.state_text.specs.Lines.{name_text, rule_name, day_of};
 
+use activity_codec::{DAY_MINUTES, DAY_SECONDS};
 use minute_model::Rule;
 use run_model::Device;
 use tacho_types::{FullCardNumber, Name36, Registration};
@@ -152,8 +153,8 @@ pub fn day_of(value: &Value) -> u32
 {
     match value {
         Value::Day(day) => *day,
-        Value::Minute(minute) => *minute / 1440,
-        Value::Second(second) => *second / 86400,
+        Value::Minute(minute) => *minute / DAY_MINUTES,
+        Value::Second(second) => *second / DAY_SECONDS,
         _ => 0,
     }
 }

@@ -1,9 +1,10 @@
 //! Bytes of a device as text that stands on a line.
 ghost use Rattle.std.specs.Prelude.{◌≡◌, ◌==◌, ◌+◌, ◌≤◌, ◌<◌, ◌++◌, if◌then◌else◌, OnOk, length, take};
 ghost use Rattle.std.specs.List.{flat_map};
-ghost use Rattle.state_text.specs.Shown.{cut, is_plain, hex_digit, two_hex, byte_text, shown};
+ghost use Rattle.state_text.specs.Shown.{cut, is_plain, two_hex, byte_text, shown};
 
 use std::alloc::AllocError;
+use text_fields::byte_digits;
 
 /// Adds bytes as text: without the spaces at their end, and what is no printable character of ASCII as `\x` and two
 /// digits.
@@ -64,19 +65,10 @@ fn is_plain(byte: u8) -> bool
     byte >= 0x20 && byte <= 0x7E && byte != b'\\'
 }
 
-/// Adds a byte as two hexadecimal digits.
+/// Adds a byte as two hexadecimal digits, in lower case.
 pub(crate) fn write_two_hex(text: &mut Vec<u8>, byte: u8) -> Result<(), AllocError>
     ensures { OnOk result (text.new.items ≡ text.old.items ++ two_hex byte) }
 {
-    text.push(hex_digit(byte / 16))?;
-    text.push(hex_digit(byte % 16))?;
+    text.extend_from_slice(&byte_digits(byte))?;
     Ok(())
-}
-
-/// The digit of a number below 16.
-fn hex_digit(n: u8) -> u8
-    requires { n < 16 }
-    ensures { result ≡ hex_digit n }
-{
-    if n < 10 { 48 + n } else { 87 + n }
 }

@@ -8,12 +8,17 @@ ghost use Rattle.state_text.specs.Text.{value_text, AddsLine, AreLinesText};
 
 use crate::line::{Line, OwedTo, Value, day_of, device_name, name_text, rule_name};
 use crate::shown::{write_shown, write_two_hex};
-use calendar_days::day_text;
+use calendar_days::{day_text, seconds_text};
 use itoa::Buffer;
 use std::alloc::{AllocError, Global};
 use tacho_types::{FullCardNumber, Name36, Registration};
+use view_text::write_clock;
 
 /// The text of lines, one after the other.
+///
+/// # Errors
+///
+/// `AllocError` where memory runs out.
 pub fn lines_text(alloc: Global, lines: &[Line]) -> Result<Vec<u8>, AllocError>
     requires { AreDated lines.now }
     ensures { IfOk result (λ text. AreLinesText lines.now text.items) }
@@ -143,19 +148,10 @@ fn write_owed(text: &mut Vec<u8>, owed: &OwedTo) -> Result<(), AllocError>
 fn write_minute(text: &mut Vec<u8>, date: &[u8], minute: u32) -> Result<(), AllocError>
     ensures { OnOk result (text.new.items ≡ text.old.items ++ minute_text date.now minute) }
 {
-    let hour = minute % 1440 / 60;
-    let minute = minute % 60;
-    let clock = [
-        b'T',
-        48 + (hour / 10) as u8,
-        48 + (hour % 10) as u8,
-        b':',
-        48 + (minute / 10) as u8,
-        48 + (minute % 10) as u8,
-        b'Z',
-    ];
     text.extend_from_slice(date)?;
-    text.extend_from_slice(&clock)?;
+    text.extend_from_slice(b"T")?;
+    write_clock(text, minute)?;
+    text.extend_from_slice(b"Z")?;
     Ok(())
 }
 
@@ -163,22 +159,9 @@ fn write_minute(text: &mut Vec<u8>, date: &[u8], minute: u32) -> Result<(), Allo
 fn write_second(text: &mut Vec<u8>, date: &[u8], second: u32) -> Result<(), AllocError>
     ensures { OnOk result (text.new.items ≡ text.old.items ++ second_text date.now second) }
 {
-    let hour = second / 60 % 1440 / 60;
-    let minute = second / 60 % 60;
-    let second = second % 60;
-    let clock = [
-        b'T',
-        48 + (hour / 10) as u8,
-        48 + (hour % 10) as u8,
-        b':',
-        48 + (minute / 10) as u8,
-        48 + (minute % 10) as u8,
-        b':',
-        48 + (second / 10) as u8,
-        48 + (second % 10) as u8,
-        b'Z',
-    ];
     text.extend_from_slice(date)?;
-    text.extend_from_slice(&clock)?;
+    text.extend_from_slice(b"T")?;
+    text.extend_from_slice(&seconds_text(second))?;
+    text.extend_from_slice(b"Z")?;
     Ok(())
 }

@@ -40,13 +40,9 @@ pub fn two_fields(text: &[u8]) -> Option<(&[u8], &[u8])>
     ensures none { IfNone result ((a b : List ℕ) → pieces 32 text.now ≡ a ∷ b ∷ [] → ⊥) }
 {
     let (first, behind) = first_piece(text, b' ');
-    let Some(rest) = behind else {
-        return None;
-    };
-    match one_field(rest) {
-        Some(second) => Some((first, second)),
-        None => None,
-    }
+    let rest = behind?;
+    let second = one_field(rest)?;
+    Some((first, second))
 }
 
 /// The fields of a text of three.
@@ -55,13 +51,9 @@ pub fn three_fields(text: &[u8]) -> Option<(&[u8], &[u8], &[u8])>
     ensures none { IfNone result ((a b c : List ℕ) → pieces 32 text.now ≡ a ∷ b ∷ c ∷ [] → ⊥) }
 {
     let (first, behind) = first_piece(text, b' ');
-    let Some(rest) = behind else {
-        return None;
-    };
-    match two_fields(rest) {
-        Some((second, third)) => Some((first, second, third)),
-        None => None,
-    }
+    let rest = behind?;
+    let (second, third) = two_fields(rest)?;
+    Some((first, second, third))
 }
 
 /// The fields of a text of four.
@@ -70,15 +62,9 @@ pub fn four_fields(text: &[u8]) -> Option<(&[u8], &[u8], &[u8], &[u8])>
     ensures none { IfNone result ((a b c d : List ℕ) → pieces 32 text.now ≡ a ∷ b ∷ c ∷ d ∷ [] → ⊥) }
 {
     let (first, behind) = first_piece(text, b' ');
-    let Some(rest) = behind else {
-        return None;
-    };
+    let rest = behind?;
     let (second, behind) = first_piece(rest, b' ');
-    let Some(rest) = behind else {
-        return None;
-    };
-    match two_fields(rest) {
-        Some((third, fourth)) => Some((first, second, third, fourth)),
-        None => None,
-    }
+    let rest = behind?;
+    let (third, fourth) = two_fields(rest)?;
+    Some((first, second, third, fourth))
 }

@@ -14,4 +14,4 @@ mod writing;
 pub use fields::{first_piece, four_fields, is_word, one_field, three_fields, two_fields};
 pub use numbers::{byte, number, number_between};
 pub use reading::{LineFault, read_line};
-pub use writing::{MOST, write_line};
+pub use writing::{MOST, byte_digits, write_line};

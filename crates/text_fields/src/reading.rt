@@ -1,3 +1,4 @@
+//! The bytes that a line of hexadecimal digits spells.
 ghost use Rattle.std.specs.Prelude.{◌≡◌, ◌<◌, ◌≤◌, Some, None, IfSome, IfNone, IfOk, IfErr, Err, length};
 ghost use Rattle.hex.specs.Hex.{hex_digit_value};
 ghost use Rattle.text_fields.specs.Lines.{behind_byte, byte_of, in_front, line_bytes, IsFaultOf};
@@ -35,7 +36,7 @@ pub fn read_line(alloc: Global, line: &[u8]) -> Result<Vec<u8>, LineFault>
     Ok(bytes)
 }
 
-// The first byte, and what stands behind it and a space.
+/// The first byte, and what stands behind it and a space.
 fn first_byte(text: &[u8]) -> Option<(u8, &[u8])>
     requires some { 0 < length text.now }
     ensures found { IfSome result (λ first. line_bytes text.now ≡ in_front (Some first.0) (line_bytes first.1.now)) }
@@ -45,16 +46,12 @@ fn first_byte(text: &[u8]) -> Option<(u8, &[u8])>
     if text.len() < 2 {
         return None;
     }
-    let Some(byte) = byte_of(text[0], text[1]) else {
-        return None;
-    };
-    let Some(behind) = behind_space(&text[2..]) else {
-        return None;
-    };
+    let byte = byte_of(text[0], text[1])?;
+    let behind = behind_space(&text[2..])?;
     Some((byte, behind))
 }
 
-// What stands behind a space, where there is one and something behind it; all where there is no space.
+/// What stands behind a space, where there is one and something behind it; all where there is no space.
 fn behind_space(text: &[u8]) -> Option<&[u8]>
     ensures found { IfSome result (λ rest. behind_byte text.now ≡ line_bytes rest.now) }
     ensures shorter { IfSome result (λ rest. length rest.now ≤ length text.now) }
@@ -69,20 +66,16 @@ fn behind_space(text: &[u8]) -> Option<&[u8]>
     Some(&text[1..])
 }
 
-// The byte that two digits spell.
+/// The byte that two digits spell.
 fn byte_of(high: u8, low: u8) -> Option<u8>
     ensures { result ≡ byte_of high low }
 {
-    let Some(high) = digit(high) else {
-        return None;
-    };
-    let Some(low) = digit(low) else {
-        return None;
-    };
+    let high = digit(high)?;
+    let low = digit(low)?;
     Some(16 * high + low)
 }
 
-// The value of a digit.
+/// The value of a digit.
 fn digit(c: u8) -> Option<u8>
     ensures value { result ≡ hex_digit_value c }
     ensures small { IfSome result (λ value. value < 16) }

@@ -1,7 +1,17 @@
+//! Bytes as hexadecimal digits: of one byte, and as a line.
 ghost use Rattle.std.specs.Prelude.{◌≡◌, ◌≤◌, ◌++◌, ◌∷◌, [], length};
 ghost use Rattle.hex.specs.Hex.{encode_lower};
 
 use arrayvec::ArrayVec;
+
+/// The two hexadecimal digits of a byte, in lower case.
+pub fn byte_digits(byte: u8) -> [u8; 2]
+    ensures { result ≡ encode_lower (byte ∷ []) }
+{
+    let mut digits = [0u8; 2];
+    let _ = hex::encode_to_slice(&[byte], &mut digits);
+    digits
+}
 
 /// The most bytes of a line that is written.
 pub const MOST: usize = 260;

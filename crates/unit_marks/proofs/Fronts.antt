@@ -10,7 +10,7 @@ use Rattle.card_layout.specs.Fields.{joined}
 use Rattle.message_model.specs.Messages.{DayMessage, EventMessage, ADay, AnEventList, AreEntries, counted, word_bytes}
 use Rattle.unit_messages.specs.Reading.{BeginsWith}
 use Rattle.unit_marks.specs.Entries.{BeginWith}
-use Rattle.unit_marks.proofs.Laid.{number_behind, joined_length, skip, entry_at}
+use Rattle.file_view.proofs.Laid.{number_behind, joined_length, skip, entry_at}
 
 -- the same bytes begin with the same
 abbrev pub moved : {width size : ℕ} {entries : List (List ℕ)} (bytes other : List ℕ) → other ≡ bytes → BeginWith width size entries bytes → BeginWith width size entries other
@@ -47,10 +47,6 @@ entry_inside width size entries b rest i at low =
     let le : i + 1 ≤ length entries = omega (arith, low) in
     let more : size * (i + 1) ≤ size * length entries = mul-le-mul_left size le in
     omega (arith, at.end, more)
-
--- as many bytes as are cut out
-pub cut_long : (b : List ℕ) (from size : ℕ) → from + size ≤ length b → length (bytes_at b from size) ≡ size
-cut_long b from size inside = omega (arith, length-take size (drop from b), length-drop from b, inside)
 
 -- a small number times another one
 pub times_few : (a b : ℕ) → a < 256 → b < 65536 → a * b ≤ 16711425

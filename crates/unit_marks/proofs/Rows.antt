@@ -1,6 +1,6 @@
 -- Worked rows, computed by the checker: minutes that lie whole in an interruption, what an odometer gained, and the marks of a card's files.
 use Rattle.std.proofs.Common.{◌≡◌, [], ◌∷◌, refl}
-use Rattle.day_chart.specs.declared.mark.Sign.TheVariants.{Begin, Fault}
+use Rattle.view_model.specs.declared.marks.Sign.TheVariants.{Begin, Fault}
 use Rattle.unit_marks.specs.Cards.{records_marks, file_marks}
 use Rattle.unit_marks.specs.Marks.{whole_minutes, gap_of, distances_of}
 

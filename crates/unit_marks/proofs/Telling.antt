@@ -3,7 +3,7 @@ use Rattle.std.proofs.Common.{◌≡◌, ◌∙◌, ℕ, ◌++◌, List, [], ◌
 use Rattle.link_model.specs.declared.request.Request.TheVariants.{Day as AskDay, Events as AskEvents}
 use Rattle.message_model.specs.Messages.{Message, EventMessage, AnOverview, ADay, AnEventList, ASpeedList, ATechnical}
 use Rattle.unit_messages.specs.Reading.{request_of}
-use Rattle.slot_bars.specs.declared.seen.Gap.{Gap}
+use Rattle.view_model.specs.declared.marks.Gap.{Gap}
 use Rattle.file_view.specs.UnitFiles.{days_told}
 use Rattle.unit_marks.specs.declared.marks.Midnight.{Midnight}
 use Rattle.unit_marks.specs.Marks.{gap_of, gaps_of, gaps_told, midnight_of, gained, distances_of}

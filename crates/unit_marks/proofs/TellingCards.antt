@@ -6,11 +6,11 @@ use Rattle.std.proofs.lemmas.List.Elements.{All-tail}
 use Rattle.byteorder.specs.Endian.{big_number}
 use Rattle.card_layout.specs.Fields.{joined}
 use Rattle.card_image.specs.CardFile.{FileEntry, IsFileEntry, entry_bytes}
-use Rattle.day_chart.specs.declared.mark.Mark.{Mark}
+use Rattle.view_model.specs.declared.marks.Mark.{Mark}
 use Rattle.unit_marks.specs.declared.entries.Kind.{Kind}
-use Rattle.unit_marks.specs.Files.{AreFiles}
+use Rattle.file_view.specs.Files.{AreFiles}
 use Rattle.unit_marks.specs.Cards.{card_width, card_mark, if_written, records_marks, list_marks, kind_told, value_marks, file_marks, files_marks}
-use Rattle.unit_marks.proofs.Filing.{head_of}
+use Rattle.file_view.proofs.Filing.{head_of}
 
 -- these files make the rest, and their marks with those that were told are the whole
 pub record AreFilesLeft (left : List FileEntry) (rest : List ℕ) (told whole : List Mark) : Type 0 where

@@ -3,7 +3,7 @@ use Rattle.std.proofs.Common.{◌≡◌, ◌∙◌, ℕ, ◌++◌, List, [], ◌
 use Rattle.link_model.specs.declared.request.Request.TheVariants.{Day as AskDay, Events as AskEvents}
 use Rattle.message_model.specs.Messages.{Message, AnOverview, ADay, AnEventList, ASpeedList, ATechnical}
 use Rattle.unit_messages.specs.Reading.{request_of}
-use Rattle.day_chart.specs.declared.mark.Mark.{Mark}
+use Rattle.view_model.specs.declared.marks.Mark.{Mark}
 use Rattle.unit_marks.specs.declared.entries.Kind.{Kind}
 use Rattle.unit_marks.specs.Entries.{mark_of, place_marks, event_marks, marks_told}
 

@@ -4,20 +4,21 @@ use Rattle.std.specs.Prelude.{length, take, drop}
 use Rattle.card_layout.specs.Images.{number_at}
 use Rattle.card_layout.specs.declared.files.Application.{Application}
 use Rattle.card_image.specs.CardFile.{FileEntry, IsCardFile}
-use Rattle.day_chart.specs.declared.mark.Sign.TheVariants as sign
-use Rattle.day_chart.specs.declared.mark.Mark.{Mark}
+use Rattle.view_model.specs.declared.marks.Sign.TheVariants as sign
+use Rattle.view_model.specs.declared.marks.Mark.{Mark}
 use Rattle.unit_marks.specs.declared.entries.Kind.{Kind}
 use Rattle.unit_marks.specs.declared.entries.Kind.TheVariants.{Place, Event, Fault}
 use Rattle.unit_marks.specs.declared.cards.TheConstants.{CARD_PLACE, CARD_EVENT, POINTER, CARD_EVENT_BEGIN}
 use Rattle.unit_marks.specs.declared.cards.TheConstants.{CARD_ENTRY_TIME, CARD_ENTRY_TYPE, CARD_COUNTRY}
 use Rattle.unit_marks.specs.Entries.{sign_of}
 
--- how many bytes a record has, and the pointer in front of the records, which the places have alone
+-- how many bytes a record has
 abbrev pub card_width : Kind → ℕ
 card_width Place = CARD_PLACE
 card_width Event = CARD_EVENT
 card_width Fault = CARD_EVENT
 
+-- how many bytes stand in front of the records: the pointer, which the places have alone
 abbrev pub pointer_width : Kind → ℕ
 pointer_width Place = POINTER
 pointer_width Event = 0
@@ -60,13 +61,16 @@ abbrev pub kind_by : (fid : ℕ) → Option Kind
 kind_by fid = if fid == 0x0502 then Some Event
     else (if fid == 0x0503 then Some Fault else (if fid == 0x0506 then Some Place else None))
 
+-- what a file's records are; those of a signature are none
 abbrev pub kind_told : (fid kind : ℕ) → Option Kind
 kind_told fid kind = if kind == 0 then kind_by fid else None
 
+-- the marks of a file's value, behind its pointer
 abbrev pub value_marks : Option Kind → List ℕ → List Mark
 value_marks None value = []
 value_marks (Some kind) value = list_marks kind (drop (pointer_width kind) value)
 
+-- the marks of a file
 abbrev pub file_marks : FileEntry → List Mark
 file_marks e = value_marks (kind_told e.fid e.kind) e.value
 

@@ -3,9 +3,9 @@ use Rattle.std.specs.Prelude.{◌≡◌, ℕ, ◌%◌, ◌==◌, if◌then◌els
 use Rattle.card_layout.specs.Images.{number_at}
 use Rattle.message_model.specs.Messages.{Message, DayMessage, EventMessage, AnOverview, ADay, AnEventList, ASpeedList}
 use Rattle.message_model.specs.Messages.{ATechnical, AreEntries, counted, IsUnitFile}
-use Rattle.day_chart.specs.declared.mark.Sign.{Sign}
-use Rattle.day_chart.specs.declared.mark.Sign.TheVariants as sign
-use Rattle.day_chart.specs.declared.mark.Mark.{Mark}
+use Rattle.view_model.specs.declared.marks.Sign.{Sign}
+use Rattle.view_model.specs.declared.marks.Sign.TheVariants as sign
+use Rattle.view_model.specs.declared.marks.Mark.{Mark}
 use Rattle.unit_marks.specs.declared.entries.Kind.{Kind}
 use Rattle.unit_marks.specs.declared.entries.Kind.TheVariants.{Place, Event, Fault}
 use Rattle.unit_marks.specs.declared.entries.TheConstants.{ENTRY_TIME, ENTRY_TYPE, COUNTRY}
@@ -26,10 +26,11 @@ mark_of Place entry = record {
 mark_of Event entry = record { sign = sign.Event; code = kind_in entry; second = begin_in entry }
 mark_of Fault entry = record { sign = sign.Fault; code = kind_in entry; second = begin_in entry }
 
--- those of the places of a day, and of the faults, the events and the over speedings
+-- the marks of the places of a day
 abbrev pub place_marks : DayMessage → List Mark
 place_marks m = map (mark_of Place) m.places
 
+-- those of the faults, the events and the over speedings of a message
 abbrev pub event_marks : EventMessage → List Mark
 event_marks m = map (mark_of Fault) m.faults ++ map (mark_of Event) m.events ++ map (mark_of Event) m.overs
 

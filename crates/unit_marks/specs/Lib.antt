@@ -1,5 +1,3 @@
-pub mod Places
 pub mod Marks
 pub mod Entries
-pub mod Files
 pub mod Cards

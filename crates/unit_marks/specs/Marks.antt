@@ -4,19 +4,22 @@ use Rattle.std.specs.Prelude.{map}
 use Rattle.card_layout.specs.Images.{number_at}
 use Rattle.message_model.specs.Messages.{Message, DayMessage, AnOverview, ADay, AnEventList, ASpeedList, ATechnical}
 use Rattle.message_model.specs.Messages.{IsUnitFile}
-use Rattle.slot_bars.specs.declared.seen.Gap.{Gap}
-use Rattle.day_totals.specs.declared.figures.Distance.{Distance}
+use Rattle.view_model.specs.declared.marks.Gap.{Gap}
+use Rattle.view_model.specs.declared.marks.Distance.{Distance}
 use Rattle.file_view.specs.UnitFiles.{days_told}
 use Rattle.unit_marks.specs.declared.marks.Midnight.{Midnight}
-use Rattle.unit_marks.specs.declared.marks.TheConstants.{POWER_INTERRUPTION, EVENT_BEGIN, EVENT_END}
+use Rattle.event_model.specs.declared.kinds.TheConstants.{POWER_INTERRUPTION}
+use Rattle.unit_marks.specs.declared.marks.TheConstants.{EVENT_BEGIN, EVENT_END}
 
--- an event: its type, its begin and its end, in seconds
+-- the type of an event
 abbrev pub kind_in : List ℕ → ℕ
 kind_in event = number_at event 0 1
 
+-- its begin, in seconds
 abbrev pub begin_in : List ℕ → ℕ
 begin_in event = number_at event EVENT_BEGIN 4
 
+-- its end, in seconds
 abbrev pub end_in : List ℕ → ℕ
 end_in event = number_at event EVENT_END 4
 
@@ -28,6 +31,7 @@ whole_minutes begin end = record { first = (begin + 59) / 60; behind = end / 60 
 abbrev pub gap_of : List ℕ → List Gap
 gap_of event = if kind_in event == POWER_INTERRUPTION then whole_minutes (begin_in event) (end_in event) ∷ [] else []
 
+-- the gaps of events, in their order
 abbrev pub gaps_of : List (List ℕ) → List Gap
 gaps_of [] = []
 gaps_of (event ∷ events) = gap_of event ++ gaps_of events

@@ -5,17 +5,17 @@ ghost use Rattle.card_layout.specs.Images.{number_at};
 ghost use Rattle.card_image.specs.CardFile.{FileEntry};
 ghost use Rattle.file_view.specs.Faults.{IfBadFile};
 ghost use Rattle.file_view.specs.CardFiles.{IsBadCardFile};
-ghost use Rattle.unit_marks.specs.Files.{AreFiles};
+ghost use Rattle.file_view.specs.Files.{AreFiles};
 ghost use Rattle.unit_marks.specs.Cards.{TellsCardEntries, card_mark, card_width, files_marks, if_written, kind_told};
 ghost use Rattle.unit_marks.specs.Cards.{list_marks, pointer_width, value_marks};
 
 use crate::entries::{Kind, sign_of};
-use crate::files::{file_behind, file_len, file_value};
 use crate::marks::byte_at;
 use byteorder::{BigEndian, ByteOrder};
-use day_chart::{Mark, Sign};
-use file_view::{ViewFault, read_card_file};
+use card_layout::Fid;
+use file_view::{ViewFault, file_behind, file_len, file_value, read_card_file};
 use std::alloc::{AllocError, Global};
+use view_model::{Mark, Sign};
 
 /// How many bytes a place has (Annex IB, Appendix 1, PlaceRecord).
 pub const CARD_PLACE: usize = 10;
@@ -29,11 +29,13 @@ pub const POINTER: usize = 1;
 /// Where an event has its begin, behind its type.
 pub const CARD_EVENT_BEGIN: usize = 1;
 
-/// Where a place has its time, its type and its country.
+/// Where a place has its time (Annex IB, Appendix 1, PlaceRecord).
 pub const CARD_ENTRY_TIME: usize = 0;
 
+/// Where it has its type.
 pub const CARD_ENTRY_TYPE: usize = 4;
 
+/// Where it has its country.
 pub const CARD_COUNTRY: usize = 5;
 
 /// The places, events and faults that a card file tells, in the order of its files.
@@ -46,13 +48,9 @@ pub fn card_marks(alloc: Global, b: &[u8]) -> Result<Vec<Mark>, ViewFault>
     ensures marks { IfOk result (λ marks. TellsCardEntries b.now marks.items) }
     ensures bad { IfErr result (λ fault. IfBadFile fault (λ place. IsBadCardFile place b.now)) }
 {
-    match read_card_file(alloc, b) {
-        Ok(_history) => {
-            let marks = marks_of_files(alloc, b)?;
-            Ok(marks)
-        }
-        Err(fault) => Err(fault),
-    }
+    let _history = read_card_file(alloc, b)?;
+    let marks = marks_of_files(alloc, b)?;
+    Ok(marks)
 }
 
 /// Those of its files.
@@ -89,10 +87,10 @@ fn kind_told(fid: u16, kind: u8) -> Option<Kind>
     if kind != 0 {
         return None;
     }
-    match fid {
-        0x0502 => Some(Kind::Event),
-        0x0503 => Some(Kind::Fault),
-        0x0506 => Some(Kind::Place),
+    match Fid(fid) {
+        Fid::EVENTS => Some(Kind::Event),
+        Fid::FAULTS => Some(Kind::Fault),
+        Fid::PLACES => Some(Kind::Place),
         _ => None,
     }
 }

@@ -1,24 +1,23 @@
 //! The places, events and faults that a unit file tells, as marks of a picture.
 ghost use Rattle.std.specs.Prelude.{◌≡◌, ◌+◌, ◌≤◌, ◌<◌, ◌++◌, ◌∷◌, [], ◌^◌, ℕ, List, length, map, drop, IfOk, IfErr};
 ghost use Rattle.std.specs.Prelude.{OnOk};
-ghost use Rattle.card_layout.specs.Images.{bytes_at, number_at};
+ghost use Rattle.card_layout.specs.Images.{number_at};
 ghost use Rattle.message_model.specs.Messages.{Message as FileMessage, DayMessage, EventMessage, ADay, AnEventList};
 ghost use Rattle.unit_messages.specs.Reading.{BeginsWith};
 ghost use Rattle.file_view.specs.Faults.{IfBadFile};
 ghost use Rattle.file_view.specs.UnitFiles.{IsBadUnitFile};
-ghost use Rattle.unit_marks.specs.Places.{ArePlaced, IsPlaced};
+ghost use Rattle.file_view.specs.Places.{ArePlaced, IsPlaced};
 ghost use Rattle.unit_marks.specs.Marks.{kind_in, begin_in};
 ghost use Rattle.unit_marks.specs.Entries.{TellsEntries, BeginWith, sign_of, mark_of, place_marks, event_marks};
 ghost use Rattle.unit_marks.specs.Entries.{marks_told};
 
 use crate::marks::{EVENT_BEGIN, byte_at};
-use crate::places::{MessageAt, messages_at};
 use byteorder::{BigEndian, ByteOrder};
-use day_chart::{Mark, Sign};
-use file_view::ViewFault;
+use file_view::{MessageAt, ViewFault, messages_at, part};
 use message_model::sizes::{EVENT, FAULT, INSERTION, OVER, PLACE};
 use std::alloc::{AllocError, Global};
 use unit_messages::Request;
+use view_model::{Mark, Sign};
 
 /// The kinds of entries that are marks.
 #[derive(Clone, Copy, Debug, PartialEq, Eq)]
@@ -28,12 +27,13 @@ pub enum Kind {
     Fault,
 }
 
-/// Where a place has its time, its type and its country, behind the card's number (Annex IB, Appendix 1,
-/// VuPlaceDailyWorkPeriodRecord).
+/// Where a place has its time, behind the card's number (Annex IB, Appendix 1, VuPlaceDailyWorkPeriodRecord).
 pub const ENTRY_TIME: usize = 18;
 
+/// Where it has its type.
 pub const ENTRY_TYPE: usize = 22;
 
+/// Where it has its country.
 pub const COUNTRY: usize = 23;
 
 /// Where the message of a day has its insertions, behind 76, its number, its date and its odometer.
@@ -59,10 +59,7 @@ pub fn entry_marks(alloc: Global, b: &[u8]) -> Result<Vec<Mark>, ViewFault>
     ensures marks { IfOk result (λ marks. TellsEntries b.now marks.items) }
     ensures bad { IfErr result (λ fault. IfBadFile fault (λ place. IsBadUnitFile place b.now)) }
 {
-    let all = match messages_at(alloc, b) {
-        Ok(all) => all,
-        Err(fault) => return Err(fault),
-    };
+    let all = messages_at(alloc, b)?;
     let marks = marks_in(alloc, b, all.as_slice())?;
     Ok(marks)
 }
@@ -182,18 +179,10 @@ fn add_entries(
     let count = byte_at(bytes, 0) as usize;
     for i in 0..count {
         let from = 1 + size * i;
-        let entry = cut_out(bytes, from, size);
+        let entry = part(bytes, from, size);
         add_entry(marks, entry, kind)?;
     }
     Ok(())
-}
-
-/// The entry at a place.
-fn cut_out(bytes: &[u8], from: usize, size: usize) -> &[u8]
-    requires { from + size ≤ length bytes.now }
-    ensures { result.now ≡ bytes_at bytes.now from size }
-{
-    &behind(bytes, from)[..size]
 }
 
 /// Adds the mark of an entry.

@@ -1,20 +1,16 @@
-//! What a unit file and a card file tell beside minutes: where messages and files stand, the distances of days, the
-//! interruptions of the power, and the places, events and faults (Annex IB, Appendix 7, 2.2.6 and 3.4).
+//! What a unit file and a card file tell beside minutes: the distances of days, the interruptions of the power, and the
+//! places, events and faults (Annex IB, Appendix 7, 2.2.6 and 3.4).
 #![tactic(auto)]
 
 mod cards;
 mod entries;
-mod files;
 mod laws;
 mod marks;
-mod places;
 
 pub use cards::card_marks;
 pub use entries::entry_marks;
-pub use files::{FILE_HEAD, file_behind, file_len, file_value};
 pub use laws::{
     a_place_of_a_card_is_read_as_it_is_written, a_place_of_a_unit_is_read_as_it_is_written,
     an_event_of_a_card_is_read_as_it_is_written, an_event_of_a_unit_is_read_as_it_is_written,
 };
 pub use marks::{Marks, marks_of};
-pub use places::{MessageAt, messages_at};

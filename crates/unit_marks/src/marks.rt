@@ -1,31 +1,29 @@
 //! The distances of days, and the interruptions of the power, that a unit file tells.
 ghost use Rattle.std.specs.Prelude.{◌≡◌, ◌+◌, ◌*◌, ◌≤◌, ◌<◌, ◌++◌, ◌∷◌, [], ◌^◌, ℕ, List, length, map, IfOk, IfErr};
 ghost use Rattle.std.specs.Prelude.{OnOk};
-ghost use Rattle.card_layout.specs.Images.{bytes_at, number_at};
+ghost use Rattle.card_layout.specs.Images.{number_at};
 ghost use Rattle.message_model.specs.Messages.{Message as FileMessage, DayMessage, EventMessage, ADay, AnEventList};
 ghost use Rattle.unit_messages.specs.Reading.{BeginsWith};
 ghost use Rattle.file_view.specs.Faults.{IfBadFile};
 ghost use Rattle.file_view.specs.UnitFiles.{IsBadUnitFile, days_told};
-ghost use Rattle.unit_marks.specs.Places.{ArePlaced, IsPlaced};
+ghost use Rattle.file_view.specs.Places.{ArePlaced, IsPlaced};
 ghost use Rattle.unit_marks.specs.Marks.{TellsMarks, gap_of, gaps_of, gaps_told, midnight_of, gained, distances_of};
 ghost use Rattle.unit_marks.specs.Marks.{whole_minutes};
 
-use crate::places::{MessageAt, messages_at};
+use activity_codec::DAY_SECONDS;
 use byteorder::{BigEndian, ByteOrder};
-use day_totals::Distance;
-use file_view::ViewFault;
+use event_model::POWER_INTERRUPTION;
+use file_view::{MessageAt, ViewFault, messages_at, part};
 use message_model::sizes::{EVENT, FAULT};
-use slot_bars::Gap;
 use std::alloc::{AllocError, Global};
 use tacho_types::read_odometer;
 use unit_messages::Request;
+use view_model::{Distance, Gap};
 
-/// The type of an interruption of the power (Annex IB, Appendix 1, EventFaultType).
-pub const POWER_INTERRUPTION: u8 = 8;
-
-/// Where an event has its begin and its end, behind its type and its purpose.
+/// Where an event has its begin, behind its type and its purpose (Annex IB, Appendix 1, VuEventRecord).
 pub const EVENT_BEGIN: usize = 2;
 
+/// Where it has its end.
 pub const EVENT_END: usize = 6;
 
 /// Where the message of a day has its odometer, behind 76, its number and its date.
@@ -40,10 +38,12 @@ pub struct Marks {
     pub distances: Vec<Distance>,
 }
 
-/// The first second of a day, and the odometer then.
+/// A midnight that the message of a day tells.
 #[derive(Clone, Copy, Debug, Default, PartialEq, Eq)]
 pub struct Midnight {
+    /// The first second of the day, since 1970-01-01 00:00 GMT.
     pub date: u32,
+    /// The odometer then, in kilometres.
     pub odometer: u32,
 }
 
@@ -57,10 +57,7 @@ pub fn marks_of(alloc: Global, b: &[u8]) -> Result<Marks, ViewFault>
     ensures marks { IfOk result (λ marks. TellsMarks b.now marks.gaps.items marks.distances.items) }
     ensures bad { IfErr result (λ fault. IfBadFile fault (λ place. IsBadUnitFile place b.now)) }
 {
-    let all = match messages_at(alloc, b) {
-        Ok(all) => all,
-        Err(fault) => return Err(fault),
-    };
+    let all = messages_at(alloc, b)?;
     let gaps = gaps_in(alloc, b, all.as_slice())?;
     let midnights = midnights_in(alloc, b, all.as_slice())?;
     let distances = distances_of(alloc, midnights.as_slice())?;
@@ -142,7 +139,8 @@ fn add_gaps(gaps: &mut Vec<Gap>, message: &[u8]) -> Result<(), AllocError>
     let place = 3 + FAULT as usize * faults;
     let count = byte_at(message, place) as usize;
     for i in 0..count {
-        let event = cut(message, place + 1 + EVENT as usize * i);
+        let from = place + 1 + EVENT as usize * i;
+        let event = part(message, from, EVENT as usize);
         add_gap(gaps, event)?;
     }
     Ok(())
@@ -154,14 +152,6 @@ pub(crate) fn byte_at(bytes: &[u8], place: usize) -> u8
     ensures { result ≡ number_at bytes.now place 1 }
 {
     bytes[place]
-}
-
-/// The event at a place.
-fn cut(message: &[u8], from: usize) -> &[u8]
-    requires { from + 83 ≤ length message.now }
-    ensures { result.now ≡ bytes_at message.now from 83 }
-{
-    &message[from..][..EVENT as usize]
 }
 
 /// Adds an event's minutes where it is an interruption.
@@ -212,7 +202,7 @@ fn add_gained(
 {
     if day.date < next.date && day.odometer <= next.odometer {
         distances.push(Distance {
-            day: day.date / 86400,
+            day: day.date / DAY_SECONDS,
             km: next.odometer - day.odometer,
         })?;
         return Ok(());

@@ -1,13 +1,12 @@
 -- Where the blocks of detailed speed stand in their message.
-use Rattle.std.proofs.Common.{◌≡◌, ◌∙◌, ℕ, ◌+◌, ◌*◌, ◌-◌, ◌<◌, ◌≤◌, List, [], ◌∷◌, ◌++◌, length, get_or, take, drop, ap, sym, arith, append_assoc, length-append, length-drop}
-use Rattle.std.proofs.lemmas.List.{length-take}
+use Rattle.std.proofs.Common.{◌≡◌, ◌∙◌, ℕ, ◌+◌, ◌*◌, ◌<◌, ◌≤◌, List, [], ◌∷◌, ◌++◌, length, get_or, take, ap, sym, arith, append_assoc, length-append}
 use Rattle.byteorder.specs.Endian.{big_bytes}
 use Rattle.byteorder.specs.Numbers.{length-bytes_high_first}
 use Rattle.card_layout.specs.Images.{bytes_at, number_at}
 use Rattle.card_layout.specs.Fields.{joined}
 use Rattle.message_model.specs.Messages.{SpeedMessage, ASpeedList}
 use Rattle.unit_messages.specs.Reading.{BeginsWith}
-use Rattle.unit_marks.proofs.Laid.{number_behind, joined_length, skip, entry_at}
+use Rattle.file_view.proofs.Laid.{number_behind, joined_length, skip, entry_at}
 
 -- the blocks of a message, behind their count
 pub record AreBlocksAt (m : SpeedMessage) (b : List ℕ) : Type 0 where
@@ -40,7 +39,3 @@ blocks_laid m b begins =
 -- and each is inside
 pub block_inside : (m : SpeedMessage) (b : List ℕ) (i : ℕ) → AreBlocksAt m b → i < length m.blocks → 4 + 64 * i + 64 ≤ length b
 block_inside m b i laid low = omega (arith, laid.inside, low)
-
--- as many bytes as are cut out
-pub block_length : (b : List ℕ) (from : ℕ) → from + 64 ≤ length b → length (bytes_at b from 64) ≡ 64
-block_length b from inside = omega (arith, length-take 64 (drop from b), length-drop from b, inside)

@@ -9,10 +9,11 @@ use Rattle.unit_speeds.specs.declared.line.SpeedLine.{SpeedLine}
 abbrev pub speeds_in : List ℕ → List ℕ
 speeds_in block = bytes_at block SPEEDS 60
 
--- the greatest of speeds, 0 where there is none
+-- the greater of two speeds
 abbrev pub greater : (one other : ℕ) → ℕ
 greater one other = if nat_lt one other then other else one
 
+-- the greatest of some speeds; 0 where there is none
 abbrev pub most_of : List ℕ → ℕ
 most_of speeds = fold greater 0 speeds
 

@@ -1,9 +1,9 @@
 -- The text of detailed speed (profile).
-use Rattle.std.specs.Prelude.{◌≡◌, ℕ, ◌/◌, ◌%◌, Option, List, [], ◌∷◌, ◌++◌, length, drop, codes, decimal}
+use Rattle.std.specs.Prelude.{◌≡◌, ℕ, ◌/◌, Option, List, [], ◌∷◌, ◌++◌, length, drop, codes, decimal}
 use Rattle.calendar_days.specs.Calendar.{IsDateText}
+use Rattle.calendar_days.specs.Clock.{clock_text}
 use Rattle.message_model.specs.Messages.{Message, IsUnitFile}
 use Rattle.file_view.specs.Showing.{before_last}
-use Rattle.day_totals.specs.Text.{duration_text}
 use Rattle.unit_speeds.specs.declared.line.SpeedLine.{SpeedLine}
 use Rattle.unit_speeds.specs.Speeds.{speeds_told}
 
@@ -14,14 +14,15 @@ figure_text name number = name ++ decimal number
 -- what stands behind the date: ` 09:05 max 87 mean 63 moving 60`
 abbrev pub speed_words : SpeedLine → List ℕ
 speed_words line =
-    codes " " ++ duration_text (line.time / 60 % 1440) ++ figure_text (codes " max ") line.most
+    codes " " ++ clock_text (line.time / 60) ++ figure_text (codes " max ") line.most
     ++ figure_text (codes " mean ") line.mean
     ++ figure_text (codes " moving ") line.moving ++ codes "\n"
 
--- the date of a day at the end of a text, and a line
+-- the date of a day at the end of a text
 abbrev pub AddsDate : (old new : List ℕ) → (day : ℕ) → Type 0
 AddsDate old new day = (date : List ℕ) × IsDateText day date × (new ≡ old ++ date)
 
+-- a line at the end of a text
 abbrev pub AddsSpeedLine : (old new : List ℕ) → SpeedLine → Type 0
 AddsSpeedLine old new line = (date : List ℕ) × IsDateText (line.time / 86400) date
     × (new ≡ old ++ date ++ speed_words line)

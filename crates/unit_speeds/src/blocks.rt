@@ -1,16 +1,16 @@
 //! The blocks of detailed speed of a unit file.
 ghost use Rattle.std.specs.Prelude.{◌≡◌, ◌+◌, ◌*◌, ◌≤◌, ◌++◌, ◌∷◌, [], List, length, map, IfOk, OnOk};
-ghost use Rattle.card_layout.specs.Images.{bytes_at, number_at};
+ghost use Rattle.card_layout.specs.Images.{number_at};
 ghost use Rattle.message_model.specs.Messages.{Message as FileMessage, SpeedMessage, ASpeedList};
 ghost use Rattle.unit_messages.specs.Reading.{BeginsWith};
-ghost use Rattle.unit_marks.specs.Places.{ArePlaced, IsPlaced};
+ghost use Rattle.file_view.specs.Places.{ArePlaced, IsPlaced};
 ghost use Rattle.unit_speeds.specs.Speeds.{line_of, speeds_told};
 
 use crate::line::{SpeedLine, line_of};
 use byteorder::{BigEndian, ByteOrder};
+use file_view::{MessageAt, part};
 use message_model::sizes::SPEED_BLOCK;
 use std::alloc::{AllocError, Global};
-use unit_marks::MessageAt;
 use unit_messages::Request;
 
 /// Where the message of detailed speed has its blocks, behind 76, its number and their count.
@@ -56,7 +56,8 @@ fn add_blocks(lines: &mut Vec<SpeedLine>, message: &[u8]) -> Result<(), AllocErr
 {
     let count = count_in(message) as usize;
     for i in 0..count {
-        let block = block_at(message, BLOCKS + SPEED_BLOCK as usize * i);
+        let from = BLOCKS + SPEED_BLOCK as usize * i;
+        let block = part(message, from, SPEED_BLOCK as usize);
         add_block(lines, block)?;
     }
     Ok(())
@@ -68,14 +69,6 @@ fn count_in(message: &[u8]) -> u16
     ensures { result ≡ number_at message.now 2 2 }
 {
     BigEndian::read_u16(&message[2..BLOCKS])
-}
-
-/// The block at a place.
-fn block_at(message: &[u8], from: usize) -> &[u8]
-    requires { from + 64 ≤ length message.now }
-    ensures { result.now ≡ bytes_at message.now from 64 }
-{
-    &message[from..][..SPEED_BLOCK as usize]
 }
 
 /// Adds what is told of a block.

@@ -8,12 +8,12 @@ ghost use Rattle.unit_speeds.specs.Text.{AddsDate, AddsSpeedLine, AreSpeedLines,
 
 use crate::blocks::lines_in;
 use crate::line::SpeedLine;
+use activity_codec::{DAY_SECONDS, MINUTE_SECONDS};
 use calendar_days::day_text;
-use day_totals::write_duration;
-use file_view::ViewFault;
+use file_view::{ViewFault, messages_at};
 use itoa::Buffer;
 use std::alloc::{AllocError, Global};
-use unit_marks::messages_at;
+use view_text::write_clock;
 
 /// The detailed speed of a unit file, a line a minute: of all its blocks, or of the last so many.
 ///
@@ -25,10 +25,7 @@ pub fn speeds_text(alloc: Global, b: &[u8], last: Option<u32>) -> Result<Vec<u8>
     ensures text { IfOk result (λ text. PrintsSpeeds last b.now text.items) }
     ensures bad { IfErr result (λ fault. IfBadFile fault (λ place. IsBadUnitFile place b.now)) }
 {
-    let all = match messages_at(alloc, b) {
-        Ok(all) => all,
-        Err(fault) => return Err(fault),
-    };
+    let all = messages_at(alloc, b)?;
     let lines = lines_in(alloc, b, all.as_slice())?;
     let text = last_text(alloc, lines.as_slice(), last)?;
     Ok(text)
@@ -68,9 +65,9 @@ fn lines_text(alloc: Global, lines: &[SpeedLine]) -> Result<Vec<u8>, AllocError>
 fn write_line(text: &mut Vec<u8>, line: SpeedLine) -> Result<(), AllocError>
     ensures { OnOk result (AddsSpeedLine text.old.items text.new.items line) }
 {
-    write_date(text, line.time / 86400)?;
+    write_date(text, line.time / DAY_SECONDS)?;
     text.extend_from_slice(b" ")?;
-    write_duration(text, line.time / 60 % 1440)?;
+    write_clock(text, line.time / MINUTE_SECONDS)?;
     write_figure(text, b" max ", line.most)?;
     write_figure(text, b" mean ", line.mean)?;
     write_figure(text, b" moving ", line.moving)?;

@@ -2,7 +2,10 @@
 //! the line's text. Here stand the values that they speak of.
 #![tactic(auto)]
 
+mod marks;
+
 use activity_codec::{Activity, Slot};
+pub use marks::{Distance, Gap, Mark, Sign};
 
 /// What a minute knows of one slot.
 #[derive(Clone, Copy, Debug, Default, PartialEq, Eq)]

@@ -3,8 +3,8 @@ use Rattle.std.specs.Prelude.{◌≡◌, List, [], ◌∷◌, ◌++◌, ℕ, cod
 use Rattle.activity_codec.specs.Names.{slot_name, activity_name}
 use Rattle.activity_codec.specs.declared.entries.Manual.{Manual}
 use Rattle.calendar_days.specs.Calendar.{IsDateText}
+use Rattle.calendar_days.specs.Clock.{clock_text}
 use Rattle.view_model.specs.Lines.{day_of_minute}
-use Rattle.view_text.specs.Text.{clock_text}
 
 -- a line behind its date: ` HH:MM SLOT=ACT by hand`
 abbrev pub by_hand_words : Manual → List ℕ

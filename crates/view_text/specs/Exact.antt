@@ -43,6 +43,7 @@ state_exact one other is =
     ap (λ (act : Activity). of act one.present) (activity_exact one.act other.act parts.0)
     ∙ ap (of other.act) (bool_exact one.present other.present parts.1)
 
+-- a unit shows the same of two minutes alone where it shows equal values
 pub unit_exact : (one other : UnitShown) → same_unit one other ≡ true → one ≡ other
 unit_exact one other is =
     let parts = both (same_state one.driver other.driver && same_state one.codriver other.codriver)
@@ -54,6 +55,7 @@ unit_exact one other is =
     ∙ ap (λ (s : State). of other.driver s one.crew) (state_exact one.codriver other.codriver states.1)
     ∙ ap (of other.driver other.codriver) (bool_exact one.crew other.crew parts.1)
 
+-- and so does a card
 pub card_exact : (one other : CardShown) → same_card one other ≡ true → one ≡ other
 card_exact one other is =
     let parts = both (same_slot one.slot other.slot && same_activity one.act other.act) (same_bool one.crew other.crew)

@@ -1,7 +1,8 @@
 -- The text of a view (profile).
-use Rattle.std.specs.Prelude.{◌≡◌, ℕ, ◌+◌, ◌/◌, ◌%◌, Bool, true, false, List, [], ◌∷◌, ◌++◌, codes}
+use Rattle.std.specs.Prelude.{◌≡◌, ℕ, Bool, true, false, List, [], ◌∷◌, ◌++◌, codes}
 use Rattle.activity_codec.specs.Names.{slot_name, activity_name}
 use Rattle.calendar_days.specs.Calendar.{IsDateText}
+use Rattle.calendar_days.specs.Clock.{clock_text}
 use Rattle.view_model.specs.declared.State.{State}
 use Rattle.view_model.specs.declared.UnitShown.{UnitShown}
 use Rattle.view_model.specs.declared.CardShown.{CardShown}
@@ -9,22 +10,17 @@ use Rattle.view_model.specs.declared.Viewed.{Viewed}
 use Rattle.view_model.specs.declared.Line.{Line}
 use Rattle.view_model.specs.Lines.{same_unit, same_card, day_of_minute, lines_of}
 
-abbrev pub two_digits : ℕ → List ℕ
-two_digits n = (48 + n / 10) ∷ (48 + n % 10) ∷ []
-
--- the time of day of a minute, as `09:05`
-abbrev pub clock_text : ℕ → List ℕ
-clock_text minute = two_digits (minute % 1440 / 60) ++ codes ":" ++ two_digits (minute % 60)
-
 -- whether a card was present
 abbrev pub presence_word : Bool → List ℕ
 presence_word true = codes "in"
 presence_word false = codes "out"
 
+-- whether both slots had a present card
 abbrev pub crew_word : Bool → List ℕ
 crew_word true = codes "crew"
 crew_word false = codes "single"
 
+-- what is shown of a slot: `ACT,IN`
 abbrev pub state_words : State → List ℕ
 state_words state = activity_name state.act ++ codes "," ++ presence_word state.present
 

@@ -10,6 +10,6 @@ mod views;
 
 pub use by_hand::by_hand_text;
 pub use lines::add_minute;
-pub use shown::Shown;
-pub use text::lines_text;
+pub use shown::{Shown, crew_name};
+pub use text::{lines_text, write_clock};
 pub use views::{card_text, unit_text};

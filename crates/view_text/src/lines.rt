@@ -6,11 +6,16 @@ ghost use Rattle.view_model.specs.Lines.{lines_of};
 ghost use Rattle.view_text.specs.Growing.{follows, with_more, line_at};
 
 use crate::shown::Shown;
+use activity_codec::DAY_MINUTES;
 use std::alloc::AllocError;
 use view_model::{Line, Viewed};
 
 /// Adds a minute to the lines of the minutes before it: at the end of the last line where that goes on with it, else as
 /// a line of its own.
+///
+/// # Errors
+///
+/// `AllocError` where memory runs out.
 pub fn add_minute<T: Shown>(lines: &mut Vec<Line<T>>, minute: Viewed<T>) -> Result<(), AllocError>
     ensures { (minutes : List (ViewedMinute T)) → lines.old.items ≡ lines_of T.same minutes
         → OnOk result (lines.new.items ≡ lines_of T.same (minutes ++ minute ∷ [])) }
@@ -49,6 +54,6 @@ fn goes_on<T: Shown>(line: Line<T>, minute: Viewed<T>) -> bool
     ensures { result ≡ follows T.same line minute }
 {
     line.last as u64 + 1 == minute.minute as u64
-        && line.last / 1440 == minute.minute / 1440
+        && line.last / DAY_MINUTES == minute.minute / DAY_MINUTES
         && line.shown.is_same(minute.shown)
 }

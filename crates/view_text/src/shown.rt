@@ -1,10 +1,9 @@
 //! What a view shows of a minute: that of a unit, and that of a card.
 ghost use Rattle.std.specs.Prelude.{◌≡◌, ◌++◌, OnOk, Bool, true, List, ℕ};
-ghost use Rattle.activity_codec.specs.Activity.{same_slot, same_activity};
 ghost use Rattle.view_model.specs.Lines.{same_state, same_bool};
 ghost use Rattle.view_text.specs.Text.{crew_word, state_words};
 
-use activity_codec::{Activity, Slot};
+use activity_codec::{Activity, is_same_activity, is_same_slot};
 use std::alloc::AllocError;
 use view_model::{CardShown, State, UnitShown};
 
@@ -83,22 +82,11 @@ impl Shown for CardShown {
     }
 }
 
+/// Whether the same is shown of a slot.
 fn is_same_state(one: State, other: State) -> bool
     ensures { result ≡ same_state one other }
 {
     is_same_activity(one.act, other.act) && one.present == other.present
-}
-
-fn is_same_activity(one: Activity, other: Activity) -> bool
-    ensures { result ≡ same_activity one other }
-{
-    one == other
-}
-
-fn is_same_slot(one: Slot, other: Slot) -> bool
-    ensures { result ≡ same_slot one other }
-{
-    one == other
 }
 
 /// The activity of a slot, and whether a card was present in it.
@@ -109,7 +97,7 @@ fn write_state(text: &mut Vec<u8>, state: State) -> Result<(), AllocError>
     Ok(())
 }
 
-// The words of a state, as one text.
+/// The words of a state, as one text.
 fn state_name(state: State) -> &'static [u8]
     ensures { result.now ≡ state_words state }
 {
@@ -130,7 +118,8 @@ fn state_name(state: State) -> &'static [u8]
     }
 }
 
-fn crew_name(crew: bool) -> &'static [u8]
+/// The word for CREW (true) or SINGLE.
+pub fn crew_name(crew: bool) -> &'static [u8]
     ensures { result.now ≡ crew_word crew }
 {
     if crew { b"crew" } else { b"single" }

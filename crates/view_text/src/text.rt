@@ -2,18 +2,24 @@
 ghost use Rattle.std.specs.Prelude.{◌≡◌, ◌++◌, ◌<◌, IfOk, OnOk, codes};
 ghost use Rattle.std.specs.List.{AllByRecursion};
 ghost use Rattle.view_model.specs.Lines.{day_of_minute};
-ghost use Rattle.view_text.specs.Text.{IsTextOf, clock_text};
+ghost use Rattle.view_text.specs.Text.{IsTextOf};
 ghost use Rattle.calendar_days.specs.Calendar.{IsDateText};
+ghost use Rattle.calendar_days.specs.Clock.{clock_text};
 ghost use Rattle.view_text.specs.Adding.{AddsDay, AddsLine};
 
 use crate::shown::Shown;
+use activity_codec::DAY_MINUTES;
 use arrayvec::ArrayVec;
-use calendar_days::day_text;
+use calendar_days::{clock_text, day_text};
 use std::alloc::{AllocError, Global};
 use tacho_types::DAYS;
 use view_model::Line;
 
 /// The text of lines, one after another. The date of a day is made once for lines that follow one another on it.
+///
+/// # Errors
+///
+/// `AllocError` where memory runs out.
 pub fn lines_text<T: Shown>(alloc: Global, lines: &[Line<T>]) -> Result<Vec<u8>, AllocError>
     requires { AllByRecursion (λ line. day_of_minute line.first < DAYS) lines.now }
     ensures { IfOk result (λ text. IsTextOf T.words lines.now text.items) }
@@ -22,7 +28,7 @@ pub fn lines_text<T: Shown>(alloc: Global, lines: &[Line<T>]) -> Result<Vec<u8>,
     let mut day = 0;
     let mut date = day_text(day);
     for line in lines {
-        let own = line.first / 1440;
+        let own = line.first / DAY_MINUTES;
         date = date_on(date, day, own);
         day = own;
         write_line(&mut text, date.as_slice(), *line)?;
@@ -55,6 +61,10 @@ fn write_line<T: Shown>(text: &mut Vec<u8>, date: &[u8], line: Line<T>) -> Resul
 }
 
 /// The date of a day number.
+///
+/// # Errors
+///
+/// `AllocError` where memory runs out.
 pub fn write_day(text: &mut Vec<u8>, day: u32) -> Result<(), AllocError>
     requires { day < DAYS }
     ensures { OnOk result (AddsDay text.old.items text.new.items day) }
@@ -64,20 +74,15 @@ pub fn write_day(text: &mut Vec<u8>, day: u32) -> Result<(), AllocError>
     Ok(())
 }
 
-/// The time of day of a minute.
+/// Adds the time of day of a minute, counted from some midnight, `HH:MM`.
+///
+/// # Errors
+///
+/// `AllocError` where memory runs out.
 pub fn write_clock(text: &mut Vec<u8>, minute: u32) -> Result<(), AllocError>
     ensures { OnOk result (text.new.items ≡ text.old.items ++ clock_text minute) }
 {
-    let hour = minute % 1440 / 60;
-    let minute = minute % 60;
-    let clock = [
-        48 + (hour / 10) as u8,
-        48 + (hour % 10) as u8,
-        b':',
-        48 + (minute / 10) as u8,
-        48 + (minute % 10) as u8,
-    ];
-    text.extend_from_slice(&clock)?;
+    text.extend_from_slice(&clock_text(minute))?;
     Ok(())
 }
 
@@ -86,25 +91,10 @@ fn write_span(text: &mut Vec<u8>, first: u32, last: u32) -> Result<(), AllocErro
     ensures { OnOk result (text.new.items ≡ text.old.items
         ++ (codes " " ++ clock_text first ++ codes "-" ++ clock_text last ++ codes " ")) }
 {
-    let hour = first % 1440 / 60;
-    let minute = first % 60;
-    let last_hour = last % 1440 / 60;
-    let last_minute = last % 60;
-    let span = [
-        b' ',
-        48 + (hour / 10) as u8,
-        48 + (hour % 10) as u8,
-        b':',
-        48 + (minute / 10) as u8,
-        48 + (minute % 10) as u8,
-        b'-',
-        48 + (last_hour / 10) as u8,
-        48 + (last_hour % 10) as u8,
-        b':',
-        48 + (last_minute / 10) as u8,
-        48 + (last_minute % 10) as u8,
-        b' ',
-    ];
-    text.extend_from_slice(&span)?;
+    text.extend_from_slice(b" ")?;
+    write_clock(text, first)?;
+    text.extend_from_slice(b"-")?;
+    write_clock(text, last)?;
+    text.extend_from_slice(b" ")?;
     Ok(())
 }

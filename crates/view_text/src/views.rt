@@ -13,6 +13,10 @@ use tacho_types::DAYS;
 use view_model::{CardShown, Line, UnitShown, Viewed};
 
 /// The view text of a unit's minutes.
+///
+/// # Errors
+///
+/// `AllocError` where memory runs out.
 pub fn unit_text(alloc: Global, minutes: &[Viewed<UnitShown>]) -> Result<Vec<u8>, AllocError>
     requires { AllByRecursion (λ m. day_of_minute m.minute < DAYS) minutes.now }
     ensures { IfOk result (λ text. IsUnitView minutes.now text.items) }
@@ -22,6 +26,10 @@ pub fn unit_text(alloc: Global, minutes: &[Viewed<UnitShown>]) -> Result<Vec<u8>
 }
 
 /// The view text of a card's entries.
+///
+/// # Errors
+///
+/// `AllocError` where memory runs out.
 pub fn card_text(alloc: Global, entries: &[Entry]) -> Result<Vec<u8>, AllocError>
     requires { AllByRecursion (λ e. day_of_minute e.minute < DAYS) entries.now }
     ensures { IfOk result (λ text. IsCardView (map entry_shown entries.now) text.items) }

@@ -19,8 +19,8 @@ compare_entries-requires-clause-few c =
     let rise : Rise (map entry_told (minutes_on c.lines-2.result.now)) = search rules in
     few_minutes c.lines-2.result.now c.lines-2.ensures.lines rise
 
-pub returns-in-Ok-compare_entries-clause-compared : goal.returns-in-Ok-compare_entries-clause-compared
-returns-in-Ok-compare_entries-clause-compared c =
+pub returns-clause-compared : goal.returns-clause-compared
+returns-clause-compared c =
     let told = c.in-Ok.ensures.told in
     let shown = c.in-Ok-read_download.ensures.minutes in
     let card = c.in-Ok-read_card.ensures.shown in
@@ -34,14 +34,14 @@ returns-in-Ok-compare_entries-clause-compared c =
       shows = card;
       answer =
           same_answer AreDifferences c.as_slice-2.result.now (uses_of c.in-Ok.registration.0 c.in-Ok-read_card.read.vehicles.items) (map minute_told (minutes_on c.lines.result.now)) (minutes_in shown.messages)
-          (map entry_told (minutes_on c.lines-2.result.now)) c.in-Ok-read_card.read.history c.in-Ok-compare_entries.all
-          (c.as_slice-2.ensures.value ∙ c.in-Ok-uses_of.ensures ∙ ap (λ (vs : List Vehicle). uses_of c.in-Ok.registration.0 vs) c.as_slice.ensures.value)
+          (map entry_told (minutes_on c.lines-2.result.now)) c.in-Ok-read_card.read.history c.in_ok-all.all
+          (c.as_slice-2.ensures.value ∙ c.in_ok-uses.ensures ∙ ap (λ (vs : List Vehicle). uses_of c.in-Ok.registration.0 vs) c.as_slice.ensures.value)
           (c.lines.ensures.minutes ∙ shown.shown_are)
           c.lines-2.ensures.entries
-          c.in-Ok-compare_entries.ensures;
+          c.in_ok-all.ensures;
     }
 
-pub returns-in-Ok-compare_entries-clause-dated : goal.returns-in-Ok-compare_entries-clause-dated
-returns-in-Ok-compare_entries-clause-dated c =
+pub returns-clause-dated : goal.returns-clause-dated
+returns-clause-dated c =
     let a : Against = record { uses = c.as_slice-2.result.now; minutes = map minute_told (minutes_on c.lines.result.now) } in
-    runs_dated a (map entry_told (minutes_on c.lines-2.result.now)) c.in-Ok-compare_entries.all (lines_dated c.lines-2.result.now c.lines-2.ensures.lines) c.in-Ok-compare_entries.ensures
+    runs_dated a (map entry_told (minutes_on c.lines-2.result.now)) c.in_ok-all.all (lines_dated c.lines-2.result.now c.lines-2.ensures.lines) c.in_ok-all.ensures

@@ -1,8 +1,8 @@
 use Rattle.std.specs.Prelude.{codes}
+use Rattle.calendar_days.specs.Clock.{duration_text}
 use Rattle.file_view.specs.Histories.{minutes_on}
 use Rattle.day_totals.specs.declared.figures.Figure.TheVariants.{Drive, Work, Available, Rest}
 use Rattle.day_totals.specs.Figures.{total}
-use Rattle.day_totals.specs.Text.{duration_text}
 use Rattle.day_chart.proofs.Joining.{nine_pieces}
 use Rattle.day_chart.proofs.band.write_sums.Goals as goal
 

@@ -1,6 +1,6 @@
 use Rattle.std.proofs.Common.{◌∙◌, List, ℕ, ◌++◌, get_or, take, ap, sym, append_assoc}
 use Rattle.std.proofs.lemmas.List.{take_more}
-use Rattle.day_chart.specs.declared.mark.Mark.{Mark}
+use Rattle.view_model.specs.declared.marks.Mark.{Mark}
 use Rattle.day_chart.specs.Marks.{day_mark_text, marks_text}
 use Rattle.day_chart.proofs.Marked.{no_mark, marks_more}
 use Rattle.day_chart.proofs.mark.write_marks.Goals as goal

@@ -4,17 +4,17 @@ use Rattle.day_reports.proofs.cards.card_chart.Goals as goal
 
 pub returns-clause-text : goal.returns-clause-text
 returns-clause-text c =
-    let shown = card_shown (minutes_on c.lines-lines.result.now) c.in-Ok.history c.lines-lines.ensures.entries in
+    let shown = card_shown (minutes_on c.lines-lines.result.now) c.in_ok-history.history c.lines-lines.ensures.entries in
     record {
-      entries = c.in-Ok.history;
-      distances = c.in-Ok-card_distances.distances.items;
-      marks = c.in-Ok-card_marks.marks.items;
-      hands = c.in-Ok-by_hand.entries.items;
+      entries = c.in_ok-history.history;
+      distances = c.in_ok-distances.distances.items;
+      marks = c.in_ok-marks.marks.items;
+      hands = c.in_ok-entries.entries.items;
       text = c.in_ok-totals.totals.items;
-      shows = c.in-Ok.ensures.entries;
-      tells = c.in-Ok-card_distances.ensures.distances;
-      marked = c.in-Ok-card_marks.ensures.marks;
-      handed = c.in-Ok-by_hand.ensures.told;
+      shows = c.in_ok-history.ensures.entries;
+      tells = c.in_ok-distances.ensures.distances;
+      marked = c.in_ok-marks.ensures.marks;
+      handed = c.in_ok-entries.ensures.told;
       totals = rw (c.as_slice-2.ensures.value, shown) at c.in_ok-totals.ensures;
       chart = rw (c.as_slice-3.ensures.value, c.in_ok-add_hands.ensures, c.as_slice.ensures.value, c.as_slice-4.ensures.value, shown) at c.in_ok-text.ensures;
     }

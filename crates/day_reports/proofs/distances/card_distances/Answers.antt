@@ -8,7 +8,7 @@ use Rattle.day_reports.proofs.distances.card_distances.Goals as goal
 
 pub returns-clause-distances : goal.returns-clause-distances
 returns-clause-distances c =
-    let told = c.in-Ok.ensures.heads in
+    let told = c.in_ok-heads.ensures.heads in
     record {
       app = told.app;
       days = told.days;

@@ -1,7 +1,7 @@
 use Rattle.std.proofs.Common.{◌∙◌, List, ◌++◌, get_or, take, ap, sym, append_assoc}
 use Rattle.std.proofs.lemmas.List.{take_more}
 use Rattle.activity_codec.specs.declared.entries.Manual.{Manual}
-use Rattle.day_chart.specs.declared.mark.Mark.{Mark}
+use Rattle.view_model.specs.declared.marks.Mark.{Mark}
 use Rattle.day_reports.specs.Hands.{if_in_time, hand_marks}
 use Rattle.day_reports.proofs.HandMarks.{no_hand, hands_more}
 use Rattle.day_reports.proofs.hands.add_hands.Goals as goal

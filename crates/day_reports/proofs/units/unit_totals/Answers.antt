@@ -4,12 +4,12 @@ use Rattle.day_reports.proofs.units.unit_totals.Goals as goal
 
 pub returns-clause-text : goal.returns-clause-text
 returns-clause-text c =
-    let shown = unit_shown (minutes_on c.lines.result.now) c.in-Ok.history c.lines.ensures.minutes in
+    let shown = unit_shown (minutes_on c.lines.result.now) c.in_ok-history.history c.lines.ensures.minutes in
     record {
-      minutes = c.in-Ok.history;
-      gaps = c.in-Ok-marks_of.marks.gaps.items;
-      distances = c.in-Ok-marks_of.marks.distances.items;
-      shows = c.in-Ok.ensures.minutes;
-      tells = c.in-Ok-marks_of.ensures.marks;
+      minutes = c.in_ok-history.history;
+      gaps = c.in_ok-marks.marks.gaps.items;
+      distances = c.in_ok-marks.marks.distances.items;
+      shows = c.in_ok-history.ensures.minutes;
+      tells = c.in_ok-marks.ensures.marks;
       totals = rw (c.as_slice.ensures.value, c.as_slice-2.ensures.value, shown) at c.in_ok-text.ensures;
     }

@@ -2,7 +2,7 @@ use Rattle.std.proofs.Common.{◌∙◌, ◌++◌, rules}
 use Rattle.json.specs.Json.{array}
 use Rattle.json.specs.Tree.{json_tokens}
 use Rattle.file_json.specs.Cards.{lists_shown}
-use Rattle.unit_marks.proofs.Filing.{list_there}
+use Rattle.file_view.proofs.Filing.{list_there}
 use Rattle.file_json.proofs.Left.{one_list_more, no_list_left}
 use Rattle.file_json.proofs.card.write_lists.Goals as goal
 

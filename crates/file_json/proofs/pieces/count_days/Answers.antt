@@ -1,5 +1,5 @@
 use Rattle.std.proofs.Common.{◌≡◌, ◌≤◌, arith, zero-add, get_or}
-use Rattle.unit_marks.proofs.Empty.{no_message_at}
+use Rattle.file_view.proofs.Placing.{no_message_at}
 use Rattle.file_json.specs.Pieces.{days_asked}
 use Rattle.file_json.proofs.Walking.{asked_more, none_asked, one_day}
 use Rattle.file_json.proofs.pieces.count_days.Goals as goal

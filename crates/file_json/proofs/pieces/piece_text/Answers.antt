@@ -9,4 +9,4 @@ use Rattle.file_json.proofs.pieces.piece_text.Goals as goal
 pub returns-in-File : goal.returns-in-File
 returns-in-File c =
     rw c.in-File.is
-    (subst (λ (l : List ℕ). IfOk c.file_text.result (λ text. text.items ≡ print (json_tokens (entry_shown c.in-File.last c.in-File.place (entry_in l))))) c.part-in-File.ensures c.file_text.ensures)
+    (subst (λ (l : List ℕ). IfOk c.file_text.result (λ text. text.items ≡ print (json_tokens (entry_shown c.in-File.last c.in-File.place (entry_in l))))) c.part-in-File.ensures.bytes c.file_text.ensures)

@@ -2,8 +2,8 @@ use Rattle.std.proofs.Common.{◌≡◌, ◌≢◌, ◌∙◌, ◌+◌, ◌-◌,
 use Rattle.std.specs.Prelude.{true}
 use Rattle.byteorder.specs.Endian.{big_number}
 use Rattle.card_image.specs.CardFile.{FileEntry}
-use Rattle.unit_marks.specs.Files.{AreFiles}
-use Rattle.unit_marks.proofs.Filing.{head_there}
+use Rattle.file_view.specs.Files.{AreFiles}
+use Rattle.file_view.proofs.Filing.{head_there}
 use Rattle.file_json.proofs.Making.{card_begun, card_whole}
 use Rattle.file_json.proofs.Filing.{AreToCome, one_file_made, all_files_made}
 use Rattle.file_json.proofs.pieces.pieces_of_files.Goals as goal

@@ -1,7 +1,7 @@
 use Rattle.std.proofs.Common.{◌≡◌, ◌≢◌, ◌+◌, ◌≤◌, List, drop, length}
 use Rattle.byteorder.specs.Endian.{big_number}
 use Rattle.card_image.specs.CardFile.{FileEntry}
-use Rattle.unit_marks.specs.Files.{AreFiles}
+use Rattle.file_view.specs.Files.{AreFiles}
 use Rattle.file_json.proofs.Making.{card_whole}
 use Rattle.file_json.proofs.Filing.{AreToCome}
 use Rattle.file_json.proofs.pieces.pieces_of_files.Given as goal

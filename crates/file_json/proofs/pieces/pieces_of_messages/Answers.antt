@@ -1,5 +1,5 @@
 use Rattle.std.proofs.Common.{◌≡◌, ◌∙◌, ◌+◌, ◌≤◌, length, ap, arith, length-drop, zero-add}
-use Rattle.unit_marks.proofs.Placing.{placed_count}
+use Rattle.file_view.proofs.Placing.{placed_count}
 use Rattle.file_json.specs.Units.{messages_told}
 use Rattle.file_json.proofs.Making.{unit_whole}
 use Rattle.file_json.proofs.Walking.{none_made, message_there, one_message_made, all_messages}

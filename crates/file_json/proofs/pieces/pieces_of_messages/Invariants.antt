@@ -1,6 +1,6 @@
 use Rattle.std.proofs.Common.{◌≡◌, ◌+◌, List, length}
 use Rattle.message_model.specs.Messages.{Message, IsUnitFile}
-use Rattle.unit_marks.specs.Places.{ArePlaced}
+use Rattle.file_view.specs.Places.{ArePlaced}
 use Rattle.file_json.specs.Units.{messages_told}
 use Rattle.file_json.proofs.Making.{unit_whole}
 use Rattle.file_json.proofs.Walking.{AreFrom}

@@ -4,5 +4,5 @@ use Rattle.file_view.proofs.front.read_front.Goals as goal
 
 pub loop-front-init : goal.loop-front-init
 loop-front-init c =
-    let more = c.in-Ok.ensures.more [] (leads_none c.args.b.now (record { end = 0; registration = None }) refl refl) in
-    record { inside = c.in-Ok.ensures.inside.1; leads = (more.0 ∷ [], omega arith, more.1) }
+    let more = c.in_ok-front.ensures.more [] (leads_none c.args.b.now (record { end = 0; registration = None }) refl refl) in
+    record { inside = c.in_ok-front.ensures.inside.1; leads = (more.0 ∷ [], omega arith, more.1) }

@@ -1,7 +1,7 @@
 use Rattle.std.proofs.Common.{◌≤◌, ◌++◌, List, ℕ, length, ap, arith, rules}
 use Rattle.std.proofs.lemmas.List.{length-take}
 use Rattle.unit_marks.specs.Cards.{list_marks}
-use Rattle.unit_marks.proofs.Filing.{list_there}
+use Rattle.file_view.proofs.Filing.{list_there}
 use Rattle.unit_marks.proofs.TellingCards.{no_record_told, one_record_told, all_records_told}
 use Rattle.unit_marks.proofs.cards.add_records.Goals as goal
 

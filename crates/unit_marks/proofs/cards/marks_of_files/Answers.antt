@@ -1,9 +1,9 @@
 use Rattle.std.proofs.Common.{◌≢◌, List, ◌++◌, length, ap, rules}
 use Rattle.card_image.specs.CardFile.{FileEntry}
-use Rattle.day_chart.specs.declared.mark.Mark.{Mark}
-use Rattle.unit_marks.specs.Files.{AreFiles}
+use Rattle.view_model.specs.declared.marks.Mark.{Mark}
+use Rattle.file_view.specs.Files.{AreFiles}
 use Rattle.unit_marks.specs.Cards.{files_marks}
-use Rattle.unit_marks.proofs.Filing.{head_there}
+use Rattle.file_view.proofs.Filing.{head_there}
 use Rattle.unit_marks.proofs.TellingCards.{AreFilesLeft, one_file_told, all_files_told}
 use Rattle.unit_marks.proofs.cards.marks_of_files.Goals as goal
 

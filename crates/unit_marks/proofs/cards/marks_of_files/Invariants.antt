@@ -1,7 +1,7 @@
 use Rattle.std.proofs.Common.{◌≢◌, ◌+◌, ◌≤◌, List, drop, length}
 use Rattle.byteorder.specs.Endian.{big_number}
 use Rattle.card_image.specs.CardFile.{FileEntry}
-use Rattle.unit_marks.specs.Files.{AreFiles}
+use Rattle.file_view.specs.Files.{AreFiles}
 use Rattle.unit_marks.specs.Cards.{files_marks}
 use Rattle.unit_marks.proofs.TellingCards.{AreFilesLeft}
 use Rattle.unit_marks.proofs.cards.marks_of_files.Given as goal

@@ -1,10 +1,9 @@
 use Rattle.std.proofs.Common.{◌≡◌, ◌∙◌, ℕ, ◌+◌, ◌*◌, ◌<◌, List, [], ◌∷◌, ◌++◌, length, get_or, take, map, ap, sym, arith, append_assoc}
 use Rattle.std.proofs.Math.Seq.{take-length}
 use Rattle.std.proofs.lemmas.List.{take_more}
-use Rattle.card_layout.specs.Images.{bytes_at}
-use Rattle.day_chart.specs.declared.mark.Mark.{Mark}
+use Rattle.view_model.specs.declared.marks.Mark.{Mark}
 use Rattle.unit_marks.specs.Entries.{mark_of}
-use Rattle.unit_marks.proofs.Fronts.{at_front, entry_inside, cut_long, times_few}
+use Rattle.unit_marks.proofs.Fronts.{at_front, entry_inside, times_few}
 use Rattle.unit_marks.proofs.TellingMarks.{mapped_more}
 use Rattle.unit_marks.proofs.entries.add_entries.Goals as goal
 
@@ -25,20 +24,15 @@ overflow_add-from c =
     let at = at_front 1 c.args.size given.0 c.args.bytes.now given.1 in
     omega (arith, times_few c.args.size c.loop-i.i c.requires.few (omega (arith, c.loop-i-test.true, c.byte_at-count.ensures, at.count, given.1.are.few)))
 
-pub cut_out-entry-requires : goal.cut_out-entry-requires
-cut_out-entry-requires c =
+pub part-entry-requires : goal.part-entry-requires
+part-entry-requires c =
     let given = c.requires.entries in
     let at = at_front 1 c.args.size given.0 c.args.bytes.now given.1 in
     let low : c.loop-i.i < length c.requires.entries.0 = omega (arith, c.loop-i-test.true, c.byte_at-count.ensures, at.count) in
     omega (arith, entry_inside 1 c.args.size given.0 c.args.bytes.now given.1.rest c.loop-i.i at low)
 
 pub add_entry-requires : goal.add_entry-requires
-add_entry-requires c =
-    let given = c.requires.entries in
-    let at = at_front 1 c.args.size given.0 c.args.bytes.now given.1 in
-    let low : c.loop-i.i < length c.requires.entries.0 = omega (arith, c.loop-i-test.true, c.byte_at-count.ensures, at.count) in
-    let inside = entry_inside 1 c.args.size given.0 c.args.bytes.now given.1.rest c.loop-i.i at low in
-    omega (arith, c.requires.long, ap (λ (l : List ℕ). length l) c.cut_out-entry.ensures, cut_long c.args.bytes.now (1 + c.args.size * c.loop-i.i) c.args.size inside)
+add_entry-requires c = omega (arith, c.requires.long, c.part-entry.ensures.len)
 
 pub loop-i-preserved : goal.loop-i-preserved
 loop-i-preserved c = λ entries begin.
@@ -46,7 +40,7 @@ loop-i-preserved c = λ entries begin.
     let i = c.loop-i.i in
     let kind = c.args.kind in
     let low : c.loop-i.i < length entries = omega (arith, c.loop-i-test.true, c.byte_at-count.ensures, at.count) in
-    let entry : c.cut_out-entry.result.now ≡ get_or entries c.loop-i.i [] = c.cut_out-entry.ensures ∙ at.each i low in
+    let entry : c.part-entry.result.now ≡ get_or entries c.loop-i.i [] = c.part-entry.ensures.bytes ∙ at.each i low in
     c.in_ok-add_entry.ensures
     ∙ ap (λ (l : List ℕ). c.loop-i.marks.items ++ mark_of c.args.kind l ∷ []) entry
     ∙ ap (λ (l : List Mark). l ++ mark_of c.args.kind (get_or entries c.loop-i.i []) ∷ []) (c.loop-i.invariant entries begin)

@@ -1,5 +1,5 @@
 use Rattle.std.proofs.Common.{◌∙◌, ◌-◌, ◌++◌, ℕ, List, map, drop, length, ap, arith, length-drop}
-use Rattle.day_chart.specs.declared.mark.Mark.{Mark}
+use Rattle.view_model.specs.declared.marks.Mark.{Mark}
 use Rattle.unit_marks.specs.declared.entries.Kind.TheVariants.{Event, Fault}
 use Rattle.unit_marks.specs.Entries.{mark_of}
 use Rattle.unit_marks.proofs.Fronts.{moved, at_front, event_fronts}

@@ -3,7 +3,7 @@ use Rattle.message_model.specs.Messages.{Message, ADay, AnEventList}
 use Rattle.unit_messages.specs.Reading.{BeginsWith}
 use Rattle.file_view.proofs.Telling.{rest_is}
 use Rattle.file_view.proofs.UnitFronts.{day_asked}
-use Rattle.day_chart.specs.declared.mark.Mark.{Mark}
+use Rattle.view_model.specs.declared.marks.Mark.{Mark}
 use Rattle.unit_marks.specs.Entries.{place_marks, event_marks, marks_told}
 use Rattle.unit_marks.proofs.Telling.{events_asked}
 use Rattle.unit_marks.proofs.TellingMarks.{none_asked}

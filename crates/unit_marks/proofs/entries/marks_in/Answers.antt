@@ -2,10 +2,10 @@ use Rattle.std.proofs.Common.{◌≡◌, ◌∙◌, ℕ, ◌+◌, ◌<◌, List,
 use Rattle.std.proofs.Math.Seq.{take-length}
 use Rattle.std.proofs.lemmas.List.{take_more}
 use Rattle.message_model.specs.Messages.{Message}
-use Rattle.day_chart.specs.declared.mark.Mark.{Mark}
+use Rattle.view_model.specs.declared.marks.Mark.{Mark}
 use Rattle.unit_marks.specs.Entries.{marks_told}
-use Rattle.unit_marks.proofs.Empty.{no_message_at, no_told}
-use Rattle.unit_marks.proofs.Placing.{placed_at, placed_count}
+use Rattle.file_view.proofs.Placing.{no_message_at, no_told}
+use Rattle.file_view.proofs.Placing.{placed_at, placed_count}
 use Rattle.unit_marks.proofs.TellingMarks.{marks_more}
 use Rattle.unit_marks.proofs.entries.marks_in.Goals as goal
 

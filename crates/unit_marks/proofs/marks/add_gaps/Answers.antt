@@ -2,9 +2,9 @@ use Rattle.std.proofs.Common.{◌≡◌, ◌∙◌, ℕ, ◌+◌, ◌*◌, ◌<�
 use Rattle.std.proofs.Math.Seq.{take-length}
 use Rattle.std.proofs.lemmas.List.{take_more}
 use Rattle.card_layout.specs.Images.{bytes_at, number_at}
-use Rattle.slot_bars.specs.declared.seen.Gap.{Gap}
+use Rattle.view_model.specs.declared.marks.Gap.{Gap}
 use Rattle.unit_marks.specs.Marks.{gap_of, gaps_of}
-use Rattle.unit_marks.proofs.Laid.{cut_length, events_laid, event_inside}
+use Rattle.unit_marks.proofs.Laid.{events_laid, event_inside}
 use Rattle.unit_marks.proofs.Telling.{gaps_of_more}
 use Rattle.unit_marks.proofs.marks.add_gaps.Goals as goal
 
@@ -16,8 +16,8 @@ byte_at-count-requires c =
     let laid = events_laid c.requires.0 c.args.message.now c.requires.1 in
     omega (arith, laid.inside, laid.faults, c.byte_at-faults.ensures)
 
-pub cut-event-requires : goal.cut-event-requires
-cut-event-requires c =
+pub part-event-requires : goal.part-event-requires
+part-event-requires c =
     let laid = events_laid c.requires.0 c.args.message.now c.requires.1 in
     let place : 3 + 82 * c.byte_at-faults.result ≡ 3 + 82 * length c.requires.0.faults = ap (λ (n : ℕ). 3 + 82 * n) (c.byte_at-faults.ensures ∙ laid.faults) in
     let count : c.byte_at-count.result ≡ length c.requires.0.events = c.byte_at-count.ensures ∙ ap (λ (p : ℕ). number_at c.args.message.now p 1) place ∙ laid.count in
@@ -26,15 +26,7 @@ cut-event-requires c =
     omega (arith, place, inside)
 
 pub add_gap-requires : goal.add_gap-requires
-add_gap-requires c =
-    let laid = events_laid c.requires.0 c.args.message.now c.requires.1 in
-    let place : 3 + 82 * c.byte_at-faults.result ≡ 3 + 82 * length c.requires.0.faults = ap (λ (n : ℕ). 3 + 82 * n) (c.byte_at-faults.ensures ∙ laid.faults) in
-    let count : c.byte_at-count.result ≡ length c.requires.0.events = c.byte_at-count.ensures ∙ ap (λ (p : ℕ). number_at c.args.message.now p 1) place ∙ laid.count in
-    let low : c.loop-i.i < length c.requires.0.events = omega (arith, count, c.loop-i-test.true) in
-    let inside = event_inside c.requires.0 c.args.message.now c.loop-i.i laid low in
-    let from : ℕ = 3 + 82 * c.byte_at-faults.result + 1 + 83 * c.loop-i.i in
-    let long : length (bytes_at c.args.message.now (3 + 82 * c.byte_at-faults.result + 1 + 83 * c.loop-i.i) 83) ≡ 83 = cut_length c.args.message.now from (omega (arith, place, inside)) in
-    omega (arith, ap (λ (l : List ℕ). length l) c.cut-event.ensures, long)
+add_gap-requires c = omega (arith, c.part-event.ensures.len)
 
 pub loop-i-preserved : goal.loop-i-preserved
 loop-i-preserved c = λ m begins.
@@ -44,7 +36,7 @@ loop-i-preserved c = λ m begins.
     let count : c.byte_at-count.result ≡ length m.events = c.byte_at-count.ensures ∙ ap (λ (p : ℕ). number_at c.args.message.now p 1) place ∙ laid.count in
     let low : c.loop-i.i < length m.events = omega (arith, count, c.loop-i-test.true) in
     let from : 3 + 82 * c.byte_at-faults.result + 1 + 83 * c.loop-i.i ≡ 4 + 82 * length m.faults + 83 * c.loop-i.i = omega (arith, place) in
-    let event : c.cut-event.result.now ≡ get_or m.events c.loop-i.i [] = c.cut-event.ensures ∙ ap (λ (p : ℕ). bytes_at c.args.message.now p 83) from ∙ laid.event i low in
+    let event : c.part-event.result.now ≡ get_or m.events c.loop-i.i [] = c.part-event.ensures.bytes ∙ ap (λ (p : ℕ). bytes_at c.args.message.now p 83) from ∙ laid.event i low in
     c.in_ok-add_gap.ensures
     ∙ ap (λ (l : List ℕ). c.loop-i.gaps.items ++ gap_of l) event
     ∙ ap (λ (l : List Gap). l ++ gap_of (get_or m.events c.loop-i.i [])) (c.loop-i.invariant m begins)

@@ -1,7 +1,7 @@
 use Rattle.std.proofs.Common.{◌∙◌, List, ℕ, [], ◌∷◌, ◌++◌, drop, ap, sym, subst, append-nil}
 use Rattle.message_model.specs.Messages.{Message, AnEventList}
 use Rattle.unit_messages.specs.Reading.{BeginsWith}
-use Rattle.slot_bars.specs.declared.seen.Gap.{Gap}
+use Rattle.view_model.specs.declared.marks.Gap.{Gap}
 use Rattle.file_view.proofs.Telling.{rest_is}
 use Rattle.unit_marks.specs.Marks.{gaps_told, gaps_of}
 use Rattle.unit_marks.proofs.Telling.{events_asked, others_asked}

@@ -1,5 +1,5 @@
 use Rattle.std.proofs.Common.{◌∙◌, List, ◌++◌, length, get_or, drop, ap, sym, arith, append_assoc, append-nil, length-drop}
-use Rattle.day_totals.specs.declared.figures.Distance.{Distance}
+use Rattle.view_model.specs.declared.marks.Distance.{Distance}
 use Rattle.unit_marks.specs.declared.marks.Midnight.{Midnight}
 use Rattle.unit_marks.specs.Marks.{gained, distances_of}
 use Rattle.unit_marks.proofs.Empty.{no_midnight}

@@ -1,6 +1,6 @@
 use Rattle.std.proofs.Common.{◌≡◌, List, take}
 use Rattle.message_model.specs.Messages.{Message}
-use Rattle.unit_marks.specs.Places.{ArePlaced}
+use Rattle.file_view.specs.Places.{ArePlaced}
 use Rattle.unit_marks.specs.Marks.{gaps_told}
 use Rattle.unit_marks.proofs.marks.gaps_in.Given as goal
 

@@ -3,8 +3,8 @@ use Rattle.std.proofs.Math.Seq.{take-length}
 use Rattle.std.proofs.lemmas.List.{take_more}
 use Rattle.message_model.specs.Messages.{Message}
 use Rattle.unit_marks.specs.declared.marks.Midnight.{Midnight}
-use Rattle.unit_marks.proofs.Empty.{no_message_at, no_told}
-use Rattle.unit_marks.proofs.Placing.{placed_at, placed_count}
+use Rattle.file_view.proofs.Placing.{no_message_at, no_told}
+use Rattle.file_view.proofs.Placing.{placed_at, placed_count}
 use Rattle.unit_marks.proofs.Telling.{midnights_told, midnights_more}
 use Rattle.unit_marks.proofs.marks.midnights_in.Goals as goal
 

@@ -1,6 +1,6 @@
 use Rattle.std.proofs.Common.{◌≡◌, List, take}
 use Rattle.message_model.specs.Messages.{Message}
-use Rattle.unit_marks.specs.Places.{ArePlaced}
+use Rattle.file_view.specs.Places.{ArePlaced}
 use Rattle.unit_marks.proofs.Telling.{midnights_told}
 use Rattle.unit_marks.proofs.marks.midnights_in.Given as goal
 

@@ -1,35 +1,30 @@
 use Rattle.std.proofs.Common.{◌≡◌, ◌∙◌, ℕ, ◌+◌, ◌*◌, ◌<◌, List, [], ◌∷◌, ◌++◌, length, get_or, take, map, ap, sym, arith, append_assoc}
 use Rattle.std.proofs.Math.Seq.{take-length}
 use Rattle.std.proofs.lemmas.List.{take_more}
-use Rattle.card_layout.specs.Images.{bytes_at}
 use Rattle.unit_speeds.specs.declared.line.SpeedLine.{SpeedLine}
 use Rattle.unit_speeds.specs.Speeds.{line_of}
-use Rattle.unit_speeds.proofs.Laid.{blocks_laid, block_inside, block_length}
+use Rattle.unit_speeds.proofs.Laid.{blocks_laid, block_inside}
 use Rattle.unit_speeds.proofs.Telling.{told_more}
 use Rattle.unit_speeds.proofs.blocks.add_blocks.Goals as goal
 
 pub count_in-count-requires : goal.count_in-count-requires
 count_in-count-requires c = omega (arith, (blocks_laid c.requires.0 c.args.message.now c.requires.1).inside)
 
-pub block_at-block-requires : goal.block_at-block-requires
-block_at-block-requires c =
+pub part-block-requires : goal.part-block-requires
+part-block-requires c =
     let laid = blocks_laid c.requires.0 c.args.message.now c.requires.1 in
     let low : c.loop-i.i < length c.requires.0.blocks = omega (arith, laid.count, c.count_in-count.ensures, c.loop-i-test.true) in
     omega (arith, block_inside c.requires.0 c.args.message.now c.loop-i.i laid low)
 
 pub add_block-requires : goal.add_block-requires
-add_block-requires c =
-    let laid = blocks_laid c.requires.0 c.args.message.now c.requires.1 in
-    let low : c.loop-i.i < length c.requires.0.blocks = omega (arith, laid.count, c.count_in-count.ensures, c.loop-i-test.true) in
-    ap (λ (l : List ℕ). length l) c.block_at-block.ensures
-    ∙ block_length c.args.message.now (4 + 64 * c.loop-i.i) (block_inside c.requires.0 c.args.message.now c.loop-i.i laid low)
+add_block-requires c = c.part-block.ensures.len
 
 pub loop-i-preserved : goal.loop-i-preserved
 loop-i-preserved c = λ m begins.
     let laid = blocks_laid m c.args.message.now begins in
     let i = c.loop-i.i in
     let low : c.loop-i.i < length m.blocks = omega (arith, laid.count, c.count_in-count.ensures, c.loop-i-test.true) in
-    let block : c.block_at-block.result.now ≡ get_or m.blocks c.loop-i.i [] = c.block_at-block.ensures ∙ laid.block i low in
+    let block : c.part-block.result.now ≡ get_or m.blocks c.loop-i.i [] = c.part-block.ensures.bytes ∙ laid.block i low in
     c.in_ok-add_block.ensures
     ∙ ap (λ (l : List ℕ). c.loop-i.lines.items ++ line_of l ∷ []) block
     ∙ ap (λ (l : List SpeedLine). l ++ line_of (get_or m.blocks c.loop-i.i []) ∷ []) (c.loop-i.invariant m begins)

@@ -2,8 +2,8 @@ use Rattle.std.proofs.Common.{◌≡◌, ◌∙◌, ℕ, ◌+◌, ◌<◌, List,
 use Rattle.std.proofs.Math.Seq.{take-length}
 use Rattle.std.proofs.lemmas.List.{take_more}
 use Rattle.message_model.specs.Messages.{Message}
-use Rattle.unit_marks.proofs.Empty.{no_message_at, no_told}
-use Rattle.unit_marks.proofs.Placing.{placed_at, placed_count}
+use Rattle.file_view.proofs.Placing.{no_message_at, no_told}
+use Rattle.file_view.proofs.Placing.{placed_at, placed_count}
 use Rattle.unit_speeds.specs.declared.line.SpeedLine.{SpeedLine}
 use Rattle.unit_speeds.specs.Speeds.{speeds_told}
 use Rattle.unit_speeds.proofs.Telling.{speeds_more}

@@ -1,6 +1,6 @@
 use Rattle.std.proofs.Common.{◌≡◌, List, take}
 use Rattle.message_model.specs.Messages.{Message}
-use Rattle.unit_marks.specs.Places.{ArePlaced}
+use Rattle.file_view.specs.Places.{ArePlaced}
 use Rattle.unit_speeds.specs.Speeds.{speeds_told}
 use Rattle.unit_speeds.proofs.blocks.lines_in.Given as goal
 

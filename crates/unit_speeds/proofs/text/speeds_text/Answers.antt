@@ -1,18 +1,18 @@
 use Rattle.std.proofs.Common.{◌≡◌, ◌∙◌, List, sym, subst}
-use Rattle.unit_marks.specs.declared.places.MessageAt.{MessageAt}
-use Rattle.unit_marks.specs.Places.{ArePlaced}
+use Rattle.file_view.specs.declared.places.MessageAt.{MessageAt}
+use Rattle.file_view.specs.Places.{ArePlaced}
 use Rattle.unit_speeds.specs.declared.line.SpeedLine.{SpeedLine}
 use Rattle.unit_speeds.specs.Text.{AreSpeedLines, last_lines}
 use Rattle.unit_speeds.proofs.text.speeds_text.Goals as goal
 
 pub lines_in-requires : goal.lines_in-requires
 lines_in-requires c =
-    let placed = c.in-Ok.ensures.placed in
+    let placed = c.in_ok-all.ensures.placed in
     (placed.0, subst (λ (l : List MessageAt). ArePlaced c.args.b.now l placed.0) (sym c.as_slice.ensures.value) placed.2)
 
 pub returns-clause-text : goal.returns-clause-text
 returns-clause-text c =
-    let placed = c.in-Ok.ensures.placed in
+    let placed = c.in_ok-all.ensures.placed in
     let are = subst (λ (l : List MessageAt). ArePlaced c.args.b.now l placed.0) (sym c.as_slice.ensures.value) placed.2 in
     record {
       messages = placed.0;

@@ -14,7 +14,7 @@ returns-clause-some c =
     let rest : take (length c.args.b.now - c.args.place) (drop c.args.place c.args.b.now) ≡ drop c.args.place c.args.b.now = ap (λ (n : ℕ). take n (drop c.args.place c.args.b.now)) (sym (length-drop c.args.place c.args.b.now)) ∙ take-length (drop c.args.place c.args.b.now) in
     let long : length (take (length c.args.b.now - c.args.place) (drop c.args.place c.args.b.now)) ≡ length (drop c.args.place c.args.b.now) = ap (λ (l : List ℕ). length l) rest in
     entry_here b place (record { fid = c.read_u16-fid.result; kind = slice_index (take (length c.args.b.now - c.args.place) (drop c.args.place c.args.b.now)) 2; place = c.args.place + 5; len = c.read_u16-len.result })
-    (λ i. omega (arith, c.type_inv.b i)) c.requires.inside (omega (arith, c.if-rest-lt-HEAD.false, long)) (omega (arith, c.if-left-len.false, c.if-rest-lt-HEAD.false, long)) (omega (arith, c.if-kind-gt1.false))
+    (λ i. omega (arith, c.type_inv.b i)) c.requires.inside (omega (arith, c.if-rest-lt-FILE_HEAD.false, long)) (omega (arith, c.if-left-len.false, c.if-rest-lt-FILE_HEAD.false, long)) (omega (arith, c.if-kind-gt1.false))
     (omega arith) (omega arith)
     (c.read_u16-fid.ensures ∙ ap (λ (l : List ℕ). big_number 2 (bytes_at l 0 2)) rest)
     (ap (λ (l : List ℕ). slice_index l 2) rest)

@@ -1,6 +1,6 @@
 use Rattle.std.proofs.Common.{◌<◌, ◌≤◌, ◌-◌, length}
-use Rattle.unit_marks.proofs.Placing.{AreUpTo}
-use Rattle.unit_marks.proofs.places.messages_at.Given as goal
+use Rattle.file_view.proofs.Placing.{AreUpTo}
+use Rattle.file_view.proofs.places.messages_at.Given as goal
 
 -- the messages before the place
 abbrev pub invariant-loop-place : goal.invariant-loop-place

@@ -4,9 +4,9 @@ ghost use Rattle.message_model.specs.Messages.{Message as FileMessage, IsUnitFil
 ghost use Rattle.unit_messages.specs.Reading.{request_of};
 ghost use Rattle.file_view.specs.Faults.{IfBadFile};
 ghost use Rattle.file_view.specs.UnitFiles.{IsBadUnitFile, HasNoMessage};
-ghost use Rattle.unit_marks.specs.Places.{ArePlaced, IsNext};
+ghost use Rattle.file_view.specs.Places.{ArePlaced, IsNext};
 
-use file_view::ViewFault;
+use crate::ViewFault;
 use std::alloc::{AllocError, Global};
 use unit_messages::{Request, read_message};
 
@@ -30,15 +30,9 @@ pub fn messages_at(alloc: Global, b: &[u8]) -> Result<Vec<MessageAt>, ViewFault>
     ensures bad { IfErr result (λ fault. IfBadFile fault (λ place. IsBadUnitFile place b.now)) }
 {
     let mut all = Vec::new(alloc);
-    let mut place = match take_message(&mut all, b, 0) {
-        Ok(first) => first,
-        Err(fault) => return Err(fault),
-    };
+    let mut place = take_message(&mut all, b, 0)?;
     while place < b.len() {
-        place = match take_message(&mut all, b, place) {
-            Ok(end) => end,
-            Err(fault) => return Err(fault),
-        };
+        place = take_message(&mut all, b, place)?;
     }
     Ok(all)
 }

@@ -3,8 +3,8 @@ use Rattle.link_model.specs.declared.request.Request.{Request}
 use Rattle.unit_messages.specs.Reading.{BeginsWith, BeginsNoMessage}
 use Rattle.file_view.proofs.Telling.{rest_is}
 use Rattle.file_view.proofs.UnitFronts.{no_message}
-use Rattle.unit_marks.specs.declared.places.MessageAt.{MessageAt}
-use Rattle.unit_marks.proofs.places.take_message.Goals as goal
+use Rattle.file_view.specs.declared.places.MessageAt.{MessageAt}
+use Rattle.file_view.proofs.places.take_message.Goals as goal
 
 pub returns-in-Err-clause-bad : goal.returns-in-Err-clause-bad
 returns-in-Err-clause-bad c = (refl, no_message (drop c.args.place c.args.b.now) (subst BeginsNoMessage (rest_is c.args.b.now c.args.place) c.in-Err.ensures.bad.1))

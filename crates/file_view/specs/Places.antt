@@ -2,7 +2,7 @@
 use Rattle.std.specs.Prelude.{◌≡◌, ℕ, ◌+◌, ◌≤◌, List, [], ◌∷◌, length, drop}
 use Rattle.message_model.specs.Messages.{Message, message_bytes}
 use Rattle.unit_messages.specs.Reading.{BeginsWith, request_of}
-use Rattle.unit_marks.specs.declared.places.MessageAt.{MessageAt}
+use Rattle.file_view.specs.declared.places.MessageAt.{MessageAt}
 
 -- a message stands from one place to another
 pub record IsNext (bytes : List ℕ) (place end : ℕ) (m : Message) : Type 0 where

@@ -8,7 +8,7 @@ use Rattle.byteorder.specs.Endian.{big_number}
 use Rattle.card_layout.specs.Fields.{joined}
 use Rattle.card_layout.proofs.Numbers.{big_number-big_bytes}
 use Rattle.card_image.specs.CardFile.{FileEntry, IsFileEntry, entry_bytes}
-use Rattle.unit_marks.specs.Files.{AreFiles}
+use Rattle.file_view.specs.Files.{AreFiles}
 
 -- what stands at the front of a file's bytes
 pub record IsHead (e : FileEntry) (more rest : List ℕ) : Type 0 where

@@ -3,9 +3,7 @@ ghost use Rattle.std.specs.Prelude.{◌≡◌, ◌+◌, ◌≤◌, length, take,
 ghost use Rattle.byteorder.specs.Endian.{big_number};
 
 use byteorder::{BigEndian, ByteOrder};
-
-/// Identifier 2 bytes, kind 1, length 2.
-pub const FILE_HEAD: usize = 5;
+use card_layout::FILE_HEAD;
 
 /// The length that the file at the front tells.
 pub fn file_len(rest: &[u8]) -> usize

@@ -3,14 +3,22 @@ use Rattle.std.proofs.Common.{◌≡◌, ◌∙◌, ℕ, zero, suc, ◌+◌, ◌
 use Rattle.std.proofs.lemmas.List.{drop_at}
 use Rattle.std.proofs.lemmas.List.Elements.{All-append, All-nil}
 use Rattle.card_layout.specs.Fields.{joined}
-use Rattle.message_model.specs.Messages.{Message, message_bytes, IsMessage, IsUnitFile}
+use Rattle.link_model.specs.declared.request.Request.TheVariants.{Overview as AskOverview}
+use Rattle.message_model.specs.Messages.{Message, ASpeedList, message_bytes, IsMessage, IsUnitFile}
 use Rattle.unit_messages.specs.Reading.{request_of}
 use Rattle.file_view.specs.declared.fault.ViewFault.{ViewFault}
 use Rattle.file_view.specs.declared.fault.ViewFault.TheVariants.{BadFile, Memory}
 use Rattle.file_view.specs.Faults.{IfBadFile}
 use Rattle.file_view.specs.UnitFiles.{IsBadUnitFile, HasNoMessage}
-use Rattle.unit_marks.specs.declared.places.MessageAt.{MessageAt}
-use Rattle.unit_marks.specs.Places.{IsNext, IsPlaced, ArePlaced}
+use Rattle.file_view.specs.declared.places.MessageAt.{MessageAt}
+use Rattle.file_view.specs.Places.{IsNext, IsPlaced, ArePlaced}
+
+-- what stands for a message past the end: where it is, and what it tells
+abbrev pub no_message_at : MessageAt
+no_message_at = record { place = 0; len = 0; request = AskOverview }
+
+abbrev pub no_told : Message
+no_told = ASpeedList (record { blocks = []; signature = [] })
 
 -- some messages stand up to a place
 pub record AreUpTo (bytes : List ℕ) (place : ℕ) (all : List MessageAt) : Type 0 where

@@ -1,0 +1,6 @@
+use Rattle.std.proofs.Common.{append_assoc}
+use Rattle.card_match.proofs.text.write_place.Goals as goal
+
+pub returns : goal.returns
+returns c =
+    rw (c.in_ok-extend_from_slice-4.ensures.items, c.in_ok-extend_from_slice-3.ensures.items, c.name.ensures, c.in_ok-extend_from_slice-2.ensures.items, c.in_ok-write_clock.ensures, c.in_ok-extend_from_slice.ensures.items) (simp append_assoc)
