@@ -12,9 +12,12 @@ pub enum Fault {
     Done,
     /// The words are no form that is known.
     Usage,
-    /// This line of the trace, from 1, is the first outside the grammar.
+    /// This line, from 1, is the first outside the grammar of a trace, or of `serve --hex` the first that spells no
+    /// bytes.
     BadTrace(u32),
-    /// At this line of the trace, from 1, a limit is passed first; 0 where the source has more than 16777216 bytes.
+    /// At this line of the trace, from 1, a limit is passed first. 0 tells of no line: the source has more than
+    /// 16777216 bytes, or of `serve packets` and `download packets` a datagram has more than 264, or 4294967295 reads
+    /// were made.
     TooLong(u32),
     /// The unit's image does not decode: the place of the first field, in order of places, that fails.
     BadUnit(u32),
@@ -27,8 +30,8 @@ pub enum Fault {
     ReadFault,
     /// The sink failed.
     WriteFault,
-    /// The source is no file that `view` reads: the place of the first message or entry that is not in its grammar, or
-    /// the file's length where a needed entry is missing.
+    /// The source is no file that the form reads: the place of the first message or entry that is not in its grammar,
+    /// or the file's length where a needed entry is missing; 0 where `view manual` is given a unit file.
     BadFile(u32),
     /// The card's Application_Identification is bad: the number, from 1, of the first field that is out of its range.
     BadCard(u8),
@@ -51,7 +54,7 @@ pub struct Ended {
     pub status: u8,
     /// Why it ended.
     pub fault: Fault,
-    /// What `record` recorded; no line where another form was asked for.
+    /// What `record` or `demo` recorded; no line where another form was asked for.
     pub outcome: Outcome,
     /// The frames that passed in a `download`, in their order; none where another form was asked for.
     pub wire: Wire,

@@ -53,7 +53,7 @@ pub const SEED_MOST: u32 = 2147483647;
 pub enum Form {
     /// `minutes`: the decided minutes of a trace are printed; `minutes 2009`: those by the amended rule.
     Minutes { rule: Rule },
-    /// `record`: a trace is recorded on the unit.
+    /// `record`: a trace is recorded on the unit and the cards.
     Record,
     /// `format a N NUMBER SURNAME FIRST`, and `format b ..`: the card is issued to this identity.
     FormatCard { card: Card, identity: CardIdentity },
@@ -122,9 +122,7 @@ pub fn form_of(words: &Words) -> Option<Form>
     if let Some((command, which, count)) = words.three() {
         return form_of_three(command, which, count);
     }
-    let Some((command, what, first, second, third, fourth)) = words.six() else {
-        return None;
-    };
+    let (command, what, first, second, third, fourth) = words.six()?;
     form_of_six(command, what, first, second, third, fourth)
 }
 
@@ -158,9 +156,7 @@ fn form_of_one(word: &str) -> Option<Form>
     if is_text(word, "--version") {
         return Some(Form::Version);
     }
-    let Some(reading) = reading_of(word) else {
-        return None;
-    };
+    let reading = reading_of(word)?;
     Some(Form::Read { reading })
 }
 
@@ -230,9 +226,7 @@ fn form_of_two(command: &str, option: &str) -> Option<Form>
 fn file_of(which: &str) -> Option<Form>
     ensures { result ≡ file_of which.now }
 {
-    let Some(card) = Card::named(which.as_bytes()) else {
-        return None;
-    };
+    let card = Card::named(which.as_bytes())?;
     Some(Form::CardFile { card })
 }
 
@@ -240,9 +234,7 @@ fn file_of(which: &str) -> Option<Form>
 fn demo_of(seed: &str) -> Option<Form>
     ensures { result ≡ demo_of seed.now }
 {
-    let Some(seed) = number(seed, 0, SEED_MOST) else {
-        return None;
-    };
+    let seed = number(seed, 0, SEED_MOST)?;
     Some(Form::Demo { seed })
 }
 
@@ -264,9 +256,7 @@ fn noisy_of(which: &str, seed: &str) -> Option<Form>
     ensures { result ≡ noisy_of which.now seed.now }
 {
     if is_text(which, "noisy") {
-        let Some(seed) = number(seed, 0, SEED_MOST) else {
-            return None;
-        };
+        let seed = number(seed, 0, SEED_MOST)?;
         return Some(Form::DownloadNoisy { seed });
     }
     None
@@ -276,9 +266,7 @@ fn noisy_of(which: &str, seed: &str) -> Option<Form>
 fn last_form(command: &str, which: &str, count: &str) -> Option<Form>
     ensures { result ≡ last_form command.now which.now count.now }
 {
-    let Some(days) = last_in(which, count, LAST_MOST) else {
-        return None;
-    };
+    let days = last_in(which, count, LAST_MOST)?;
     days_form(command, days)
 }
 
@@ -286,9 +274,7 @@ fn last_form(command: &str, which: &str, count: &str) -> Option<Form>
 fn speeds_of(which: &str, count: &str) -> Option<Form>
     ensures { result ≡ speeds_of which.now count.now }
 {
-    let Some(minutes) = last_in(which, count, SPEEDS_MOST) else {
-        return None;
-    };
+    let minutes = last_in(which, count, SPEEDS_MOST)?;
     let last = Some(minutes);
     Some(Form::Read {
         reading: Reading::Speeds { last },
@@ -355,17 +341,11 @@ fn format_of(what: &str, first: &str, second: &str, third: &str, fourth: &str) -
     ensures { result ≡ format_of what.now first.now second.now third.now fourth.now }
 {
     if is_text(what, "unit") {
-        let Some(identity) = unit_identity(first, second, third, fourth) else {
-            return None;
-        };
+        let identity = unit_identity(first, second, third, fourth)?;
         return Some(Form::FormatUnit { identity });
     }
-    let Some(card) = Card::named(what.as_bytes()) else {
-        return None;
-    };
-    let Some(identity) = card_identity(first, second, third, fourth) else {
-        return None;
-    };
+    let card = Card::named(what.as_bytes())?;
+    let identity = card_identity(first, second, third, fourth)?;
     Some(Form::FormatCard { card, identity })
 }
 
@@ -380,18 +360,10 @@ fn is_text(word: &str, text: &str) -> bool
 fn card_identity(state: &str, number: &str, surname: &str, first: &str) -> Option<CardIdentity>
     ensures { result ≡ card_in state.now number.now surname.now first.now }
 {
-    let Some(state) = byte(state, 0, NATION_MOST) else {
-        return None;
-    };
-    let Some(number) = card_number(number) else {
-        return None;
-    };
-    let Some(surname) = name(surname) else {
-        return None;
-    };
-    let Some(first) = name(first) else {
-        return None;
-    };
+    let state = byte(state, 0, NATION_MOST)?;
+    let number = card_number(number)?;
+    let surname = name(surname)?;
+    let first = name(first)?;
     Some(CardIdentity {
         state: Nation(state),
         number,
@@ -404,15 +376,9 @@ fn card_identity(state: &str, number: &str, surname: &str, first: &str) -> Optio
 fn unit_identity(nation: &str, plate: &str, vin: &str, limit: &str) -> Option<Identity>
     ensures { result ≡ unit_in nation.now plate.now vin.now limit.now }
 {
-    let Some(registration) = registration(nation, plate) else {
-        return None;
-    };
-    let Some(vin) = vehicle_number(vin) else {
-        return None;
-    };
-    let Some(limit) = byte(limit, LIMIT_LEAST, LIMIT_MOST) else {
-        return None;
-    };
+    let registration = registration(nation, plate)?;
+    let vin = vehicle_number(vin)?;
+    let limit = byte(limit, LIMIT_LEAST, LIMIT_MOST)?;
     Some(Identity {
         vin,
         registration,
@@ -424,9 +390,7 @@ fn unit_identity(nation: &str, plate: &str, vin: &str, limit: &str) -> Option<Id
 fn registration(nation: &str, plate: &str) -> Option<Registration>
     ensures { result ≡ registration_in nation.now plate.now }
 {
-    let Some(nation) = byte(nation, 0, NATION_MOST) else {
-        return None;
-    };
+    let nation = byte(nation, 0, NATION_MOST)?;
     let text = plate.as_bytes();
     if !is_word(text, 1, PLATE) {
         return None;

@@ -1,5 +1,6 @@
-//! The program: it hands its words and its streams to the top call, prints on standard error what a device's file
-//! system lacks, a line for each call that failed in a run, and the fault's, and ends with its status.
+//! The program: it hands its words and its streams to the top call, and ends with its status. On standard error it
+//! prints what a device's file system lacks, a line for each action of a run that was refused, for each card that was
+//! turned away and for each call that failed, and the fault's line.
 #![tactic(auto)]
 
 ghost use Rattle.tach_media.specs.Medium.{IsUntouched};

@@ -9,7 +9,8 @@ use Rattle.trace_model.specs.declared.Action.TheVariants.{Select, Insert}
 use Rattle.trace_model.specs.declared.Item.{Item}
 use Rattle.trace_model.specs.declared.Item.TheVariants.{Run, Act}
 use Rattle.trace_model.specs.Trace.{total_seconds}
-use Rattle.trace_text.specs.declared.drawn_trace.TheConstants.{PARTS, DAYS, DAY_SECONDS}
+use Rattle.activity_codec.specs.declared.day.TheConstants.{DAY_SECONDS}
+use Rattle.trace_text.specs.declared.drawn_trace.TheConstants.{PARTS, DAYS}
 
 -- the number that is drawn behind another
 abbrev pub next_drawn : ℕ → ℕ
