@@ -1,7 +1,8 @@
 //! How the top call ends.
 use run_model::Device;
 use run_outcome::Outcome;
-use std::alloc::Global;
+use std::alloc::{AllocError, Global};
+use tach_media::Memory;
 use tacho_types::FullCardNumber;
 use unit_download::Wire;
 
@@ -47,6 +48,28 @@ pub enum Fault {
     LinkEnded,
 }
 
+impl From<AllocError> for Fault {
+    ghost use Rattle.std.specs.Prelude.{◌≡◌};
+    ghost use Rattle.tacho.specs.declared.end.Fault.{Fault};
+
+    ghost from_gives = { λ _ fault. fault ≡ Fault.Memory };
+
+    fn from(_error: AllocError) -> Fault {
+        Fault::Memory
+    }
+}
+
+impl From<Memory> for Fault {
+    ghost use Rattle.std.specs.Prelude.{◌≡◌};
+    ghost use Rattle.tacho.specs.declared.end.Fault.{Fault};
+
+    ghost from_gives = { λ _ fault. fault ≡ Fault.Memory };
+
+    fn from(_memory: Memory) -> Fault {
+        Fault::Memory
+    }
+}
+
 /// How the call ended.
 #[derive(Drop)]
 pub struct Ended {
@@ -62,7 +85,9 @@ pub struct Ended {
 
 impl Ended {
     ghost use Rattle.std.specs.Prelude.{◌≡◌};
+    ghost use Rattle.run_outcome.specs.declared.outcome.Outcome.{Outcome as OfRun};
     ghost use Rattle.tacho.specs.End.{ended_by, ended_with, end_of};
+    ghost use Rattle.tacho.specs.Outcomes.{IsEmpty};
 
     /// The end by this fault, with this outcome and these frames.
     pub fn with(outcome: Outcome, wire: Wire, fault: Fault) -> Self
@@ -109,5 +134,26 @@ impl Ended {
             Ok(()) => Ended::of(alloc, outcome, Fault::Done),
             Err(fault) => Ended::of(alloc, outcome, fault),
         }
+    }
+
+    /// The end by this fault of a command that records nothing.
+    pub fn by_fault(alloc: Global, fault: Fault) -> Self
+        ensures { (outcome : OfRun) × IsEmpty outcome × (result ≡ ended_by outcome fault) }
+    {
+        Ended::of(alloc, Outcome::empty(alloc), fault)
+    }
+
+    /// The end by what a command answers that records nothing.
+    pub fn by_answer(alloc: Global, done: Result<(), Fault>) -> Self
+        ensures { (outcome : OfRun) × IsEmpty outcome × (result ≡ ended_by outcome (end_of done)) }
+    {
+        Ended::after(alloc, Outcome::empty(alloc), done)
+    }
+
+    /// The end by this fault of a download, behind the frames that passed.
+    pub fn by_wire(alloc: Global, wire: Wire, fault: Fault) -> Self
+        ensures { (outcome : OfRun) × IsEmpty outcome × (result ≡ ended_with outcome wire fault) }
+    {
+        Ended::with(Outcome::empty(alloc), wire, fault)
     }
 }

@@ -20,6 +20,7 @@ mod minutes;
 mod minutes_command;
 mod outcome_text;
 mod packets_command;
+mod printing;
 mod reading_command;
 mod record_command;
 mod report_command;
@@ -44,7 +45,7 @@ use std::process::ExitCode;
 use std::{env, fs, io, str};
 use tach_media::{FileMedium, Medium, StdSink, StdSource};
 use tacho_types::{FullCardNumber, write_card_number};
-use top::{nothing, tacho};
+use top::tacho;
 use unit_model::layout::IMAGE_SIZE;
 use words::Words;
 
@@ -154,7 +155,7 @@ fn run(rt: &HostRuntime) -> Ended {
             );
             ended
         }
-        Err(fault) => Ended::of(rt.alloc(), nothing(rt.alloc()), fault),
+        Err(fault) => Ended::by_fault(rt.alloc(), fault),
     }
 }
 
