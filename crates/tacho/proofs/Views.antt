@@ -3,11 +3,15 @@ use Rattle.std.proofs.Common.{◌≡◌, ◌∙◌, ◌<◌, ◌≤◌, ℕ, Lis
 use Rattle.std.specs.Prelude.{Result, Ok, Err, OnErr, is_err}
 use Rattle.std.specs.Io.KnownBytes.{Consumes, IsAtEnd}
 use Rattle.trace_text.proofs.Answered.{told-text}
+use Rattle.card_match.specs.declared.files.SourceFault.{SourceFault}
+use Rattle.card_match.specs.declared.files.SourceFault.TheVariants as source
+use Rattle.card_match.specs.Faults.{IfBadSource}
 use Rattle.file_view.specs.declared.fault.ViewFault.{ViewFault}
 use Rattle.file_view.specs.declared.fault.ViewFault.TheVariants as viewing
 use Rattle.file_view.specs.Faults.{IfBadFile}
 use Rattle.tacho.specs.declared.end.Fault.{Fault}
 use Rattle.tacho.specs.declared.end.Fault.TheVariants.{Done, Memory, BadFile}
+use Rattle.tacho.specs.Match.{match_refusal_of}
 use Rattle.tacho.specs.View.{view_refusal_of}
 use Rattle.tacho.specs.Read.{IsUnshown, IsReadingEnd}
 
@@ -27,6 +31,11 @@ of-err (Err e) failed p = p
 pub refused-by : (IsPlace : ℕ → Type 0) (fault : ViewFault) → IfBadFile fault IsPlace → IsUnshown IsPlace (view_refusal_of fault)
 refused-by IsPlace (viewing.BadFile place) is = is
 refused-by IsPlace viewing.Memory is = tt
+
+-- and so is a source that was not compared
+pub source-refused : (IsPlace : ℕ → Type 0) (fault : SourceFault) → IfBadSource fault IsPlace → IsUnshown IsPlace (match_refusal_of fault)
+source-refused IsPlace (source.BadFile place) is = is
+source-refused IsPlace source.Memory is = tt
 
 pub unshown-end : (IsPlace : ℕ → Type 0) (fault : Fault) → IsUnshown IsPlace fault → (fault ≡ Done → ⊥) × IsReadingEnd fault
 unshown-end IsPlace (BadFile place) is = (λ e. cc, tt)

@@ -9,7 +9,7 @@ ghost use Rattle.tacho.specs.Outcomes.{IsEmpty};
 ghost use Rattle.tacho.specs.Printing.{PutsText};
 ghost use Rattle.tacho.specs.Demo.{demo_text as text_of_demo, refusal_anew, refusal_of_file, EndsDemo};
 
-use crate::anew::{AnewFault, run_anew};
+use crate::anew::{AnewFault, NewDevices, run_anew};
 use crate::end::Fault;
 use crate::outcome_text::demo_text;
 use crate::printing::print_text;
@@ -93,15 +93,11 @@ pub fn demo<S: Source, K: Sink, U: Medium, C: Chip>(
     let room = Vec::with_capacity(alloc, ROOM)?;
     let mut file = MemSink::new(room, Vec::new(alloc));
     *outcome = reserved;
-    if let Err(fault) = run_anew(
-        &trace,
-        &VEHICLE,
-        image.as_slice(),
-        unit,
-        card_a,
-        card_b,
-        outcome,
-    ) {
+    let made = NewDevices {
+        vehicle: VEHICLE,
+        image: image.as_slice(),
+    };
+    if let Err(fault) = run_anew(&trace, made, unit, card_a, card_b, outcome) {
         return Err(refusal_anew(fault));
     }
     let size = match measure(&mut loader, &mut file, unit) {
