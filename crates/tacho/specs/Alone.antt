@@ -70,10 +70,11 @@ IsForUnit items = AllByRecursion (λ item. IsTrue (needs_no_card item)) items
 abbrev pub told_of : Outcome → (start : ℕ) → List Item → List ToldSecond
 told_of o start items = (went (log_of o) (seconds_of start items)).told
 
--- the unit history of such a run by a rule of minutes, and its fronts up to a cut's limit, each with its lost minute
+-- the unit history of such a run by a rule of minutes
 abbrev pub history_of : Rule → Start → Outcome → (start : ℕ) → List Item → List HistoryMinute
 history_of rule cards o start items = unit_history rule cards (log_of o) (told_of o start items)
 
+-- its fronts up to a cut's limit, each with its lost minute
 abbrev pub lost_of : Rule → Start → Outcome → (start : ℕ) → List Item → List (List HistoryMinute)
 lost_of rule cards o start items = with_lost rule cards (log_of o) (told_of o start items)
 
