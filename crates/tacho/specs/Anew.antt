@@ -5,8 +5,7 @@ use Rattle.trace_model.specs.declared.Item.{Item}
 use Rattle.log_model.specs.Causes.{cuts}
 use Rattle.card_layout.specs.declared.files.TheConstants.{LARGEST_IMAGE}
 use Rattle.unit_model.specs.Image.{IsUnit}
-use Rattle.unit_model.specs.NewImage.{new_image}
-use Rattle.unit_memory.specs.declared.format.Identity.{Identity}
+use Rattle.unit_memory.specs.Formats.{format_most}
 use Rattle.safety_model.specs.Safe.{Devices}
 use Rattle.run_promise.specs.Opening.{BeginsAs}
 use Rattle.run_opening.specs.Opening.{faults_of, IsAsItWas}
@@ -17,10 +16,7 @@ use Rattle.recorder_with_cards.specs.Ends.{EndsTrace, MayRecord}
 use Rattle.recorder_with_cards.specs.Writes.{WritesIn, unit_writes, card_writes}
 use Rattle.tacho.specs.declared.anew.AnewFault.{AnewFault}
 use Rattle.tacho.specs.declared.anew.AnewFault.TheVariants.{Unmade, Kept}
-
--- the image of a new unit of this identity
-abbrev pub unit_image : Identity → List ℕ
-unit_image vehicle = new_image vehicle.vin vehicle.registration.0 vehicle.limit
+use Rattle.tacho.specs.Formatting.{issue_most}
 
 -- a device once so many writes were begun
 abbrev pub at_clock : ℕ → State → State
@@ -66,16 +62,16 @@ pub record EndsAnew (unit card_a card_b : List ℕ) (start : ℕ) (items : List 
   pub card_later : old.card_a.clock ≤ card_clock
   pub unit_before : unit_clock ≤ now.unit.clock
   pub card_before : card_clock ≤ now.card_a.clock
-  pub unit_made : unit_clock ≤ old.unit.clock + 10324
-  pub card_made : card_clock ≤ old.card_a.clock + 101
+  pub unit_made : unit_clock ≤ old.unit.clock + format_most
+  pub card_made : card_clock ≤ old.card_a.clock + issue_most
   pub ends : EndsTrace unit card_a card_b start items out (began_at unit_clock card_clock old) now
   pub writes : WritesIn start items (length (cuts true (log_of out))) (began_at unit_clock card_clock old) now
 
 -- SO MANY WRITES BEGIN AT MOST, whatever fails: to make unit and card a new, and by the power-ons of a run, of which
 -- the log tells so many cuts that a failed call made, by the turns of its trace and by its actions.
 pub record WritesAnew (start : ℕ) (items : List Item) (failed : ℕ) (old now : Devices) : Type 0 where
-  pub unit : now.unit.clock ≤ old.unit.clock + (10324 + unit_writes start items failed)
-  pub card_a : now.card_a.clock ≤ old.card_a.clock + (101 + card_writes start items failed)
+  pub unit : now.unit.clock ≤ old.unit.clock + (format_most + unit_writes start items failed)
+  pub card_a : now.card_a.clock ≤ old.card_a.clock + (issue_most + card_writes start items failed)
   pub card_b : now.card_b.clock ≤ old.card_b.clock + card_writes start items failed
 
 -- WHATEVER FAILS: so many writes begin at most, the unit keeps its size, and no count of its faults falls

@@ -5,7 +5,8 @@ ghost use Rattle.log_model.specs.Causes.{cuts};
 ghost use Rattle.run_outcome.specs.Room.{IsReserved};
 ghost use Rattle.run_promise.specs.Between.{devices};
 ghost use Rattle.recorder_with_cards.specs.Words.{log_of};
-ghost use Rattle.tacho.specs.Anew.{unit_image, MayBeMade, BeginsAnew, EndsAnew, IsKeptAnew, GoesAnew, IsFailed};
+ghost use Rattle.tacho.specs.Formatting.{unit_image};
+ghost use Rattle.tacho.specs.Anew.{MayBeMade, BeginsAnew, EndsAnew, IsKeptAnew, GoesAnew, IsFailed};
 
 use recorder_with_cards::{RunFault, run_trace};
 use run_model::Device;
@@ -23,10 +24,12 @@ pub enum AnewFault {
     Kept(RunFault),
 }
 
-/// What unit and card a are made of: the unit's vehicle, and the card's image.
+/// What the unit and card a are made of.
 #[derive(Clone, Copy)]
 pub struct NewDevices<I> {
+    /// The unit's identity.
     pub vehicle: Identity,
+    /// The card's flat image, of the largest sizes.
     pub image: I,
 }
 

@@ -3,9 +3,10 @@ ghost use Rattle.std.specs.Prelude.{◌≡◌, ◌≢◌, ◌≤◌, ◌+◌, Er
 ghost use Rattle.card_layout.specs.Outcomes.{just_issued};
 ghost use Rattle.run_model.specs.declared.Device.TheVariants.{Unit as OfUnit};
 ghost use Rattle.unit_model.specs.Image.{IsUnit};
-ghost use Rattle.unit_memory.specs.Formats.{IsFormatting};
+ghost use Rattle.unit_memory.specs.Formats.{IsFormatting, format_most};
 ghost use Rattle.tacho.specs.End.{end_of};
 ghost use Rattle.tacho.specs.Formatting.{EndsFormat, IsCard, IsIssuing, formatted_line, card_image, unit_image};
+ghost use Rattle.tacho.specs.Formatting.{issue_most};
 ghost use Rattle.tacho.specs.Printing.{PutsText};
 
 use crate::end::Fault;
@@ -37,7 +38,7 @@ pub fn format_card<K: Sink, C: Chip>(
         (record { held = K.held sink.new; faults = K.faults sink.new }) (end_of result) }
     ensures state { result ≢ Err Fault.Memory → C.card card.new ≡ just_issued }
     ensures memory { result ≡ Err Fault.Memory → card.new ≡ card.old }
-    ensures writes { (C.state card.new).clock ≤ (C.state card.old).clock + 101 }
+    ensures writes { (C.state card.new).clock ≤ (C.state card.old).clock + issue_most }
     ensures nothing { IfErr result (λ fault. fault ≢ Fault.WriteFault → sink.new ≡ sink.old) }
     ensures counts { K.faults sink.old ≤ K.faults sink.new }
 {
@@ -65,7 +66,7 @@ pub fn make_unit<K: Sink, U: Medium>(
         (record { held = K.held sink.old; faults = K.faults sink.old })
         (record { held = K.held sink.new; faults = K.faults sink.new }) (end_of result) }
     ensures some { end_of result ≢ Fault.Memory }
-    ensures writes { (U.state unit.new).clock ≤ (U.state unit.old).clock + 10324 }
+    ensures writes { (U.state unit.new).clock ≤ (U.state unit.old).clock + format_most }
     ensures nothing { IfErr result (λ fault. fault ≢ Fault.WriteFault → sink.new ≡ sink.old) }
     ensures counts { K.faults sink.old ≤ K.faults sink.new }
 {

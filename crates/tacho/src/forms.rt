@@ -10,10 +10,12 @@ ghost use Rattle.tacho.specs.Forms.{form_of_three, format_of, form_of_six, form_
 use crate::words::Words;
 use card_files::CardIdentity;
 use minute_rules::Rule;
+use speed_model::BLOCK_SLOTS;
 use tacho_types::{Name36, Nation, Registration, write_padded};
 use text_fields::number_between;
 use trace_model::Card;
 use unit_memory::Identity;
+use unit_model::layout::DAY_SLOTS;
 
 /// How many characters a card's number has.
 pub const CARD_NUMBER: usize = 16;
@@ -27,7 +29,7 @@ pub const PLATE: usize = 13;
 /// How many characters a vehicle's identification number has.
 pub const VIN: usize = 17;
 
-/// The greatest number of a nation.
+/// The greatest number of a nation: a NationNumeric is one byte (Annex IB, Appendix 1).
 pub const NATION_MOST: u8 = 255;
 
 /// The least speed limit in km/h.
@@ -40,10 +42,10 @@ pub const LIMIT_MOST: u8 = 254;
 pub const LAST_LEAST: u32 = 1;
 
 /// The greatest number of days that `last N` takes: so many days a unit keeps.
-pub const LAST_MOST: u32 = 366;
+pub const LAST_MOST: u32 = DAY_SLOTS;
 
 /// The greatest number of minutes that `speeds last N` takes: so many minutes of detailed speed a unit keeps.
-pub const SPEEDS_MOST: u32 = 1440;
+pub const SPEEDS_MOST: u32 = BLOCK_SLOTS;
 
 /// The greatest number that a demonstration is drawn from.
 pub const SEED_MOST: u32 = 2147483647;
@@ -360,7 +362,7 @@ fn is_text(word: &str, text: &str) -> bool
 fn card_identity(state: &str, number: &str, surname: &str, first: &str) -> Option<CardIdentity>
     ensures { result ≡ card_in state.now number.now surname.now first.now }
 {
-    let state = byte(state, 0, NATION_MOST)?;
+    let state = byte_between(state, 0, NATION_MOST)?;
     let number = card_number(number)?;
     let surname = name(surname)?;
     let first = name(first)?;
@@ -378,7 +380,7 @@ fn unit_identity(nation: &str, plate: &str, vin: &str, limit: &str) -> Option<Id
 {
     let registration = registration(nation, plate)?;
     let vin = vehicle_number(vin)?;
-    let limit = byte(limit, LIMIT_LEAST, LIMIT_MOST)?;
+    let limit = byte_between(limit, LIMIT_LEAST, LIMIT_MOST)?;
     Some(Identity {
         vin,
         registration,
@@ -390,7 +392,7 @@ fn unit_identity(nation: &str, plate: &str, vin: &str, limit: &str) -> Option<Id
 fn registration(nation: &str, plate: &str) -> Option<Registration>
     ensures { result ≡ registration_in nation.now plate.now }
 {
-    let nation = byte(nation, 0, NATION_MOST)?;
+    let nation = byte_between(nation, 0, NATION_MOST)?;
     let text = plate.as_bytes();
     if !is_word(text, 1, PLATE) {
         return None;
@@ -412,14 +414,14 @@ fn write_registration(nation: u8, text: &[u8], out: &mut [u8])
 }
 
 /// The vehicle's number that a word tells.
-fn vehicle_number(word: &str) -> Option<[u8; 17]>
+fn vehicle_number(word: &str) -> Option<[u8; VIN]>
     ensures { result ≡ word_in VIN VIN word.now }
 {
     let text = word.as_bytes();
     if !is_word(text, VIN, VIN) {
         return None;
     }
-    let mut number = [0; 17];
+    let mut number = [0; VIN];
     number.copy_from_slice(text);
     Some(number)
 }
@@ -433,24 +435,21 @@ fn number(word: &str, least: u32, most: u32) -> Option<u32>
 }
 
 /// The same, of a byte.
-fn byte(word: &str, least: u8, most: u8) -> Option<u8>
+fn byte_between(word: &str, least: u8, most: u8) -> Option<u8>
     ensures { result ≡ number_in least most word.now }
 {
-    match number(word, least as u32, most as u32) {
-        Some(n) => Some(n as u8),
-        None => None,
-    }
+    Some(number(word, least as u32, most as u32)? as u8)
 }
 
 /// The card number that a word tells.
-fn card_number(word: &str) -> Option<[u8; 16]>
+fn card_number(word: &str) -> Option<[u8; CARD_NUMBER]>
     ensures { result ≡ word_in CARD_NUMBER CARD_NUMBER word.now }
 {
     let text = word.as_bytes();
     if !is_word(text, CARD_NUMBER, CARD_NUMBER) {
         return None;
     }
-    let mut number = [0; 16];
+    let mut number = [0; CARD_NUMBER];
     number.copy_from_slice(text);
     Some(number)
 }
@@ -475,12 +474,14 @@ fn is_word(text: &[u8], least: usize, most: usize) -> bool
     least <= text.len() && text.len() <= most && !begins_with_dash(text) && has_characters(text)
 }
 
+/// Whether each is a character of a word.
 fn has_characters(text: &[u8]) -> bool
     ensures { result ≡ list_all is_character text.now }
 {
     text.iter().all(|c| is_character(*c))
 }
 
+/// Whether the first is `-`.
 fn begins_with_dash(text: &[u8]) -> bool
     ensures { result ≡ begins_with_dash text.now }
 {
@@ -490,6 +491,7 @@ fn begins_with_dash(text: &[u8]) -> bool
     }
 }
 
+/// Whether it is a character of a word: 21 to 7E.
 fn is_character(c: u8) -> bool
     ensures { result ≡ is_character c }
 {

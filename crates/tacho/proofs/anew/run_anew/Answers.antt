@@ -5,7 +5,7 @@ use Rattle.tach_media.specs.Medium.{HasCause}
 use Rattle.tach_media.proofs.Runs.{ok_gives}
 use Rattle.run_promise.specs.Between.{devices}
 use Rattle.run_opening.proofs.AsItWas.{as-it-is}
-use Rattle.tacho.specs.Anew.{unit_image}
+use Rattle.tacho.specs.Formatting.{unit_image}
 use Rattle.tacho.proofs.DemoDevices.{begins-new, ends-anew, time-before, kept-failed, only-failed}
 use Rattle.tacho.proofs.anew.run_anew.Goals as goal
 
