@@ -82,6 +82,7 @@ enum Access {
     Looking,
 }
 
+/// What the form of the words does with the files.
 fn access_of(words: &Words) -> Access {
     match form_of(words) {
         Some(Form::Demo { .. }) => Access::Passing,
@@ -195,6 +196,7 @@ fn tell(rt: &HostRuntime, fault: Fault) -> io::Result<()> {
     }
 }
 
+/// Runs the program, and prints the lines of what was refused, turned away or failed.
 fn main(rt: HostRuntime) -> ExitCode {
     let ended = run(&rt);
     let _ = put_refusals(&mut StdSink::new(rt.stderr()), &ended.outcome.refused);
