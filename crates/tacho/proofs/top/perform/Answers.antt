@@ -67,7 +67,7 @@ returns-in-DownloadPackets-clause-in_time g c = rw c.in-DownloadPackets.is c.dow
 pub returns-in-DownloadPackets-clause-file : goal.returns-in-DownloadPackets-clause-file
 returns-in-DownloadPackets-clause-file g c =
     let e = c.download_packets.ensures in
-    rw (c.in-DownloadPackets.is, c.of-in-DownloadPackets.ensures, c.packets_end.ensures)
+    rw (c.in-DownloadPackets.is, c.by_fault-in-DownloadPackets.ensures.2, c.packets_end.ensures)
     (packets-filed c.download_packets.result (g.S.Source.left c.args.source.now) (g.S.Source.left c.download_packets.new.source) _ _ (Rose (g.S.Source.faults c.args.source.now) (g.S.Source.faults c.download_packets.new.source))
     (Rose (g.K.Sink.faults c.args.sink.now) (g.K.Sink.faults c.download_packets.new.link)) (Rose (g.F.Sink.faults c.args.file.now) (g.F.Sink.faults c.download_packets.new.file)) e.loaded e.cause)
 
