@@ -21,6 +21,14 @@ returns-in_err-reserved-clause-ends g c =
     let e = c.in_ok-trace.ensures in
     rw (p.1, p.2) (ends-short _ _ c.args.outcome.now e.judged.finds_bad_line e.judged.finds_too_long c.requires.empty)
 
+pub record_alone-requires : goal.record_alone-requires
+record_alone-requires g c = record {
+  well = c.in_ok-trace.ensures.read.well_formed;
+  for_unit = c.is_for_unit.ensures.for_unit c.if-is_for_unit.true;
+  reserved = c.in_ok-reserved.ensures;
+  unit = c.requires.unit;
+}
+
 pub returns-in-Err-clause-ends : goal.returns-in-Err-clause-ends
 returns-in-Err-clause-ends g c =
     let e = c.in_ok-trace.ensures in
@@ -28,7 +36,7 @@ returns-in-Err-clause-ends g c =
     rw c.refusal_of_run.ensures
     (ends-refused _ _ _ _ e.judged.finds_bad_line e.judged.finds_too_long (run-refusal c.in-Err.fault)
     (inr (inl (unit-refused _ _ c.record_alone.new.outcome c.in_ok-trace.trace.start c.in_ok-trace.trace.items (g.met.U.Medium.coherent c.args.unit.now) (g.met.U.Medium.coherent c.record_alone.new.unit)
-    (c.is_for_unit.ensures.for_unit c.if-is_for_unit.true) e.judged.reads (let last = e.read.well_formed.within.1 in omega (arith, last)) (let few = e.read.few in omega (arith, few)) c.in-Err.fault f.refusal.fault f.breakdowns.later f.breakdowns.broke f.most
+    (c.is_for_unit.ensures.for_unit c.if-is_for_unit.true) e.judged.reads (let last = e.read.well_formed.within.1 in omega (arith, last)) (let few = e.read.few in omega (arith, few)) c.in-Err.fault f.refusal.fault f.breakdowns.later f.breakdowns.broke f.goes.most
     (refused-on-unit c.in_ok-trace.trace.start c.in_ok-reserved.reserved c.record_alone.new.outcome _ _ c.in-Err.fault (reserved-empty c.in_ok-trace.trace.items c.in_ok-reserved.reserved c.in_ok-reserved.ensures) f.refusal.early)
     (λ x alone clock.
     let r = f.refusal.refused x alone clock (omega (arith, e.read.few)) in
@@ -41,7 +49,7 @@ returns-then-is_for_unit-clause-ends g c =
     ends-run _ _ c.record_alone.new.outcome c.print_outcome.result e.end e.judged.finds_bad_line e.judged.finds_too_long
     (λ fault ran rose. inr (inl (unit-run _ _ c.record_alone.new.outcome c.in_ok-trace.trace.start c.in_ok-trace.trace.items (c.is_for_unit.ensures.for_unit c.if-is_for_unit.true) e.judged.reads (let last = e.read.well_formed.within.1 in omega (arith, last)) (let few = e.read.few in omega (arith, few))
     (λ x alone clock cards. f.recorded cards x alone clock (omega (arith, e.read.few)))
-    (λ x alone clock. f.causes x (g.C.Chip.state c.args.card_a.now).breakdowns (g.C.Chip.state c.args.card_b.now).breakdowns alone clock (omega (arith, e.read.few))) f.begun f.breakdowns.broke f.most f.breakdowns.calm f.breakdowns.told f.breakdowns.later refl refl fault ran rose)))
+    (λ x alone clock. f.causes x (g.C.Chip.state c.args.card_a.now).breakdowns (g.C.Chip.state c.args.card_b.now).breakdowns alone clock (omega (arith, e.read.few))) f.begun f.breakdowns.broke f.goes.most f.breakdowns.calm f.breakdowns.told f.breakdowns.later refl refl fault ran rose)))
     c.print_outcome.ensures.ok c.print_outcome.ensures.err c.print_outcome.ensures.cause
 
 pub returns-in-Err-run_trace-clause-ends : goal.returns-in-Err-run_trace-clause-ends
