@@ -73,7 +73,7 @@ pub record MayBeAlone (trace : Trace) (outcome : Outcome) (unit : State) : Type 
   pub well : IsWellFormed trace.start trace.items
   pub for_unit : IsForUnit trace.items
   pub reserved : IsReserved trace.items outcome
-  pub unit : IsUnit unit
+  pub sized : IsUnit unit
 
 -- ---- its log
 

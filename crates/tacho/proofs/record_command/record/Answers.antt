@@ -26,7 +26,7 @@ record_alone-requires g c = record {
   well = c.in_ok-trace.ensures.read.well_formed;
   for_unit = c.is_for_unit.ensures.for_unit c.if-is_for_unit.true;
   reserved = c.in_ok-reserved.ensures;
-  unit = c.requires.unit;
+  sized = c.requires.unit;
 }
 
 pub returns-in-Err-clause-ends : goal.returns-in-Err-clause-ends
