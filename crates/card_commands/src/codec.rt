@@ -139,19 +139,19 @@ fn meaning(b: &[u8]) -> Header
 {
     match b[1] {
         SELECT if b[2] == BY_NAME => Header::Application,
-        SELECT => Header::Select(Fid(two_bytes(b, 5))),
+        SELECT => Header::Select(Fid(two_in(b, 5))),
         READ_BINARY => Header::Read {
-            offset: two_bytes(b, 2),
+            offset: two_in(b, 2),
             len: if b[4] == 0 { 256 } else { b[4] as u16 },
         },
         _ => Header::Update {
-            offset: two_bytes(b, 2),
+            offset: two_in(b, 2),
         },
     }
 }
 
 /// The number in two bytes, the highest first.
-fn two_bytes(b: &[u8], place: usize) -> u16
+fn two_in(b: &[u8], place: usize) -> u16
     requires { place + 2 ≤ length b.now }
     ensures { result ≡ number_at b.now place 2 }
 {

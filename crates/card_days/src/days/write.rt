@@ -273,7 +273,11 @@ fn with_word(tail: &Tail, word: u16, used: u32) -> Tail
             date: tail.head.date,
             counter: tail.head.counter,
             km: tail.head.km,
-            words: if words < DAY_MINUTES as u16 { words + 1 } else { words },
+            words: if words < DAY_MINUTES as u16 {
+                words + 1
+            } else {
+                words
+            },
         },
         latest: word,
         used,
