@@ -26,7 +26,7 @@ returns g c =
     let fits = subst IsComing c.coming_of.ensures.coming c.coming_of.ensures.fits in
     let sized = unit_sized (g.met.M.Medium.coherent c.args.unit.now) q.ready.unit in
     let puts : PutsBy U V (is_err done) 3 (most_kept j.kept k.minute) (keeping_of j k) =
-        subst (λ (m : Coming). PutsBy U V (is_err done) 3 (most_kept j.kept m.minute) (keeping j m)) c.coming_of.ensures.coming w.puts in
+    subst (λ (m : Coming). PutsBy U V (is_err done) 3 (most_kept j.kept m.minute) (keeping j m)) c.coming_of.ensures.coming w.puts in
     record {
       kept = on_ok done (λ fine. record {
         notes = ok_gives done (subst (λ (m : Coming). OnOk done ((next.kept ≡ m.minute) × (next.odometer ≡ m.odometer))) c.coming_of.ensures.coming w.kept) fine;
