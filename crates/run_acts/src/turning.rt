@@ -172,7 +172,7 @@ fn keep_turn<M: Medium, C: Chip, D: Chip>(
     let first = run.next;
     let seconds = Seconds {
         first,
-        count: turned.stretch.n,
+        n: turned.stretch.n,
         speed: turned.stretch.speed,
     };
     run.watch.turn(&run.keeper.memory, seconds, crew, unit)
