@@ -9,8 +9,7 @@ use Rattle.minute_rules.specs.Kept.{CountsSpan}
 use Rattle.log_model.specs.declared.lines.Refused.{Refused}
 use Rattle.log_model.specs.declared.lines.SlotFault.{SlotFault}
 use Rattle.log_model.specs.declared.lines.SlotFault.TheVariants.{NoPower}
-use Rattle.log_model.specs.Slots.{refusal}
-use Rattle.run_minutes.specs.card_slots.Calls.{Seats, logged, seat_in, card_in}
+use Rattle.run_minutes.specs.card_slots.Calls.{seat_in, card_in}
 use Rattle.run_outcome.specs.declared.outcome.Outcome.{Outcome}
 use Rattle.run_minutes.specs.declared.keeper.Moment.{Moment}
 use Rattle.run_minutes.specs.Keeping.{with_lines}
