@@ -1,18 +1,15 @@
 -- A unit file at the front of a source, and a unit file alone.
-use Rattle.std.proofs.Common.{◌≡◌, ◌∙◌, ◌⊎◌, inl, inr, ⊎_elim, ℕ, suc, ◌+◌, ◌-◌, ◌<◌, ◌≤◌, true, false, Option, Some, None, List, [], ◌∷◌, ◌++◌, length, map, take, drop, refl, ap, sym, subst, arith, All, append_assoc, append-nil, length-append}
+use Rattle.std.proofs.Common.{◌≡◌, ◌∙◌, ◌⊎◌, ⊎_elim, ℕ, suc, ◌+◌, ◌-◌, ◌<◌, ◌≤◌, true, List, [], ◌∷◌, ◌++◌, length, map, take, drop, refl, ap, sym, subst, arith, All, append-nil}
 use Rattle.std.proofs.Math.Seq.{take-append_seam}
 use Rattle.std.proofs.lemmas.List.{take-append-drop, drop_all, length-drop}
 use Rattle.card_layout.specs.Fields.{joined}
-use Rattle.card_image.specs.CardFile.{FileEntry, entry_bytes}
-use Rattle.tacho_types.specs.declared.texts.Registration.{Registration}
 use Rattle.message_model.specs.Messages.{Message, message_bytes, IsMessage, IsUnitFile}
 use Rattle.message_model.proofs.Reading.{one_way}
-use Rattle.file_view.specs.CardFiles.{IsBadCardFile}
 use Rattle.file_view.specs.UnitFiles.{IsBadUnitFile}
-use Rattle.file_view.specs.Fronts.{registration_in, registration_bytes, begins_message, Leads, IsFront, IsBadFront}
+use Rattle.file_view.specs.Fronts.{begins_message, IsFront, IsBadFront}
 use Rattle.file_view.specs.declared.front.FrontRead.{FrontRead}
 use Rattle.file_view.proofs.UnitOneWay.{unit_does_not_fail}
-use Rattle.card_match.specs.Files.{LacksOverview, HasOverview, IsBadUnit, AreParts}
+use Rattle.card_match.specs.Files.{LacksOverview, IsBadUnit, AreParts}
 
 all_rest : (m : Message) (ms : List Message) → All IsMessage (m ∷ ms) → All IsMessage ms
 all_rest m ms all = λ k d low. all (suc k) d (omega (arith, low))
@@ -61,12 +58,6 @@ front_whole bytes f front all = record {
   spelled = front.leads.spelled ∙ ap (λ (l : List ℕ). joined (map message_bytes front.messages) ++ l) (drop_all f.end bytes all) ∙ append-nil (joined (map message_bytes front.messages));
 }
 
-pub told_is : (bytes : List ℕ) (f : FrontRead) (r : Registration) → (front : IsFront bytes f) → f.registration ≡ Some r → registration_in front.messages ≡ Some r.0
-told_is bytes f r front is = sym front.leads.registration_is ∙ ap registration_bytes is
-
-pub none_told : (bytes : List ℕ) (f : FrontRead) → (front : IsFront bytes f) → f.registration ≡ None → registration_in front.messages ≡ None
-none_told bytes f front is = sym front.leads.registration_is ∙ ap registration_bytes is
-
 -- the parts of a source
 front_part : (bytes : List ℕ) (f : FrontRead) → (front : IsFront bytes f) → IsUnitFile front.messages (take f.end bytes)
 front_part bytes f front = record {
@@ -84,7 +75,3 @@ parts_are bytes f front = record { parts = sym (take-append-drop f.end bytes); m
 -- a unit file that is there is refused for want of an overview alone
 pub lacks_only : (bytes unit card : List ℕ) (place : ℕ) → AreParts bytes unit card → IsBadUnit place unit → (place ≡ length unit) × LacksOverview unit
 lacks_only bytes unit card place are bad = ⊎_elim (λ fails. absurd (unit_does_not_fail are.messages unit place are.file fails)) (λ lacks. lacks) bad
-
--- a card file fails inside it, or at its end
-pub card_inside : (place : ℕ) (card : List ℕ) → IsBadCardFile place card → place ≤ length card
-card_inside place card bad = omega (arith, bad.place_is, ap (λ (l : List ℕ). length l) bad.spelled, length-append (joined (map entry_bytes bad.entries)) bad.rest)

@@ -1,5 +1,5 @@
 -- Which entries of a card file differ from a unit file, and how (profile).
-use Rattle.std.specs.Prelude.{◌≡◌, ℕ, ◌&&◌, not, Bool, true, false, Option, Some, None, List, [], ◌∷◌, if◌then◌else◌}
+use Rattle.std.specs.Prelude.{◌≡◌, ◌&&◌, not, Bool, true, false, Option, Some, None, List, [], ◌∷◌, if◌then◌else◌}
 use Rattle.std.specs.Prelude.{map, filter, count_by}
 use Rattle.activity_codec.specs.Activity.{same_slot, same_activity}
 use Rattle.activity_codec.specs.declared.entries.Entry.{Entry}

@@ -1,5 +1,5 @@
 -- A card file against a unit file, by the bytes of both (profile).
-use Rattle.std.specs.Prelude.{◌≡◌, ◌⊎◌, ℕ, ◌+◌, ◌/◌, Bool, false, Option, Some, None, List, ◌++◌, length, map, filter}
+use Rattle.std.specs.Prelude.{◌≡◌, ◌⊎◌, ℕ, ◌+◌, ◌/◌, Bool, false, Some, None, List, ◌++◌, length, map, filter}
 use Rattle.std.specs.Prelude.{bytes_eq}
 use Rattle.activity_codec.specs.declared.entries.Entry.{Entry}
 use Rattle.card_files.specs.declared.vehicle.Vehicle.{Vehicle}

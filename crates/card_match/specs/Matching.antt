@@ -1,5 +1,5 @@
 -- When the entries of a card file match the minutes of a unit file (profile).
-use Rattle.std.specs.Prelude.{◌≡◌, ℕ, ◌/◌, ◌==◌, ◌&&◌, not, nat_le, Bool, true, false, Option, Some, None, List, []}
+use Rattle.std.specs.Prelude.{◌≡◌, ℕ, ◌==◌, ◌&&◌, not, nat_le, Bool, true, false, Option, Some, None, List, []}
 use Rattle.std.specs.Prelude.{◌∷◌, ◌++◌, if◌then◌else◌, count_by}
 use Rattle.std.specs.List.{list_any, AllByRecursion}
 use Rattle.activity_codec.specs.Activity.{same_activity}

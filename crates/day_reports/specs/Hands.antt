@@ -1,5 +1,5 @@
 -- The entries by hand of a card file as marks of its picture (profile).
-use Rattle.std.specs.Prelude.{ℕ, ◌*◌, nat_le, if◌then◌else◌, List, [], ◌∷◌, ◌++◌}
+use Rattle.std.specs.Prelude.{◌*◌, nat_le, if◌then◌else◌, List, [], ◌∷◌, ◌++◌}
 use Rattle.activity_codec.specs.declared.day.TheConstants.{LAST_MINUTE}
 use Rattle.activity_codec.specs.declared.entries.Manual.{Manual}
 use Rattle.view_model.specs.declared.marks.Sign.TheVariants.{ByHand}

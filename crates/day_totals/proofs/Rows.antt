@@ -1,7 +1,6 @@
 -- Worked rows, computed by the checker: hours and minutes, and the figures of four minutes of which one was not recorded.
 use Rattle.std.proofs.Common.{◌≡◌, ℕ, Bool, true, false, List, [], ◌∷◌, map, refl}
-use Rattle.std.specs.Prelude.{codes, Some, None}
-use Rattle.std.specs.Fmt.{digits}
+use Rattle.std.specs.Prelude.{codes, Some}
 use Rattle.activity_codec.specs.declared.values.Activity.{Activity}
 use Rattle.activity_codec.specs.declared.values.Activity.TheVariants as activity
 use Rattle.activity_codec.specs.declared.values.Slot.TheVariants.{Driver, CoDriver}
@@ -9,7 +8,7 @@ use Rattle.view_model.specs.declared.UnitShown.{UnitShown}
 use Rattle.view_model.specs.declared.Viewed.{Viewed}
 use Rattle.view_model.specs.declared.marks.Gap.{Gap}
 use Rattle.slot_bars.specs.Seeing.{slot_seen}
-use Rattle.day_totals.specs.declared.figures.Figure.TheVariants.{Drive, Work, Available, Rest, Unknown, In}
+use Rattle.day_totals.specs.declared.figures.Figure.TheVariants.{Drive, Rest, Unknown, In}
 use Rattle.day_totals.specs.Figures.{total, distance_on}
 use Rattle.calendar_days.specs.Clock.{duration_text}
 use Rattle.day_totals.specs.Text.{distance_text}

@@ -1,5 +1,5 @@
 -- The text of a unit file is that of no card file: the first member says which it is.
-use Rattle.std.proofs.Common.{◌≡◌, ◌∙◌, ℕ, ◌<◌, ◌^◌, Some, List, length, ap, sym, arith}
+use Rattle.std.proofs.Common.{◌≡◌, ◌∙◌, ℕ, ◌<◌, ◌^◌, List, length, ap, sym, arith}
 use Rattle.std.specs.Prelude.{Option, codes, slice_index}
 use Rattle.std.proofs.lemmas.List.{same_from_push}
 use Rattle.card_layout.specs.Fields.{IsBytes}

@@ -1,13 +1,12 @@
 -- The text of a card file is read as its JSON, and tells the file.
-use Rattle.std.proofs.Common.{◌≡◌, ◌∙◌, ℕ, zero, suc, ◌+◌, ◌-◌, ◌*◌, ◌/◌, ◌%◌, ◌<◌, ◌≤◌, ◌^◌, Some, Ok, List, [], ◌∷◌, ◌++◌, length, take, drop, map, All, refl, ap, sym, subst, arith, rules, length-append, length-drop, append-nil}
-use Rattle.std.specs.Prelude.{Result, Err, Option, None, Bool, true, false, ◌==◌, ◌&&◌, nat_le, nat_lt, if◌then◌else◌, slice_index, codes}
+use Rattle.std.proofs.Common.{◌≡◌, ◌∙◌, ℕ, zero, suc, ◌+◌, ◌-◌, ◌*◌, ◌/◌, ◌%◌, ◌<◌, ◌≤◌, ◌^◌, Some, Ok, List, [], ◌∷◌, ◌++◌, length, take, drop, map, All, refl, ap, sym, subst, arith, length-append, length-drop}
+use Rattle.std.specs.Prelude.{Result, Err, Option, None, Bool, true, false, ◌==◌, ◌&&◌, nat_le, nat_lt, codes}
 use Rattle.std.proofs.lemmas.Bool.Decides.{nat_tests}
 use Rattle.std.proofs.lemmas.List.{take-append-drop, take_all, same_from_push, length-take-le, drop-drop}
 use Rattle.std.proofs.lemmas.List.Elements.{All-head, All-tail}
 use Rattle.std.proofs.lemmas.Fmt.{decimal_injective}
 use Rattle.std.proofs.Math.Nat.{div-mul-le_self}
 use Rattle.byteorder.specs.Endian.{big_number, big_bytes}
-use Rattle.byteorder.specs.Numbers.{big_from-lt, length-bytes_high_first}
 use Rattle.hex.specs.Hex.{encode_lower, decode_of}
 use Rattle.hex.proofs.HexLemmas.{decode_of-encode_lower}
 use Rattle.card_layout.specs.Fields.{IsBytes, joined}
@@ -15,7 +14,7 @@ use Rattle.card_layout.proofs.Cuts.{IsBytes-take, IsBytes-drop}
 use Rattle.card_layout.proofs.Numbers.{IsBytes-big_bytes, big_number-big_bytes}
 use Rattle.file_view.specs.Showing.{before_last}
 use Rattle.card_image.specs.CardFile.{FileEntry, IsFileEntry, entry_bytes}
-use Rattle.json.specs.Json.{Json, null, boolean, number, string, array, object, Items, no_items, item, Members, no_members, member, document}
+use Rattle.json.specs.Json.{Json, array, Items, no_items, item, no_members, member, document}
 use Rattle.json.specs.Print.{print}
 use Rattle.json.specs.Tree.{json_tokens, HasNumbers, ItemsHaveNumbers, MembersHaveNumbers, depth, items_depth, members_depth}
 use Rattle.json.proofs.Printed.Trees.{document-print}
@@ -25,7 +24,7 @@ use Rattle.json_fields.specs.declared.kinds.Kind.TheVariants as kind
 use Rattle.json_fields.specs.declared.names.Name.TheVariants.{ActivityChangeInfos}
 use Rattle.json_fields.specs.Names.{name_text}
 use Rattle.json_fields.specs.Kinds.{fields_of}
-use Rattle.json_fields.specs.Shown.{record_shown, items_shown, width_of_record}
+use Rattle.json_fields.specs.Shown.{items_shown}
 use Rattle.json_fields.proofs.Cutting.{by_test, equal}
 use Rattle.json_fields.proofs.Days.{one_more_byte}
 use Rattle.json_fields.proofs.Forms.{front-bytes}
@@ -36,7 +35,7 @@ use Rattle.file_json.specs.declared.card.Shape.{Shape}
 use Rattle.file_json.specs.declared.card.Shape.TheVariants.{Record, Events, Faults, Days, Vehicles, Places, Conditions, Bytes}
 use Rattle.file_json.specs.Parts.{changes_shown, width_of}
 use Rattle.file_json.specs.Days.{day_len, is_day, day_shown, days_shown, circle_from, far_between, items_behind, items_count, newest_items, string_shown}
-use Rattle.file_json.specs.Cards.{bytes_then, list_shown, lists_shown, told, fits, content_then, shape_of, file_name, kind_name, entry_shown, entries_shown, json_of_card, IsCardJson}
+use Rattle.file_json.specs.Cards.{bytes_then, list_shown, lists_shown, told, fits, content_then, shape_of, kind_name, entry_shown, entries_shown, json_of_card, IsCardJson}
 use Rattle.file_view.specs.Files.{AreFiles}
 use Rattle.file_json.proofs.Stringing.{day_is}
 use Rattle.file_json.proofs.UnitTelling.{kinds_are, front_number, behind-bytes, changes-numbers, changes-depth}

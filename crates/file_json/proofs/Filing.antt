@@ -1,9 +1,9 @@
 -- The files of a card whose pieces are still to be made.
-use Rattle.std.proofs.Common.{◌≡◌, ◌≢◌, ◌∙◌, ℕ, ◌+◌, ◌≤◌, List, [], ◌∷◌, ◌++◌, length, take, drop, map, All, ap, sym, subst, arith, append-nil, length-append, length-drop}
+use Rattle.std.proofs.Common.{◌≡◌, ◌≢◌, ◌∙◌, ℕ, ◌+◌, ◌≤◌, List, [], ◌∷◌, ◌++◌, length, take, drop, map, All, ap, sym, subst, arith, append-nil, length-drop}
 use Rattle.std.specs.Prelude.{Option, Bool, true, slice_index}
 use Rattle.std.proofs.lemmas.List.{take_at, drop_at}
 use Rattle.std.proofs.lemmas.List.Elements.{All-head, All-tail}
-use Rattle.byteorder.specs.Endian.{big_number, big_bytes}
+use Rattle.byteorder.specs.Endian.{big_number}
 use Rattle.card_layout.specs.Fields.{joined}
 use Rattle.card_layout.specs.Images.{bytes_at}
 use Rattle.card_layout.proofs.Numbers.{big_number-big_bytes}

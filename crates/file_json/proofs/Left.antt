@@ -9,21 +9,13 @@ use Rattle.json_fields.specs.Shown.{AddsMembers}
 use Rattle.json_fields.specs.Texts.{change_value}
 use Rattle.json_fields.specs.declared.kinds.Kind.{Kind}
 use Rattle.file_json.specs.declared.parts.Part.{Part}
-use Rattle.file_json.specs.Parts.{HasParts, changes_shown, part_len, part_then, parts_then}
+use Rattle.file_json.specs.Parts.{HasParts, changes_shown, parts_then}
 use Rattle.file_json.specs.Cards.{bytes_then, list_shown, lists_shown}
 
 -- what is written with what the parts of the rest make, and whatever members follow, is the whole with these
 pub record AreLeft (parts : List Part) (rest : List ℕ) (old tokens : List Token) (all : Members → Members) : Type 0 where
   pub has : HasParts parts rest
   pub text : (more : Members) → tokens ++ members_tokens (parts_then parts rest more) ≡ old ++ members_tokens (all more)
-
--- one part more is written
-pub one_part_more : (p : Part) (ps : List Part) (rest behind : List ℕ) (old tokens after : List Token) (all : Members → Members)
-    → AreLeft (p ∷ ps) rest old tokens all → behind ≡ drop (part_len p rest) rest
-    → AddsMembers tokens after (part_then p rest)
-    → AreLeft ps behind old after all
-one_part_more p ps rest behind old tokens after all left is adds =
-    rw is (record { has = left.has.1; text = λ more. adds (parts_then ps (drop (part_len p rest) rest) more) ∙ left.text more })
 
 -- an item more of an array is written
 pub one_item_more : (j : Json) (js : Items) (tokens after whole : List Token) → tokens ++ items_tokens (item j js) ≡ whole → after ≡ tokens ++ json_tokens j → after ++ items_tokens js ≡ whole

@@ -1,8 +1,8 @@
 -- The records of a string that are still to be written.
-use Rattle.std.proofs.Common.{◌≡◌, ◌≢◌, ◌∙◌, ℕ, zero, suc, ◌+◌, ◌-◌, ◌*◌, ◌/◌, ◌<◌, ◌≤◌, Bool, true, false, List, [], ◌∷◌, ◌++◌, length, take, drop, min, refl, ap, sym, subst, arith, append_assoc, length-drop}
+use Rattle.std.proofs.Common.{◌≡◌, ◌≢◌, ◌∙◌, ℕ, zero, suc, ◌+◌, ◌-◌, ◌<◌, ◌≤◌, Bool, true, false, List, [], ◌∷◌, ◌++◌, length, take, drop, refl, ap, sym, subst, arith, append_assoc, length-drop}
 use Rattle.std.specs.Prelude.{Some, None, ◌==◌, ◌&&◌, not, nat_le, nat_lt, if◌then◌else◌}
 use Rattle.std.proofs.lemmas.Bool.Decides.{nat_tests}
-use Rattle.std.proofs.lemmas.List.{take_all, drop_all, drop-drop}
+use Rattle.std.proofs.lemmas.List.{drop-drop}
 use Rattle.json.specs.Json.{Json, array, object, Items, no_items, item, Members, no_members, member}
 use Rattle.json.specs.Token.{Token}
 use Rattle.json.specs.Tree.{json_tokens, items_tokens, members_tokens}
@@ -152,13 +152,6 @@ all_told last oldest newest string few =
 pub many_told : (last oldest newest : ℕ) (string : List ℕ) → last ≤ items_count (records_of oldest newest string) → items_count (newest_items (Some last) (records_of oldest newest string)) ≡ last
 many_told last oldest newest string many =
     omega (arith, count_behind (items_count (records_of oldest newest string) - last) (records_of oldest newest string), many)
-
--- a place behind the end is the end
-pub take_min : (n : ℕ) (xs : List ℕ) → take (min n (length xs)) xs ≡ take n xs
-take_min n xs = by_test (nat_lt n (length xs)) (λ is. let e : min n (length xs) ≡ n = grind (arith, nat_tests, is) in rw e refl) (λ is. let e : min n (length xs) ≡ length xs = grind (arith, nat_tests, is) in let past : length xs ≤ n = grind (arith, nat_tests, is) in rw e (take_all (length xs) xs (omega arith) ∙ sym (take_all n xs past)))
-
-pub drop_min : (n : ℕ) (xs : List ℕ) → drop (min n (length xs)) xs ≡ drop n xs
-drop_min n xs = by_test (nat_lt n (length xs)) (λ is. let e : min n (length xs) ≡ n = grind (arith, nat_tests, is) in rw e refl) (λ is. let e : min n (length xs) ≡ length xs = grind (arith, nat_tests, is) in let past : length xs ≤ n = grind (arith, nat_tests, is) in rw e (drop_all (length xs) xs (omega arith) ∙ sym (drop_all n xs past)))
 
 -- a member behind others ends an object
 pub last_member : (old a b c d e : List Token) (all : Members → Members) (name : List ℕ) (j : Json)

@@ -2,8 +2,7 @@
 use Rattle.std.specs.Prelude.{◌≡◌, ℕ, zero, suc, ◌+◌, ◌*◌, ◌≤◌, Bool, true, false, List, [], ◌∷◌, ◌++◌}
 use Rattle.std.specs.Prelude.{length, take, drop, codes}
 use Rattle.byteorder.specs.Endian.{big_number}
-use Rattle.json.specs.Json.{Json, array, Items, no_items, item, Members, no_members, member}
-use Rattle.json_fields.specs.declared.fields.Field.{Field}
+use Rattle.json.specs.Json.{array, Items, no_items, item, Members, member}
 use Rattle.json_fields.specs.declared.kinds.Kind.{Kind}
 use Rattle.json_fields.specs.declared.names.Name.TheVariants.{ActivityChangeInfos}
 use Rattle.json_fields.specs.Names.{name_text}

@@ -1,14 +1,14 @@
 -- The messages at the front of bytes, and one message more.
-use Rattle.std.proofs.Common.{◌≡◌, ◌∙◌, ◌⊎◌, ℕ, zero, suc, ◌+◌, ◌<◌, ◌≤◌, true, false, Option, Some, None, List, [], ◌∷◌, ◌++◌, length, map, drop, refl, ap, sym, subst, arith, All, append_assoc, append-nil, length-append}
-use Rattle.std.specs.Prelude.{is_some, ◌==◌}
+use Rattle.std.proofs.Common.{◌≡◌, ◌∙◌, ℕ, zero, suc, ◌+◌, false, Option, Some, None, List, [], ◌∷◌, ◌++◌, length, map, drop, refl, ap, sym, arith, All, append_assoc, append-nil, length-append}
+use Rattle.std.specs.Prelude.{is_some}
 use Rattle.std.proofs.lemmas.List.Elements.{All-append, All-nil}
 use Rattle.card_layout.specs.Fields.{joined}
 use Rattle.tacho_types.specs.declared.texts.Registration.{Registration}
-use Rattle.message_model.specs.Messages.{Message, Overview, AnOverview, ADay, AnEventList, ASpeedList, ATechnical, message_bytes, IsMessage}
+use Rattle.message_model.specs.Messages.{Message, AnOverview, ADay, AnEventList, ASpeedList, ATechnical, message_bytes, IsMessage}
 use Rattle.link_model.specs.declared.request.Request.TheVariants.{Overview as AskOverview}
 use Rattle.unit_messages.specs.Reading.{BeginsWith, request_of}
 use Rattle.file_view.specs.declared.front.FrontRead.{FrontRead}
-use Rattle.file_view.specs.Fronts.{registration_in, registration_bytes, begins_message, Leads, first_registration}
+use Rattle.file_view.specs.Fronts.{registration_in, registration_bytes, Leads, first_registration}
 
 -- the registration of messages and of one more
 registration_more : (ms : List Message) (m : Message) → registration_in (ms ++ m ∷ []) ≡ first_registration (registration_in ms) (registration_in (m ∷ []))
@@ -60,11 +60,6 @@ leads_more bytes before f g m leads begins end told =
     one zero d low = begins.is_message
     one (suc k) d low = absurd (omega (arith, low))
 
--- what is known stays
-pub known_stays : (o : Option Registration) (later : Option (List ℕ)) → is_some o ≡ true → registration_bytes o ≡ first_registration (registration_bytes o) later
-known_stays None later some = absurd (cc)
-known_stays (Some r) later some = refl
-
 -- what was not known comes
 pub new_comes : (o : Option Registration) (x later : Option (List ℕ)) → is_some o ≡ false → x ≡ later → x ≡ first_registration (registration_bytes o) later
 new_comes None x later none is = is
@@ -77,10 +72,3 @@ no_overview (ADay d) other = refl
 no_overview (AnEventList x) other = refl
 no_overview (ASpeedList x) other = refl
 no_overview (ATechnical x) other = refl
-
--- a message stands at the front of more than nothing
-pub goes_by : (bytes : List ℕ) (place : ℕ) → length bytes ≤ place → begins_message (drop place bytes) ≡ false
-goes_by [] zero past = refl
-goes_by [] (suc n) past = refl
-goes_by (x ∷ xs) zero past = absurd (omega (arith, past))
-goes_by (x ∷ xs) (suc n) past = goes_by xs n (omega (arith, past))

@@ -1,6 +1,6 @@
 -- The calendar of this crate is the kit's, and a time's text tells the time.
-use Rattle.std.proofs.Common.{◌≡◌, ◌∙◌, ℕ, zero, suc, ◌+◌, ◌-◌, ◌*◌, ◌/◌, ◌%◌, ◌<◌, ◌≤◌, ◌^◌, Bool, true, false, List, [], ◌∷◌, ◌++◌, take, drop, get_or, refl, ap, sym, subst, arith, pos, ◌+ℤ◌, Ok}
-use Rattle.std.specs.Prelude.{Result, Err, if◌then◌else◌, nat_lt, slice_index}
+use Rattle.std.proofs.Common.{◌≡◌, ◌∙◌, ℕ, zero, suc, ◌+◌, ◌-◌, ◌*◌, ◌/◌, ◌%◌, ◌<◌, ◌≤◌, ◌^◌, true, false, List, [], ◌∷◌, ◌++◌, take, drop, get_or, refl, ap, sym, arith, pos, ◌+ℤ◌, Ok}
+use Rattle.std.specs.Prelude.{nat_lt}
 use Rattle.std.proofs.lemmas.Bool.Decides.{nat_tests}
 use Rattle.jiff.specs.Types.{Date}
 use Rattle.jiff.specs.Words.{epoch_day, days_in_month, parse_date, date_parts, date_text as kit_text}
@@ -111,9 +111,6 @@ only_text n text few is =
     is.2 ∙ ap kit_text (same_date is.0 (date_at n few) (is.1 ∙ sym (at-number n few))) ∙ at-text n few
 
 -- ---- a text tells its day
-
-abbrev number_in : Date → ℕ → Type 0
-number_in d n = epoch_day d ≡ pos n
 
 same_day : (n m : ℕ) → pos n ≡ pos m → n ≡ m
 same_day n m e = cc

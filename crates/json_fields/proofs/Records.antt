@@ -1,32 +1,16 @@
 -- The fields of a record that are still to be written.
-use Rattle.std.proofs.Common.{◌≡◌, ◌≢◌, ℕ, ◌+◌, ◌-◌, ◌*◌, zero, suc, ◌≤◌, ◌<◌, List, [], ◌∷◌, ◌++◌, length, take, drop, refl, ap, ◌∙◌, arith, append_assoc, length-drop}
+use Rattle.std.proofs.Common.{◌≡◌, ◌≢◌, ℕ, ◌+◌, ◌-◌, ◌*◌, zero, suc, ◌≤◌, List, [], ◌∷◌, ◌++◌, length, take, drop, refl, ap, ◌∙◌, arith, append_assoc, length-drop}
 use Rattle.json.specs.Token.{Token}
 use Rattle.json.specs.Tree.{json_tokens, items_tokens, members_tokens}
 use Rattle.json.specs.Json.{Json, Members}
 use Rattle.json_fields.specs.declared.fields.Field.{Field}
 use Rattle.json_fields.specs.declared.fields.Form.{Form}
-use Rattle.json_fields.specs.Names.{name_text}
 use Rattle.json_fields.specs.Shown.{members_then, entry_shown, items_shown, width_of_record, value_shown, plain_shown, AreFields, ArePlain}
 
 -- what is written with what the fields of the rest make, and whatever members follow, is the whole with these
 pub record IsSoFar (shown : Form → List ℕ → Json) (fields : List Field) (rest : List ℕ) (old tokens : List Token) (all : Members → Members) : Type 0 where
   pub sized : width_of_record fields ≤ length rest
   pub text : (more : Members) → tokens ++ members_tokens (members_then shown fields rest more) ≡ old ++ members_tokens (all more)
-
--- one field more is written
-pub one_more : (shown : Form → List ℕ → Json) (f : Field) (fields : List Field) (rest : List ℕ) (old tokens after : List Token) (all : Members → Members)
-    → IsSoFar shown (f ∷ fields) rest old tokens all
-    → after ≡ (tokens ++ Token.key (name_text f.name) ∷ []) ++ json_tokens (shown f.form (take f.width rest))
-    → IsSoFar shown fields (drop f.width rest) old after all
-one_more shown f fields rest old tokens after all so_far is =
-    record {
-      sized = omega (arith, length-drop f.width rest, so_far.sized);
-      text = λ more.
-          ap (λ (ts : List Token). ts ++ members_tokens (members_then shown fields (drop f.width rest) more)) is
-          ∙ append_assoc (tokens ++ Token.key (name_text f.name) ∷ []) (json_tokens (shown f.form (take f.width rest))) (members_tokens (members_then shown fields (drop f.width rest) more))
-          ∙ append_assoc tokens (Token.key (name_text f.name) ∷ []) (json_tokens (shown f.form (take f.width rest)) ++ members_tokens (members_then shown fields (drop f.width rest) more))
-          ∙ so_far.text more;
-    }
 
 -- so many fields of a table were written, of which the others can be shown
 pub record HasWritten (fields : List Field) (rest : List ℕ) (old tokens : List Token) (all : Members → Members) : Type 0 where
@@ -36,20 +20,6 @@ pub record HasWritten (fields : List Field) (rest : List ℕ) (old tokens : List
 pub record HasWrittenPlain (fields : List Field) (rest : List ℕ) (old tokens : List Token) (all : Members → Members) : Type 0 where
   pub table : ArePlain fields
   pub so_far : IsSoFar plain_shown fields rest old tokens all
-
-pub one_written : (f : Field) (fields : List Field) (rest front behind : List ℕ) (old tokens after : List Token) (all : Members → Members)
-    → HasWritten (f ∷ fields) rest old tokens all → front ≡ take f.width rest → behind ≡ drop f.width rest
-    → after ≡ (tokens ++ Token.key (name_text f.name) ∷ []) ++ json_tokens (value_shown f.form front)
-    → HasWritten fields behind old after all
-one_written f fields rest front behind old tokens after all written f_is b_is is =
-    rw b_is (record { table = written.table.1; so_far = one_more value_shown f fields rest old tokens after all written.so_far (rw f_is at is) })
-
-pub one_plain_written : (f : Field) (fields : List Field) (rest front behind : List ℕ) (old tokens after : List Token) (all : Members → Members)
-    → HasWrittenPlain (f ∷ fields) rest old tokens all → front ≡ take f.width rest → behind ≡ drop f.width rest
-    → after ≡ (tokens ++ Token.key (name_text f.name) ∷ []) ++ json_tokens (plain_shown f.form front)
-    → HasWrittenPlain fields behind old after all
-one_plain_written f fields rest front behind old tokens after all written f_is b_is is =
-    rw b_is (record { table = written.table.1; so_far = one_more plain_shown f fields rest old tokens after all written.so_far (rw f_is at is) })
 
 -- what is written with what so many records make is the whole
 pub record AreSoFar (n : ℕ) (fields : List Field) (rest : List ℕ) (tokens whole : List Token) : Type 0 where

@@ -1,5 +1,5 @@
 -- Records of bytes as JSON values, by tables of named fields.
-use Rattle.std.specs.Prelude.{◌≡◌, ℕ, zero, suc, ◌+◌, ◌*◌, ◌≤◌, List, [], ◌∷◌, ◌++◌, length, take, drop, slice_index}
+use Rattle.std.specs.Prelude.{◌≡◌, ℕ, zero, suc, ◌+◌, ◌≤◌, List, [], ◌∷◌, ◌++◌, length, take, drop, slice_index}
 use Rattle.std.specs.Prelude.{Bool, true, false, not, ◌&&◌, ◌||◌, bytes_eq}
 use Rattle.std.specs.Fmt.{decimal}
 use Rattle.byteorder.specs.Endian.{big_number}
@@ -7,7 +7,7 @@ use Rattle.hex.specs.Hex.{encode_lower}
 use Rattle.json.specs.Json.{Json, null, number, string, array, object, Items, no_items, item, Members, no_members}
 use Rattle.json.specs.Json.{member}
 use Rattle.json.specs.Token.{Token}
-use Rattle.json.specs.Tree.{items_tokens, members_tokens}
+use Rattle.json.specs.Tree.{members_tokens}
 use Rattle.json_fields.specs.declared.fields.Form.{Form}
 use Rattle.json_fields.specs.declared.fields.Form.TheVariants.{Number, Numbers, Bytes, Time, Text, Characters, Coded}
 use Rattle.json_fields.specs.declared.fields.Form.TheVariants.{Card, Registration, HolderName, Group as GroupOf}

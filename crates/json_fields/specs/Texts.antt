@@ -4,7 +4,7 @@ use Rattle.std.specs.Prelude.{codes, encode_utf8_all}
 use Rattle.std.specs.List.{list_all}
 use Rattle.std.specs.Fmt.{decimal}
 use Rattle.byteorder.specs.Endian.{big_number}
-use Rattle.json.specs.Json.{Json, null, boolean, number, string, object, Items, no_items, item, Members, no_members}
+use Rattle.json.specs.Json.{Json, null, boolean, number, string, object, Items, no_items, item, no_members}
 use Rattle.json.specs.Json.{member}
 use Rattle.json_fields.specs.declared.codes.Coding.{Coding}
 use Rattle.json_fields.specs.declared.codes.Coding.TheVariants.{Nation, Equipment}

@@ -164,7 +164,7 @@ fn equipment(code: u8) -> &'static str
     }
 }
 
-/// NationNumeric, by its letters of NationAlpha; 0 has none.
+/// NationNumeric, by its letters of NationAlpha; 0 has none. A table, a line for each code.
 fn nation(code: u8) -> &'static str
     ensures { result.now ≡ nation code }
 {

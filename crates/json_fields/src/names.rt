@@ -1,4 +1,5 @@
 //! The names of fields and lists, those of the data types of Annex IB, Appendix 1.
+
 /// The name of a field or a list.
 #[derive(Clone, Copy, Debug)]
 pub enum Name {
@@ -170,7 +171,7 @@ impl Name {
     ghost use Rattle.std.specs.Prelude.{◌≡◌};
     ghost use Rattle.json_fields.specs.Names.{name_text};
 
-    /// The name as text.
+    /// The name as text. A table, a line for each name: the compiler refuses it where one is missing.
     pub fn text(self) -> &'static str
         ensures { result.now ≡ name_text self }
     {

@@ -1,13 +1,13 @@
 -- Where the entries of a message stand, one list behind the other.
-use Rattle.std.proofs.Common.{◌≡◌, ◌∙◌, ℕ, ◌+◌, ◌*◌, ◌<◌, ◌≤◌, ◌^◌, List, [], ◌∷◌, ◌++◌, length, get_or, map, take, drop, refl, ap, sym, arith, All, append_assoc, length-append, length-drop}
+use Rattle.std.proofs.Common.{◌≡◌, ◌∙◌, ℕ, ◌+◌, ◌*◌, ◌<◌, ◌≤◌, ◌^◌, List, [], ◌∷◌, ◌++◌, length, get_or, take, drop, refl, ap, sym, arith, All, append_assoc, length-append}
 use Rattle.std.proofs.Math.Nat.{mul-le-mul_left, mul-le-mul_right}
-use Rattle.std.proofs.lemmas.List.{length-take, length-map, drop_at}
+use Rattle.std.proofs.lemmas.List.{length-map, drop_at}
 use Rattle.std.proofs.lemmas.List.Elements.{All-map}
 use Rattle.byteorder.specs.Endian.{big_bytes}
 use Rattle.byteorder.specs.Numbers.{length-bytes_high_first}
 use Rattle.card_layout.specs.Images.{bytes_at, number_at}
 use Rattle.card_layout.specs.Fields.{joined}
-use Rattle.message_model.specs.Messages.{DayMessage, EventMessage, ADay, AnEventList, AreEntries, counted, word_bytes}
+use Rattle.message_model.specs.Messages.{DayMessage, EventMessage, ADay, AnEventList, counted, word_bytes}
 use Rattle.unit_messages.specs.Reading.{BeginsWith}
 use Rattle.unit_marks.specs.Entries.{BeginWith}
 use Rattle.file_view.proofs.Laid.{number_behind, joined_length, skip, entry_at}

@@ -1,4 +1,4 @@
-use Rattle.std.proofs.Common.{◌≡◌, ◌∙◌, Some, List, map, ap, sym, subst, rules}
+use Rattle.std.proofs.Common.{◌≡◌, ◌∙◌, Some, List, map, ap, subst, rules}
 use Rattle.card_retention.specs.Retains.{Rise}
 use Rattle.message_model.specs.Messages.{Message}
 use Rattle.message_model.specs.Showing.{minutes_in}

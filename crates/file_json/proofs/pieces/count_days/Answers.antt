@@ -1,4 +1,4 @@
-use Rattle.std.proofs.Common.{◌≡◌, ◌≤◌, arith, zero-add, get_or}
+use Rattle.std.proofs.Common.{arith, zero-add, get_or}
 use Rattle.file_view.proofs.Placing.{no_message_at}
 use Rattle.file_json.specs.Pieces.{days_asked}
 use Rattle.file_json.proofs.Walking.{asked_more, none_asked, one_day}

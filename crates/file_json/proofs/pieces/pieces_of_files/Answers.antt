@@ -1,6 +1,5 @@
-use Rattle.std.proofs.Common.{◌≡◌, ◌≢◌, ◌∙◌, ◌+◌, ◌-◌, ◌≤◌, ℕ, List, length, drop, sym, ap, arith, rules, length-drop, zero-add}
+use Rattle.std.proofs.Common.{◌≡◌, ◌≢◌, ◌∙◌, ◌+◌, ◌-◌, ℕ, List, length, ap, arith, rules, length-drop, zero-add}
 use Rattle.std.specs.Prelude.{true}
-use Rattle.byteorder.specs.Endian.{big_number}
 use Rattle.card_image.specs.CardFile.{FileEntry}
 use Rattle.file_view.specs.Files.{AreFiles}
 use Rattle.file_view.proofs.Filing.{head_there}

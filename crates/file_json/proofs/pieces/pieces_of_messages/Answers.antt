@@ -1,4 +1,4 @@
-use Rattle.std.proofs.Common.{◌≡◌, ◌∙◌, ◌+◌, ◌≤◌, length, ap, arith, length-drop, zero-add}
+use Rattle.std.proofs.Common.{◌∙◌, ◌≤◌, length, ap, arith, length-drop, zero-add}
 use Rattle.file_view.proofs.Placing.{placed_count}
 use Rattle.file_json.specs.Units.{messages_told}
 use Rattle.file_json.proofs.Making.{unit_whole}

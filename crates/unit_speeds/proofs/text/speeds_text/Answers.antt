@@ -1,4 +1,4 @@
-use Rattle.std.proofs.Common.{◌≡◌, ◌∙◌, List, sym, subst}
+use Rattle.std.proofs.Common.{◌∙◌, List, sym, subst}
 use Rattle.file_view.specs.declared.places.MessageAt.{MessageAt}
 use Rattle.file_view.specs.Places.{ArePlaced}
 use Rattle.unit_speeds.specs.declared.line.SpeedLine.{SpeedLine}
