@@ -17,7 +17,7 @@ pub returns-clause-text : goal.returns-clause-text
 returns-clause-text c = record {
   entries = c.in_ok-entries.entries.items;
   shows = c.in_ok-entries.ensures.told;
-  view = subst (λ (l : List Manual). IsByHandView l _) c.as_slice.ensures.value c.in_ok-by_hand_text.ensures;
+  view = subst (λ (l : List Manual). IsByHandView l c.in_ok-by_hand_text.field-0.items) c.as_slice.ensures.value c.in_ok-by_hand_text.ensures;
 }
 
 pub returns-in_err-entries-clause-err : goal.returns-in_err-entries-clause-err
